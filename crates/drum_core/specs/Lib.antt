@@ -1,0 +1,11 @@
+pub mod Amount
+pub mod Branch
+pub mod Instruction
+pub mod Kind
+pub mod Location
+pub mod Numeral
+pub mod Op
+pub mod Position
+pub mod Shift
+pub mod Store
+pub mod Word

@@ -1,0 +1,45 @@
+-- The numbers of the operations, and what each wants of its data address (IBM 650 Manual of Operation).
+use Rattle.std.specs.Prelude.{ℕ, ◌+◌}
+use Rattle.drum_core.specs.declared.op.Op.{Op}
+use Rattle.drum_core.specs.declared.op.Op.TheVariants.{NoOperation, Stop, Add, ResetAdd, Divide, DivideReset, Multiply, Store, Shift, Branch, LoadDistributor, Read, Punch, BranchOnDigit}
+use Rattle.drum_core.specs.declared.op.Operand.{Operand}
+use Rattle.drum_core.specs.declared.op.Operand.TheVariants.{Any, Drum, Unused}
+use Rattle.drum_core.specs.Amount as amount
+use Rattle.drum_core.specs.Store as store
+use Rattle.drum_core.specs.Shift as shift
+use Rattle.drum_core.specs.Branch as branch
+use Rattle.drum_core.specs.Position as position
+
+-- the two digits of an operation
+abbrev pub number_of : Op → ℕ
+number_of NoOperation = 0
+number_of Stop = 1
+number_of (Add a) = amount.number_of a
+number_of (ResetAdd a) = amount.number_of a + 50
+number_of Divide = 14
+number_of DivideReset = 64
+number_of Multiply = 19
+number_of (Store s) = store.number_of s
+number_of (Shift s) = shift.number_of s
+number_of (Branch b) = branch.number_of b
+number_of LoadDistributor = 69
+number_of Read = 70
+number_of Punch = 71
+number_of (BranchOnDigit p) = position.number_of p
+
+-- what an operation wants of its data address
+abbrev pub operand_of : Op → Operand
+operand_of (Add a) = Any
+operand_of (ResetAdd a) = Any
+operand_of Divide = Any
+operand_of DivideReset = Any
+operand_of Multiply = Any
+operand_of LoadDistributor = Any
+operand_of (Store s) = Drum
+operand_of Read = Drum
+operand_of Punch = Drum
+operand_of NoOperation = Unused
+operand_of Stop = Unused
+operand_of (Shift s) = Unused
+operand_of (Branch b) = Unused
+operand_of (BranchOnDigit p) = Unused

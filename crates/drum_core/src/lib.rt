@@ -1,0 +1,20 @@
+//! The parts of a drum machine that its timing rests on: words and locations, instructions and their
+//! operations, the deck that loads the drum, the rotation of the drum, and the devices that bytes come
+//! from and go to.
+#![tactic(auto)]
+
+pub mod instruction;
+pub mod location;
+mod numeral;
+pub mod op;
+pub mod word;
+
+pub use instruction::Instruction;
+pub use location::{Kind, Location};
+pub use op::amount::Amount;
+pub use op::branch::Branch;
+pub use op::position::Position;
+pub use op::shift::Shift;
+pub use op::store::Store;
+pub use op::{Op, Operand};
+pub use word::Word;

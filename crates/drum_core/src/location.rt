@@ -1,0 +1,62 @@
+ghost use Rattle.std.specs.Prelude.{◌≡◌, ◌↔◌, IsSome, IfSome};
+ghost use Rattle.drum_core.specs.Location.{IsLocation};
+
+/// A location that holds a word: 0000 to 1999 on the drum, 8000 to 8003 beside it.
+///
+/// Source: the IBM 650 Manual of Operation.
+#[derive(Clone, Copy, Debug, PartialEq, Eq, PartialOrd, Ord, Hash)]
+pub struct Location {
+    /// The four digits of its address, as a number.
+    pub number: u16,
+    pub ghost exists: { IsLocation number },
+}
+
+/// What stands at a location.
+#[derive(Clone, Copy, Debug, PartialEq, Eq, Hash)]
+pub enum Kind {
+    /// 0000 to 1999: a word of the drum.
+    Drum,
+    /// 8000: the storage entry switches of the console.
+    Switches,
+    /// 8001: the distributor.
+    Distributor,
+    /// 8002: the lower half of the accumulator.
+    Lower,
+    /// 8003: the upper half of the accumulator.
+    Upper,
+}
+
+impl Location {
+    ghost use Rattle.drum_core.specs.Kind.{IsKindOf};
+
+    /// The location of this number; `None` where the machine has none.
+    pub fn new(number: u16) -> Option<Location>
+        ensures valid { IsSome result ↔ IsLocation number }
+        ensures value { IfSome result (λ location. location.number ≡ number) }
+    {
+        match number {
+            0..2000 | 8000..8004 => Some(Location { number }),
+            _ => None,
+        }
+    }
+
+    /// The four digits of its address, as a number.
+    pub fn number(self) -> u16
+        ensures { result ≡ self.number }
+    {
+        self.number
+    }
+
+    /// What stands there.
+    pub fn kind(self) -> Kind
+        ensures { IsKindOf self.number result }
+    {
+        match self.number {
+            8000 => Kind::Switches,
+            8001 => Kind::Distributor,
+            8002 => Kind::Lower,
+            8003 => Kind::Upper,
+            _ => Kind::Drum,
+        }
+    }
+}
