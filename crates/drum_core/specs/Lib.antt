@@ -1,11 +1,16 @@
 pub mod Amount
+pub mod Available
 pub mod Branch
 pub mod Instruction
 pub mod Kind
 pub mod Location
+pub mod Moment
 pub mod Numeral
 pub mod Op
 pub mod Position
+pub mod Recurs
 pub mod Shift
+pub mod Span
 pub mod Store
+pub mod Waits
 pub mod Word

@@ -27,7 +27,7 @@ pub enum Kind {
 }
 
 impl Location {
-    ghost use Rattle.drum_core.specs.Kind.{IsKindOf};
+    ghost use Rattle.drum_core.specs.Kind.{kind_of};
 
     /// The location of this number; `None` where the machine has none.
     pub fn new(number: u16) -> Option<Location>
@@ -49,7 +49,7 @@ impl Location {
 
     /// What stands there.
     pub fn kind(self) -> Kind
-        ensures { IsKindOf self.number result }
+        ensures { result ≡ kind_of self.number }
     {
         match self.number {
             8000 => Kind::Switches,

@@ -1,0 +1,20 @@
+-- The most word times that a wait takes.
+use Rattle.std.specs.Prelude.{ℕ}
+use Rattle.drum_core.specs.declared.location.Kind.{Kind}
+use Rattle.drum_core.specs.declared.location.Kind.TheVariants.{Drum, Switches, Distributor, Lower, Upper}
+use Rattle.drum_core.specs.declared.rotation.parity.Parity.{Parity}
+use Rattle.drum_core.specs.declared.rotation.parity.Parity.TheVariants.{Any, Even, Odd}
+
+-- the wait for an angle of a parity
+abbrev pub parity_span : Parity → ℕ
+parity_span Any = 0
+parity_span Even = 1
+parity_span Odd = 1
+
+-- the wait for a word of a kind
+abbrev pub kind_span : Kind → ℕ
+kind_span Drum = 49
+kind_span Switches = 0
+kind_span Distributor = 0
+kind_span Lower = 1
+kind_span Upper = 1

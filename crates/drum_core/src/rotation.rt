@@ -1,0 +1,9 @@
+//! The rotation of the drum: what takes time, as clocks that go on.
+
+pub mod at_angle;
+pub mod at_parity;
+pub mod clockwork;
+pub mod delay;
+pub mod parity;
+pub mod seek;
+pub mod then;

@@ -1,0 +1,10 @@
+/// Which moments of the drum's rotation serve, by their angle.
+#[derive(Clone, Copy, Debug, PartialEq, Eq, Hash)]
+pub enum Parity {
+    /// Every moment.
+    Any,
+    /// Those of even angles.
+    Even,
+    /// Those of odd angles.
+    Odd,
+}
