@@ -1,3 +1,4 @@
+pub mod Bytes
 pub mod Firsts
 pub mod Numerals
 pub mod Words

@@ -3,6 +3,7 @@
 //! from and go to.
 #![tactic(auto)]
 
+pub mod device;
 pub mod instruction;
 pub mod location;
 mod numeral;
@@ -10,6 +11,11 @@ pub mod op;
 pub mod rotation;
 pub mod word;
 
+pub use device::Failed;
+pub use device::input::Input;
+pub use device::output::Output;
+pub use device::reading::Reading;
+pub use device::writing::Writing;
 pub use instruction::Instruction;
 pub use location::{Kind, Location};
 pub use op::amount::Amount;

@@ -16,7 +16,7 @@ pub mod store;
 /// 84 (table look-up).
 ///
 /// Source: the IBM 650 Manual of Operation.
-#[derive(Clone, Copy, Debug, PartialEq, Eq, Hash)]
+#[derive(Clone, Copy, Debug, PartialEq, Eq)]
 pub enum Op {
     /// 00: nothing.
     NoOperation,
@@ -49,7 +49,7 @@ pub enum Op {
 }
 
 /// What an operation wants of its data address.
-#[derive(Clone, Copy, Debug, PartialEq, Eq, Hash)]
+#[derive(Clone, Copy, Debug, PartialEq, Eq)]
 pub enum Operand {
     /// Any location: 10, 11, 14 to 19, 60, 61, 64 to 69.
     Any,

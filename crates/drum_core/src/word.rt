@@ -5,7 +5,7 @@ use crate::numeral::read_digits;
 /// A word: a sign and ten decimal digits. Minus zero is a word of its own.
 ///
 /// Source: the IBM 650 Manual of Operation.
-#[derive(Clone, Copy, Debug, PartialEq, Eq, Hash)]
+#[derive(Clone, Copy, Debug, PartialEq, Eq)]
 pub struct Word {
     /// Whether the sign is minus.
     pub minus: bool,

@@ -4,7 +4,7 @@ use super::clockwork::Clockwork;
 use super::parity::Parity;
 
 /// The wait for an angle of a parity.
-#[derive(Clone, Copy, Debug, PartialEq, Eq, Hash)]
+#[derive(Clone, Copy, Debug, PartialEq, Eq)]
 pub struct AtParity {
     /// The parity of the angle.
     pub parity: Parity,

@@ -4,7 +4,7 @@ ghost use Rattle.std.proofs.Common.{rules};
 use super::clockwork::Clockwork;
 
 /// A delay of a number of word times.
-#[derive(Clone, Copy, Debug, PartialEq, Eq, Hash)]
+#[derive(Clone, Copy, Debug, PartialEq, Eq)]
 pub struct Delay {
     /// Word times, 2^40 at most.
     pub word_times: u64,

@@ -1,5 +1,5 @@
 /// Which moments of the drum's rotation serve, by their angle.
-#[derive(Clone, Copy, Debug, PartialEq, Eq, Hash)]
+#[derive(Clone, Copy, Debug, PartialEq, Eq)]
 pub enum Parity {
     /// Every moment.
     Any,

@@ -10,7 +10,7 @@ use crate::location::{Kind, Location};
 /// 8002 at even angles, 8003 at odd ones.
 ///
 /// Source: of drum words the IBM 650 Manual of Operation, of the others this project's choice.
-#[derive(Clone, Copy, Debug, PartialEq, Eq, Hash)]
+#[derive(Clone, Copy, Debug, PartialEq, Eq)]
 pub struct Seek {
     /// The location that is sought.
     pub location: Location,

@@ -1,0 +1,13 @@
+use Rattle.std.proofs.Common.{◌≡◌, ◌+◌, ◌≤◌, vec_len}
+use Rattle.std.specs.Io.KnownBytes.{Consumes}
+use Rattle.drum_core.proofs.device.whole.read_whole.Given as goal
+
+-- the text so far is what the input lost, each call gave some of it, and none failed
+abbrev pub invariant-loop : goal.invariant-loop
+invariant-loop g l = record {
+  within : vec_len l.text ≤ l.limit;
+  front : Consumes (g.I.Input.left l.fn.input) (g.I.Input.left l.input) l.text.items;
+  calls : g.I.Input.called l.input ≡ g.I.Input.called l.fn.input + l.counter;
+  each : l.counter ≤ vec_len l.text;
+  failed : g.I.Input.failed l.input ≡ g.I.Input.failed l.fn.input;
+}

@@ -1,0 +1,38 @@
+ghost use Rattle.std.specs.Prelude.{◌≡◌, ℕ, ◌+◌, ◌^◌, ◌≤◌, List, Option, is_err, if◌then◌else◌};
+ghost use Rattle.std.specs.Io.{ReadsAtMost};
+ghost use Rattle.std.specs.Io.KnownBytes.{ReadConsumes};
+
+use super::Failed;
+
+/// A device that bytes come from.
+pub trait Input {
+    /// The bytes that reads give from here on, where that is known.
+    ghost left: { Self → Option (List ℕ) };
+
+    /// How often it was read.
+    ghost called: { Self → ℕ };
+
+    /// How many reads failed.
+    ghost failed: { Self → ℕ };
+
+    /// Reads some bytes into the front of the buffer and says how many: none only at the end, or where
+    /// the buffer has no room.
+    ///
+    /// # Errors
+    ///
+    /// Any error of the device, also one that means that it was interrupted.
+    fn read(&mut self, buf: &mut [u8]) -> Result<usize, Failed>
+        requires { called self.old ≤ 2 ^ 63 }
+        ensures bound { ReadsAtMost result buf.new }
+        ensures bytes { ReadConsumes (left self.old) (left self.new) result buf.new }
+        ensures calls { called self.new ≡ called self.old + 1 }
+        ensures failures { failed self.new ≡ failed self.old + (if is_err result then 1 else 0) };
+
+    /// How often it was read.
+    fn calls(&self) -> u64
+        ensures { result ≡ called self.now };
+
+    /// How many reads failed.
+    fn failures(&self) -> u64
+        ensures { result ≡ failed self.now };
+}

@@ -1,0 +1,54 @@
+ghost use Rattle.std.specs.Prelude.{◌≡◌, ◌+◌, ◌^◌, ◌<◌, ◌≤◌, ◌↔◌, IfOk, IfSome, IsErrOf, vec_len, length};
+
+use super::input::Input;
+use std::alloc::Global;
+
+/// Why a whole input wasn't read.
+#[derive(Clone, Copy, Debug, PartialEq, Eq)]
+pub enum WholeError {
+    /// A read failed.
+    Read,
+    /// There is no memory for the bytes.
+    Memory,
+    /// There are more bytes than the limit.
+    TooLong,
+}
+
+/// How many bytes are asked for at a time.
+const CHUNK: usize = 4096;
+
+/// All bytes of an input, of which there may be `limit`; one more is asked for at most, so that an input
+/// without end is too long.
+pub fn read_whole<I: Input>(
+    alloc: Global,
+    input: &mut I,
+    limit: usize,
+) -> Result<Vec<u8>, WholeError>
+    requires small { limit ≤ 2 ^ 32 }
+    requires calls { I.called input.old ≤ 2 ^ 62 }
+    ensures all { IfOk result (λ text. IfSome (I.left input.old) (λ bytes. text.items ≡ bytes)) }
+    ensures within { IfOk result (λ text. vec_len text ≤ limit) }
+    ensures long { IsErrOf result WholeError.TooLong → IfSome (I.left input.old) (λ bytes. limit < length bytes) }
+    ensures read { IsErrOf result WholeError.Read ↔ (I.failed input.new ≡ I.failed input.old + 1) }
+    ensures once { I.failed input.new ≤ I.failed input.old + 1 }
+    ensures asked { I.called input.new ≤ I.called input.old + limit + 1 }
+{
+    let mut text = Vec::new(alloc);
+    let mut chunk = [0; CHUNK];
+    for _ in 0..=limit {
+        let room = CHUNK.min(limit + 1 - text.len());
+        let Ok(count) = input.read(&mut chunk[..room]) else {
+            return Err(WholeError::Read);
+        };
+        if count == 0 {
+            return Ok(text);
+        }
+        if text.extend_from_slice(&chunk[..count]).is_err() {
+            return Err(WholeError::Memory);
+        }
+        if text.len() > limit {
+            return Err(WholeError::TooLong);
+        }
+    }
+    Err(WholeError::TooLong)
+}
