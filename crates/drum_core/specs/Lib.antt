@@ -4,6 +4,7 @@ pub mod Branch
 pub mod Device
 pub mod Instruction
 pub mod Kind
+pub mod Lines
 pub mod Location
 pub mod Moment
 pub mod Numeral

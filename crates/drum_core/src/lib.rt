@@ -3,6 +3,7 @@
 //! from and go to.
 #![tactic(auto)]
 
+pub mod deck;
 pub mod device;
 pub mod instruction;
 pub mod location;
@@ -11,6 +12,9 @@ pub mod op;
 pub mod rotation;
 pub mod word;
 
+pub use deck::Deck;
+pub use deck::fault::DeckFault;
+pub use deck::read::read_deck;
 pub use device::Failed;
 pub use device::input::Input;
 pub use device::output::Output;

@@ -1,6 +1,8 @@
 ghost use Rattle.std.specs.Prelude.{◌≡◌, ◌↔◌, IsSome, IfSome};
 ghost use Rattle.drum_core.specs.Location.{IsLocation};
 
+use std::fmt;
+
 /// A location that holds a word: 0000 to 1999 on the drum, 8000 to 8003 beside it.
 ///
 /// Source: the IBM 650 Manual of Operation.
@@ -58,5 +60,11 @@ impl Location {
             8003 => Kind::Upper,
             _ => Kind::Drum,
         }
+    }
+}
+
+impl fmt::Display for Location {
+    fn fmt<W: fmt::Write>(&self, f: &mut fmt::Formatter<W>) -> fmt::Result {
+        write!(f, "{:04}", self.number)
     }
 }

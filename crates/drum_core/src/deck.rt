@@ -1,0 +1,64 @@
+ghost use Rattle.std.specs.Prelude.{◌≡◌, ◌<◌, vec_len};
+
+use crate::location::{Kind, Location};
+use crate::word::Word;
+
+pub mod card;
+pub mod fault;
+pub mod line;
+pub mod lines;
+mod loading;
+pub mod read;
+
+/// A word that a deck gives, and the line of the card that gives it.
+#[derive(Clone, Copy, Debug, PartialEq, Eq)]
+pub struct Given {
+    /// The word.
+    pub word: Word,
+    /// The card's line, from 1.
+    pub line: u16,
+}
+
+/// A deck: which words it loads onto the drum, from which cards, and where the program starts.
+#[derive(Debug, PartialEq, Eq, Drop)]
+pub struct Deck {
+    image: Vec<Option<Given>>,
+    cards: Vec<u16>,
+    start: Location,
+    ghost whole: { vec_len image ≡ 2000 },
+    ghost on_drum: { start.number < 2000 },
+}
+
+impl Deck {
+    /// What the deck gives the location: nothing but for locations on the drum that it loads.
+    fn given(&self, location: Location) -> Option<Given> {
+        match location.kind() {
+            Kind::Drum => self.image[location.number() as usize],
+            _ => None,
+        }
+    }
+
+    /// The word that the deck loads into the location; `None` where it loads none.
+    pub fn word(&self, location: Location) -> Option<Word> {
+        let given = self.given(location)?;
+        Some(given.word)
+    }
+
+    /// The line of the card that loads the location; `None` where no card does.
+    pub fn card_of(&self, location: Location) -> Option<u16> {
+        let given = self.given(location)?;
+        Some(given.line)
+    }
+
+    /// The lines of its data cards, in order.
+    pub fn cards(&self) -> &[u16] {
+        &self.cards
+    }
+
+    /// The location of the program's first instruction, on the drum.
+    pub fn start(&self) -> Location
+        ensures { result.number < 2000 }
+    {
+        self.start
+    }
+}

@@ -1,0 +1,31 @@
+use crate::location::Location;
+use thiserror::Error;
+
+/// Why a text isn't a deck.
+#[derive(Clone, Copy, Debug, PartialEq, Eq, Error)]
+pub enum DeckFault {
+    /// Its reader failed.
+    #[error("the deck can't be read")]
+    Read,
+    /// There is no memory for it.
+    #[error("there is no memory for the deck")]
+    Memory,
+    /// The line is no comment, no start and no card.
+    #[error("line {0} is no card")]
+    Card(u16),
+    /// The location is given a word twice.
+    #[error("location {0} is given twice")]
+    Twice(Location),
+    /// No line says where to start.
+    #[error("no line says where to start")]
+    NoStart,
+    /// The line is a second start.
+    #[error("line {0} is a second start")]
+    TwoStarts(u16),
+    /// The line names a location past the drum.
+    #[error("line {0} goes past the drum")]
+    PastDrum(u16),
+    /// There are more than 4000 lines, or one has more than 100 bytes.
+    #[error("the deck is too long")]
+    TooLong,
+}

@@ -1,0 +1,66 @@
+ghost use Rattle.std.specs.Prelude.{◌+◌, ◌^◌, ◌≤◌};
+
+use super::Deck;
+use super::fault::DeckFault;
+use super::lines::Lines;
+use super::loading::Loading;
+use crate::device::input::Input;
+use crate::device::whole::{WholeError, read_whole};
+use std::alloc::Global;
+
+/// The most lines of a deck.
+const LINES: usize = 4000;
+
+/// The most bytes of a line, without its line feed.
+const LINE: usize = 100;
+
+/// The most bytes of a deck.
+const BYTES: usize = LINES * (LINE + 1);
+
+/// Whether the text has more lines, or a longer line, than a deck may have.
+fn is_too_long(text: &[u8]) -> bool {
+    let mut lines = 0;
+    for line in (Lines { rest: text }) {
+        lines += 1;
+        if lines > LINES || line.len() > LINE {
+            return true;
+        }
+    }
+    false
+}
+
+/// Reads a deck. The whole text is read first, 404,001 bytes at most, so that a reader without end is
+/// too long.
+///
+/// # Errors
+///
+/// Read where a read failed; Memory; TooLong before any line is looked at; then the first line with a
+/// fault, Card before PastDrum before TwoStarts before Twice; NoStart last.
+pub fn read_deck<I: Input>(alloc: Global, reader: &mut I) -> Result<Deck, DeckFault>
+    requires { I.called reader.old ≤ 2 ^ 62 }
+    ensures asked { I.called reader.new ≤ I.called reader.old + 404001 }
+{
+    let text = match read_whole(alloc, reader, BYTES) {
+        Ok(text) => text,
+        Err(WholeError::Read) => return Err(DeckFault::Read),
+        Err(WholeError::Memory) => return Err(DeckFault::Memory),
+        Err(WholeError::TooLong) => return Err(DeckFault::TooLong),
+    };
+    if is_too_long(&text) {
+        return Err(DeckFault::TooLong);
+    }
+    read_lines(alloc, &text)
+}
+
+/// The deck of a text that isn't too long.
+fn read_lines(alloc: Global, text: &[u8]) -> Result<Deck, DeckFault> {
+    let Ok(mut loading) = Loading::new(alloc) else {
+        return Err(DeckFault::Memory);
+    };
+    let mut number = 0u16;
+    for line in (Lines { rest: text }) {
+        number = number.saturating_add(1);
+        loading.take(line, number)?;
+    }
+    loading.finish()
+}
