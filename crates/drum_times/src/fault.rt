@@ -1,0 +1,43 @@
+use drum_core::Location;
+use std::alloc::AllocError;
+use thiserror::Error;
+
+/// Why bytes aren't a timing table, or aren't notes. A key is given by its path, as `op.19.per`.
+#[derive(Debug, Drop, PartialEq, Eq, Error)]
+pub enum NoteFault {
+    /// The bytes are no TOML document.
+    #[error("it is no TOML document")]
+    Toml,
+    /// There is no memory for it.
+    #[error("there is no memory for it")]
+    Memory,
+    /// The key isn't there.
+    #[error("the key {0} is missing")]
+    Missing(String),
+    /// The key isn't wanted.
+    #[error("the key {0} is unknown")]
+    Unknown(String),
+    /// The key's value is outside its range.
+    #[error("the value of {0} is out of range")]
+    Range(String),
+    /// The key's value is of another kind.
+    #[error("the value of {0} is of the wrong kind")]
+    Kind(String),
+    /// An earlier mark has the same edge.
+    #[error("two marks stand on the edge from {0} to {1}")]
+    TwoMarks(Location, Location),
+    /// An earlier list has the same location.
+    #[error("two lists are for location {0}")]
+    TwoLists(Location),
+}
+
+impl From<AllocError> for NoteFault {
+    ghost use Rattle.std.specs.Prelude.{◌≡◌};
+    ghost use Rattle.drum_times.specs.declared.fault.NoteFault.TheVariants.{Memory};
+
+    ghost from_gives = { λ _ fault. fault ≡ Memory };
+
+    fn from(_: AllocError) -> NoteFault {
+        NoteFault::Memory
+    }
+}

@@ -1,0 +1,12 @@
+//! The two documents beside a deck: the timing table, and the notes on what the program may do.
+#![tactic(auto)]
+
+mod document;
+pub mod entry;
+pub mod fault;
+pub mod times;
+
+pub use entry::Entry;
+pub use fault::NoteFault;
+pub use times::Times;
+pub use times::read::read_times;

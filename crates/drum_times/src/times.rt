@@ -1,0 +1,21 @@
+ghost use Rattle.std.specs.Prelude.{◌≡◌, length};
+
+use crate::entry::Entry;
+use drum_core::Op;
+
+pub mod read;
+mod read_entry;
+
+/// A timing table: how long each operation takes.
+#[derive(Clone, Copy, Debug, PartialEq, Eq)]
+pub struct Times {
+    /// By the operation's two digits; what stands at other numbers means nothing.
+    entries: [Entry; 100],
+}
+
+impl Times {
+    /// How long the operation takes.
+    pub fn entry(&self, op: Op) -> Entry {
+        self.entries[op.number() as usize]
+    }
+}
