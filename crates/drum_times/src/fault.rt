@@ -1,3 +1,4 @@
+use crate::key_path::KeyPath;
 use drum_core::Location;
 use std::alloc::AllocError;
 use thiserror::Error;
@@ -13,16 +14,16 @@ pub enum NoteFault {
     Memory,
     /// The key isn't there.
     #[error("the key {0} is missing")]
-    Missing(String),
+    Missing(KeyPath),
     /// The key isn't wanted.
     #[error("the key {0} is unknown")]
-    Unknown(String),
+    Unknown(KeyPath),
     /// The key's value is outside its range.
     #[error("the value of {0} is out of range")]
-    Range(String),
+    Range(KeyPath),
     /// The key's value is of another kind.
     #[error("the value of {0} is of the wrong kind")]
-    Kind(String),
+    Kind(KeyPath),
     /// An earlier mark has the same edge.
     #[error("two marks stand on the edge from {0} to {1}")]
     TwoMarks(Location, Location),

@@ -4,9 +4,11 @@
 mod document;
 pub mod entry;
 pub mod fault;
+pub mod key_path;
 pub mod times;
 
 pub use entry::Entry;
 pub use fault::NoteFault;
+pub use key_path::KeyPath;
 pub use times::Times;
 pub use times::read::read_times;

@@ -1,6 +1,7 @@
 ghost use Rattle.std.specs.Prelude.{◌≤◌, IfOk};
 
 use crate::fault::NoteFault;
+use crate::key_path::KeyPath;
 use std::alloc::{AllocError, Global};
 use toml::{Table, Value};
 
@@ -27,11 +28,12 @@ pub fn read_document(alloc: Global, bytes: &[u8]) -> Result<Table, NoteFault> {
 }
 
 impl Fields<'_> {
-    /// The path of one of its keys.
-    pub fn path(&self, key: &str) -> Result<String, AllocError> {
+    /// The path of one of its keys. One past the limit of a path, for which no document has room, is
+    /// refused as for want of memory.
+    pub fn path(&self, key: &str) -> Result<KeyPath, AllocError> {
         let mut path = String::from_str(self.alloc, self.at)?;
         path.push_str(key)?;
-        Ok(path)
+        KeyPath::new(path).ok_or(AllocError)
     }
 
     /// That each of its keys is known; else the first in byte order that isn't.

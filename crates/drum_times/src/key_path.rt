@@ -1,0 +1,34 @@
+ghost use Rattle.std.specs.Prelude.{◌^◌, ◌≤◌, length, string_len};
+
+use std::fmt;
+
+/// The path of a key of a document, with dots, as `op.19.per`. Elements of arrays are numbered from 1.
+#[derive(Debug, Drop, PartialEq, Eq)]
+pub struct KeyPath {
+    text: String,
+    pub ghost short: { string_len text ≤ 2 ^ 32 },
+}
+
+impl KeyPath {
+    /// The path of this text; `None` past 2^32 bytes, which no document under the limits holds.
+    pub fn new(text: String) -> Option<KeyPath> {
+        if text.len() <= 1 << 32 {
+            Some(KeyPath { text })
+        } else {
+            None
+        }
+    }
+
+    /// Its text, of at most 2^32 bytes.
+    pub fn as_bytes(&self) -> &[u8]
+        ensures { length result.now ≤ 2 ^ 32 }
+    {
+        self.text.as_bytes()
+    }
+}
+
+impl fmt::Display for KeyPath {
+    fn fmt<W: fmt::Write>(&self, f: &mut fmt::Formatter<W>) -> fmt::Result {
+        f.write_str(self.text.as_str())
+    }
+}
