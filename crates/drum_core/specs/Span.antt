@@ -1,5 +1,6 @@
 -- The most word times that a wait takes.
-use Rattle.std.specs.Prelude.{ℕ}
+use Rattle.std.specs.Prelude.{ℕ, ◌≤◌}
+use Rattle.std.proofs.Common.{arith}
 use Rattle.drum_core.specs.declared.location.Kind.{Kind}
 use Rattle.drum_core.specs.declared.location.Kind.TheVariants.{Drum, Switches, Distributor, Lower, Upper}
 use Rattle.drum_core.specs.declared.rotation.parity.Parity.{Parity}
@@ -18,3 +19,16 @@ kind_span Switches = 0
 kind_span Distributor = 0
 kind_span Lower = 1
 kind_span Upper = 1
+
+-- no wait is longer than a revolution, less one
+pub kind_span-≤ : (kind : Kind) → kind_span kind ≤ 49
+kind_span-≤ Drum = omega arith
+kind_span-≤ Switches = omega arith
+kind_span-≤ Distributor = omega arith
+kind_span-≤ Lower = omega arith
+kind_span-≤ Upper = omega arith
+
+pub parity_span-≤ : (parity : Parity) → parity_span parity ≤ 1
+parity_span-≤ Any = omega arith
+parity_span-≤ Even = omega arith
+parity_span-≤ Odd = omega arith

@@ -13,7 +13,9 @@ pub trait Clockwork {
     /// The moment that it goes to from this clock.
     fn go(&self, clock: u64) -> u64
         requires { clock + most self.now ≤ 2 ^ 62 + 2 ^ 40 }
-        ensures { result ≡ moment self.now clock };
+        ensures moment { result ≡ moment self.now clock }
+        ensures later { clock ≤ result }
+        ensures near { result ≤ clock + most self.now };
 
     /// The most word times that it takes, whatever the clock.
     fn span(&self) -> u64
