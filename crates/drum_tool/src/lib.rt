@@ -1,13 +1,13 @@
-// A library with one function.
+//! The program's commands over values: what is read, in which order it is checked, and what goes out.
 #![tactic(auto)]
 
-ghost use Rattle.std.specs.Prelude.{◌≡◌};
-ghost use Rattle.drum_tool.specs.Echo.{echo_of};
+mod answer;
+mod chain;
+pub mod commands;
+mod fault;
+mod joined;
+mod print;
+pub mod status;
 
-// The `ensures` clause is the contract: what `echo` returns is `echo_of` of its argument, a definition
-// in `specs/Echo.antt`, which a caller's clause can cite too.
-pub fn echo(x: usize) -> usize
-    ensures { result ≡ echo_of x }
-{
-    x
-}
+pub use commands::run_joined;
+pub use status::Status;

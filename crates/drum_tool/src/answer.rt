@@ -1,0 +1,17 @@
+use crate::chain;
+use crate::fault::Fault;
+use crate::joined::Parts;
+use drum_core::{Reading, read_deck};
+use drum_times::read_times;
+use std::alloc::Global;
+
+/// The bound of a joined form. Its parts are checked one after the other, and the first fault decides.
+pub fn answer(alloc: Global, text: &[u8]) -> Result<u64, Fault> {
+    let Some(parts) = Parts::of(text) else {
+        return Err(Fault::NoPart);
+    };
+    let mut deck_bytes = Reading::new(parts.deck);
+    let deck = read_deck(alloc, &mut deck_bytes).map_err(Fault::Deck)?;
+    let times = read_times(alloc, parts.times).map_err(Fault::Times)?;
+    chain::bound(alloc, &deck, &times).map_err(Fault::Refused)
+}

@@ -1,0 +1,36 @@
+use crate::chain::Refusal;
+use crate::status::Status;
+use drum_core::DeckFault;
+use drum_times::NoteFault;
+
+/// Why the joined form has no bound.
+#[derive(Debug, Drop)]
+pub enum Fault {
+    /// A line that ends a part is missing.
+    NoPart,
+    /// The input couldn't be read.
+    InputRead,
+    /// The input is longer than its limit.
+    InputTooLong,
+    /// There is no memory for the input.
+    Memory,
+    /// The deck is refused.
+    Deck(DeckFault),
+    /// The timing table is refused.
+    Times(NoteFault),
+    /// The analysis refuses the deck.
+    Refused(Refusal),
+}
+
+impl Fault {
+    /// How the program ends after it.
+    pub fn status(&self) -> Status {
+        match self {
+            Fault::InputRead | Fault::InputTooLong | Fault::Memory => Status::Failed,
+            Fault::Deck(DeckFault::Read | DeckFault::Memory) => Status::Failed,
+            Fault::Times(NoteFault::Memory) => Status::Failed,
+            Fault::Refused(Refusal::Memory) => Status::Failed,
+            _ => Status::Refused,
+        }
+    }
+}

@@ -1,0 +1,58 @@
+//! What goes out, piece by piece, with no memory.
+
+ghost use Rattle.std.specs.Prelude.{◌+◌, ◌^◌, ◌≤◌, length};
+
+use drum_core::Location;
+use drum_core::device::output::Output;
+use drum_core::device::pieces::{Unsent, write_whole};
+use itoa::Buffer;
+
+pub mod fault_line;
+
+/// Writes a number in decimal.
+pub fn write_number<O: Output>(output: &mut O, number: u64) -> Result<(), Unsent>
+    requires { O.called output.old ≤ 2 ^ 62 + 2 ^ 40 }
+    ensures { O.called output.new ≤ O.called output.old + 40 }
+{
+    let mut buffer = Buffer::new();
+    write_whole(output, buffer.format(number).as_bytes())
+}
+
+/// Writes a location in four digits.
+pub fn write_location<O: Output>(output: &mut O, location: Location) -> Result<(), Unsent>
+    requires { O.called output.old ≤ 2 ^ 62 + 2 ^ 40 }
+    ensures { O.called output.new ≤ O.called output.old + 4 }
+{
+    let number = location.number();
+    let digits = [
+        b'0' + (number / 1000 % 10) as u8,
+        b'0' + (number / 100 % 10) as u8,
+        b'0' + (number / 10 % 10) as u8,
+        b'0' + (number % 10) as u8,
+    ];
+    write_whole(output, &digits)
+}
+
+/// Writes a line of a text and a number.
+pub fn write_numbered<O: Output>(output: &mut O, text: &[u8], number: u64) -> Result<(), Unsent>
+    requires called { O.called output.old ≤ 2 ^ 62 + 2 ^ 20 }
+    requires short { length text.now ≤ 100 }
+{
+    write_whole(output, text)?;
+    write_number(output, number)?;
+    write_whole(output, b"\n")
+}
+
+/// Writes a line of a text and a location.
+pub fn write_located<O: Output>(
+    output: &mut O,
+    text: &[u8],
+    location: Location,
+) -> Result<(), Unsent>
+    requires called { O.called output.old ≤ 2 ^ 62 + 2 ^ 20 }
+    requires short { length text.now ≤ 100 }
+{
+    write_whole(output, text)?;
+    write_location(output, location)?;
+    write_whole(output, b"\n")
+}
