@@ -1,16 +1,19 @@
 //! The bound of a deck that goes straight on: one that executes 00, 01 and 69 alone, with the programmed
-//! switch at STOP.
+//! switch at STOP and no load cards.
 
-ghost use Rattle.std.specs.Prelude.{◌+◌, ◌*◌, ◌^◌, ◌≤◌, length, vec_len};
+ghost use Rattle.std.specs.Prelude.{◌+◌, ◌≤◌, length, vec_len};
 
-use drum_core::{AtParity, Clockwork, Deck, Delay, Instruction, Location, Op, Operand, Seek};
+use drum_core::{Deck, Location};
 use drum_times::Times;
 use std::alloc::{AllocError, Global};
+use visit::Visit;
+
+mod visit;
 
 /// How many locations there are: 2000 on the drum, and 8000 to 8003.
 const LOCATIONS: usize = 2004;
 
-/// Why such a deck has no bound.
+/// Why a deck has no bound.
 #[derive(Debug, Drop)]
 pub enum Refusal {
     /// There is no memory for the analysis.
@@ -21,6 +24,12 @@ pub enum Refusal {
     NotLoaded(Location),
     /// The deck goes round for ever.
     Unbounded(Cycle),
+}
+
+impl From<AllocError> for Refusal {
+    fn from(_: AllocError) -> Refusal {
+        Refusal::Memory
+    }
 }
 
 /// Locations that lead to one another and back to the first, the smallest first.
@@ -39,66 +48,76 @@ impl Cycle {
     }
 }
 
-/// An executed word.
-#[derive(Clone, Copy, Debug)]
-struct Visit {
-    location: Location,
-    op: Op,
-    instruction: Instruction,
-}
-
 /// The most word times that the deck takes, from any start angle.
 pub fn bound(alloc: Global, deck: &Deck, times: &Times) -> Result<u64, Refusal> {
-    let path = follow(alloc, deck)?;
+    let executed = discover(alloc, deck)?;
+    all_straight(&executed.visits)?;
+    ends(alloc, &executed.visits)?;
     let mut worst = 0;
     for angle in 0..50 {
-        worst = worst.max(end(&path.visits, times, angle) - angle);
+        worst = worst.max(end(&executed.visits, times, angle) - angle);
     }
     Ok(worst)
 }
 
-/// The executed words, each after the one that leads to it.
+/// The executed words, in the order in which they are discovered.
 #[derive(Drop)]
-struct Path {
+struct Executed {
     visits: Vec<Visit>,
     ghost few: { vec_len visits ≤ 2004 },
 }
 
-/// Follows the deck from its start to a stop.
-fn follow(alloc: Global, deck: &Deck) -> Result<Path, Refusal> {
-    let mut visits: Vec<Visit> = Vec::new(alloc);
-    let mut location = deck.start();
-    for _ in 0..LOCATIONS {
-        let visit = visit_at(deck, location)?;
-        if visits.push(visit).is_err() {
-            return Err(Refusal::Memory);
-        }
-        let Some(next) = visit.next() else { break };
-        if let Some(first) = visits.iter().position(|visit| visit.location == next) {
-            return Err(unbounded(alloc, &visits[first..]));
-        }
-        location = next;
+/// The executed words, found from the start over all successors, D before I.
+fn discover(alloc: Global, deck: &Deck) -> Result<Executed, Refusal> {
+    let mut visits = Vec::new(alloc);
+    let mut found = Vec::new(alloc);
+    found.push(deck.start()).map_err(AllocError::from)?;
+    for at in 0..LOCATIONS {
+        let Some(location) = found.get(at).copied() else {
+            break;
+        };
+        let visit = Visit::at(deck, location)?;
+        add(&mut found, visit.branch())?;
+        add(&mut found, visit.next())?;
+        visits.push(visit).map_err(AllocError::from)?;
     }
-    Ok(Path { visits })
+    Ok(Executed { visits })
 }
 
-/// What the deck executes at a location.
-fn visit_at(deck: &Deck, location: Location) -> Result<Visit, Refusal> {
-    let Some(word) = deck.word(location) else {
-        return Err(Refusal::NotLoaded(location));
+/// Adds a location that isn't there yet.
+fn add(found: &mut Vec<Location>, location: Option<Location>) -> Result<(), AllocError> {
+    if let Some(location) = location
+        && !found.contains(&location)
+    {
+        found.push(location)?;
+    }
+    Ok(())
+}
+
+/// That each of the operations is 00, 01 or 69; else the first in order that isn't.
+fn all_straight(visits: &[Visit]) -> Result<(), Refusal> {
+    for visit in visits {
+        if !visit.is_straight() {
+            return Err(Refusal::NotInProfile(visit.location, visit.instruction.op()));
+        }
+    }
+    Ok(())
+}
+
+/// That straight visits, each after the one that leads to it, end with a stop and don't go round.
+fn ends(alloc: Global, visits: &[Visit]) -> Result<(), Refusal>
+    requires { length visits.now ≤ 2004 }
+{
+    let Some(next) = visits.last().and_then(|visit| visit.next()) else {
+        return Ok(());
     };
-    let instruction = Instruction::of(word);
-    match Op::of(instruction.op()) {
-        Some(op @ (Op::NoOperation | Op::Stop | Op::LoadDistributor)) => Ok(Visit {
-            location,
-            op,
-            instruction,
-        }),
-        _ => Err(Refusal::NotInProfile(location, instruction.op())),
+    match visits.iter().position(|visit| visit.location == next) {
+        None => Ok(()),
+        Some(first) => Err(unbounded(alloc, &visits[first..])),
     }
 }
 
-/// The refusal of locations that lead to one another and back to the first.
+/// The refusal of visits that lead to one another and back to the first.
 fn unbounded(alloc: Global, visits: &[Visit]) -> Refusal
     requires { length visits.now ≤ 2004 }
 {
@@ -138,38 +157,4 @@ fn end(visits: &[Visit], times: &Times, start: u64) -> u64
         clock = visit.end(times, clock);
     }
     clock
-}
-
-impl Visit {
-    /// The location of the next instruction; `None` where the deck stops here.
-    fn next(&self) -> Option<Location> {
-        match self.op {
-            Op::Stop => None,
-            Op::LoadDistributor if Location::new(self.instruction.d()).is_none() => None,
-            _ => Location::new(self.instruction.i()),
-        }
-    }
-
-    /// The clock at its end, if it is sought at this clock.
-    fn end(&self, times: &Times, clock: u64) -> u64
-        requires { clock ≤ 2 ^ 62 }
-        ensures later { clock ≤ result }
-        ensures near { result ≤ clock + 2100000 }
-    {
-        let entry = times.entry(self.op);
-        let before = Delay {
-            word_times: u64::from(entry.before),
-        };
-        let after = Delay {
-            word_times: u64::from(entry.after),
-        };
-        let ready = before.go(Seek::of(self.location).go(clock));
-        if self.op.operand() == Operand::Unused {
-            return after.go(AtParity::new(entry.parity).go(ready));
-        }
-        let Some(data) = Location::new(self.instruction.d()) else {
-            return ready;
-        };
-        after.go(AtParity::new(entry.parity).go(Seek::of(data).go(ready)))
-    }
 }
