@@ -3,8 +3,16 @@
 #![tactic(auto)]
 
 #[cfg(test)]
+mod decks;
+#[cfg(test)]
+mod devices;
+#[cfg(test)]
+mod memory;
+#[cfg(test)]
 mod straight;
 #[cfg(test)]
 mod support;
 #[cfg(test)]
 mod texts;
+#[cfg(test)]
+mod timings;

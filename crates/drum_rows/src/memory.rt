@@ -1,0 +1,143 @@
+//! Calls that want memory. Each test makes one call twice, and takes want of memory as the answer of one of
+//! the two: `checks/refuse-memory` runs each test with its first allocation refused, with its second, and
+//! so on.
+
+ghost use Rattle.std.specs.Prelude.{◌≤◌};
+
+use crate::support::joined;
+use crate::texts::{NOTES, TIMES, TWO_WORDS};
+use drum_core::device::whole::{WholeError, read_whole};
+use drum_core::{DeckFault, Op, Reading, Writing, read_deck};
+use drum_times::{NoteFault, read_times};
+use drum_tool::{Status, run_joined};
+use std::io;
+use std::io::Write;
+
+/// A writer with room for one line, which takes no memory.
+#[derive(Drop)]
+struct Line {
+    bytes: [u8; 64],
+    len: usize,
+    ghost within: { len ≤ 64 },
+}
+
+impl Line {
+    fn new() -> Line {
+        Line {
+            bytes: [0; 64],
+            len: 0,
+        }
+    }
+
+    fn is(&self, text: &str) -> bool {
+        &self.bytes[..self.len] == text.as_bytes()
+    }
+}
+
+impl Write for Line {
+    fn write(&mut self, buf: &[u8]) -> io::Result<usize> {
+        for byte in buf {
+            if self.len < self.bytes.len() {
+                self.bytes[self.len] = *byte;
+                self.len += 1;
+            }
+        }
+        Ok(buf.len())
+    }
+
+    fn flush(&mut self) -> io::Result<()> {
+        Ok(())
+    }
+}
+
+#[test]
+fn of_read_whole(rt: HostRuntime) {
+    let mut refused = 0u8;
+    for _ in 0..2 {
+        match read_whole(rt.alloc(), &mut Reading::new(b"abc".as_slice()), 3) {
+            Ok(text) => assert_eq!(rt; text.as_slice(), b"abc".as_slice()),
+            Err(error) => {
+                assert_eq!(rt; error, WholeError::Memory);
+                refused = refused.saturating_add(1);
+            }
+        }
+    }
+    assert!(rt; refused <= 1);
+}
+
+#[test]
+fn of_read_deck(rt: HostRuntime) {
+    let mut refused = 0u8;
+    for _ in 0..2 {
+        match read_deck(rt.alloc(), &mut Reading::new(TWO_WORDS.as_bytes())) {
+            Ok(deck) => assert_eq!(rt; deck.cards(), [1, 2].as_slice()),
+            Err(fault) => {
+                assert_eq!(rt; fault, DeckFault::Memory);
+                refused = refused.saturating_add(1);
+            }
+        }
+    }
+    assert!(rt; refused <= 1);
+}
+
+#[test]
+fn of_read_times(rt: HostRuntime) {
+    let mut refused = 0u8;
+    for _ in 0..2 {
+        match read_times(rt.alloc(), TIMES.as_bytes()) {
+            Ok(times) => assert_eq!(rt; times.entry(Op::Read).wait_max, 3125),
+            Err(fault) => {
+                assert_eq!(rt; fault, NoteFault::Memory);
+                refused = refused.saturating_add(1);
+            }
+        }
+    }
+    assert!(rt; refused <= 1);
+}
+
+#[test]
+fn of_a_times_fault(rt: HostRuntime) {
+    let mut refused = 0u8;
+    for _ in 0..2 {
+        match read_times(rt.alloc(), b"[op]\n36 = {}\n") {
+            Err(NoteFault::Unknown(key)) => assert_eq!(rt; key.as_bytes(), b"op.36".as_slice()),
+            other => {
+                assert!(rt; other == Err(NoteFault::Memory));
+                refused = refused.saturating_add(1);
+            }
+        }
+    }
+    assert!(rt; refused <= 1);
+}
+
+#[test]
+fn of_run_joined(rt: HostRuntime) {
+    let Ok(text) = joined(rt.alloc(), TWO_WORDS, TIMES, NOTES) else {
+        return;
+    };
+    let mut refused = 0u8;
+    for _ in 0..2 {
+        let mut out = Writing::new(Line::new());
+        let mut err = Writing::new(Line::new());
+        let mut input = Reading::new(text.as_bytes());
+        match run_joined(rt.alloc(), &mut input, &mut out, &mut err) {
+            Status::Done => {
+                assert!(rt; out.writer.is("bound 56\n"));
+                assert!(rt; err.writer.is(""));
+            }
+            status => {
+                assert_eq!(rt; status, Status::Failed);
+                assert!(rt; out.writer.is(""));
+                let line = &err.writer;
+                assert!(rt;
+                    line.is("fault 2 deck memory\n")
+                        || line.is("fault 12 times memory\n")
+                        || line.is("fault 31 memory\n")
+                        || line.is("fault 53 memory\n")
+                );
+                refused = refused.saturating_add(1);
+            }
+        }
+    }
+    assert!(rt; refused <= 1);
+}
