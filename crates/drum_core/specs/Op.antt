@@ -1,9 +1,15 @@
 -- The numbers of the operations, and what each wants of its data address (IBM 650 Manual of Operation).
-use Rattle.std.specs.Prelude.{ℕ, ◌+◌}
+use Rattle.std.specs.Prelude.{ℕ, ◌+◌, ◌==◌, List, [], ◌∷◌, Option, find}
 use Rattle.drum_core.specs.declared.op.Op.{Op}
 use Rattle.drum_core.specs.declared.op.Op.TheVariants.{NoOperation, Stop, Add, ResetAdd, Divide, DivideReset, Multiply, Store, Shift, Branch, LoadDistributor, Read, Punch, BranchOnDigit}
 use Rattle.drum_core.specs.declared.op.Operand.{Operand}
 use Rattle.drum_core.specs.declared.op.Operand.TheVariants.{Any, Drum, Unused}
+use Rattle.drum_core.specs.declared.op.amount.Amount.TheVariants.{Upper, MinusUpper, Lower, MinusLower, AbsoluteLower, MinusAbsoluteLower}
+use Rattle.drum_core.specs.declared.op.branch.Branch.TheVariants.{UpperNonZero, NonZero, Minus, Overflow}
+use Rattle.drum_core.specs.declared.op.position.Position.TheVariants.{First, Second, Third, Fourth, Fifth, Sixth, Seventh, Eighth, Ninth, Tenth}
+use Rattle.drum_core.specs.declared.op.shift.Shift.TheVariants.{Right, Round, Left}
+use Rattle.drum_core.specs.declared.op.store.Store.TheVariants as stored
+use Rattle.drum_core.specs.declared.op.store.Store.TheVariants.{DataAddress, InstructionAddress, Distributor}
 use Rattle.drum_core.specs.Amount as amount
 use Rattle.drum_core.specs.Store as store
 use Rattle.drum_core.specs.Shift as shift
@@ -43,3 +49,20 @@ operand_of Stop = Unused
 operand_of (Shift s) = Unused
 operand_of (Branch b) = Unused
 operand_of (BranchOnDigit p) = Unused
+
+-- the operations of the profile, in ascending order of their numbers
+abbrev pub ops : List Op
+ops =
+    NoOperation ∷ Stop
+    ∷ Add Upper ∷ Add MinusUpper ∷ Divide ∷ Add Lower ∷ Add MinusLower ∷ Add AbsoluteLower ∷ Add MinusAbsoluteLower ∷ Multiply
+    ∷ Store stored.Lower ∷ Store stored.Upper ∷ Store DataAddress ∷ Store InstructionAddress ∷ Store Distributor
+    ∷ Shift Right ∷ Shift Round ∷ Shift Left
+    ∷ Branch UpperNonZero ∷ Branch NonZero ∷ Branch Minus ∷ Branch Overflow
+    ∷ ResetAdd Upper ∷ ResetAdd MinusUpper ∷ DivideReset ∷ ResetAdd Lower ∷ ResetAdd MinusLower ∷ ResetAdd AbsoluteLower ∷ ResetAdd MinusAbsoluteLower
+    ∷ LoadDistributor ∷ Read ∷ Punch
+    ∷ BranchOnDigit Tenth ∷ BranchOnDigit First ∷ BranchOnDigit Second ∷ BranchOnDigit Third ∷ BranchOnDigit Fourth
+    ∷ BranchOnDigit Fifth ∷ BranchOnDigit Sixth ∷ BranchOnDigit Seventh ∷ BranchOnDigit Eighth ∷ BranchOnDigit Ninth ∷ []
+
+-- the operation of a number, if the profile has one
+abbrev pub op_of : ℕ → Option Op
+op_of n = find (λ op. number_of op == n) ops

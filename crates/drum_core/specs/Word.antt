@@ -1,8 +1,24 @@
 -- A word of the drum: a sign and ten decimal digits (IBM 650 Manual of Operation).
-use Rattle.std.specs.Prelude.{ℕ, List, ◌∷◌, if◌then◌else◌}
+use Rattle.std.specs.Prelude.{ℕ, ◌%◌, ◌^◌, ◌<◌, Bool, List, ◌∷◌, if◌then◌else◌, ℤ, pos, neg_ℤ}
+use Rattle.std.proofs.Common.{arith}
 use Rattle.drum_core.specs.declared.word.Word.{Word}
 use Rattle.drum_core.specs.Numeral.{digits_of}
 
 -- the text of a word: `+` or `-`, and its ten digits
 abbrev pub spelling : Word → List ℕ
 spelling word = (if word.minus then 45 else 43) ∷ digits_of 10 word.digits
+
+pub ten_digits : (n : ℕ) → n % 10 ^ 10 < 10 ^ 10
+ten_digits n = omega arith
+
+-- the word of this sign and the last ten digits of n
+abbrev pub word : Bool → ℕ → Word
+word minus n = record { minus = minus; digits = n % 10 ^ 10; ten = ten_digits n }
+
+-- the number of this sign and this magnitude; zero has no sign
+abbrev pub signed : Bool → ℕ → ℤ
+signed minus magnitude = if minus then neg_ℤ (pos magnitude) else pos magnitude
+
+-- the number of a word; minus zero is 0
+abbrev pub number_in : Word → ℤ
+number_in word = signed word.minus word.digits

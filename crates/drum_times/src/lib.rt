@@ -5,10 +5,14 @@ mod document;
 pub mod entry;
 pub mod fault;
 pub mod key_path;
+pub mod notes;
 pub mod times;
 
 pub use entry::Entry;
 pub use fault::NoteFault;
 pub use key_path::KeyPath;
+pub use notes::mark::Mark;
+pub use notes::pattern::Pattern;
+pub use notes::programmed::Programmed;
 pub use times::Times;
 pub use times::read::read_times;

@@ -1,0 +1,58 @@
+-- Which instructions the notes allow at a location (this project's choice).
+use Rattle.std.specs.Prelude.{◌≡◌, ℕ, suc, ◌-◌, ◌≤◌, ◌==◌, if◌then◌else◌, Bool, List, [], ◌∷◌, ◌++◌, map, flat_map, Option, Some, None, is_some}
+use Rattle.std.specs.List.{range_with_len}
+use Rattle.drum_core.specs.declared.instruction.Instruction.{Instruction}
+use Rattle.drum_core.specs.declared.word.Word.{Word}
+use Rattle.drum_core.specs.Instruction.{instruction, instruction_of}
+use Rattle.drum_times.specs.declared.notes.mark.Mark.{Mark}
+use Rattle.drum_times.specs.declared.notes.pattern.Pattern.{Pattern}
+use Rattle.drum_times.specs.declared.notes.programmed.Programmed.{Programmed}
+
+-- a list of the notes: what may stand at a location whose word the program alters
+pub record Listed : Type 0 where
+  pub location : ℕ
+  pub patterns : List Pattern
+
+-- what notes say
+pub record Notes : Type 0 where
+  pub programmed : Programmed
+  pub load_cards : Bool
+  pub marks : List Mark
+  pub lists : List Listed
+
+-- the instruction has the pattern's operation and I, and its D is within the pattern's range
+pub record Matches (pattern : Pattern) (ins : Instruction) : Type 0 where
+  pub same_op : ins.op ≡ pattern.op
+  pub from : pattern.d_from ≤ ins.d
+  pub to : ins.d ≤ pattern.d_to
+  pub same_i : ins.i ≡ pattern.i
+
+-- the instructions that match a pattern, D ascending
+abbrev pub matching : Pattern → List Instruction
+matching pattern = map (λ d. instruction pattern.op d pattern.i) (range_with_len pattern.d_from (suc pattern.d_to - pattern.d_from))
+
+-- the patterns of a location, where it is listed
+abbrev pub patterns_in : List Listed → ℕ → Option (List Pattern)
+patterns_in [] location = None
+patterns_in (list ∷ lists) location = if list.location == location then Some list.patterns else patterns_in lists location
+
+abbrev pub patterns_of : Notes → ℕ → Option (List Pattern)
+patterns_of notes location = patterns_in notes.lists location
+
+abbrev pub is_listed : Notes → ℕ → Bool
+is_listed notes location = is_some (patterns_of notes location)
+
+-- the instruction that a deck loads into a location, as a list of one or none
+abbrev pub loaded : Option Word → List Instruction
+loaded None = []
+loaded (Some word) = instruction_of word ∷ []
+
+-- the instructions of the patterns, in order
+abbrev pub listed : Option (List Pattern) → List Instruction
+listed None = []
+listed (Some patterns) = flat_map matching patterns
+
+-- What is allowed at a location: the deck's instruction, if the deck loads it, and then, pattern by pattern,
+-- every instruction that matches. `loads` says which word the deck loads into a location.
+abbrev pub allowed : (ℕ → Option Word) → Notes → ℕ → List Instruction
+allowed loads notes location = loaded (loads location) ++ listed (patterns_of notes location)
