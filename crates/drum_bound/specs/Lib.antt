@@ -1,0 +1,6 @@
+pub mod Accepted
+pub mod Executed
+pub mod Hops
+pub mod Table
+pub mod Walk
+pub mod Worst

@@ -1,0 +1,101 @@
+-- Walks of the flow graph, with their times (this project's choice).
+use Rattle.std.specs.Prelude.{◌≡◌, ℕ, ◌+◌, ◌-◌, ◌<◌, ◌≤◌, List, [], ◌∷◌, Option, Some, None, Contains}
+use Rattle.drum_core.specs.declared.instruction.Instruction.{Instruction}
+use Rattle.drum_core.specs.declared.op.Op.{Op}
+use Rattle.drum_core.specs.declared.op.Op.TheVariants.{NoOperation, Stop, Add, ResetAdd, Divide, DivideReset, Multiply, Store, Shift, Branch, LoadDistributor, Read, Punch, BranchOnDigit}
+use Rattle.drum_core.specs.declared.word.Word.{Word}
+use Rattle.drum_core.specs.Op.{op_of}
+use Rattle.drum_times.specs.declared.entry.Entry.{Entry}
+use Rattle.drum_times.specs.Allowed.{Notes}
+use Rattle.drum_machine.specs.Counts.{after_pass, no_counts, AreWithin}
+use Rattle.drum_machine.specs.Effect.{places}
+use Rattle.drum_machine.specs.Timing.{ready, ended, IsWait}
+use Rattle.drum_machine.specs.Ways.{Way, early, to, late}
+use Rattle.drum_bound.specs.Hops.{Hop, hops}
+
+-- a hop of a walk: where it begins, its instruction and way, its units and its wait, and the word times used
+-- when it begins and when it ends
+pub record Taken : Type 0 where
+  pub place : ℕ
+  pub ins : Instruction
+  pub way : Way
+  pub units : ℕ
+  pub wait : ℕ
+  pub begun : ℕ
+  pub ended : ℕ
+
+-- the units that an operation may have, whatever the data: for 14, 19 and 64 up to 90, for a shift its places
+abbrev pub MayHaveUnits : Op → ℕ → ℕ → Type 0
+MayHaveUnits Divide d units = units ≤ 90
+MayHaveUnits DivideReset d units = units ≤ 90
+MayHaveUnits Multiply d units = units ≤ 90
+MayHaveUnits (Shift s) d units = units ≡ places s d
+MayHaveUnits NoOperation d units = units ≡ 0
+MayHaveUnits Stop d units = units ≡ 0
+MayHaveUnits (Add a) d units = units ≡ 0
+MayHaveUnits (ResetAdd a) d units = units ≡ 0
+MayHaveUnits (Store s) d units = units ≡ 0
+MayHaveUnits (Branch b) d units = units ≡ 0
+MayHaveUnits LoadDistributor d units = units ≡ 0
+MayHaveUnits Read d units = units ≡ 0
+MayHaveUnits Punch d units = units ≡ 0
+MayHaveUnits (BranchOnDigit p) d units = units ≡ 0
+
+-- the clock at which a hop ends that begins its search at another: x for Early, else e
+abbrev pub end_of : Entry → Op → ℕ → Taken → ℕ → ℕ
+end_of entry op place hop clock =
+    elim hop.way [
+      | early ↦ ready entry place clock
+      | to next ↦ ended entry op hop.ins.d place hop.units hop.wait clock
+      | late ↦ ended entry op hop.ins.d place hop.units hop.wait clock
+    ]
+
+-- the units, the wait and the end of a hop are right, from this start angle
+abbrev pub IsTimed : (Op → Entry) → ℕ → Taken → Option Op → Type 0
+IsTimed times start hop None = ⊥
+IsTimed times start hop (Some op) =
+    MayHaveUnits op hop.ins.d hop.units × IsWait op (times op) hop.wait
+    × (start + hop.ended ≡ end_of (times op) op hop.place hop (start + hop.begun))
+
+-- what a walk is in
+pub record Setting : Type 0 where
+  -- the word that the deck loads into a location
+  pub loads : ℕ → Option Word
+  pub notes : Notes
+  -- the timing table
+  pub times : Op → Entry
+  -- where the program starts
+  pub start : ℕ
+
+-- The hop is one of the place, and begins at this time.
+pub record IsHopAt (g : Setting) (angle place time : ℕ) (hop : Taken) : Type 0 where
+  pub here : hop.place ≡ place
+  pub allowed : Contains (hops g.loads g.notes place) (record { ins = hop.ins; way = hop.way })
+  pub begins : hop.begun ≡ time
+  pub timed : IsTimed g.times angle hop (op_of hop.ins.op)
+
+-- Hops one after the other, from a place, a time and counts on: each but the last is a To, and the next is a hop of
+-- its target. No mark is passed more often than it may be.
+abbrev pub IsWalkFrom : Setting → ℕ → ℕ → ℕ → List ℕ → List Taken → Type 0
+IsWalkFrom g angle place time counts [] = Unit {0}
+IsWalkFrom g angle place time counts (hop ∷ hops) =
+    IsHopAt g angle place time hop
+    × (elim hop.way [
+      | early ↦ hops ≡ []
+      | late ↦ hops ≡ []
+      | to next ↦ AreWithin g.notes.marks (after_pass g.notes.marks place next counts)
+          × IsWalkFrom g angle next hop.ended (after_pass g.notes.marks place next counts) hops
+    ])
+
+-- A walk: from a start angle, at the deck's start, with nothing used and no mark passed. It may be empty.
+pub record IsWalk (g : Setting) (angle : ℕ) (hops : List Taken) : Type 0 where
+  pub on_drum : angle < 50
+  pub from_start : IsWalkFrom g angle g.start 0 (no_counts g.notes.marks) hops
+
+-- the time of a walk that begins at a time: the end of its last hop
+abbrev pub time_from : ℕ → List Taken → ℕ
+time_from time [] = time
+time_from time (hop ∷ hops) = time_from hop.ended hops
+
+abbrev pub time_of : List Taken → ℕ
+time_of hops = time_from 0 hops

@@ -1,0 +1,17 @@
+//! How many word times a deck can take at most: the flow of a deck under its notes, when it is accepted, its
+//! walks, and the bound. Today its definitions (specs/), and the plain types that they speak of.
+#![tactic(auto)]
+
+pub mod cycle;
+pub mod hop;
+pub mod refusal;
+pub mod visit;
+pub mod way;
+pub mod worst;
+
+pub use cycle::Cycle;
+pub use hop::Hop;
+pub use refusal::Refusal;
+pub use visit::Visit;
+pub use way::Way;
+pub use worst::Worst;

@@ -1,0 +1,26 @@
+use crate::cycle::Cycle;
+use drum_core::Location;
+use thiserror::Error;
+
+/// Why a deck with its notes isn't accepted.
+#[derive(Debug, Drop, PartialEq, Eq, Error)]
+pub enum Refusal {
+    /// There is no memory for the analysis.
+    #[error("there is no memory for the analysis")]
+    Memory,
+    /// An operation that is allowed at an executed location, of these two digits, is outside the profile.
+    #[error("operation {1:02} at {0} is outside the profile")]
+    NotInProfile(Location, u8),
+    /// An executed location is neither loaded nor listed.
+    #[error("location {0} is neither loaded nor listed")]
+    NotLoaded(Location),
+    /// An instruction at an executed location alters an executed word that isn't listed.
+    #[error("{writer} alters {word}, which isn't listed")]
+    Alters { writer: Location, word: Location },
+    /// Edges free of marks lead round.
+    #[error("a cycle is free of marks")]
+    Unbounded(Cycle),
+    /// Executed words times counts is past 4,000,000.
+    #[error("{0} executed words times counts are too many")]
+    TooLarge(u128),
+}

@@ -1,0 +1,17 @@
+use crate::way::Way;
+use drum_core::{Instruction, Location};
+
+/// A hop of a walk, and when it was taken.
+#[derive(Clone, Copy, Debug, PartialEq, Eq)]
+pub struct Visit {
+    /// Where it begins.
+    pub place: Location,
+    /// The instruction there.
+    pub instruction: Instruction,
+    /// How it ends.
+    pub way: Way,
+    /// The word times used when it begins.
+    pub begun: u64,
+    /// The word times used when it ends.
+    pub ended: u64,
+}

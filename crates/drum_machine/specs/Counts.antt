@@ -1,0 +1,53 @@
+-- How often marks are passed, counted since the last pass of a mark that they stand inside of (this project's
+-- choice).
+use Rattle.std.specs.Prelude.{ℕ, zero, suc, ◌+◌, ◌*◌, ◌≤◌, ◌==◌, Bool, true, false, ◌&&◌, ◌||◌, if◌then◌else◌, List, [], ◌∷◌, map, length, slice_get, Option, Some, None}
+use Rattle.drum_times.specs.declared.notes.mark.Mark.{Mark}
+
+-- the mark stands on this edge
+abbrev pub is_on : Mark → ℕ → ℕ → Bool
+is_on mark from onto = mark.from.number == from && mark.onto.number == onto
+
+-- the place of the mark on an edge, if there is one, the first of these marks having this place
+abbrev pub mark_from : ℕ → List Mark → ℕ → ℕ → Option ℕ
+mark_from place [] from onto = None
+mark_from place (mark ∷ marks) from onto = if is_on mark from onto then Some place else mark_from (place + 1) marks from onto
+
+abbrev pub mark_on : List Mark → ℕ → ℕ → Option ℕ
+mark_on marks from onto = mark_from 0 marks from onto
+
+-- the mark that a mark stands inside of, by their places
+abbrev pub outer_of : Option Mark → Option ℕ
+outer_of None = None
+outer_of (Some mark) = mark.inside
+
+-- the mark at a place stands inside the one at another, directly or through so many marks at most
+abbrev pub is_inside_by : ℕ → List Mark → ℕ → ℕ → Bool
+is_inside_by zero marks inner outer = false
+is_inside_by (suc more) marks inner outer =
+    elim (outer_of (slice_get marks inner)) [ None ↦ false | Some next ↦ next == outer || is_inside_by more marks next outer ]
+
+-- directly or through others: a mark stands inside of earlier ones alone, so there are fewer than all
+abbrev pub is_inside : List Mark → ℕ → ℕ → Bool
+is_inside marks inner outer = is_inside_by (length marks) marks inner outer
+
+-- the counts after a pass of the mark at a place: one more of it, none of the marks inside it
+abbrev pub passed_from : List Mark → ℕ → ℕ → List ℕ → List ℕ
+passed_from marks passed place [] = []
+passed_from marks passed place (count ∷ counts) =
+    (if place == passed then count + 1 else (if is_inside marks place passed then 0 else count)) ∷ passed_from marks passed (place + 1) counts
+
+-- the counts after a step from one location to another
+abbrev pub after_pass : List Mark → ℕ → ℕ → List ℕ → List ℕ
+after_pass marks from onto counts =
+    elim (mark_on marks from onto) [ None ↦ counts | Some passed ↦ passed_from marks passed 0 counts ]
+
+-- nothing passed yet
+abbrev pub no_counts : List Mark → List ℕ
+no_counts marks = map (λ _. 0) marks
+
+-- no mark is passed more often than it may be
+abbrev pub AreWithin : List Mark → List ℕ → Type 0
+AreWithin [] [] = Unit {0}
+AreWithin (mark ∷ marks) (count ∷ counts) = (count ≤ mark.most) × AreWithin marks counts
+AreWithin [] (count ∷ counts) = ⊥
+AreWithin (mark ∷ marks) [] = ⊥

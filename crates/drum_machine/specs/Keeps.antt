@@ -1,0 +1,72 @@
+-- When a run keeps to the notes, and how it leaves them (this project's choice).
+use Rattle.std.specs.Prelude.{◌≡◌, ℕ, Bool, true, false, ◌&&◌, IsTrue, List, [], ◌∷◌, Option, Some, None, Contains}
+use Rattle.drum_core.specs.declared.op.Op.{Op}
+use Rattle.drum_core.specs.declared.word.Word.{Word}
+use Rattle.drum_core.specs.Op.{op_of, operand_of}
+use Rattle.drum_times.specs.declared.notes.programmed.Programmed as switches
+use Rattle.drum_times.specs.declared.notes.programmed.Programmed.TheVariants as switch
+use Rattle.drum_times.specs.Allowed.{Notes, is_listed, allowed}
+use Rattle.drum_machine.specs.declared.card.Card.{Card}
+use Rattle.drum_machine.specs.declared.left.Left.{Left}
+use Rattle.drum_machine.specs.declared.left.Left.TheVariants.{Unlisted, TooOften, Switch, LoadCard}
+use Rattle.drum_machine.specs.Counts.{after_pass, no_counts, AreWithin}
+use Rattle.drum_machine.specs.Run.{Turn}
+use Rattle.drum_machine.specs.Step.{State, Stepped, on, stopped, fetched, instruction_in, is_operand, is_read}
+
+-- the programmed switch is as declared
+abbrev pub IsAsDeclared : switches.Programmed → Bool → Type 0
+IsAsDeclared switch.Stop stops = stops ≡ true
+IsAsDeclared switch.Run stops = stops ≡ false
+IsAsDeclared switch.Any stops = Unit {0}
+
+-- the word fetched at a listed location is allowed there
+abbrev pub IsAllowed : (ℕ → Option Word) → Notes → State → Type 0
+IsAllowed loads notes s = IsTrue (is_listed notes s.sought) → Contains (allowed loads notes s.sought) (instruction_in s)
+
+-- the next card is a load card
+abbrev pub is_load : List Card → Bool
+is_load [] = false
+is_load (card ∷ cards) = card.load
+
+abbrev pub reads_with : State → Option Op → Bool
+reads_with s None = false
+reads_with s (Some op) = is_read op && is_operand (operand_of op) (instruction_in s).d
+
+-- the step reads a load card
+abbrev pub reads_load : State → Bool
+reads_load s = reads_with s (op_of (instruction_in s).op) && is_load s.contents.cards
+
+-- no load card is read where the notes have none
+abbrev pub IsWithoutLoad : Notes → State → Type 0
+IsWithoutLoad notes s = notes.load_cards ≡ false → reads_load s ≡ false
+
+-- the counts after a turn: a step that goes on may pass a mark
+abbrev pub counts_after : Notes → List ℕ → Turn → List ℕ
+counts_after notes counts turn =
+    elim turn.outcome [ on next ↦ after_pass notes.marks turn.origin.sought next.sought counts | stopped why moment ↦ counts ]
+
+-- the turn keeps to the notes, where marks were passed so often before it
+pub record IsKeptTurn (loads : ℕ → Option Word) (notes : Notes) (counts : List ℕ) (turn : Turn) : Type 0 where
+  pub listed : IsAllowed loads notes turn.origin
+  pub cards : IsWithoutLoad notes turn.origin
+  pub marks : AreWithin notes.marks (counts_after notes counts turn)
+
+abbrev pub AreKept : (ℕ → Option Word) → Notes → List ℕ → List Turn → Type 0
+AreKept loads notes counts [] = Unit {0}
+AreKept loads notes counts (turn ∷ turns) = IsKeptTurn loads notes counts turn × AreKept loads notes (counts_after notes counts turn) turns
+
+-- A run keeps to the notes.
+pub record IsKept (loads : ℕ → Option Word) (notes : Notes) (s : State) (turns : List Turn) : Type 0 where
+  pub declared : IsAsDeclared notes.programmed s.contents.programmed_stops
+  pub kept : AreKept loads notes (no_counts notes.marks) turns
+
+-- How a turn leaves the notes: the first cause in the order Unlisted, LoadCard, TooOften. (Switch is decided before
+-- any turn.)
+abbrev pub Leaves : (ℕ → Option Word) → Notes → List ℕ → Turn → Left → Type 0
+Leaves loads notes counts turn (Unlisted location w) =
+    (location.number ≡ turn.origin.sought) × (w ≡ fetched turn.origin) × ¬ IsAllowed loads notes turn.origin
+Leaves loads notes counts turn LoadCard = IsAllowed loads notes turn.origin × ¬ IsWithoutLoad notes turn.origin
+Leaves loads notes counts turn (TooOften from onto) =
+    IsAllowed loads notes turn.origin × IsWithoutLoad notes turn.origin × ¬ AreWithin notes.marks (counts_after notes counts turn)
+    × (from.number ≡ turn.origin.sought) × (elim turn.outcome [ on next ↦ onto.number ≡ next.sought | stopped why moment ↦ ⊥ ])
+Leaves loads notes counts turn Switch = ⊥

@@ -1,0 +1,9 @@
+pub mod Contents
+pub mod Counts
+pub mod Effect
+pub mod Keeps
+pub mod Run
+pub mod Step
+pub mod Timing
+pub mod Ways
+pub mod Writes

@@ -1,0 +1,40 @@
+-- Runs (IBM 650 Manual of Operation).
+use Rattle.std.specs.Prelude.{◌≡◌, ℕ, ◌<◌, List, [], ◌∷◌}
+use Rattle.drum_core.specs.declared.op.Op.{Op}
+use Rattle.drum_core.specs.Op.{op_of}
+use Rattle.drum_times.specs.declared.entry.Entry.{Entry}
+use Rattle.drum_machine.specs.Step.{State, Stepped, on, stopped, step, MayWait, instruction_in}
+
+-- a step of a run: where it begins, how long the card machine lets it wait, and where it ends
+pub record Turn : Type 0 where
+  pub origin : State
+  pub wait : ℕ
+  pub outcome : Stepped
+
+-- the turn is a step from this state
+pub record IsTurn (times : Op → Entry) (s : State) (turn : Turn) : Type 0 where
+  pub from_here : turn.origin ≡ s
+  pub may_wait : MayWait times (op_of (instruction_in s).op) turn.wait
+  pub stepped : turn.outcome ≡ step times s turn.wait
+
+-- A run from a state: each turn is a step from the state that the one before left, and only the last may stop.
+abbrev pub IsRun : (Op → Entry) → State → List Turn → Type 0
+IsRun times s [] = Unit {0}
+IsRun times s (turn ∷ turns) =
+    IsTurn times s turn × (elim turn.outcome [ on next ↦ IsRun times next turns | stopped why moment ↦ turns ≡ [] ])
+
+-- the word times used at the end of a step
+abbrev pub time_of : Stepped → ℕ
+time_of (on s) = s.time
+time_of (stopped why moment) = moment
+
+-- the word times used after a run that begins when so many are
+abbrev pub used_from : ℕ → List Turn → ℕ
+used_from time [] = time
+used_from time (turn ∷ turns) = used_from (time_of turn.outcome) turns
+
+-- a state in which a run may begin: at time 0, seeking this location
+pub record IsFirst (start_location : ℕ) (s : State) : Type 0 where
+  pub at_once : s.time ≡ 0
+  pub seeks : s.sought ≡ start_location
+  pub angle : s.start < 50

@@ -1,0 +1,105 @@
+-- A step of the machine, and when it ends (IBM 650 Manual of Operation; the moments are this project's choice).
+use Rattle.std.specs.Prelude.{◌≡◌, ℕ, ◌+◌, ◌-◌, Bool, true, false, not, ◌&&◌, if◌then◌else◌, nat_lt, List, [], ◌∷◌, Option, Some, None}
+use Rattle.drum_core.specs.declared.instruction.Instruction.{Instruction}
+use Rattle.drum_core.specs.declared.op.Op.{Op}
+use Rattle.drum_core.specs.declared.op.Op.TheVariants.{NoOperation, Stop, Add, ResetAdd, Divide, DivideReset, Multiply, Store, Shift, Branch, LoadDistributor, Read, Punch, BranchOnDigit}
+use Rattle.drum_core.specs.declared.op.Operand.{Operand}
+use Rattle.drum_core.specs.declared.op.Operand.TheVariants.{Any, Drum, Unused}
+use Rattle.drum_core.specs.declared.word.Word.{Word}
+use Rattle.drum_core.specs.Instruction.{instruction_of}
+use Rattle.drum_core.specs.Location.{is_location}
+use Rattle.drum_core.specs.Op.{op_of, operand_of}
+use Rattle.drum_times.specs.declared.entry.Entry.{Entry}
+use Rattle.drum_machine.specs.declared.card.Card.{Card}
+use Rattle.drum_machine.specs.declared.why.Why as whys
+use Rattle.drum_machine.specs.declared.why.Why.TheVariants as why
+use Rattle.drum_machine.specs.Contents.{Contents, word_at}
+use Rattle.drum_machine.specs.Effect.{Outcome, goes, stops, effect}
+use Rattle.drum_machine.specs.Timing.{found, ready, ended, units_of, IsWait}
+
+-- a machine at the beginning of a step
+pub record State : Type 0 where
+  pub contents : Contents
+  -- the number of the location that is sought
+  pub sought : ℕ
+  -- the word times used
+  pub time : ℕ
+  -- the drum's angle at time 0
+  pub start : ℕ
+
+-- A step goes on to a state, or stops, at a time.
+pub data Stepped : Type 0 where
+  on : State → Stepped
+  stopped : whys.Why → ℕ → Stepped
+
+-- the drum's clock at a time: its angle is what is left of it by 50
+abbrev pub clock_of : State → ℕ
+clock_of s = s.start + s.time
+
+-- the word that is fetched, and its instruction
+abbrev pub fetched : State → Word
+fetched s = word_at s.contents s.sought
+
+abbrev pub instruction_in : State → Instruction
+instruction_in s = instruction_of (fetched s)
+
+-- D is what the operation wants
+abbrev pub is_operand : Operand → ℕ → Bool
+is_operand Any d = is_location d
+is_operand Drum d = nat_lt d 2000
+is_operand Unused d = true
+
+abbrev pub is_read : Op → Bool
+is_read Read = true
+is_read NoOperation = false
+is_read Stop = false
+is_read (Add a) = false
+is_read (ResetAdd a) = false
+is_read Divide = false
+is_read DivideReset = false
+is_read Multiply = false
+is_read (Store s) = false
+is_read (Shift s) = false
+is_read (Branch b) = false
+is_read LoadDistributor = false
+is_read Punch = false
+is_read (BranchOnDigit p) = false
+
+abbrev pub has_cards : List Card → Bool
+has_cards [] = false
+has_cards (card ∷ cards) = true
+
+-- 70 with no card left
+abbrev pub lacks_card : Op → Contents → Bool
+lacks_card op c = is_read op && not (has_cards c.cards)
+
+-- what an outcome leaves at the clock at which the step ends
+abbrev pub leaves : State → ℕ → Outcome → Stepped
+leaves s clock (stops because) = stopped because (clock - s.start)
+leaves s clock (goes c next) =
+    if is_location next then on (record { contents = c; sought = next; time = clock - s.start; start = s.start })
+    else stopped why.Next (clock - s.start)
+
+-- The step of an operation, with a wait for the card machine: it stops at x if D isn't what the operation wants,
+-- or if there is no card; else it ends at e.
+abbrev pub step_of : (Op → Entry) → State → ℕ → Op → Stepped
+step_of times s wait op =
+    let ins = instruction_in s in
+    let entry = times op in
+    let x = ready entry s.sought (clock_of s) in
+    if not (is_operand (operand_of op) ins.d) then stopped why.Operand (x - s.start)
+    else (if lacks_card op s.contents then stopped why.Card (x - s.start)
+    else leaves s (ended entry op ins.d s.sought (units_of op ins.d s.contents) wait (clock_of s)) (effect s.contents op ins.d ins.i))
+
+-- a step, where the fetched operation may be outside the profile: then it stops at f
+abbrev pub step_with : (Op → Entry) → State → ℕ → Option Op → Stepped
+step_with times s wait None = stopped why.Operation (found s.sought (clock_of s) - s.start)
+step_with times s wait (Some op) = step_of times s wait op
+
+abbrev pub step : (Op → Entry) → State → ℕ → Stepped
+step times s wait = step_with times s wait (op_of (instruction_in s).op)
+
+-- the wait is one that the fetched operation may have
+abbrev pub MayWait : (Op → Entry) → Option Op → ℕ → Type 0
+MayWait times None wait = wait ≡ 0
+MayWait times (Some op) wait = IsWait op (times op) wait

@@ -1,0 +1,11 @@
+//! The timed machine: what a step does and when, what a run is, and when a run keeps to the notes. Today its
+//! definitions (specs/), and the plain types that they speak of.
+#![tactic(auto)]
+
+pub mod card;
+pub mod left;
+pub mod why;
+
+pub use card::Card;
+pub use left::Left;
+pub use why::Why;

@@ -1,0 +1,20 @@
+/// Why a machine stops, in the order in which a step looks for it.
+#[derive(Clone, Copy, Debug, PartialEq, Eq)]
+pub enum Why {
+    /// The operation isn't in the profile.
+    Operation,
+    /// D isn't a location that the operation takes.
+    Operand,
+    /// 70 found no card.
+    Card,
+    /// A quotient of more than ten digits.
+    Quotient,
+    /// A sum or a product overflowed, with the overflow switch at STOP.
+    Overflow,
+    /// 90 to 99 met neither 8 nor 9.
+    Digit,
+    /// 01, with the programmed switch at STOP.
+    Programmed,
+    /// The next location is none.
+    Next,
+}
