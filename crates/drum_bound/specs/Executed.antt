@@ -4,7 +4,7 @@ use Rattle.std.specs.Prelude.{◌≡◌, ℕ, zero, suc, ◌≤◌, ◌==◌, if
 use Rattle.std.specs.List.{list_any}
 use Rattle.drum_core.specs.declared.word.Word.{Word}
 use Rattle.drum_times.specs.Allowed.{Notes}
-use Rattle.drum_machine.specs.Ways.{Way, early, to, late}
+use Rattle.drum_machine.specs.Ways.{early, to, late}
 use Rattle.drum_bound.specs.Hops.{Hop, hops}
 
 -- where a hop goes on

@@ -1,8 +1,8 @@
 -- The table of worst times (this project's choice).
-use Rattle.std.specs.Prelude.{◌≡◌, ℕ, ◌+◌, ◌*◌, ◌%◌, ◌<◌, ◌≤◌, List, [], ◌∷◌, Contains}
+use Rattle.std.specs.Prelude.{◌≡◌, ℕ, ◌+◌, ◌*◌, ◌%◌, ◌≤◌, List, [], ◌∷◌, Contains}
 use Rattle.drum_times.specs.declared.notes.mark.Mark.{Mark}
 use Rattle.drum_machine.specs.Counts.{after_pass, no_counts}
-use Rattle.drum_machine.specs.Ways.{Way, early, to, late}
+use Rattle.drum_machine.specs.Ways.{early, to, late}
 use Rattle.drum_bound.specs.Walk.{Setting, Taken, IsWalk}
 
 -- counts as one number: the first mark's, and in units of its `most + 1` the number of the others'

@@ -1,8 +1,8 @@
 -- Walks of the flow graph, with their times (this project's choice).
-use Rattle.std.specs.Prelude.{◌≡◌, ℕ, ◌+◌, ◌-◌, ◌<◌, ◌≤◌, List, [], ◌∷◌, Option, Some, None, Contains}
+use Rattle.std.specs.Prelude.{◌≡◌, ℕ, ◌+◌, ◌<◌, ◌≤◌, List, [], ◌∷◌, Option, Some, None, Contains}
 use Rattle.drum_core.specs.declared.instruction.Instruction.{Instruction}
 use Rattle.drum_core.specs.declared.op.Op.{Op}
-use Rattle.drum_core.specs.declared.op.Op.TheVariants.{NoOperation, Stop, Add, ResetAdd, Divide, DivideReset, Multiply, Store, Shift, Branch, LoadDistributor, Read, Punch, BranchOnDigit}
+use Rattle.drum_core.specs.declared.op.Op.TheVariants.{Divide, DivideReset, Multiply, Shift}
 use Rattle.drum_core.specs.declared.word.Word.{Word}
 use Rattle.drum_core.specs.Op.{op_of}
 use Rattle.drum_times.specs.declared.entry.Entry.{Entry}
@@ -11,7 +11,7 @@ use Rattle.drum_machine.specs.Counts.{after_pass, no_counts, AreWithin}
 use Rattle.drum_machine.specs.Effect.{places}
 use Rattle.drum_machine.specs.Timing.{ready, ended, IsWait}
 use Rattle.drum_machine.specs.Ways.{Way, early, to, late}
-use Rattle.drum_bound.specs.Hops.{Hop, hops}
+use Rattle.drum_bound.specs.Hops.{hops}
 
 -- a hop of a walk: where it begins, its instruction and way, its units and its wait, and the word times used
 -- when it begins and when it ends
@@ -30,16 +30,7 @@ MayHaveUnits Divide d units = units ≤ 90
 MayHaveUnits DivideReset d units = units ≤ 90
 MayHaveUnits Multiply d units = units ≤ 90
 MayHaveUnits (Shift s) d units = units ≡ places s d
-MayHaveUnits NoOperation d units = units ≡ 0
-MayHaveUnits Stop d units = units ≡ 0
-MayHaveUnits (Add a) d units = units ≡ 0
-MayHaveUnits (ResetAdd a) d units = units ≡ 0
-MayHaveUnits (Store s) d units = units ≡ 0
-MayHaveUnits (Branch b) d units = units ≡ 0
-MayHaveUnits LoadDistributor d units = units ≡ 0
-MayHaveUnits Read d units = units ≡ 0
-MayHaveUnits Punch d units = units ≡ 0
-MayHaveUnits (BranchOnDigit p) d units = units ≡ 0
+MayHaveUnits _ d units = units ≡ 0
 
 -- the clock at which a hop ends that begins its search at another: x for Early, else e
 abbrev pub end_of : Entry → Op → ℕ → Taken → ℕ → ℕ

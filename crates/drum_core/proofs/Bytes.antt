@@ -1,6 +1,6 @@
 -- Bytes that go out in several writes.
-use Rattle.std.proofs.Common.{◌≡◌, ℕ, ◌+◌, ◌-◌, ◌≤◌, List, ◌++◌, length, take, drop, sym, ◌∙◌, ap, refl, arith, append_assoc, Option, Some, None}
-use Rattle.std.proofs.lemmas.List.{take-take, take-append-drop, drop-take, length-drop}
+use Rattle.std.proofs.Common.{◌≡◌, ℕ, ◌+◌, ◌-◌, ◌≤◌, List, ◌++◌, length, take, drop, sym, ◌∙◌, ap, arith, append_assoc, Option, Some, None}
+use Rattle.std.proofs.lemmas.List.{take-take, take-append-drop, drop-take}
 use Rattle.std.specs.Io.KnownBytes.{Appends}
 
 -- a front is a shorter front and what follows it

@@ -1,10 +1,9 @@
 -- What each wait computes is the first moment of its property.
-use Rattle.std.proofs.Common.{◌≡◌, ℕ, ◌+◌, ◌-◌, ◌%◌, ◌<◌, ◌≤◌, refl, arith, eq-eqb}
+use Rattle.std.proofs.Common.{◌≡◌, ℕ, ◌+◌, ◌-◌, ◌%◌, ◌<◌, refl, arith, eq-eqb}
 use borrow.Author.Tests.{eqb-true}
-use Rattle.drum_core.specs.declared.rotation.parity.Parity.{Parity}
 use Rattle.drum_core.specs.declared.rotation.parity.Parity.TheVariants.{Any, Even, Odd}
 use Rattle.drum_core.specs.Available.{is_angle, has_parity}
-use Rattle.drum_core.specs.Moment.{IsFirst, first}
+use Rattle.drum_core.specs.Moment.{first}
 use Rattle.drum_core.specs.Recurs.{first_is_first, first_is_one}
 use Rattle.drum_core.specs.Waits.{angle_recurs, parity_recurs}
 

@@ -1,12 +1,12 @@
 -- Each wait is for a property that recurs.
-use Rattle.std.proofs.Common.{◌≡◌, ℕ, ◌+◌, ◌-◌, ◌%◌, ◌<◌, ◌≤◌, refl, arith, eq-eqb}
+use Rattle.std.proofs.Common.{◌≡◌, ℕ, ◌+◌, ◌-◌, ◌%◌, ◌<◌, refl, arith, eq-eqb}
 use Rattle.drum_core.specs.declared.location.Kind.{Kind}
 use Rattle.drum_core.specs.declared.location.Kind.TheVariants.{Drum, Switches, Distributor, Lower, Upper}
 use Rattle.drum_core.specs.declared.rotation.parity.Parity.{Parity}
 use Rattle.drum_core.specs.declared.rotation.parity.Parity.TheVariants.{Any, Even, Odd}
 use Rattle.drum_core.specs.Available.{is_angle, has_parity, is_had, is_available}
 use Rattle.drum_core.specs.Kind.{kind_of}
-use Rattle.drum_core.specs.Recurs.{Shows, Recurs}
+use Rattle.drum_core.specs.Recurs.{Recurs}
 use Rattle.drum_core.specs.Span.{parity_span, kind_span}
 
 pub angle_recurs : (angle : ℕ) → angle < 50 → Recurs (is_angle angle) 49

@@ -11,7 +11,7 @@ use Rattle.drum_machine.specs.declared.left.Left.{Left}
 use Rattle.drum_machine.specs.declared.left.Left.TheVariants.{Unlisted, TooOften, Switch, LoadCard}
 use Rattle.drum_machine.specs.Counts.{after_pass, no_counts, AreWithin}
 use Rattle.drum_machine.specs.Run.{Turn}
-use Rattle.drum_machine.specs.Step.{State, Stepped, on, stopped, fetched, instruction_in, is_operand, is_read}
+use Rattle.drum_machine.specs.Step.{State, on, stopped, fetched, instruction_in, is_operand, is_read}
 
 -- the programmed switch is as declared
 abbrev pub IsAsDeclared : switches.Programmed → Bool → Type 0

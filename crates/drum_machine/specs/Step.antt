@@ -2,7 +2,7 @@
 use Rattle.std.specs.Prelude.{◌≡◌, ℕ, ◌+◌, ◌-◌, Bool, true, false, not, ◌&&◌, if◌then◌else◌, nat_lt, List, [], ◌∷◌, Option, Some, None}
 use Rattle.drum_core.specs.declared.instruction.Instruction.{Instruction}
 use Rattle.drum_core.specs.declared.op.Op.{Op}
-use Rattle.drum_core.specs.declared.op.Op.TheVariants.{NoOperation, Stop, Add, ResetAdd, Divide, DivideReset, Multiply, Store, Shift, Branch, LoadDistributor, Read, Punch, BranchOnDigit}
+use Rattle.drum_core.specs.declared.op.Op.TheVariants.{Read}
 use Rattle.drum_core.specs.declared.op.Operand.{Operand}
 use Rattle.drum_core.specs.declared.op.Operand.TheVariants.{Any, Drum, Unused}
 use Rattle.drum_core.specs.declared.word.Word.{Word}
@@ -51,19 +51,7 @@ is_operand Unused d = true
 
 abbrev pub is_read : Op → Bool
 is_read Read = true
-is_read NoOperation = false
-is_read Stop = false
-is_read (Add a) = false
-is_read (ResetAdd a) = false
-is_read Divide = false
-is_read DivideReset = false
-is_read Multiply = false
-is_read (Store s) = false
-is_read (Shift s) = false
-is_read (Branch b) = false
-is_read LoadDistributor = false
-is_read Punch = false
-is_read (BranchOnDigit p) = false
+is_read _ = false
 
 abbrev pub has_cards : List Card → Bool
 has_cards [] = false

@@ -1,9 +1,9 @@
 -- Which drum words an instruction writes (IBM 650 Manual of Operation).
-use Rattle.std.specs.Prelude.{ℕ, ◌+◌, Bool, nat_lt, if◌then◌else◌, List, [], ◌∷◌, Option, Some, None}
+use Rattle.std.specs.Prelude.{ℕ, ◌+◌, nat_lt, if◌then◌else◌, List, [], ◌∷◌, Option, Some, None}
 use Rattle.std.specs.List.{range_with_len}
 use Rattle.drum_core.specs.declared.instruction.Instruction.{Instruction}
 use Rattle.drum_core.specs.declared.op.Op.{Op}
-use Rattle.drum_core.specs.declared.op.Op.TheVariants.{NoOperation, Stop, Add, ResetAdd, Divide, DivideReset, Multiply, Store, Shift, Branch, LoadDistributor, Read, Punch, BranchOnDigit}
+use Rattle.drum_core.specs.declared.op.Op.TheVariants.{Store, Read}
 use Rattle.drum_core.specs.Op.{op_of}
 use Rattle.drum_machine.specs.Effect.{band}
 
@@ -11,18 +11,7 @@ use Rattle.drum_machine.specs.Effect.{band}
 abbrev pub written_by : Op → ℕ → List ℕ
 written_by (Store s) d = d ∷ []
 written_by Read d = range_with_len (band d + 1) 10
-written_by NoOperation d = []
-written_by Stop d = []
-written_by (Add a) d = []
-written_by (ResetAdd a) d = []
-written_by Divide d = []
-written_by DivideReset d = []
-written_by Multiply d = []
-written_by (Shift s) d = []
-written_by (Branch b) d = []
-written_by LoadDistributor d = []
-written_by Punch d = []
-written_by (BranchOnDigit p) d = []
+written_by _ d = []
 
 abbrev pub writes_with : Option Op → ℕ → List ℕ
 writes_with None d = []

@@ -1,4 +1,4 @@
-use Rattle.std.proofs.Common.{◌<◌, ◌-◌, ◌^◌, arith}
+use Rattle.std.proofs.Common.{◌-◌, arith}
 use Rattle.std.proofs.Math.Nat.{one-le-pow}
 use Rattle.drum_core.proofs.word.Word.position.Goals as goal
 

@@ -1,8 +1,6 @@
-use Rattle.std.proofs.Common.{◌≡◌, suc, ◌+◌, ◌-◌, ◌<◌, List, ◌∷◌, length, take, drop, ap, ◌∙◌, sym, arith, add-one}
-use Rattle.std.proofs.lemmas.List.{take_all, length-drop}
+use Rattle.std.proofs.Common.{◌<◌, length, ap, arith}
 use Rattle.std.proofs.lemmas.Bool.Decides.{nat_tests}
-use Rattle.drum_core.specs.Lines.{lines_of}
-use Rattle.drum_core.proofs.LineLemmas.{lines_of-at, lines_of-last, lines_of-behind}
+use Rattle.drum_core.proofs.LineLemmas.{lines_of-last, lines_of-behind}
 use Rattle.drum_core.proofs.deck.lines.LinesIterator.next.Goals as goal
 
 pub returns-in-Some-clause-steps : goal.returns-in-Some-clause-steps

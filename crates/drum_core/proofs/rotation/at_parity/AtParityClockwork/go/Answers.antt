@@ -1,4 +1,3 @@
-use Rattle.std.proofs.Common.{ap, sym, ◌∙◌}
 use Rattle.drum_core.proofs.Firsts.{first_at_once, first_of_even, first_of_odd}
 use Rattle.drum_core.proofs.rotation.at_parity.AtParityClockwork.go.Goals as goal
 
