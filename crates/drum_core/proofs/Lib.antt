@@ -3,3 +3,4 @@ pub mod Firsts
 pub mod LineLemmas
 pub mod Numerals
 pub mod Words
+mod Checks

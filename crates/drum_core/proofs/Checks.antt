@@ -1,0 +1,53 @@
+-- Definitions evaluated, with answers that were worked out apart from them.
+use Rattle.std.proofs.Common.{◌≡◌, ℕ, zero, suc, ◌+◌, ◌<◌, ◌≤◌, true, false, List, [], ◌∷◌, length, refl, arith}
+use Rattle.std.specs.Prelude.{codes}
+use Rattle.drum_core.specs.declared.op.Op.{Op}
+use Rattle.drum_core.specs.DeckText.{Line, comment, start, card, IsLine, given_from, starts, cards_from}
+use Rattle.drum_core.specs.Instruction.{instruction_of}
+use Rattle.drum_core.specs.Kind.{kind_of}
+use Rattle.drum_core.specs.Lines.{lines_of}
+use Rattle.drum_core.specs.Op.{number_of, op_of, ops}
+use Rattle.drum_core.specs.Word.{word, spelling}
+use Rattle.drum_core.specs.declared.op.Op.TheVariants.{Read}
+use Rattle.std.specs.Prelude.{Some, None, map}
+
+-- the instruction of -7019990100 reads a card into the band of 1999 and goes on at 0100
+minus_seventy : ((instruction_of (word true 7019990100)).op ≡ 70) × ((instruction_of (word true 7019990100)).d ≡ 1999) × ((instruction_of (word true 7019990100)).i ≡ 100)
+minus_seventy = (refl, refl, refl)
+
+seventy_reads : (op_of 70 ≡ Some Read) × (op_of 36 ≡ None) × (op_of 84 ≡ None)
+seventy_reads = (refl, refl, refl)
+
+-- the 42 operations, by their numbers
+in_order : map number_of ops
+    ≡ 0 ∷ 1 ∷ 10 ∷ 11 ∷ 14 ∷ 15 ∷ 16 ∷ 17 ∷ 18 ∷ 19 ∷ 20 ∷ 21 ∷ 22 ∷ 23 ∷ 24 ∷ 30 ∷ 31 ∷ 35 ∷ 44 ∷ 45 ∷ 46 ∷ 47 ∷ 60 ∷ 61 ∷ 64 ∷ 65 ∷ 66 ∷ 67 ∷ 68 ∷ 69
+    ∷ 70 ∷ 71 ∷ 90 ∷ 91 ∷ 92 ∷ 93 ∷ 94 ∷ 95 ∷ 96 ∷ 97 ∷ 98 ∷ 99 ∷ []
+in_order = refl
+
+-- a word's text
+text_of_a_word : spelling (word true 7019990100) ≡ codes "-7019990100"
+text_of_a_word = refl
+
+-- the lines of a deck whose last line has no line feed, and of one that has an empty line
+two_lines : lines_of (codes "0100 +6901030106\nSTART 0100") ≡ codes "0100 +6901030106" ∷ codes "START 0100" ∷ []
+two_lines = refl
+
+line_feeds : lines_of (10 ∷ 42 ∷ 10 ∷ []) ≡ [] ∷ (42 ∷ []) ∷ []
+line_feeds = refl
+
+-- what they say, and what they give
+a_card : IsLine (codes "0100 +6901030106") (card 100 (word false 6901030106 ∷ []))
+a_card = (omega arith, omega arith, omega arith, refl)
+
+a_start : IsLine (codes "START 0100") (start 100)
+a_start = (omega arith, refl)
+
+the_image : given_from 1 (card 100 (word false 6901030106 ∷ []) ∷ start 100 ∷ [])
+    ≡ record { location = 100; word = word false 6901030106; line = 1 } ∷ []
+the_image = refl
+
+the_start : starts (card 100 (word false 6901030106 ∷ []) ∷ start 100 ∷ []) ≡ 100 ∷ []
+the_start = refl
+
+the_cards : cards_from 1 (comment ∷ card 100 (word false 6901030106 ∷ []) ∷ start 100 ∷ []) ≡ 2 ∷ []
+the_cards = refl

@@ -1,0 +1,4 @@
+mod Checks
+mod Effects
+mod Marks
+mod Setting
