@@ -1,7 +1,7 @@
 -- Definitions evaluated: a deck of two words, one of which loads the distributor and the other stops. Its worst walk
 -- takes 56 word times, from start angle 1.
-use Rattle.std.proofs.Common.{◌≡◌, ℕ, ◌+◌, ◌<◌, ◌≤◌, Bool, true, false, List, [], ◌∷◌, refl, arith, Option, Some, None}
-use Rattle.std.specs.Prelude.{◌==◌, if◌then◌else◌, Contains}
+use Rattle.std.proofs.Common.{◌≡◌, ℕ, ◌≤◌, false, List, [], ◌∷◌, refl, arith, Option, Some, None}
+use Rattle.std.specs.Prelude.{◌==◌, if◌then◌else◌}
 use Rattle.drum_core.specs.declared.op.Op.{Op}
 use Rattle.drum_core.specs.declared.rotation.parity.Parity.TheVariants.{Any}
 use Rattle.drum_core.specs.declared.word.Word.{Word}
@@ -11,9 +11,9 @@ use Rattle.drum_core.specs.Word.{word}
 use Rattle.drum_times.specs.declared.entry.Entry.{Entry}
 use Rattle.drum_times.specs.declared.notes.programmed.Programmed.TheVariants as switch
 use Rattle.drum_times.specs.Allowed.{Notes}
-use Rattle.drum_machine.specs.Ways.{Way, early, to, late}
-use Rattle.drum_bound.specs.Hops.{Hop, hops}
-use Rattle.drum_bound.specs.Executed.{found_after, IsOrder, successors}
+use Rattle.drum_machine.specs.Ways.{to, late}
+use Rattle.drum_bound.specs.Hops.{hops}
+use Rattle.drum_bound.specs.Executed.{IsOrder}
 use Rattle.drum_bound.specs.Walk.{Setting, Taken, IsWalk, time_of}
 
 abbrev loads : ℕ → Option Word

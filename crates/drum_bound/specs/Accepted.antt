@@ -50,13 +50,12 @@ pub record IsAccepted (loads : ℕ → Option Word) (notes : Notes) (start : ℕ
   pub bounded : (first : ℕ) (others : List ℕ) → IsExecuted loads notes start first → ¬ IsClosed loads notes (first ∷ others)
   pub small : length executed * counts_of notes.marks ≤ 4000000
 
--- A member of the list has what is wanted of it.
+-- The location is loaded or listed, and each operation there is in the profile.
 abbrev pub IsGood : (ℕ → Option Word) → Notes → ℕ → Type 0
 IsGood loads notes place = IsThere loads notes place × IsInProfile loads notes place
 
--- The member at this place of the list is the first, in the order of discovery, that isn't loaded or listed, or has
--- an operation outside the profile: those before it have all that is wanted.
-pub record IsFirstBad (loads : ℕ → Option Word) (notes : Notes) (start : ℕ) (place : ℕ) : Type 0 where
+-- Discovery meets the location, and all that it met before are good.
+pub record IsMet (loads : ℕ → Option Word) (notes : Notes) (start : ℕ) (place : ℕ) : Type 0 where
   pub turns : ℕ
   pub member : slice_get (found_after loads notes start turns) turns ≡ Some place
   pub before : (k earlier : ℕ) → k < turns → slice_get (found_after loads notes start turns) k ≡ Some earlier → IsGood loads notes earlier
@@ -71,14 +70,15 @@ IsFirstIn list Property ins =
 abbrev pub Alters : (ℕ → Option Word) → Notes → ℕ → Instruction → Type 0
 Alters loads notes start ins = (at : ℕ) × Contains (writes ins) at × IsFixed loads notes start at
 
--- NotLoaded: the first bad location is neither loaded nor listed.
+-- NotLoaded: the first location in the order of discovery that isn't good is neither loaded nor listed.
 abbrev pub IsNotLoaded : (ℕ → Option Word) → Notes → ℕ → ℕ → Type 0
-IsNotLoaded loads notes start place = IsFirstBad loads notes start place × ¬ IsThere loads notes place
+IsNotLoaded loads notes start place = IsMet loads notes start place × ¬ IsThere loads notes place
 
--- NotInProfile: the first bad location is there, and this is the first operation outside the profile.
+-- NotInProfile: the first location in the order of discovery that isn't good is loaded or listed, and this is its first
+-- operation outside the profile.
 abbrev pub IsNotInProfile : (ℕ → Option Word) → Notes → ℕ → ℕ → ℕ → Type 0
 IsNotInProfile loads notes start place op =
-    IsFirstBad loads notes start place × IsThere loads notes place
+    IsMet loads notes start place × IsThere loads notes place
     × ((ins : Instruction) × IsFirstIn (allowed loads notes place) (λ one. IsNone (op_of one.op)) ins × (ins.op ≡ op))
 
 -- Alters: all executed locations are good, this is the first in the order of discovery with an instruction that

@@ -22,7 +22,7 @@ hops loads notes place = flat_map (hops_of notes) (allowed loads notes place)
 abbrev pub IsEdge : (ℕ → Option Word) → Notes → ℕ → ℕ → Type 0
 IsEdge loads notes place next = (ins : Instruction) × Contains (hops loads notes place) (record { ins = ins; way = to next })
 
--- some edges lead from the one location through these to the other
+-- some edges lead from the one location along these, the last of which is the other
 abbrev pub Lead : (ℕ → Option Word) → Notes → ℕ → List ℕ → ℕ → Type 0
 Lead loads notes place [] last = place ≡ last
 Lead loads notes place (next ∷ nexts) last = IsEdge loads notes place next × Lead loads notes next nexts last

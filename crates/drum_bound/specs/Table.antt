@@ -36,11 +36,10 @@ pub record Row : Type 0 where
   pub counts : ℕ
   pub time : ℕ
 
--- The entry is right: some walk arrives so, at this time, none arrives so later, and its angle is the one at that
--- time from the angle behind the start's.
+-- The entry is right: some walk from the angle behind the start's arrives so, at this time and angle, and no walk
+-- from any angle arrives so later.
 pub record IsRow (g : Setting) (row : Row) : Type 0 where
-  pub from : ℕ
-  pub reached : IsReached g from row.place row.counts row.time
+  pub reached : IsReached g ((g.start + 1) % 50) row.place row.counts row.time
   pub most : (angle time : ℕ) → IsReached g angle row.place row.counts time → time ≤ row.time
   pub angled : row.angle ≡ (g.start + 1 + row.time) % 50
 

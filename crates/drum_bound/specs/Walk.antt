@@ -1,13 +1,14 @@
 -- Walks of the flow graph, with their times (this project's choice).
-use Rattle.std.specs.Prelude.{◌≡◌, ℕ, ◌+◌, ◌<◌, ◌≤◌, List, [], ◌∷◌, Option, Some, None, Contains}
+use Rattle.std.specs.Prelude.{◌≡◌, ℕ, ◌+◌, ◌<◌, ◌≤◌, List, [], ◌∷◌, Option, Some, None, Contains, if◌then◌else◌}
 use Rattle.drum_core.specs.declared.instruction.Instruction.{Instruction}
 use Rattle.drum_core.specs.declared.op.Op.{Op}
 use Rattle.drum_core.specs.declared.op.Op.TheVariants.{Divide, DivideReset, Multiply, Shift}
 use Rattle.drum_core.specs.declared.word.Word.{Word}
 use Rattle.drum_core.specs.Op.{op_of}
 use Rattle.drum_times.specs.declared.entry.Entry.{Entry}
-use Rattle.drum_times.specs.Allowed.{Notes}
-use Rattle.drum_machine.specs.Counts.{after_pass, no_counts, AreWithin}
+use Rattle.drum_times.specs.declared.notes.mark.Mark.{Mark}
+use Rattle.drum_times.specs.Allowed.{Notes, AreSound}
+use Rattle.drum_machine.specs.Counts.{after_pass, no_counts, AreWithin, is_on}
 use Rattle.drum_machine.specs.Effect.{places}
 use Rattle.drum_machine.specs.Timing.{ready, ended, IsWait}
 use Rattle.drum_machine.specs.Ways.{Way, early, to, late}
@@ -58,6 +59,12 @@ pub record Setting : Type 0 where
   -- where the program starts
   pub start : ℕ
 
+-- What is so of each setting: the deck loads drum words alone and starts on the drum, and the notes are sound.
+pub record IsProper (g : Setting) : Type 0 where
+  pub on_drum : (place : ℕ) (w : Word) → g.loads place ≡ Some w → place < 2000
+  pub starts : g.start < 2000
+  pub notes : AreSound g.notes
+
 -- The hop is one of the place, and begins at this time.
 pub record IsHopAt (g : Setting) (angle place time : ℕ) (hop : Taken) : Type 0 where
   pub here : hop.place ≡ place
@@ -90,3 +97,9 @@ time_from time (hop ∷ hops) = time_from hop.ended hops
 
 abbrev pub time_of : List Taken → ℕ
 time_of hops = time_from 0 hops
+
+-- how often a walk passes a mark, whatever it stands inside of
+abbrev pub passes_of : Mark → List Taken → ℕ
+passes_of mark [] = 0
+passes_of mark (hop ∷ hops) =
+    (elim hop.way [ early ↦ 0 | late ↦ 0 | to next ↦ if is_on mark hop.place next then 1 else 0 ]) + passes_of mark hops

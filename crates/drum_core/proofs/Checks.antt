@@ -1,10 +1,8 @@
 -- Definitions evaluated, with answers that were worked out apart from them.
-use Rattle.std.proofs.Common.{◌≡◌, ℕ, zero, suc, ◌+◌, ◌<◌, ◌≤◌, true, false, List, [], ◌∷◌, length, refl, arith}
+use Rattle.std.proofs.Common.{◌≡◌, true, false, [], ◌∷◌, refl, arith}
 use Rattle.std.specs.Prelude.{codes}
-use Rattle.drum_core.specs.declared.op.Op.{Op}
-use Rattle.drum_core.specs.DeckText.{Line, comment, start, card, IsLine, given_from, starts, cards_from}
+use Rattle.drum_core.specs.DeckText.{comment, start, card, IsLine, given_from, starts, cards_from}
 use Rattle.drum_core.specs.Instruction.{instruction_of}
-use Rattle.drum_core.specs.Kind.{kind_of}
 use Rattle.drum_core.specs.Lines.{lines_of}
 use Rattle.drum_core.specs.Op.{number_of, op_of, ops}
 use Rattle.drum_core.specs.Word.{word, spelling}

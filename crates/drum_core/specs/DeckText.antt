@@ -1,6 +1,7 @@
 -- Deck text (this project's choice): what each line says, which texts are decks, what a deck loads, and why
 -- another text is refused.
-use Rattle.std.specs.Prelude.{◌≡◌, ℕ, ◌+◌, ◌^◌, ◌<◌, ◌≤◌, List, [], ◌∷◌, ◌++◌, length, flat_map, codes, ◌⊎◌, All, Any}
+use Rattle.std.specs.Prelude.{◌≡◌, ℕ, ◌+◌, ◌^◌, ◌<◌, ◌≤◌, List, [], ◌∷◌, ◌++◌, length, flat_map, codes, ◌⊎◌, All, Any, ◌==◌, if◌then◌else◌, Option, Some, None}
+use Rattle.std.specs.Option.{option_map}
 use Rattle.drum_core.specs.declared.deck.fault.DeckFault.{DeckFault}
 use Rattle.drum_core.specs.declared.deck.fault.DeckFault.TheVariants.{Read, Memory, Card, Twice, NoStart, TwoStarts, PastDrum, TooLong}
 use Rattle.drum_core.specs.declared.word.Word.{Word}
@@ -50,6 +51,18 @@ given_by number (card n words) = given_by_card number n words
 abbrev pub given_from : ℕ → List Line → List Given
 given_from number [] = []
 given_from number (line ∷ lines) = given_by number line ++ given_from (number + 1) lines
+
+-- what is given to a location, if anything is
+abbrev pub given_at : List Given → ℕ → Option Given
+given_at [] location = None
+given_at (one ∷ given) location = if one.location == location then Some one else given_at given location
+
+-- the word that a deck of these lines loads into a location, and the number of the card's line
+abbrev pub loads_of : List Line → ℕ → Option Word
+loads_of lines location = option_map (λ one. one.word) (given_at (given_from 1 lines) location)
+
+abbrev pub card_of : List Line → ℕ → Option ℕ
+card_of lines location = option_map (λ one. one.line) (given_at (given_from 1 lines) location)
 
 -- where lines say to start
 abbrev pub starts : List Line → List ℕ

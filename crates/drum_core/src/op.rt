@@ -44,7 +44,7 @@ pub enum Op {
     Read,
     /// 71: punches a card from D's band.
     Punch,
-    /// 90 to 99: goes on at D where the distributor has an 8 at a position.
+    /// 90 to 99: goes on at D where the distributor has an 8 at a position, at I where it has a 9; else stops.
     BranchOnDigit(Position),
 }
 

@@ -1,12 +1,11 @@
 -- Definitions evaluated, with answers that were worked out apart from them: single steps, with their times.
-use Rattle.std.proofs.Common.{◌≡◌, ℕ, true, false, List, [], ◌∷◌, refl, ℤ, pos, negsuc, Option, Some, None}
-use Rattle.drum_core.specs.declared.word.Word.{Word}
+use Rattle.std.proofs.Common.{◌≡◌, true, false, refl, pos, negsuc}
 use Rattle.drum_core.specs.Moment.{first}
 use Rattle.drum_core.specs.Word.{word}
 use Rattle.drum_machine.specs.declared.why.Why.TheVariants as why
 use Rattle.drum_machine.specs.Contents.{Contents, lower_word, upper_word}
 use Rattle.drum_machine.specs.Run.{time_of}
-use Rattle.drum_machine.specs.Step.{State, Stepped, on, stopped, step}
+use Rattle.drum_machine.specs.Step.{State, stopped, step}
 use Rattle.drum_machine.proofs.Setting.{times, state, left_by, zero_word, word_in}
 
 -- what a step leaves

@@ -1,7 +1,8 @@
 -- Definitions evaluated, with answers that were worked out apart from them: what the operations do.
-use Rattle.std.proofs.Common.{◌≡◌, ℕ, true, false, Bool, List, [], ◌∷◌, map, refl, ℤ, pos, negsuc, Option, Some, None, replicate}
+use Rattle.std.proofs.Common.{◌≡◌, ℕ, true, false, List, [], ◌∷◌, map, refl, ℤ, pos, negsuc, replicate, ◌++◌}
+use Rattle.std.specs.Prelude.{slice_set}
 use Rattle.drum_core.specs.declared.op.Op.{Op}
-use Rattle.drum_core.specs.declared.op.Op.TheVariants.{NoOperation, Stop, Add, ResetAdd, Divide, Multiply, Store, Shift, Branch, LoadDistributor, Read, Punch, BranchOnDigit}
+use Rattle.drum_core.specs.declared.op.Op.TheVariants.{NoOperation, Add, ResetAdd, Divide, Store, Shift, Branch, LoadDistributor, Read, Punch, BranchOnDigit}
 use Rattle.drum_core.specs.declared.op.amount.Amount.TheVariants.{Upper, MinusUpper, Lower, MinusLower, AbsoluteLower, MinusAbsoluteLower}
 use Rattle.drum_core.specs.declared.op.branch.Branch.TheVariants as branch
 use Rattle.drum_core.specs.declared.op.position.Position.TheVariants.{First, Tenth}
@@ -10,9 +11,8 @@ use Rattle.drum_core.specs.declared.op.store.Store.TheVariants as store
 use Rattle.drum_core.specs.declared.word.Word.{Word}
 use Rattle.drum_core.specs.Word.{word}
 use Rattle.drum_machine.specs.declared.card.Card.{Card}
-use Rattle.drum_machine.specs.declared.why.Why.TheVariants as why
-use Rattle.drum_machine.specs.Contents.{Contents, lower_word, upper_word, word_at}
-use Rattle.drum_machine.specs.Effect.{Outcome, goes, stops, effect, punches_from}
+use Rattle.drum_machine.specs.Contents.{Contents, lower_word, upper_word}
+use Rattle.drum_machine.specs.Effect.{goes, effect, punched}
 use Rattle.drum_machine.proofs.Setting.{state, zero_word, word_in, next_of, contents_of}
 
 -- a machine with this word at 0103, this distributor and this accumulator
@@ -71,7 +71,7 @@ branched_on_overflow = refl
 
 -- a load card goes into words 01 to 10 of D's band, and on at D
 abbrev card : Card
-card = record { words = replicate 10 (word false 5); load = true }
+card = record { words = replicate 10 (word false 5); load = true; ten = refl }
 
 abbrev carded : Contents
 carded = record (holding zero_word zero_word (pos 0)) { cards = card ∷ [] }
@@ -81,8 +81,12 @@ read : (next_of (effect carded Read 149 106) ≡ 149) × (word_in (contents_of c
     × (word_in (contents_of carded (effect carded Read 149 106)) 111 ≡ zero_word) × ((contents_of carded (effect carded Read 149 106)).cards ≡ [])
 read = (refl, refl, refl, refl, refl, refl)
 
-punched : (punches_from 1999 ≡ 1977) × (effect carded Punch 103 106 ≡ goes carded 106)
-punched = (refl, refl)
+-- the words 27 to 36 of the band that begins at 0100 are punched, and nothing changes
+abbrev banded : Contents
+banded = record carded { drum = slice_set (slice_set carded.drum 127 (word false 27)) 136 (word true 36) }
+
+punches : (punched banded 149 ≡ word false 27 ∷ replicate 8 zero_word ++ word true 36 ∷ []) × (effect carded Punch 103 106 ≡ goes carded 106)
+punches = (refl, refl)
 
 -- after a division the upper half has the dividend's sign, until the accumulator next changes
 abbrev remaining : Contents

@@ -1,9 +1,9 @@
 -- Definitions evaluated: the counts of marks, one of which stands inside the other.
-use Rattle.std.proofs.Common.{◌≡◌, ℕ, ◌≤◌, ◌<◌, true, false, List, [], ◌∷◌, refl, arith, Option, Some, None}
+use Rattle.std.proofs.Common.{◌≡◌, ℕ, ◌≤◌, true, false, List, [], ◌∷◌, refl, arith, Some, None}
 use Rattle.drum_core.specs.declared.location.Location.{Location}
 use Rattle.drum_core.specs.Location.{IsLocation}
 use Rattle.drum_times.specs.declared.notes.mark.Mark.{Mark}
-use Rattle.drum_machine.specs.Counts.{after_pass, is_inside, mark_on, no_counts}
+use Rattle.drum_machine.specs.Counts.{after_pass, is_inside, no_counts}
 
 pub at : (n : ℕ) → IsLocation n → Location
 at n exists = record { number = n; exists = exists }

@@ -1,5 +1,5 @@
 -- A machine to evaluate the definitions on: the timing table that the tests use, and two words on the drum.
-use Rattle.std.proofs.Common.{◌≡◌, ℕ, ◌+◌, ◌≤◌, Bool, true, false, List, [], ◌∷◌, replicate, refl, arith, ℤ, pos, Option, Some, None}
+use Rattle.std.proofs.Common.{ℕ, ◌≤◌, Bool, true, false, List, [], replicate, arith, ℤ, None}
 use Rattle.std.specs.Prelude.{slice_set, slice_index_or}
 use Rattle.drum_core.specs.declared.op.Op.{Op}
 use Rattle.drum_core.specs.declared.op.Op.TheVariants.{NoOperation, Stop, Add, ResetAdd, Divide, DivideReset, Multiply, Store, Shift, Branch, LoadDistributor, Read, Punch, BranchOnDigit}

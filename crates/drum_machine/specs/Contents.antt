@@ -15,9 +15,8 @@ pub record Contents : Type 0 where
   pub distributor : Word
   -- one whole number of twenty digits
   pub accumulator : ℤ
-  -- Whether the dividend was minus, while the remainder's sign stands: after a division that keeps its
-  -- remainder, until the accumulator next changes. (The manual has the sign; how long it lasts is this
-  -- project's choice.)
+  -- Whether the dividend was minus, while the remainder's sign stands: after 14, until an operation 10 to 19, 30,
+  -- 31, 35 or 60 to 68 next acts. (That sign and how long it lasts are this project's choice.)
   pub remainder : Option Bool
   -- the overflow latch
   pub latch : Bool

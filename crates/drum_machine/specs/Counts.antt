@@ -20,13 +20,13 @@ abbrev pub outer_of : Option Mark → Option ℕ
 outer_of None = None
 outer_of (Some mark) = mark.inside
 
--- the mark at a place stands inside the one at another, directly or through so many marks at most
+-- the mark at a place stands inside the one at another, so many steps outward at most
 abbrev pub is_inside_by : ℕ → List Mark → ℕ → ℕ → Bool
 is_inside_by zero marks inner outer = false
 is_inside_by (suc more) marks inner outer =
     elim (outer_of (slice_get marks inner)) [ None ↦ false | Some next ↦ next == outer || is_inside_by more marks next outer ]
 
--- directly or through others: a mark stands inside of earlier ones alone, so there are fewer than all
+-- directly or through others: a mark stands inside of an earlier one alone, so there are fewer steps than marks
 abbrev pub is_inside : List Mark → ℕ → ℕ → Bool
 is_inside marks inner outer = is_inside_by (length marks) marks inner outer
 

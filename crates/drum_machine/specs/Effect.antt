@@ -1,5 +1,8 @@
--- What an instruction does (IBM 650 Manual of Operation; this project's choices are marked).
-use Rattle.std.specs.Prelude.{ℕ, ◌+◌, ◌-◌, ◌*◌, ◌/◌, ◌%◌, ◌^◌, ◌==◌, Bool, true, false, not, if◌then◌else◌, nat_le, List, [], ◌∷◌, Some, None, ℤ, pos, neg_ℤ, ◌+ℤ◌, ◌*ℤ◌, unsigned_abs, slice_set}
+-- What an instruction does (IBM 650 Manual of Operation). This project's choices are: that 0 is plus, also as the
+-- number of minus zero; what the accumulator holds after an overflow; that a stored word is also in the distributor;
+-- that a product adds the lower half; that 31 with digit 0 shifts by ten places; that a left shift is no overflow;
+-- and that 47 turns the latch off.
+use Rattle.std.specs.Prelude.{ℕ, ◌+◌, ◌-◌, ◌*◌, ◌/◌, ◌%◌, ◌^◌, ◌==◌, Bool, true, false, not, if◌then◌else◌, nat_le, List, [], ◌∷◌, Some, None, ℤ, pos, neg_ℤ, ◌+ℤ◌, ◌*ℤ◌, unsigned_abs, slice_set, slice_range}
 use Rattle.drum_core.specs.declared.op.Op.{Op}
 use Rattle.drum_core.specs.declared.op.Op.TheVariants.{NoOperation, Stop, Add, ResetAdd, Divide, DivideReset, Multiply, Store, Shift, Branch, LoadDistributor, Read, Punch, BranchOnDigit}
 use Rattle.drum_core.specs.declared.op.amount.Amount as amounts
@@ -19,7 +22,8 @@ use Rattle.drum_machine.specs.declared.why.Why as whys
 use Rattle.drum_machine.specs.declared.why.Why.TheVariants as why
 use Rattle.drum_machine.specs.Contents.{Contents, is_minus, upper, lower, lower_word, upper_word, word_at}
 
--- An instruction leaves new contents and the number of the next location, or it stops.
+-- An instruction leaves new contents and the number of the next location, or it stops. What is held at a stop isn't
+-- said: no later step sees it.
 pub data Outcome : Type 0 where
   goes : Contents → ℕ → Outcome
   stops : whys.Why → Outcome
@@ -32,15 +36,15 @@ takes c w = record c { distributor = w }
 abbrev pub becomes : Contents → ℤ → Contents
 becomes c z = record c { accumulator = z; remainder = None }
 
--- It becomes what twenty digits hold of the number. Where more are wanted, that is an overflow: the latch goes
--- on, and the machine stops if the overflow switch is at STOP (what is then held is this project's choice).
+-- It becomes what twenty digits hold of the number. Where more are wanted, that is an overflow: the machine stops
+-- if the overflow switch is at STOP, and else the latch goes on.
 abbrev pub keeps : Contents → ℤ → ℕ → Outcome
 keeps c z next =
     if nat_le (10 ^ 20) (unsigned_abs z) then
     (if c.overflow_stops then stops why.Overflow else goes (record (becomes c (signed (is_minus z) (unsigned_abs z % 10 ^ 20))) { latch = true }) next)
     else goes (becomes c z) next
 
--- a word goes into a drum location and, by this project's choice, into the distributor
+-- a word goes into a drum location and into the distributor
 abbrev pub puts : Contents → ℕ → Word → Contents
 puts c at w = record c { drum = slice_set c.drum at w; distributor = w }
 
@@ -66,8 +70,7 @@ amount_of amount.MinusAbsoluteLower v = neg_ℤ (pos (unsigned_abs v))
 abbrev pub differ : ℤ → ℤ → Bool
 differ a v = if is_minus a then not (is_minus v) else is_minus v
 
--- The upper half by the number, above the lower half. (The manual has the lower half 0; that it is added is
--- this project's choice.)
+-- the upper half by the number, and to it the lower half is added, ten places up
 abbrev pub product : ℤ → ℤ → ℤ
 product a v = signed (differ a v) (upper a * unsigned_abs v + lower a * 10 ^ 10)
 
@@ -77,7 +80,7 @@ quotient a v = unsigned_abs a / unsigned_abs v
 abbrev pub rest : ℤ → ℤ → ℕ
 rest a v = unsigned_abs a % unsigned_abs v
 
--- the quotient would have more than ten digits
+-- the quotient would have more than ten digits, or the divisor is 0
 abbrev pub is_too_large : ℤ → ℤ → Bool
 is_too_large a v = nat_le (unsigned_abs v) (upper a)
 
@@ -98,8 +101,7 @@ places shift.Right d = d % 10
 places shift.Round d = if d % 10 == 0 then 10 else d % 10
 places shift.Left d = d % 10
 
--- the magnitude after a shift by so many places; a left shift drops what leaves the twenty digits, and is no
--- overflow (this project's choice)
+-- the magnitude after a shift by so many places; a left shift drops what leaves the twenty digits
 abbrev pub shifted : shifts.Shift → ℕ → ℕ → ℕ
 shifted shift.Right n size = size / 10 ^ n
 shifted shift.Round n size = (size + 5 * 10 ^ (n - 1)) / 10 ^ n
@@ -112,7 +114,7 @@ holds branch.NonZero c = not (unsigned_abs c.accumulator == 0)
 holds branch.Minus c = is_minus c.accumulator
 holds branch.Overflow c = c.latch
 
--- a branch on overflow turns the latch off (this project's choice)
+-- a branch on overflow turns the latch off
 abbrev pub after_test : branches.Branch → Contents → Contents
 after_test branch.UpperNonZero c = c
 after_test branch.NonZero c = c
@@ -144,9 +146,9 @@ abbrev pub reads : Contents → List Card → ℕ → ℕ → Outcome
 reads c [] d i = stops why.Card
 reads c (card ∷ cards) d i = goes (record c { drum = with_words c.drum (band d + 1) card.words; cards = cards }) (if card.load then d else i)
 
--- the words that 71 punches: 27 to 36 of D's band
-abbrev pub punches_from : ℕ → ℕ
-punches_from d = band d + 27
+-- the ten words that 71 punches: 27 to 36 of D's band
+abbrev pub punched : Contents → ℕ → List Word
+punched c d = slice_range c.drum (band d + 27) (band d + 37)
 
 -- The table: one line for each operation, for an instruction with this D and this I whose D is what the
 -- operation wants. The word at D is read before anything changes.

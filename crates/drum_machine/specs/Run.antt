@@ -1,8 +1,10 @@
 -- Runs (IBM 650 Manual of Operation).
-use Rattle.std.specs.Prelude.{◌≡◌, ℕ, ◌<◌, List, [], ◌∷◌}
+use Rattle.std.specs.Prelude.{◌≡◌, ℕ, ◌^◌, ◌<◌, List, [], ◌∷◌, length, unsigned_abs, Option, Some}
 use Rattle.drum_core.specs.declared.op.Op.{Op}
+use Rattle.drum_core.specs.declared.word.Word.{Word}
 use Rattle.drum_core.specs.Op.{op_of}
 use Rattle.drum_times.specs.declared.entry.Entry.{Entry}
+use Rattle.drum_machine.specs.Contents.{Contents, word_at}
 use Rattle.drum_machine.specs.Step.{State, Stepped, on, stopped, step, MayWait, instruction_in}
 
 -- a step of a run: where it begins, how long the card machine lets it wait, and where it ends
@@ -33,8 +35,16 @@ abbrev pub used_from : ℕ → List Turn → ℕ
 used_from time [] = time
 used_from time (turn ∷ turns) = used_from (time_of turn.outcome) turns
 
--- a state in which a run may begin: at time 0, seeking this location
-pub record IsFirst (start_location : ℕ) (s : State) : Type 0 where
+-- the contents are within their limits: 2000 words on the drum, twenty digits in the accumulator
+pub record IsWhole (c : Contents) : Type 0 where
+  pub drum : length c.drum ≡ 2000
+  pub accumulator : unsigned_abs c.accumulator < 10 ^ 20
+
+-- A state in which a run may begin: at time 0, seeking this location from some angle, with the deck's word at each of
+-- some locations that the deck loads. All else in it is free.
+pub record IsFirstState (loads : ℕ → Option Word) (Agreed : ℕ → Type 0) (start_location : ℕ) (s : State) : Type 0 where
   pub at_once : s.time ≡ 0
   pub seeks : s.sought ≡ start_location
   pub angle : s.start < 50
+  pub whole : IsWhole s.contents
+  pub agrees : (place : ℕ) (w : Word) → Agreed place → loads place ≡ Some w → word_at s.contents place ≡ w

@@ -1,3 +1,5 @@
+ghost use Rattle.std.specs.Prelude.{◌≡◌, length};
+
 use drum_core::Word;
 
 /// A card that the card reader holds: ten words and a load mark.
@@ -9,4 +11,5 @@ pub struct Card {
     pub words: [Word; 10],
     /// Whether it is a load card.
     pub load: bool,
+    pub ghost ten: { length words ≡ 10 },
 }

@@ -7,7 +7,7 @@ pub enum Why {
     Operand,
     /// 70 found no card.
     Card,
-    /// A quotient of more than ten digits.
+    /// A quotient of more than ten digits, or a divisor of 0.
     Quotient,
     /// A sum or a product overflowed, with the overflow switch at STOP.
     Overflow,

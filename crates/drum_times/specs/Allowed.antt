@@ -1,9 +1,10 @@
 -- Which instructions the notes allow at a location (this project's choice).
-use Rattle.std.specs.Prelude.{◌≡◌, ℕ, suc, ◌-◌, ◌≤◌, ◌==◌, if◌then◌else◌, Bool, List, [], ◌∷◌, ◌++◌, map, flat_map, Option, Some, None, is_some}
-use Rattle.std.specs.List.{range_with_len}
+use Rattle.std.specs.Prelude.{◌≡◌, ℕ, suc, ◌-◌, ◌≤◌, ◌==◌, if◌then◌else◌, Bool, List, [], ◌∷◌, ◌++◌, map, flat_map, Option, Some, None, is_some, ◌+◌, ◌<◌, ◌&&◌, false, IsTrue, length}
+use Rattle.std.specs.List.{range_with_len, list_any, AllByRecursion}
 use Rattle.drum_core.specs.declared.instruction.Instruction.{Instruction}
 use Rattle.drum_core.specs.declared.word.Word.{Word}
 use Rattle.drum_core.specs.Instruction.{instruction, instruction_of}
+use Rattle.drum_core.specs.Location.{is_location}
 use Rattle.drum_times.specs.declared.notes.mark.Mark.{Mark}
 use Rattle.drum_times.specs.declared.notes.pattern.Pattern.{Pattern}
 use Rattle.drum_times.specs.declared.notes.programmed.Programmed.{Programmed}
@@ -19,6 +20,35 @@ pub record Notes : Type 0 where
   pub load_cards : Bool
   pub marks : List Mark
   pub lists : List Listed
+
+-- the two marks stand on one edge
+abbrev pub same_edge : Mark → Mark → Bool
+same_edge a b = a.from.number == b.from.number && a.onto.number == b.onto.number
+
+-- no two marks stand on one edge
+abbrev pub HaveOwnEdges : List Mark → Type 0
+HaveOwnEdges [] = Unit {0}
+HaveOwnEdges (mark ∷ marks) = (list_any (λ other. same_edge other mark) marks ≡ false) × HaveOwnEdges marks
+
+-- no two lists are for one location
+abbrev pub HaveOwnLocations : List Listed → Type 0
+HaveOwnLocations [] = Unit {0}
+HaveOwnLocations (list ∷ lists) = (list_any (λ other. other.location == list.location) lists ≡ false) × HaveOwnLocations lists
+
+-- each mark, the first of which has this place, stands inside of an earlier one, if of any
+abbrev pub StandInEarlier : ℕ → List Mark → Type 0
+StandInEarlier place [] = Unit {0}
+StandInEarlier place (mark ∷ marks) = (elim mark.inside [ None ↦ Unit {0} | Some outer ↦ outer < place ]) × StandInEarlier (place + 1) marks
+
+-- What is so of all notes: at most 8 marks, each with an edge of its own; lists for locations, each with one of its
+-- own, and from 1 to 64 patterns.
+pub record AreSound (notes : Notes) : Type 0 where
+  pub few_marks : length notes.marks ≤ 8
+  pub own_edges : HaveOwnEdges notes.marks
+  pub nested : StandInEarlier 0 notes.marks
+  pub own_locations : HaveOwnLocations notes.lists
+  pub locations : AllByRecursion (λ list. IsTrue (is_location list.location)) notes.lists
+  pub patterns : AllByRecursion (λ list. (1 ≤ length list.patterns) × (length list.patterns ≤ 64)) notes.lists
 
 -- the instruction has the pattern's operation and I, and its D is within the pattern's range
 pub record Matches (pattern : Pattern) (ins : Instruction) : Type 0 where

@@ -1,1 +1,4 @@
 pub mod Allowed
+pub mod Document
+pub mod NotesDocument
+pub mod TimesDocument

@@ -1,0 +1,129 @@
+-- The notes as a document (this project's choice): what they say, and their faults in their order.
+use Rattle.std.specs.Prelude.{◌≡◌, ℕ, ◌+◌, ◌-◌, ◌<◌, ◌==◌, ◌&&◌, Bool, true, false, if◌then◌else◌, List, [], ◌∷◌, ◌++◌, map, codes, Option, Some, None}
+use Rattle.std.specs.List.{list_any}
+use Rattle.drum_times.specs.declared.notes.mark.Mark.{Mark}
+use Rattle.drum_times.specs.declared.notes.pattern.Pattern.{Pattern}
+use Rattle.drum_times.specs.declared.notes.programmed.Programmed.{Programmed}
+use Rattle.drum_times.specs.declared.notes.programmed.Programmed.TheVariants.{Stop, Run, Any}
+use Rattle.drum_times.specs.Allowed.{Notes, Listed, AreSound}
+use Rattle.drum_times.specs.Document.{Fault, two_marks, two_lists, unknown_in, missing_in, whole, location, text, tables, number_at}
+use Rattle.drum_times.specs.TimesDocument.{HasNumber}
+use Rattle.toml.specs.Data.{string, array, table, Items, no_items, item, Members, get_member}
+
+abbrev pub text_of : Programmed → List ℕ
+text_of Stop = codes "stop"
+text_of Run = codes "run"
+text_of Any = codes "any"
+
+abbrev pub load_text_of : Bool → List ℕ
+load_text_of false = codes "none"
+load_text_of true = codes "any"
+
+abbrev pub note_keys : List (List ℕ)
+note_keys = codes "programmed" ∷ codes "load_cards" ∷ codes "mark" ∷ codes "list" ∷ []
+
+abbrev pub mark_keys : List (List ℕ)
+mark_keys = codes "from" ∷ codes "to" ∷ codes "most" ∷ codes "inside" ∷ []
+
+abbrev pub list_keys : List (List ℕ)
+list_keys = codes "location" ∷ codes "pattern" ∷ []
+
+abbrev pub pattern_keys : List (List ℕ)
+pattern_keys = codes "op" ∷ codes "d_from" ∷ codes "d_to" ∷ codes "i" ∷ []
+
+-- the outer mark: none without the key, else an earlier mark's number, counted from 1
+abbrev pub HasInside : ℕ → Members → Option ℕ → Type 0
+HasInside place fields None = get_member (codes "inside") fields ≡ None
+HasInside place fields (Some outer) = HasNumber fields (codes "inside") (outer + 1) × (outer < place)
+
+-- The table says this mark, the one at this place, from 0.
+pub record IsMark (place : ℕ) (fields : Members) (mark : Mark) : Type 0 where
+  pub only : unknown_in [] mark_keys fields ≡ []
+  pub from : HasNumber fields (codes "from") mark.from.number
+  pub onto : HasNumber fields (codes "to") mark.onto.number
+  pub most : HasNumber fields (codes "most") mark.most
+  pub inside : HasInside place fields mark.inside
+
+-- The table says this pattern.
+pub record IsPattern (fields : Members) (pattern : Pattern) : Type 0 where
+  pub only : unknown_in [] pattern_keys fields ≡ []
+  pub op : HasNumber fields (codes "op") pattern.op
+  pub d_from : HasNumber fields (codes "d_from") pattern.d_from
+  pub d_to : HasNumber fields (codes "d_to") pattern.d_to
+  pub i : HasNumber fields (codes "i") pattern.i
+
+-- the elements are tables that say these values, the first of which has this place
+abbrev pub AreTables : {A : Type 0} → (ℕ → Members → A → Type 0) → ℕ → Items → List A → Type 0
+AreTables Say place no_items [] = Unit {0}
+AreTables Say place (item value items) (one ∷ more) = ((fields : Members) × (value ≡ table fields) × Say place fields one) × AreTables Say (place + 1) items more
+AreTables Say place no_items (one ∷ more) = ⊥
+AreTables Say place (item value items) [] = ⊥
+
+-- an array of tables at a key that say these values; without the key there are none
+abbrev pub HasTables : {A : Type 0} → (ℕ → Members → A → Type 0) → Members → List ℕ → List A → Type 0
+HasTables Say fields key values =
+    elim (get_member key fields) [ None ↦ values ≡ [] | Some value ↦ (items : Items) × (value ≡ array items) × AreTables Say 0 items values ]
+
+-- The table says this list.
+pub record IsListed (fields : Members) (listed : Listed) : Type 0 where
+  pub only : unknown_in [] list_keys fields ≡ []
+  pub location : HasNumber fields (codes "location") listed.location
+  pub patterns : HasTables (λ place one pattern. IsPattern one pattern) fields (codes "pattern") listed.patterns
+
+-- The document says these notes, and nothing else.
+pub record IsNotes (document : Members) (notes : Notes) : Type 0 where
+  pub only : unknown_in [] note_keys document ≡ []
+  pub programmed : get_member (codes "programmed") document ≡ Some (string (text_of notes.programmed))
+  pub load_cards : get_member (codes "load_cards") document ≡ Some (string (load_text_of notes.load_cards))
+  pub marks : HasTables IsMark document (codes "mark") notes.marks
+  pub lists : HasTables (λ place fields listed. IsListed fields listed) document (codes "list") notes.lists
+  pub sound : AreSound notes
+
+-- the faults of a mark of this number, from 1: unknown keys, missing keys, values
+abbrev pub mark_faults : ℕ → List ℕ → Members → List Fault
+mark_faults number at fields =
+    unknown_in at mark_keys fields ++ missing_in at (codes "from" ∷ codes "to" ∷ codes "most" ∷ []) fields
+    ++ location at (codes "from") fields ++ location at (codes "to") fields ++ whole 0 9999 at (codes "most") fields
+    ++ whole 1 (number - 1) at (codes "inside") fields
+
+abbrev pub pattern_faults : ℕ → List ℕ → Members → List Fault
+pattern_faults number at fields =
+    unknown_in at pattern_keys fields ++ missing_in at pattern_keys fields
+    ++ whole 0 99 at (codes "op") fields ++ whole 0 9999 at (codes "d_from") fields
+    ++ whole (number_at (codes "d_from") fields) 9999 at (codes "d_to") fields ++ whole 0 9999 at (codes "i") fields
+
+abbrev pub list_faults : ℕ → List ℕ → Members → List Fault
+list_faults number at fields =
+    unknown_in at list_keys fields ++ missing_in at list_keys fields
+    ++ location at (codes "location") fields ++ tables 1 (Some 64) pattern_faults at (codes "pattern") fields
+
+-- the tables of an array at a key
+abbrev pub tables_of : Items → List Members
+tables_of no_items = []
+tables_of (item value items) = (elim value [ table fields ↦ fields ∷ [] | _ ↦ [] ]) ++ tables_of items
+
+abbrev pub tables_at : List ℕ → Members → List Members
+tables_at key fields = elim (get_member key fields) [ None ↦ [] | Some value ↦ (elim value [ array items ↦ tables_of items | _ ↦ [] ]) ]
+
+-- a fault for each mark whose edge one of these earlier ones has, or another before it
+abbrev pub edge_faults : List (ℕ × ℕ) → List Members → List Fault
+edge_faults earlier [] = []
+edge_faults earlier (mark ∷ marks) =
+    let from = number_at (codes "from") mark in
+    let onto = number_at (codes "to") mark in
+    (if list_any (λ edge. edge.0 == from && edge.1 == onto) earlier then two_marks from onto ∷ [] else []) ++ edge_faults ((from, onto) ∷ earlier) marks
+
+abbrev pub location_faults : List ℕ → List Members → List Fault
+location_faults earlier [] = []
+location_faults earlier (list ∷ lists) =
+    let at = number_at (codes "location") list in
+    (if list_any (λ one. one == at) earlier then two_lists at ∷ [] else []) ++ location_faults (at ∷ earlier) lists
+
+-- The faults of a document, in their order. The first is why it is refused.
+abbrev pub notes_faults : Members → List Fault
+notes_faults document =
+    unknown_in [] note_keys document ++ missing_in [] (codes "programmed" ∷ codes "load_cards" ∷ []) document
+    ++ text (map text_of (Stop ∷ Run ∷ Any ∷ [])) [] (codes "programmed") document
+    ++ text (map load_text_of (false ∷ true ∷ [])) [] (codes "load_cards") document
+    ++ tables 0 (Some 8) mark_faults [] (codes "mark") document ++ tables 0 None list_faults [] (codes "list") document
+    ++ edge_faults [] (tables_at (codes "mark") document) ++ location_faults [] (tables_at (codes "list") document)
