@@ -4,15 +4,17 @@ use Rattle.std.specs.Prelude.{◌≡◌, ℕ, zero, suc, ◌≤◌, ◌==◌, if
 use Rattle.std.specs.List.{list_any}
 use Rattle.drum_core.specs.declared.word.Word.{Word}
 use Rattle.drum_times.specs.Allowed.{Notes}
-use Rattle.drum_machine.specs.Ways.{early, to, late}
+use Rattle.drum_machine.specs.Ways.{Way, early, to, late}
 use Rattle.drum_bound.specs.Hops.{Hop, hops}
 
--- where a hop goes on
-abbrev pub target : Hop → Option ℕ
-target hop = elim hop.way [ early ↦ None | to next ↦ Some next | late ↦ None ]
+-- where a way goes on
+abbrev pub target_of : Way → Option ℕ
+target_of early = None
+target_of (to next) = Some next
+target_of late = None
 
 abbrev pub successors : (ℕ → Option Word) → Notes → ℕ → List ℕ
-successors loads notes place = filter_map target (hops loads notes place)
+successors loads notes place = filter_map (λ hop. target_of hop.way) (hops loads notes place)
 
 -- a list with those of others at its end that aren't in it yet
 abbrev pub with_new : List ℕ → List ℕ → List ℕ

@@ -3,4 +3,5 @@ pub mod Executed
 pub mod Hops
 pub mod Table
 pub mod Walk
+pub mod WalkTime
 pub mod Worst

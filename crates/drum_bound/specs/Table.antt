@@ -2,7 +2,7 @@
 use Rattle.std.specs.Prelude.{◌≡◌, ℕ, ◌+◌, ◌*◌, ◌%◌, ◌≤◌, List, [], ◌∷◌, Contains}
 use Rattle.drum_times.specs.declared.notes.mark.Mark.{Mark}
 use Rattle.drum_machine.specs.Counts.{after_pass, no_counts}
-use Rattle.drum_machine.specs.Ways.{early, to, late}
+use Rattle.drum_machine.specs.Ways.{Way, early, to, late}
 use Rattle.drum_bound.specs.Walk.{Setting, Taken, IsWalk}
 
 -- counts as one number: the first mark's, and in units of its `most + 1` the number of the others'
@@ -11,15 +11,17 @@ number_of [] counts = 0
 number_of (mark ∷ marks) [] = 0
 number_of (mark ∷ marks) (count ∷ counts) = count + (mark.most + 1) * number_of marks counts
 
+-- a hop goes on to a location with this property
+abbrev pub GoesOn : Way → (ℕ → Type 0) → Type 0
+GoesOn early Right = ⊥
+GoesOn (to next) Right = Right next
+GoesOn late Right = ⊥
+
 -- hops from a place, a time and counts on arrive at another place, at its time and with its counts
 abbrev pub Arrive : Setting → ℕ → ℕ → List ℕ → List Taken → ℕ → ℕ → List ℕ → Type 0
 Arrive g place time counts [] place' time' counts' = (place ≡ place') × (time ≡ time') × (counts ≡ counts')
 Arrive g place time counts (hop ∷ hops) place' time' counts' =
-    elim hop.way [
-      | early ↦ ⊥
-      | late ↦ ⊥
-      | to next ↦ Arrive g next hop.ended (after_pass g.notes.marks place next counts) hops place' time' counts'
-    ]
+    GoesOn hop.way (λ next. Arrive g next hop.ended (after_pass g.notes.marks place next counts) hops place' time' counts')
 
 -- A walk, empty or ending with a To, arrives at a place at a time with the counts of this number.
 pub record IsReached (g : Setting) (angle place counts time : ℕ) : Type 0 where

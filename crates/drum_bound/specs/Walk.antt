@@ -34,20 +34,17 @@ MayHaveUnits (Shift s) d units = units ≡ places s d
 MayHaveUnits _ d units = units ≡ 0
 
 -- the clock at which a hop ends that begins its search at another: x for Early, else e
-abbrev pub end_of : Entry → Op → ℕ → Taken → ℕ → ℕ
-end_of entry op place hop clock =
-    elim hop.way [
-      | early ↦ ready entry place clock
-      | to next ↦ ended entry op hop.ins.d place hop.units hop.wait clock
-      | late ↦ ended entry op hop.ins.d place hop.units hop.wait clock
-    ]
+abbrev pub end_by : Way → Entry → Op → ℕ → ℕ → ℕ → ℕ → ℕ → ℕ
+end_by early entry op d place units wait clock = ready entry place clock
+end_by (to next) entry op d place units wait clock = ended entry op d place units wait clock
+end_by late entry op d place units wait clock = ended entry op d place units wait clock
 
 -- the units, the wait and the end of a hop are right, from this start angle
 abbrev pub IsTimed : (Op → Entry) → ℕ → Taken → Option Op → Type 0
 IsTimed times start hop None = ⊥
 IsTimed times start hop (Some op) =
     MayHaveUnits op hop.ins.d hop.units × IsWait op (times op) hop.wait
-    × (start + hop.ended ≡ end_of (times op) op hop.place hop (start + hop.begun))
+    × (start + hop.ended ≡ end_by hop.way (times op) op hop.ins.d hop.place hop.units hop.wait (start + hop.begun))
 
 -- what a walk is in
 pub record Setting : Type 0 where
@@ -72,18 +69,21 @@ pub record IsHopAt (g : Setting) (angle place time : ℕ) (hop : Taken) : Type 0
   pub begins : hop.begun ≡ time
   pub timed : IsTimed g.times angle hop (op_of hop.ins.op)
 
+-- nothing follows a hop that stops, and what follows one that goes on is right for its target
+abbrev pub Follow : Way → (ℕ → Type 0) → List Taken → Type 0
+Follow early Right hops = hops ≡ []
+Follow (to next) Right hops = Right next
+Follow late Right hops = hops ≡ []
+
 -- Hops one after the other, from a place, a time and counts on: each but the last is a To, and the next is a hop of
 -- its target. No mark is passed more often than it may be.
 abbrev pub IsWalkFrom : Setting → ℕ → ℕ → ℕ → List ℕ → List Taken → Type 0
 IsWalkFrom g angle place time counts [] = Unit {0}
 IsWalkFrom g angle place time counts (hop ∷ hops) =
     IsHopAt g angle place time hop
-    × (elim hop.way [
-      | early ↦ hops ≡ []
-      | late ↦ hops ≡ []
-      | to next ↦ AreWithin g.notes.marks (after_pass g.notes.marks place next counts)
-          × IsWalkFrom g angle next hop.ended (after_pass g.notes.marks place next counts) hops
-    ])
+    × Follow hop.way (λ next.
+    let passed = after_pass g.notes.marks place next counts in
+    AreWithin g.notes.marks passed × IsWalkFrom g angle next hop.ended passed hops) hops
 
 -- A walk: from a start angle, at the deck's start, with nothing used and no mark passed. It may be empty.
 pub record IsWalk (g : Setting) (angle : ℕ) (hops : List Taken) : Type 0 where
@@ -98,8 +98,14 @@ time_from time (hop ∷ hops) = time_from hop.ended hops
 abbrev pub time_of : List Taken → ℕ
 time_of hops = time_from 0 hops
 
+-- how often a hop passes a mark
+abbrev pub passes_by : Mark → ℕ → Way → ℕ
+passes_by mark place early = 0
+passes_by mark place (to next) = if is_on mark place next then 1 else 0
+passes_by mark place late = 0
+
 -- how often a walk passes a mark, whatever it stands inside of
 abbrev pub passes_of : Mark → List Taken → ℕ
 passes_of mark [] = 0
 passes_of mark (hop ∷ hops) =
-    (elim hop.way [ early ↦ 0 | late ↦ 0 | to next ↦ if is_on mark hop.place next then 1 else 0 ]) + passes_of mark hops
+    passes_by mark hop.place hop.way + passes_of mark hops

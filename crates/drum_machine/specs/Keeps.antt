@@ -11,7 +11,7 @@ use Rattle.drum_machine.specs.declared.left.Left.{Left}
 use Rattle.drum_machine.specs.declared.left.Left.TheVariants.{Unlisted, TooOften, Switch, LoadCard}
 use Rattle.drum_machine.specs.Counts.{after_pass, no_counts, AreWithin}
 use Rattle.drum_machine.specs.Run.{Turn}
-use Rattle.drum_machine.specs.Step.{State, on, stopped, fetched, instruction_in, is_operand, is_read}
+use Rattle.drum_machine.specs.Step.{State, Stepped, on, stopped, fetched, instruction_in, is_operand, is_read}
 
 -- the programmed switch is as declared
 abbrev pub IsAsDeclared : switches.Programmed → Bool → Type 0
@@ -40,10 +40,18 @@ reads_load s = reads_with s (op_of (instruction_in s).op) && is_load s.contents.
 abbrev pub IsWithoutLoad : Notes → State → Type 0
 IsWithoutLoad notes s = notes.load_cards ≡ false → reads_load s ≡ false
 
--- the counts after a turn: a step that goes on may pass a mark
+-- the counts after a step from a location: one that goes on may pass a mark
+abbrev pub counts_by : Notes → List ℕ → ℕ → Stepped → List ℕ
+counts_by notes counts from (on next) = after_pass notes.marks from next.sought counts
+counts_by notes counts from (stopped because moment) = counts
+
 abbrev pub counts_after : Notes → List ℕ → Turn → List ℕ
-counts_after notes counts turn =
-    elim turn.outcome [ on next ↦ after_pass notes.marks turn.origin.sought next.sought counts | stopped why moment ↦ counts ]
+counts_after notes counts turn = counts_by notes counts turn.origin.sought turn.outcome
+
+-- the step goes on to this location
+abbrev pub GoesTo : Stepped → ℕ → Type 0
+GoesTo (on next) location = next.sought ≡ location
+GoesTo (stopped because moment) location = ⊥
 
 -- the turn keeps to the notes, where marks were passed so often before it
 pub record IsKeptTurn (loads : ℕ → Option Word) (notes : Notes) (counts : List ℕ) (turn : Turn) : Type 0 where
@@ -68,5 +76,5 @@ Leaves loads notes counts turn (Unlisted location w) =
 Leaves loads notes counts turn LoadCard = IsAllowed loads notes turn.origin × ¬ IsWithoutLoad notes turn.origin
 Leaves loads notes counts turn (TooOften from onto) =
     IsAllowed loads notes turn.origin × IsWithoutLoad notes turn.origin × ¬ AreWithin notes.marks (counts_after notes counts turn)
-    × (from.number ≡ turn.origin.sought) × (elim turn.outcome [ on next ↦ onto.number ≡ next.sought | stopped why moment ↦ ⊥ ])
+    × (from.number ≡ turn.origin.sought) × GoesTo turn.outcome onto.number
 Leaves loads notes counts turn Switch = ⊥

@@ -19,11 +19,15 @@ pub record IsTurn (times : Op → Entry) (s : State) (turn : Turn) : Type 0 wher
   pub may_wait : MayWait times (op_of (instruction_in s).op) turn.wait
   pub stepped : turn.outcome ≡ step times s turn.wait
 
+-- nothing follows a stop, and what follows a step that goes on is right for the state that it left
+abbrev pub Follow : Stepped → (State → Type 0) → List Turn → Type 0
+Follow (on next) Right turns = Right next
+Follow (stopped because moment) Right turns = turns ≡ []
+
 -- A run from a state: each turn is a step from the state that the one before left, and only the last may stop.
 abbrev pub IsRun : (Op → Entry) → State → List Turn → Type 0
 IsRun times s [] = Unit {0}
-IsRun times s (turn ∷ turns) =
-    IsTurn times s turn × (elim turn.outcome [ on next ↦ IsRun times next turns | stopped why moment ↦ turns ≡ [] ])
+IsRun times s (turn ∷ turns) = IsTurn times s turn × Follow turn.outcome (λ next. IsRun times next turns) turns
 
 -- the word times used at the end of a step
 abbrev pub time_of : Stepped → ℕ

@@ -40,8 +40,8 @@ abbrev pub StandInEarlier : ℕ → List Mark → Type 0
 StandInEarlier place [] = Unit {0}
 StandInEarlier place (mark ∷ marks) = (elim mark.inside [ None ↦ Unit {0} | Some outer ↦ outer < place ]) × StandInEarlier (place + 1) marks
 
--- What is so of all notes: at most 8 marks, each with an edge of its own; lists for locations, each with one of its
--- own, and from 1 to 64 patterns.
+-- What is so of all notes: at most 8 marks, each with an edge of its own, and inside of an earlier one if of any; lists
+-- for locations, each with one of its own, and from 1 to 64 patterns.
 pub record AreSound (notes : Notes) : Type 0 where
   pub few_marks : length notes.marks ≤ 8
   pub own_edges : HaveOwnEdges notes.marks

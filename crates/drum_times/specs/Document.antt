@@ -53,7 +53,7 @@ location at key fields = at_key (λ path value. number_faults path is_location v
 abbrev pub text : List (List ℕ) → List ℕ → List ℕ → Members → List Fault
 text texts at key fields = at_key (λ path value. text_faults path texts value) at key fields
 
--- the number at a key; 0 where there is none
+-- the number that a value is, and the one at a key; 0 where there is none, or a negative one
 abbrev pub number_in : Data → ℕ
 number_in (integer (pos n)) = n
 number_in _ = 0

@@ -31,7 +31,7 @@ list_keys = codes "location" ∷ codes "pattern" ∷ []
 abbrev pub pattern_keys : List (List ℕ)
 pattern_keys = codes "op" ∷ codes "d_from" ∷ codes "d_to" ∷ codes "i" ∷ []
 
--- the outer mark: none without the key, else an earlier mark's number, counted from 1
+-- the outer mark, by its place: none without the key, which holds the number of an earlier mark, counted from 1
 abbrev pub HasInside : ℕ → Members → Option ℕ → Type 0
 HasInside place fields None = get_member (codes "inside") fields ≡ None
 HasInside place fields (Some outer) = HasNumber fields (codes "inside") (outer + 1) × (outer < place)
@@ -64,7 +64,7 @@ abbrev pub HasTables : {A : Type 0} → (ℕ → Members → A → Type 0) → M
 HasTables Say fields key values =
     elim (get_member key fields) [ None ↦ values ≡ [] | Some value ↦ (items : Items) × (value ≡ array items) × AreTables Say 0 items values ]
 
--- The table says this list.
+-- The table says this list. (How many patterns it has, and that it is for a location, is a fact of sound notes.)
 pub record IsListed (fields : Members) (listed : Listed) : Type 0 where
   pub only : unknown_in [] list_keys fields ≡ []
   pub location : HasNumber fields (codes "location") listed.location
@@ -97,7 +97,7 @@ list_faults number at fields =
     unknown_in at list_keys fields ++ missing_in at list_keys fields
     ++ location at (codes "location") fields ++ tables 1 (Some 64) pattern_faults at (codes "pattern") fields
 
--- the tables of an array at a key
+-- those of an array's elements, and of the array at a key, that are tables
 abbrev pub tables_of : Items → List Members
 tables_of no_items = []
 tables_of (item value items) = (elim value [ table fields ↦ fields ∷ [] | _ ↦ [] ]) ++ tables_of items
@@ -119,7 +119,7 @@ location_faults earlier (list ∷ lists) =
     let at = number_at (codes "location") list in
     (if list_any (λ one. one == at) earlier then two_lists at ∷ [] else []) ++ location_faults (at ∷ earlier) lists
 
--- The faults of a document, in their order. The first is why it is refused.
+-- The faults of a document, in their order. The first is why it is refused, and what follows it has no meaning.
 abbrev pub notes_faults : Members → List Fault
 notes_faults document =
     unknown_in [] note_keys document ++ missing_in [] (codes "programmed" ∷ codes "load_cards" ∷ []) document

@@ -40,7 +40,7 @@ text_of Any = codes "any"
 text_of Even = codes "even"
 text_of Odd = codes "odd"
 
--- the most word times that a part of an operation takes
+-- the largest number in an entry
 abbrev pub longest : ℕ
 longest = 1000000
 
@@ -98,7 +98,7 @@ abbrev pub operations_faults : Data → List Fault
 operations_faults (table operations) = unknown_in (codes "op.") (map key_of ops) operations ++ flat_map (operation_faults operations) ops
 operations_faults _ = kind (codes "op") ∷ []
 
--- The faults of a document, in their order. The first is why it is refused.
+-- The faults of a document, in their order. The first is why it is refused, and what follows it has no meaning.
 abbrev pub times_faults : Members → List Fault
 times_faults document =
     unknown_in [] (codes "op" ∷ []) document

@@ -15,12 +15,13 @@ pub struct Entry {
     pub after: u32,
     /// The angles at which the operation acts.
     pub parity: Parity,
-    /// For each unit: a place of a shift, a digit of a multiplier's or a quotient's digit sum; up to
+    /// For each unit: a place of a shift, each 1 of a multiplier's or a quotient's digit sum; up to
     /// 1,000,000, and 0 for an operation without units.
     pub per: u32,
     /// The shortest wait for the card machine; up to 1,000,000, and 0 for an operation without one.
     pub wait_min: u32,
-    /// The longest wait for the card machine; from `wait_min` to 1,000,000.
+    /// The longest wait for the card machine; from `wait_min` to 1,000,000, and 0 for an operation without
+    /// one.
     pub wait_max: u32,
     pub ghost some_before: { 1 ≤ before },
     pub ghost short_before: { before ≤ 1000000 },

@@ -6,7 +6,7 @@ use thiserror::Error;
 /// Why bytes aren't a timing table, or aren't notes. A key is given by its path, as `op.19.per`.
 #[derive(Debug, Drop, PartialEq, Eq, Error)]
 pub enum NoteFault {
-    /// The bytes are no TOML document.
+    /// `toml` refuses the bytes, or they aren't UTF-8.
     #[error("it is no TOML document")]
     Toml,
     /// There is no memory for it.

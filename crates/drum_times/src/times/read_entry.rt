@@ -3,7 +3,7 @@ use crate::entry::Entry;
 use crate::fault::NoteFault;
 use drum_core::{Op, Parity};
 
-/// The longest that a part of an operation takes, in word times.
+/// The largest number in an entry, in word times.
 const LONGEST: u32 = 1_000_000;
 
 /// What an entry says beside `before`, `after` and `parity`.
