@@ -1,6 +1,7 @@
 pub mod Accepted
 pub mod Executed
 pub mod Hops
+pub mod Passes
 pub mod Table
 pub mod Walk
 pub mod WalkTime

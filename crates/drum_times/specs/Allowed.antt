@@ -35,10 +35,15 @@ abbrev pub HaveOwnLocations : List Listed → Type 0
 HaveOwnLocations [] = Unit {0}
 HaveOwnLocations (list ∷ lists) = (list_any (λ other. other.location == list.location) lists ≡ false) × HaveOwnLocations lists
 
+-- an outer mark, if there is one, stands before this place
+abbrev pub IsEarlier : ℕ → Option ℕ → Type 0
+IsEarlier place None = Unit {0}
+IsEarlier place (Some outer) = outer < place
+
 -- each mark, the first of which has this place, stands inside of an earlier one, if of any
 abbrev pub StandInEarlier : ℕ → List Mark → Type 0
 StandInEarlier place [] = Unit {0}
-StandInEarlier place (mark ∷ marks) = (elim mark.inside [ None ↦ Unit {0} | Some outer ↦ outer < place ]) × StandInEarlier (place + 1) marks
+StandInEarlier place (mark ∷ marks) = IsEarlier place mark.inside × StandInEarlier (place + 1) marks
 
 -- What is so of all notes: at most 8 marks, each with an edge of its own, and inside of an earlier one if of any; lists
 -- for locations, each with one of its own, and from 1 to 64 patterns.
