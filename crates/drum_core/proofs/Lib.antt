@@ -3,4 +3,6 @@ pub mod Firsts
 pub mod LineLemmas
 pub mod Numerals
 pub mod Words
+pub mod DeckLaws
 mod Checks
+mod FaultLaws

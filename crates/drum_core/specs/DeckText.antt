@@ -1,6 +1,7 @@
 -- Deck text (this project's choice): what each line says, which texts are decks, what a deck loads, and why
 -- another text is refused.
 use Rattle.std.specs.Prelude.{◌≡◌, ℕ, ◌+◌, ◌^◌, ◌<◌, ◌≤◌, List, [], ◌∷◌, ◌++◌, length, flat_map, codes, ◌⊎◌, All, Any, ◌==◌, if◌then◌else◌, Option, Some, None}
+use Rattle.std.specs.List.{AllByRecursion}
 use Rattle.std.specs.Option.{option_map}
 use Rattle.drum_core.specs.declared.deck.fault.DeckFault.{DeckFault}
 use Rattle.drum_core.specs.declared.deck.fault.DeckFault.TheVariants.{Read, Memory, Card, Twice, NoStart, TwoStarts, PastDrum, TooLong}
@@ -95,7 +96,7 @@ AreDistinct (one ∷ given) = ¬ IsGiven given one.location × AreDistinct given
 
 -- lines with no fault, as far as they go
 pub record AreSound (lines : List Line) : Type 0 where
-  pub on_drum : All (λ line. ¬ IsPastDrum line) lines
+  pub on_drum : AllByRecursion (λ line. ¬ IsPastDrum line) lines
   pub once : AreDistinct (given_from 1 lines)
   pub one_start : length (starts lines) ≤ 1
 

@@ -1,0 +1,290 @@
+-- Laws of deck text: what is given is found, and a text has one fault.
+use Rattle.std.proofs.Common.{◌≡◌, ℕ, zero, suc, ◌+◌, ◌<◌, ◌≤◌, Bool, true, false, cond, List, [], ◌∷◌, ◌++◌, length, take, drop, refl, ap, sym, ◌∙◌, subst, arith, length-append, append_assoc, inl, inr, ◌⊎◌, Option, Some, None}
+use Rattle.std.proofs.Math.Seq.{take-append_seam, drop-append_seam}
+use Rattle.std.proofs.lemmas.Bool.{cases_lt, eq-eqb}
+use Rattle.std.specs.List.{AllByRecursion}
+use Rattle.std.specs.Prelude.{Contains, slice_index_or, Any}
+use borrow.Author.Tests.{ne_eqb}
+use denote.Struct.Props.{props}
+use Rattle.drum_core.specs.declared.deck.fault.DeckFault.{DeckFault}
+use Rattle.drum_core.specs.declared.deck.fault.DeckFault.TheVariants.{Read, Memory, Card, Twice, NoStart, TwoStarts, PastDrum, TooLong}
+use Rattle.drum_core.specs.declared.location.Location.{Location}
+use Rattle.drum_core.specs.declared.word.Word.{Word}
+use Rattle.drum_core.specs.DeckText.{Line, comment, start, card, IsLine, Say, Given, given_by_card, given_by, given_from, given_at, starts, IsPastDrum, IsGiven, AreDistinct, AreSound, IsTooLong, IsFaultOfLine, IsFirstFault, LacksStart, IsRefused}
+use Rattle.drum_core.specs.Lines.{lines_of}
+use Rattle.drum_core.specs.Location.{IsLocation}
+use Rattle.drum_core.proofs.DeckLaws.{line_one, same_front}
+
+-- what is given to distinct locations is found there
+given_is_found : (given : List Given) (one : Given) (k : ℕ) → AreDistinct given → k < length given → slice_index_or given k one ≡ one → given_at given one.location ≡ Some one
+given_is_found [] one k distinct within here = absurd (omega arith)
+given_is_found (first ∷ given) one zero distinct within here =
+    let same : first.location ≡ one.location = ap (λ (g : Given). g.location) here in
+    rw (eq-eqb first.location one.location same) (ap Some here)
+given_is_found (first ∷ given) one (suc k) distinct within here =
+    let below : k < length given = omega arith in
+    let other : first.location ≡ one.location → ⊥ = λ same. distinct.0 (k, one, below, here, sym same) in
+    rw (ne_eqb first.location one.location other) (given_is_found given one k distinct.1 below here)
+
+-- the image is a function: one location is given one word, from one line
+pub image_is_function : (given : List Given) → AreDistinct given → (one : Given) → Contains given one → given_at given one.location ≡ Some one
+image_is_function given distinct one among = given_is_found given one among.0 distinct among.1 among.2
+
+-- texts say one list of lines
+say_one : (texts : List (List ℕ)) (lines others : List Line) → Say texts lines → Say texts others → lines ≡ others
+say_one [] [] [] p q = refl
+say_one [] [] (b ∷ others) p q = absurd q
+say_one [] (a ∷ lines) others p q = absurd p
+say_one (text ∷ texts) [] others p q = absurd p
+say_one (text ∷ texts) (a ∷ lines) [] p q = absurd q
+say_one (text ∷ texts) (a ∷ lines) (b ∷ others) p q =
+    let here : a ≡ b = line_one text a b p.0 q.0 in
+    let further : lines ≡ others = say_one texts lines others p.1 q.1 in
+    cc
+
+-- what a text among others says
+pub record Parts (texts : List (List ℕ)) (text : List ℕ) (lines : List Line) : Type 0 where
+  pub front : List Line
+  pub line : Line
+  pub behind : List Line
+  pub split : lines ≡ front ++ line ∷ behind
+  pub said : Say texts front
+  pub says : IsLine text line
+
+parts_of : (texts : List (List ℕ)) (text : List ℕ) (others : List (List ℕ)) (lines : List Line) → Say (texts ++ text ∷ others) lines → Parts texts text lines
+parts_of [] text others [] p = absurd p
+parts_of [] text others (line ∷ lines) p = record { front = []; line = line; behind = lines; split = refl; said = tt; says = p.0 }
+parts_of (first ∷ texts) text others [] p = absurd p
+parts_of (first ∷ texts) text others (line ∷ lines) p =
+    let rest = parts_of texts text others lines p.1 in
+    record { front = line ∷ rest.front; line = rest.line; behind = rest.behind; split = ap (λ (xs : List Line). line ∷ xs) rest.split; said = (p.0, rest.said); says = rest.says }
+
+-- a list of lines with one behind others
+on_drum_behind : (front : List Line) (line : Line) (behind : List Line) → AllByRecursion (λ one. ¬ IsPastDrum one) (front ++ line ∷ behind) → ¬ IsPastDrum line
+on_drum_behind [] line behind all = all.0
+on_drum_behind (first ∷ front) line behind all = on_drum_behind front line behind all.1
+
+starts-append : (front others : List Line) → starts (front ++ others) ≡ starts front ++ starts others
+starts-append [] others = refl
+starts-append (comment ∷ front) others = starts-append front others
+starts-append (start n ∷ front) others = ap (λ (xs : List ℕ). n ∷ xs) (starts-append front others)
+starts-append (card n words ∷ front) others = starts-append front others
+
+given_from-append : (number : ℕ) (front others : List Line) → given_from number (front ++ others) ≡ given_from number front ++ given_from (number + length front) others
+given_from-append number [] others =
+    let same : number ≡ number + 0 = omega arith in
+    ap (λ (n : ℕ). given_from n others) same
+given_from-append number (line ∷ front) others =
+    let same : number + 1 + length front ≡ number + suc (length front) = omega arith in
+    ap (λ (xs : List Given). given_by number line ++ xs) (given_from-append (number + 1) front others ∙ ap (λ (n : ℕ). given_from (number + 1) front ++ given_from n others) same)
+    ∙ sym (append_assoc (given_by number line) (given_from (number + 1) front) (given_from (number + suc (length front)) others))
+
+-- what is given in a front or behind it is given
+given_in_front : (front others : List Given) (location : ℕ) → IsGiven front location → IsGiven (front ++ others) location
+given_in_front [] others location (k, one, within, here, at) = absurd (omega arith)
+given_in_front (first ∷ front) others location (zero, one, within, here, at) = (0, one, omega arith, here, at)
+given_in_front (first ∷ front) others location (suc k, one, within, here, at) =
+    let rest = given_in_front front others location (k, one, omega arith, here, at) in
+    (suc rest.0, rest.1, omega (arith, rest.2), rest.3, rest.4)
+
+given_behind : (front others : List Given) (location : ℕ) → IsGiven others location → IsGiven (front ++ others) location
+given_behind [] others location given = given
+given_behind (first ∷ front) others location given =
+    let rest = given_behind front others location given in
+    (suc rest.0, rest.1, omega (arith, rest.2), rest.3, rest.4)
+
+-- distinct locations aren't given in a front and behind it
+given_once : (front others : List Given) (location : ℕ) → AreDistinct (front ++ others) → IsGiven front location → IsGiven others location → ⊥
+given_once [] others location distinct (k, one, within, here, at) later = omega arith
+given_once (first ∷ front) others location distinct (zero, one, within, here, at) later =
+    let same : first.location ≡ location = ap (λ (g : Given). g.location) here ∙ at in
+    distinct.0 (subst (λ (l : ℕ). IsGiven (front ++ others) l) (sym same) (given_behind front others location later))
+given_once (first ∷ front) others location distinct (suc k, one, within, here, at) later =
+    given_once front others location distinct.1 (k, one, omega arith, here, at) later
+
+-- a card gives each location from its first on
+card_gives : (number n : ℕ) (words : List Word) (location : ℕ) → n ≤ location → location < n + length words → IsGiven (given_by_card number n words) location
+card_gives number n [] location low high = absurd (omega arith)
+card_gives number n (word ∷ words) location low high =
+    elim (cases_lt n location) [
+      | inl past ↦
+          let rest = card_gives number (n + 1) words location (omega arith) (omega arith) in
+          (suc rest.0, rest.1, omega (arith, rest.2), rest.3, rest.4)
+      | inr upto ↦
+          let same : n ≡ location = omega arith in
+          (0, record { location = n; word = word; line = number }, omega arith, refl, same)
+    ]
+
+-- a line of sound lines has no fault
+no_fault_among : (front : List Line) (line : Line) (behind : List Line) (number : ℕ) (text : List ℕ) (fault : DeckFault) → AreSound (front ++ line ∷ behind) → IsLine text line
+    → IsFaultOfLine front number text fault → ⊥
+no_fault_among front line behind number text (Card n) sound says p = p.1 line says
+no_fault_among front line behind number text (PastDrum n) sound says p =
+    let one = line_one text line p.1.0 says p.1.1 in
+    on_drum_behind front line behind sound.on_drum (subst IsPastDrum (sym one) p.1.2)
+no_fault_among front line behind number text (TwoStarts n) sound says p =
+    let one = line_one text line (start p.1.0) says p.1.1 in
+    let split : starts (front ++ line ∷ behind) ≡ starts front ++ p.1.0 ∷ starts behind = starts-append front (line ∷ behind) ∙ ap (λ (l : Line). starts front ++ starts (l ∷ behind)) one in
+    let long : length (starts (front ++ line ∷ behind)) ≡ length (starts front) + length (p.1.0 ∷ starts behind) = ap length split ∙ length-append (starts front) (p.1.0 ∷ starts behind) in
+    omega (arith, long, sound.one_start, p.1.3)
+no_fault_among front line behind number text (Twice location) sound says (n, words, is_card, short, low, high, before, least) =
+    let one = line_one text line (card n words) says is_card in
+    let split : given_from 1 (front ++ line ∷ behind) ≡ given_from 1 front ++ given_from (1 + length front) (line ∷ behind) = given_from-append 1 front (line ∷ behind) in
+    let split' : given_from 1 (front ++ line ∷ behind) ≡ given_from 1 front ++ given_from (1 + length front) (card n words ∷ behind) =
+    split ∙ ap (λ (l : Line). given_from 1 front ++ given_from (1 + length front) (l ∷ behind)) one in
+    let here = given_in_front (given_by_card (1 + length front) n words) (given_from (1 + length front + 1) behind) location.number (card_gives (1 + length front) n words location.number low high) in
+    given_once (given_from 1 front) (given_from (1 + length front) (card n words ∷ behind)) location.number (subst AreDistinct split' sound.once) before here
+no_fault_among front line behind number text Read sound says p = p
+no_fault_among front line behind number text Memory sound says p = p
+no_fault_among front line behind number text NoStart sound says p = p
+no_fault_among front line behind number text TooLong sound says p = p
+
+-- locations of one number are one
+same_location : (a b : Location) → a.number ≡ b.number → a ≡ b
+same_location a b number =
+    let one_proof : IsProp (IsLocation a.number) = hlevel props in
+    let made : (n : ℕ) → IsLocation n → Location = λ n exists. record { number = n; exists = exists } in
+    let Same : ℕ → Type 0 = λ n. (exists : IsLocation n) → a ≡ made n exists in
+    let here : Same a.number = λ exists. ap (made a.number) (one_proof a.exists exists) in
+    subst Same number here b.exists
+
+-- a line behind sound ones has one fault
+fault_of_line_one : (before : List Line) (number : ℕ) (text : List ℕ) (fault other : DeckFault) → IsFaultOfLine before number text fault → IsFaultOfLine before number text other → fault ≡ other
+fault_of_line_one before number text Read other p q = absurd p
+fault_of_line_one before number text Memory other p q = absurd p
+fault_of_line_one before number text NoStart other p q = absurd p
+fault_of_line_one before number text TooLong other p q = absurd p
+fault_of_line_one before number text fault Read p q = absurd q
+fault_of_line_one before number text fault Memory p q = absurd q
+fault_of_line_one before number text fault NoStart p q = absurd q
+fault_of_line_one before number text fault TooLong p q = absurd q
+fault_of_line_one before number text (Card n) (Card m) p q = ap Card (p.0 ∙ sym q.0)
+fault_of_line_one before number text (Card n) (PastDrum m) p q = absurd (p.1 q.1.0 q.1.1)
+fault_of_line_one before number text (Card n) (TwoStarts m) p q = absurd (p.1 (start q.1.0) q.1.1)
+fault_of_line_one before number text (Card n) (Twice l) p q = absurd (p.1 (card q.0 q.1) q.2)
+fault_of_line_one before number text (PastDrum n) (Card m) p q = absurd (q.1 p.1.0 p.1.1)
+fault_of_line_one before number text (PastDrum n) (PastDrum m) p q = ap PastDrum (p.0 ∙ sym q.0)
+fault_of_line_one before number text (PastDrum n) (TwoStarts m) p q =
+    let past : 2000 ≤ q.1.0 = subst IsPastDrum (line_one text p.1.0 (start q.1.0) p.1.1 q.1.1) p.1.2 in absurd (omega (arith, past, q.1.2))
+fault_of_line_one before number text (PastDrum n) (Twice l) p q =
+    let past : 2000 < q.0 + length q.1 = subst IsPastDrum (line_one text p.1.0 (card q.0 q.1) p.1.1 q.2) p.1.2 in absurd (omega (arith, past, q.3))
+fault_of_line_one before number text (TwoStarts n) (Card m) p q = absurd (q.1 (start p.1.0) p.1.1)
+fault_of_line_one before number text (TwoStarts n) (PastDrum m) p q =
+    let past : 2000 ≤ p.1.0 = subst IsPastDrum (line_one text q.1.0 (start p.1.0) q.1.1 p.1.1) q.1.2 in absurd (omega (arith, past, p.1.2))
+fault_of_line_one before number text (TwoStarts n) (TwoStarts m) p q = ap TwoStarts (p.0 ∙ sym q.0)
+fault_of_line_one before number text (TwoStarts n) (Twice l) p q =
+    let other : start p.1.0 ≡ card q.0 q.1 = line_one text (start p.1.0) (card q.0 q.1) p.1.1 q.2 in cc
+fault_of_line_one before number text (Twice l) (Card m) p q = absurd (q.1 (card p.0 p.1) p.2)
+fault_of_line_one before number text (Twice l) (PastDrum m) p q =
+    let past : 2000 < p.0 + length p.1 = subst IsPastDrum (line_one text q.1.0 (card p.0 p.1) q.1.1 p.2) q.1.2 in absurd (omega (arith, past, p.3))
+fault_of_line_one before number text (Twice l) (TwoStarts m) p q =
+    let other : start q.1.0 ≡ card p.0 p.1 = line_one text (start q.1.0) (card p.0 p.1) q.1.1 p.2 in cc
+fault_of_line_one before number text (Twice l) (Twice m) p q =
+    let one : card p.0 p.1 ≡ card q.0 q.1 = line_one text (card p.0 p.1) (card q.0 q.1) p.2 q.2 in
+    let n : p.0 ≡ q.0 = cc in
+    let least : m.number ≤ l.number = (elim (cases_lt l.number m.number) [ inl below ↦ absurd (q.7 l.number (omega (arith, p.4, n)) below p.6) | inr upto ↦ upto ]) in
+    let least' : l.number ≤ m.number = (elim (cases_lt m.number l.number) [ inl below ↦ absurd (p.7 m.number (omega (arith, q.4, n)) below q.6) | inr upto ↦ upto ]) in
+    let same : l.number ≡ m.number = omega arith in
+    ap Twice (same_location l m same)
+
+-- of two fronts of one list, the longer has the shorter and what stands behind it
+longer_front : (texts others : List (List ℕ)) (text other : List ℕ) (behind behind' : List (List ℕ)) → length texts < length others
+    → texts ++ text ∷ behind ≡ others ++ other ∷ behind' → (between : List (List ℕ)) × (others ≡ texts ++ text ∷ between)
+longer_front [] [] text other behind behind' less e = absurd (omega arith)
+longer_front [] (first ∷ others) text other behind behind' less e =
+    let head : text ≡ first = cc in
+    (others, ap (λ (t : List ℕ). t ∷ others) (sym head))
+longer_front (first ∷ texts) [] text other behind behind' less e = absurd (omega arith)
+longer_front (first ∷ texts) (first' ∷ others) text other behind behind' less e =
+    let head : first ≡ first' = cc in
+    let tail : texts ++ text ∷ behind ≡ others ++ other ∷ behind' = cc in
+    let rest = longer_front texts others text other behind behind' (omega arith) tail in
+    (rest.0, ap (λ (t : List ℕ). t ∷ others) (sym head) ∙ ap (λ (ts : List (List ℕ)). first ∷ ts) rest.1)
+
+-- the first fault of a text isn't behind that of an earlier line
+not_behind : (text : List ℕ) (fault other : DeckFault) (p : IsFirstFault text fault) (q : IsFirstFault text other) → length p.texts < length q.texts → ⊥
+not_behind text fault other p q less =
+    let longer = longer_front p.texts q.texts p.line q.line p.others q.others less (sym p.split ∙ q.split) in
+    let said : Say (p.texts ++ p.line ∷ longer.0) q.before = subst (λ (ts : List (List ℕ)). Say ts q.before) longer.1 q.said in
+    let parts = parts_of p.texts p.line longer.0 q.before said in
+    let front : p.before ≡ parts.front = say_one p.texts p.before parts.front p.said parts.said in
+    no_fault_among parts.front parts.line parts.behind (length p.texts + 1) p.line fault (subst AreSound parts.split q.sound) parts.says
+    (subst (λ (ls : List Line). IsFaultOfLine ls (length p.texts + 1) p.line fault) front p.first)
+
+pub first_fault_one : (text : List ℕ) (fault other : DeckFault) → IsFirstFault text fault → IsFirstFault text other → fault ≡ other
+first_fault_one text fault other p q =
+    elim (cases_lt (length p.texts) (length q.texts)) [
+      | inl less ↦ absurd (not_behind text fault other p q less)
+      | inr upto ↦ elim (cases_lt (length q.texts) (length p.texts)) [
+        | inl less ↦ absurd (not_behind text other fault q p less)
+        | inr upto' ↦
+            let long : length p.texts ≡ length q.texts = omega arith in
+            let parts = same_texts p.texts q.texts (p.line ∷ p.others) (q.line ∷ q.others) long (sym p.split ∙ q.split) in
+            let line : p.line ≡ q.line = cc in
+            let said : Say p.texts q.before = subst (λ (ts : List (List ℕ)). Say ts q.before) (sym parts.0) q.said in
+            let before : p.before ≡ q.before = say_one p.texts p.before q.before p.said said in
+            let here : IsFaultOfLine q.before (length q.texts + 1) q.line fault =
+            subst (λ (ls : List Line). IsFaultOfLine ls (length q.texts + 1) q.line fault) before
+            (subst (λ (t : List ℕ). IsFaultOfLine p.before (length q.texts + 1) t fault) line
+            (subst (λ (n : ℕ). IsFaultOfLine p.before (n + 1) p.line fault) long p.first)) in
+            fault_of_line_one q.before (length q.texts + 1) q.line fault other here q.first
+      ]
+    ]
+  where
+    same_texts : (xs xs' ys ys' : List (List ℕ)) → length xs ≡ length xs' → xs ++ ys ≡ xs' ++ ys' → (xs ≡ xs') × (ys ≡ ys')
+    same_texts xs xs' ys ys' long e = (
+      sym (take-append_seam xs ys) ∙ ap (take (length xs)) e ∙ ap (λ n. take n (xs' ++ ys')) long ∙ take-append_seam xs' ys',
+      sym (drop-append_seam xs ys) ∙ ap (drop (length xs)) e ∙ ap (λ n. drop n (xs' ++ ys')) long ∙ drop-append_seam xs' ys',
+    )
+
+-- a text without a start whose lines are sound has no faulty line
+not_both : (text : List ℕ) (fault : DeckFault) → LacksStart text → IsFirstFault text fault → ⊥
+not_both text fault lacks p =
+    let said : Say (p.texts ++ p.line ∷ p.others) lacks.lines = subst (λ (ts : List (List ℕ)). Say ts lacks.lines) p.split lacks.said in
+    let parts = parts_of p.texts p.line p.others lacks.lines said in
+    let front : p.before ≡ parts.front = say_one p.texts p.before parts.front p.said parts.said in
+    no_fault_among parts.front parts.line parts.behind (length p.texts + 1) p.line fault (subst AreSound parts.split lacks.sound) parts.says
+    (subst (λ (ls : List Line). IsFaultOfLine ls (length p.texts + 1) p.line fault) front p.first)
+
+-- A text that is no deck has one fault.
+pub fault_one : (text : List ℕ) (fault other : DeckFault) → IsRefused text fault → IsRefused text other → fault ≡ other
+fault_one text Read other p q = absurd p
+fault_one text Memory other p q = absurd p
+fault_one text fault Read p q = absurd q
+fault_one text fault Memory p q = absurd q
+fault_one text TooLong TooLong p q = refl
+fault_one text TooLong NoStart p q = absurd (q.0 p)
+fault_one text TooLong (Card n) p q = absurd (q.0 p)
+fault_one text TooLong (PastDrum n) p q = absurd (q.0 p)
+fault_one text TooLong (TwoStarts n) p q = absurd (q.0 p)
+fault_one text TooLong (Twice l) p q = absurd (q.0 p)
+fault_one text NoStart TooLong p q = absurd (p.0 q)
+fault_one text NoStart NoStart p q = refl
+fault_one text NoStart (Card n) p q = absurd (not_both text (Card n) p.1 q.1)
+fault_one text NoStart (PastDrum n) p q = absurd (not_both text (PastDrum n) p.1 q.1)
+fault_one text NoStart (TwoStarts n) p q = absurd (not_both text (TwoStarts n) p.1 q.1)
+fault_one text NoStart (Twice l) p q = absurd (not_both text (Twice l) p.1 q.1)
+fault_one text (Card n) TooLong p q = absurd (p.0 q)
+fault_one text (Card n) NoStart p q = absurd (not_both text (Card n) q.1 p.1)
+fault_one text (Card n) (Card m) p q = first_fault_one text (Card n) (Card m) p.1 q.1
+fault_one text (Card n) (PastDrum m) p q = first_fault_one text (Card n) (PastDrum m) p.1 q.1
+fault_one text (Card n) (TwoStarts m) p q = first_fault_one text (Card n) (TwoStarts m) p.1 q.1
+fault_one text (Card n) (Twice m) p q = first_fault_one text (Card n) (Twice m) p.1 q.1
+fault_one text (PastDrum n) TooLong p q = absurd (p.0 q)
+fault_one text (PastDrum n) NoStart p q = absurd (not_both text (PastDrum n) q.1 p.1)
+fault_one text (PastDrum n) (Card m) p q = first_fault_one text (PastDrum n) (Card m) p.1 q.1
+fault_one text (PastDrum n) (PastDrum m) p q = first_fault_one text (PastDrum n) (PastDrum m) p.1 q.1
+fault_one text (PastDrum n) (TwoStarts m) p q = first_fault_one text (PastDrum n) (TwoStarts m) p.1 q.1
+fault_one text (PastDrum n) (Twice m) p q = first_fault_one text (PastDrum n) (Twice m) p.1 q.1
+fault_one text (TwoStarts n) TooLong p q = absurd (p.0 q)
+fault_one text (TwoStarts n) NoStart p q = absurd (not_both text (TwoStarts n) q.1 p.1)
+fault_one text (TwoStarts n) (Card m) p q = first_fault_one text (TwoStarts n) (Card m) p.1 q.1
+fault_one text (TwoStarts n) (PastDrum m) p q = first_fault_one text (TwoStarts n) (PastDrum m) p.1 q.1
+fault_one text (TwoStarts n) (TwoStarts m) p q = first_fault_one text (TwoStarts n) (TwoStarts m) p.1 q.1
+fault_one text (TwoStarts n) (Twice m) p q = first_fault_one text (TwoStarts n) (Twice m) p.1 q.1
+fault_one text (Twice l) TooLong p q = absurd (p.0 q)
+fault_one text (Twice l) NoStart p q = absurd (not_both text (Twice l) q.1 p.1)
+fault_one text (Twice l) (Card m) p q = first_fault_one text (Twice l) (Card m) p.1 q.1
+fault_one text (Twice l) (PastDrum m) p q = first_fault_one text (Twice l) (PastDrum m) p.1 q.1
+fault_one text (Twice l) (TwoStarts m) p q = first_fault_one text (Twice l) (TwoStarts m) p.1 q.1
+fault_one text (Twice l) (Twice m) p q = first_fault_one text (Twice l) (Twice m) p.1 q.1
