@@ -4,6 +4,7 @@
 
 pub mod cycle;
 pub mod hop;
+pub mod laws;
 pub mod refusal;
 pub mod visit;
 pub mod way;

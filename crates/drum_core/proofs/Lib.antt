@@ -5,4 +5,4 @@ pub mod Numerals
 pub mod Words
 pub mod DeckLaws
 mod Checks
-mod FaultLaws
+pub mod FaultLaws

@@ -6,6 +6,7 @@
 pub mod deck;
 pub mod device;
 pub mod instruction;
+pub mod laws;
 pub mod location;
 mod numeral;
 pub mod op;
