@@ -58,10 +58,10 @@ spelling-one v w e =
     one_sign false true h = absurd (omega (arith, h))
 
 -- the words that a card spells, a space before each
-abbrev spaced : List Word → List ℕ
+abbrev pub spaced : List Word → List ℕ
 spaced words = flat_map (λ word. 32 ∷ spelling word) words
 
-length-spelling : (w : Word) → length (spelling w) ≡ 11
+pub length-spelling : (w : Word) → length (spelling w) ≡ 11
 length-spelling w = ap suc (length-digits_of 10 w.digits)
 
 spaced-one : (vs ws : List Word) → spaced vs ≡ spaced ws → vs ≡ ws

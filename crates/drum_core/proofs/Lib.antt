@@ -1,4 +1,5 @@
 pub mod Bytes
+pub mod Cards
 pub mod Firsts
 pub mod LineLemmas
 pub mod Numerals

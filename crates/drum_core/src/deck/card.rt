@@ -1,4 +1,5 @@
-ghost use Rattle.std.specs.Prelude.{◌≡◌, ◌<◌, ◌≤◌, ◌^◌, length};
+ghost use Rattle.std.specs.Prelude.{◌≡◌, ◌≢◌, ℕ, ◌+◌, ◌*◌, ◌<◌, ◌≤◌, ◌^◌, ◌∷◌, length, IfSome, IfNone};
+ghost use Rattle.drum_core.specs.Word.{spelling};
 
 use crate::numeral::read_digits;
 use crate::word::Word;
@@ -20,13 +21,43 @@ pub struct Card {
     pub ghost seven: { len ≤ 7 },
 }
 
+/// How many words a card of so many bytes has.
+fn count_words(bytes: usize) -> Option<usize>
+    ensures found { IfSome result (λ n. (bytes ≡ 4 + 12 * n) × (1 ≤ n) × (n ≤ 7)) }
+    ensures none { IfNone result ((n : ℕ) → 1 ≤ n → n ≤ 7 → bytes ≢ 4 + 12 * n) }
+{
+    let count = bytes / 12;
+    if bytes % 12 == 4 && 1 <= count && count <= WORDS {
+        Some(count)
+    } else {
+        None
+    }
+}
+
+/// The word that twelve bytes spell, with a space before it.
+fn read_spaced(text: &[u8]) -> Option<Word>
+    requires { length text.now ≡ 12 }
+    ensures found { IfSome result (λ word. text.now ≡ 32 ∷ spelling word) }
+    ensures none { IfNone result ((word : Word) → text.now ≢ 32 ∷ spelling word) }
+{
+    if text[0] != b' ' {
+        return None;
+    }
+    Word::read(&text[1..])
+}
+
 impl Card {
+    ghost use Rattle.std.specs.Prelude.{List, take};
+    ghost use Rattle.drum_core.specs.DeckText as text;
+
     /// The card that a line spells: four digits, and from one to seven words with a space before each.
-    pub fn read(line: &[u8]) -> Option<Card> {
-        let len = line.len() / 12;
-        if line.len() % 12 != 4 || len == 0 || len > WORDS {
+    pub fn read(line: &[u8]) -> Option<Card>
+        ensures found { IfSome result (λ card. text.IsLine line.now (text.card card.address (take card.len card.words))) }
+        ensures none { IfNone result ((n : ℕ) (words : List Word) → ¬ text.IsLine line.now (text.card n words)) }
+    {
+        let Some(len) = count_words(line.len()) else {
             return None;
-        }
+        };
         let Some(address) = read_digits(&line[..4]) else {
             return None;
         };
@@ -37,10 +68,7 @@ impl Card {
         let mut words = [blank; WORDS];
         for place in 0..len {
             let at = 4 + 12 * place;
-            if line[at] != b' ' {
-                return None;
-            }
-            let Some(word) = Word::read(&line[at + 1..at + 12]) else {
+            let Some(word) = read_spaced(&line[at..at + 12]) else {
                 return None;
             };
             words[place] = word;
@@ -53,7 +81,9 @@ impl Card {
     }
 
     /// Its words, in order.
-    pub fn words(&self) -> &[Word] {
+    pub fn words(&self) -> &[Word]
+        ensures { result.now ≡ take self.now.len self.now.words }
+    {
         &self.words[..self.len]
     }
 }
