@@ -1,6 +1,7 @@
 pub mod Amount
 pub mod Available
 pub mod Branch
+pub mod DeckLine
 pub mod DeckText
 pub mod Device
 pub mod Instruction
