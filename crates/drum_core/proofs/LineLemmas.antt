@@ -2,6 +2,7 @@
 use Rattle.std.proofs.Common.{◌≡◌, ◌≢◌, ℕ, zero, suc, ◌+◌, ◌-◌, ◌<◌, ◌≤◌, cond, List, [], ◌∷◌, length, get_or, take, drop, ap, ◌∙◌, arith, add-one}
 use Rattle.std.proofs.lemmas.Bool.{eq-eqb}
 use Rattle.std.proofs.lemmas.List.{take_all, length-drop}
+use Rattle.std.specs.Prelude.{Any}
 use borrow.Author.Tests.{ne_eqb}
 use Rattle.drum_core.specs.Lines.{with_front, lines_of}
 
@@ -33,3 +34,13 @@ pub lines_of-behind : (text : List ℕ) (end : ℕ) → end < length text → ge
 lines_of-behind text end within found first =
     let enough : length (drop (end + 1) text) ≤ length text - (end + 1) = omega (arith, length-drop (end + 1) text) in
     rw (take_all (length text - (end + 1)) (drop (end + 1) text) enough, add-one) (lines_of-at text end within found first)
+
+-- a long line is the first or one behind it
+pub long_behind : (first : List ℕ) (lines : List (List ℕ)) → length first ≤ 100 → Any (λ line. 100 < length line) (first ∷ lines) → Any (λ line. 100 < length line) lines
+long_behind first lines short (zero, line, within, here, long) =
+    let same : length first ≡ length line = ap length here in
+    absurd (omega (arith, same, long))
+long_behind first lines short (suc k, line, within, here, long) = (k, line, omega arith, here, long)
+
+pub long_among : (first : List ℕ) (lines : List (List ℕ)) → Any (λ line. 100 < length line) lines → Any (λ line. 100 < length line) (first ∷ lines)
+long_among first lines (k, line, within, here, long) = (suc k, line, omega arith, here, long)

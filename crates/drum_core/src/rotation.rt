@@ -2,6 +2,7 @@
 
 pub mod at_angle;
 pub mod at_parity;
+pub mod chain;
 pub mod clockwork;
 pub mod delay;
 pub mod parity;

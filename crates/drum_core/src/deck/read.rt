@@ -1,4 +1,5 @@
-ghost use Rattle.std.specs.Prelude.{◌+◌, ◌^◌, ◌≤◌};
+ghost use Rattle.std.specs.Prelude.{◌+◌, ◌^◌, ◌≤◌, ◌↔◌, IsTrue};
+ghost use Rattle.drum_core.specs.DeckText.{IsTooLong};
 
 use super::Deck;
 use super::fault::DeckFault;
@@ -18,7 +19,9 @@ const LINE: usize = 100;
 const BYTES: usize = LINES * (LINE + 1);
 
 /// Whether the text has more lines, or a longer line, than a deck may have.
-fn is_too_long(text: &[u8]) -> bool {
+fn is_too_long(text: &[u8]) -> bool
+    ensures { IsTrue result ↔ IsTooLong text.now }
+{
     let mut lines = 0;
     for line in (Lines { rest: text }) {
         lines += 1;
