@@ -3,6 +3,7 @@ pub mod Cards
 pub mod Firsts
 pub mod LineLemmas
 pub mod Numerals
+pub mod Puts
 pub mod Words
 pub mod DeckLaws
 mod Checks

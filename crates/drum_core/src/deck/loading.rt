@@ -1,4 +1,5 @@
-ghost use Rattle.std.specs.Prelude.{◌≡◌, ◌<◌, vec_len};
+ghost use Rattle.std.specs.Prelude.{◌≡◌, ℕ, ◌+◌, ◌<◌, ◌≤◌, ◌⊎◌, vec_len, length, slice_get, OnOk, IfErr};
+ghost use Rattle.drum_core.specs.Taken.{IsFirstTaken};
 ghost use Rattle.std.specs.Option.{ForSome};
 
 use super::card::Card;
@@ -6,6 +7,7 @@ use super::fault::DeckFault;
 use super::line::Line;
 use super::{Deck, Given};
 use crate::location::Location;
+use crate::word::Word;
 use std::alloc::{AllocError, Global};
 
 /// How many words the drum has.
@@ -53,18 +55,12 @@ impl Loading {
     }
 
     fn load(&mut self, card: &Card, line: u16) -> Result<(), DeckFault> {
-        let first = card.address;
         let words = card.words();
-        if first as usize + words.len() > DRUM {
+        if card.address as usize + words.len() > DRUM {
             return Err(DeckFault::PastDrum(line));
         }
-        for (place, word) in words.iter().enumerate() {
-            let number = first + place as u16;
-            let slot = &mut self.image[number as usize];
-            if slot.is_some() {
-                return Err(DeckFault::Twice(Location { number }));
-            }
-            *slot = Some(Given { word: *word, line });
+        if let Err(location) = put_words(&mut self.image, card.address, words, line) {
+            return Err(DeckFault::Twice(location));
         }
         if self.cards.push(line).is_err() {
             return Err(DeckFault::Memory);
@@ -83,4 +79,32 @@ impl Loading {
             }),
         }
     }
+}
+
+/// Puts words into consecutive locations that have none yet; else the first that has one.
+fn put_words(
+    image: &mut Vec<Option<Given>>,
+    first: u16,
+    words: &[Word],
+    line: u16,
+) -> Result<(), Location>
+    requires drum { vec_len image.old ≡ 2000 }
+    requires within { first + length words.now ≤ 2000 }
+    ensures drum { vec_len image.new ≡ 2000 }
+    ensures free { OnOk result ((k : ℕ) → k < length words.now → slice_get image.old.items (first + k) ≡ Some None) }
+    ensures put { OnOk result ((k : ℕ) (word : Word) → slice_get words.now k ≡ Some word
+        → slice_get image.new.items (first + k) ≡ Some (Some (record { word = word; line = line }))) }
+    ensures others { OnOk result ((n : ℕ) → (n < first) ⊎ (first + length words.now ≤ n)
+        → slice_get image.new.items n ≡ slice_get image.old.items n) }
+    ensures taken { IfErr result (λ location. IsFirstTaken image.old.items first (length words.now) location.number) }
+{
+    for (place, word) in words.iter().enumerate() {
+        let number = first + place as u16;
+        let slot = &mut image[number as usize];
+        if slot.is_some() {
+            return Err(Location { number });
+        }
+        *slot = Some(Given { word: *word, line });
+    }
+    Ok(())
 }
