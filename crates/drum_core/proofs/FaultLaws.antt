@@ -64,13 +64,13 @@ on_drum_behind : (front : List Line) (line : Line) (behind : List Line) → AllB
 on_drum_behind [] line behind all = all.0
 on_drum_behind (first ∷ front) line behind all = on_drum_behind front line behind all.1
 
-starts-append : (front others : List Line) → starts (front ++ others) ≡ starts front ++ starts others
+pub starts-append : (front others : List Line) → starts (front ++ others) ≡ starts front ++ starts others
 starts-append [] others = refl
 starts-append (comment ∷ front) others = starts-append front others
 starts-append (start n ∷ front) others = ap (λ (xs : List ℕ). n ∷ xs) (starts-append front others)
 starts-append (card n words ∷ front) others = starts-append front others
 
-given_from-append : (number : ℕ) (front others : List Line) → given_from number (front ++ others) ≡ given_from number front ++ given_from (number + length front) others
+pub given_from-append : (number : ℕ) (front others : List Line) → given_from number (front ++ others) ≡ given_from number front ++ given_from (number + length front) others
 given_from-append number [] others =
     let same : number ≡ number + 0 = omega arith in
     ap (λ (n : ℕ). given_from n others) same

@@ -8,3 +8,4 @@ pub mod Words
 pub mod DeckLaws
 mod Checks
 pub mod FaultLaws
+mod Loads

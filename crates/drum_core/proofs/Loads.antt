@@ -1,0 +1,143 @@
+-- What one line more gives.
+use Rattle.std.proofs.Common.{◌≡◌, ℕ, zero, suc, ◌+◌, ◌-◌, ◌<◌, ◌≤◌, Bool, true, false, cond, List, [], ◌∷◌, ◌++◌, length, refl, ap, sym, ◌∙◌, subst, arith, inl, inr, ◌⊎◌, Option, Some, None, length-append, append_assoc}
+use Rattle.std.proofs.lemmas.Bool.{cases_lt, eq-eqb}
+use Rattle.std.proofs.lemmas.List.{append-nil}
+use Rattle.std.specs.List.{AllByRecursion}
+use Rattle.std.specs.Prelude.{slice_get, ◌==◌}
+use borrow.Author.Tests.{ne_eqb, eqb-true}
+use Rattle.drum_core.specs.declared.deck.Given as held
+use Rattle.drum_core.specs.declared.location.Location.{Location}
+use Rattle.drum_core.specs.declared.word.Word.{Word}
+use Rattle.drum_core.specs.DeckText.{Line, comment, start, card, Given, given_by_card, given_by, given_from, given_at, cards_from, starts, IsPastDrum, IsGiven, AreDistinct, AreSound}
+use Rattle.drum_core.specs.Holds.{seen, started, Holds}
+use Rattle.drum_core.proofs.FaultLaws.{starts-append, given_from-append}
+
+-- what the first has, or else the second
+abbrev or_else : Option Given → Option Given → Option Given
+or_else None other = other
+or_else (Some one) other = Some one
+
+given_at-append : (xs ys : List Given) (n : ℕ) → given_at (xs ++ ys) n ≡ or_else (given_at xs n) (given_at ys n)
+given_at-append [] ys n = refl
+given_at-append (x ∷ xs) ys n = go (x.location == n) (given_at-append xs ys n)
+  where
+    go : (here : Bool) → given_at (xs ++ ys) n ≡ or_else (given_at xs n) (given_at ys n)
+        → cond here (Some x) (given_at (xs ++ ys) n) ≡ or_else (cond here (Some x) (given_at xs n)) (given_at ys n)
+    go true rest = refl
+    go false rest = rest
+
+-- a card gives nothing before its first location and behind its last
+given_at_card_out : (number first : ℕ) (words : List Word) (n : ℕ) → (n < first) ⊎ (first + length words ≤ n) → given_at (given_by_card number first words) n ≡ None
+given_at_card_out number first [] n out = refl
+given_at_card_out number first (word ∷ words) n out =
+    let other : first ≡ n → ⊥ = λ e. elim out [ inl low ↦ omega (arith, e, low) | inr high ↦ omega (arith, e, high) ] in
+    let rest : (n < first + 1) ⊎ (first + 1 + length words ≤ n) = elim out [ inl low ↦ inl (omega (arith, low)) | inr high ↦ inr (omega (arith, high)) ] in
+    rw (ne_eqb first n other) (given_at_card_out number (first + 1) words n rest)
+
+-- and its words to those between
+given_at_card_in : (number first : ℕ) (words : List Word) (k : ℕ) (word : Word) → slice_get words k ≡ Some word
+    → seen (given_at (given_by_card number first words) (first + k)) ≡ Some (record { word = word; line = number })
+given_at_card_in number first [] k word is_word = cc
+given_at_card_in number first (other ∷ words) zero word is_word =
+    let here : first ≡ first + 0 = omega arith in
+    let same : other ≡ word = cc in
+    rw (eq-eqb first (first + 0) here) (ap (λ (w : Word). Some (record { word = w; line = number })) same)
+given_at_card_in number first (other ∷ words) (suc k) word is_word =
+    let past : first ≡ first + suc k → ⊥ = λ e. omega (arith, e) in
+    let moved : first + suc k ≡ first + 1 + k = omega arith in
+    rw (ne_eqb first (first + suc k) past) (ap (λ (n : ℕ). seen (given_at (given_by_card number (first + 1) words) n)) moved ∙ given_at_card_in number (first + 1) words k word is_word)
+
+-- what isn't found isn't given
+not_behind_none : (found : Bool) (x : Given) (rest : Option Given) → cond found (Some x) rest ≡ None → rest ≡ None
+not_behind_none true x rest h = cc
+not_behind_none false x rest h = h
+
+not_given : (xs : List Given) (n : ℕ) → given_at xs n ≡ None → IsGiven xs n → ⊥
+not_given [] n e (k, one, within, here, at) = omega arith
+not_given (x ∷ xs) n e (zero, one, within, here, at) =
+    let same : x.location ≡ n = ap (λ (g : Given). g.location) here ∙ at in
+    let hit : Some x ≡ None = subst (λ (b : Bool). cond b (Some x) (given_at xs n) ≡ None) (eq-eqb x.location n same) e in
+    cc
+not_given (x ∷ xs) n e (suc k, one, within, here, at) =
+    not_given xs n (not_behind_none (x.location == n) x (given_at xs n) e) (k, one, omega arith, here, at)
+
+-- what two lists give is given by one of them
+given_by_either : (xs ys : List Given) (n : ℕ) → IsGiven (xs ++ ys) n → IsGiven xs n ⊎ IsGiven ys n
+given_by_either [] ys n given = inr given
+given_by_either (x ∷ xs) ys n (zero, one, within, here, at) = inl (0, one, omega arith, here, at)
+given_by_either (x ∷ xs) ys n (suc k, one, within, here, at) =
+    elim (given_by_either xs ys n (k, one, omega arith, here, at)) [
+      | inl first ↦ inl (suc first.0, first.1, omega (arith, first.2), first.3, first.4)
+      | inr second ↦ inr second
+    ]
+
+distinct-append : (xs ys : List Given) → AreDistinct xs → AreDistinct ys → ((n : ℕ) → IsGiven xs n → IsGiven ys n → ⊥) → AreDistinct (xs ++ ys)
+distinct-append [] ys p q apart = q
+distinct-append (x ∷ xs) ys p q apart = (
+  λ given. elim (given_by_either xs ys x.location given) [ inl first ↦ p.0 first | inr second ↦ apart x.location (0, x, omega arith, refl, refl) second ],
+  distinct-append xs ys p.1 q (λ n first second. apart n (suc first.0, first.1, omega (arith, first.2), first.3, first.4) second),
+)
+
+card_distinct : (number first : ℕ) (words : List Word) → AreDistinct (given_by_card number first words)
+card_distinct number first [] = tt
+card_distinct number first (word ∷ words) = (not_given (given_by_card number (first + 1) words) first (given_at_card_out number (first + 1) words first (inl (omega arith))), card_distinct number (first + 1) words)
+
+-- what a card gives lies between its first location and its last
+card_range : (number first : ℕ) (words : List Word) (n : ℕ) → IsGiven (given_by_card number first words) n → (first ≤ n) × (n < first + length words)
+card_range number first words n given =
+    elim (cases_lt n first) [
+      | inl low ↦ absurd (not_given (given_by_card number first words) n (given_at_card_out number first words n (inl low)) given)
+      | inr from ↦ elim (cases_lt n (first + length words)) [
+        | inl below ↦ (from, below)
+        | inr high ↦ absurd (not_given (given_by_card number first words) n (given_at_card_out number first words n (inr high)) given)
+      ]
+    ]
+
+all-push : (P : Line → Type 0) (lines : List Line) (line : Line) → AllByRecursion P lines → P line → AllByRecursion P (lines ++ line ∷ [])
+all-push P [] line all here = (here, tt)
+all-push P (first ∷ lines) line all here = (all.0, all-push P lines line all.1 here)
+
+cards_from-push : (number : ℕ) (lines : List Line) (line : Line) → cards_from number (lines ++ line ∷ []) ≡ cards_from number lines ++ cards_from (number + length lines) (line ∷ [])
+cards_from-push number [] line =
+    let same : number ≡ number + 0 = omega arith in
+    ap (λ (n : ℕ). cards_from n (line ∷ [])) same
+cards_from-push number (comment ∷ lines) line =
+    let same : number + 1 + length lines ≡ number + suc (length lines) = omega arith in
+    cards_from-push (number + 1) lines line ∙ ap (λ (n : ℕ). cards_from (number + 1) lines ++ cards_from n (line ∷ [])) same
+cards_from-push number (start n ∷ lines) line =
+    let same : number + 1 + length lines ≡ number + suc (length lines) = omega arith in
+    cards_from-push (number + 1) lines line ∙ ap (λ (n : ℕ). cards_from (number + 1) lines ++ cards_from n (line ∷ [])) same
+cards_from-push number (card n words ∷ lines) line =
+    let same : number + 1 + length lines ≡ number + suc (length lines) = omega arith in
+    ap (λ (xs : List ℕ). number ∷ xs) (cards_from-push (number + 1) lines line ∙ ap (λ (n : ℕ). cards_from (number + 1) lines ++ cards_from n (line ∷ [])) same)
+
+-- what lines and one more give
+given_from-push : (lines : List Line) (line : Line) → given_from 1 (lines ++ line ∷ []) ≡ given_from 1 lines ++ given_by (1 + length lines) line
+given_from-push lines line = given_from-append 1 lines (line ∷ []) ∙ ap (λ (xs : List Given). given_from 1 lines ++ xs) (append-nil (given_by (1 + length lines) line))
+
+-- a line that gives no word
+holds_more : (image : List (Option held.Given)) (cards : List ℕ) (begun begun' : Option Location) (lines : List Line) (line : Line) → Holds image cards begun lines
+    → given_by (1 + length lines) line ≡ [] → cards_from (1 + length lines) (line ∷ []) ≡ [] → ¬ IsPastDrum line
+    → starts lines ++ starts (line ∷ []) ≡ started begun' → length (started begun') ≤ 1 → Holds image cards begun' (lines ++ line ∷ [])
+holds_more image cards begun begun' lines line holds gives no_card on_drum begins one =
+    let same : given_from 1 (lines ++ line ∷ []) ≡ given_from 1 lines = given_from-push lines line ∙ ap (λ (xs : List Given). given_from 1 lines ++ xs) gives ∙ append-nil (given_from 1 lines) in
+    let all : starts (lines ++ line ∷ []) ≡ started begun' = starts-append lines (line ∷ []) ∙ begins in
+    record {
+      words = λ n below. holds.words n below ∙ ap (λ (xs : List Given). Some (seen (given_at xs n))) (sym same);
+      numbers = holds.numbers ∙ sym (cards_from-push 1 lines line ∙ ap (λ (xs : List ℕ). cards_from 1 lines ++ xs) no_card ∙ append-nil (cards_from 1 lines));
+      begins = all;
+      sound = record {
+        on_drum = all-push (λ (l : Line). ¬ IsPastDrum l) lines line holds.sound.on_drum on_drum;
+        once = subst AreDistinct (sym same) holds.sound.once;
+        one_start = omega (arith, ap length all, one);
+      };
+    }
+
+pub holds_comment : (image : List (Option held.Given)) (cards : List ℕ) (begun : Option Location) (lines : List Line) → Holds image cards begun lines → Holds image cards begun (lines ++ comment ∷ [])
+holds_comment image cards begun lines holds =
+    holds_more image cards begun begun lines comment holds refl refl (λ h. h) (append-nil (starts lines) ∙ holds.begins) (omega (arith, ap length holds.begins, holds.sound.one_start))
+
+pub holds_start : (image : List (Option held.Given)) (cards : List ℕ) (lines : List Line) (location : Location) → location.number < 2000 → Holds image cards None lines
+    → Holds image cards (Some location) (lines ++ start location.number ∷ [])
+holds_start image cards lines location on_drum holds =
+    holds_more image cards None (Some location) lines (start location.number) holds refl refl (λ past. omega (arith, past)) (ap (λ (xs : List ℕ). xs ++ location.number ∷ []) holds.begins) (omega arith)
