@@ -8,7 +8,9 @@ use borrow.Author.Tests.{ne_eqb, eqb-true}
 use Rattle.drum_core.specs.declared.deck.Given as held
 use Rattle.drum_core.specs.declared.location.Location.{Location}
 use Rattle.drum_core.specs.declared.word.Word.{Word}
-use Rattle.drum_core.specs.DeckText.{Line, comment, start, card, Given, given_by_card, given_by, given_from, given_at, cards_from, starts, IsPastDrum, IsGiven, AreDistinct, AreSound}
+use Rattle.drum_core.specs.DeckText.{Line, IsLine, IsFaultOfLine, comment, start, card, Given, given_by_card, given_by, given_from, given_at, cards_from, starts, IsPastDrum, IsGiven, AreDistinct, AreSound}
+use Rattle.drum_core.specs.declared.deck.fault.DeckFault.TheVariants.{Twice}
+use Rattle.drum_core.specs.Taken.{IsFirstTaken}
 use Rattle.drum_core.specs.Holds.{seen, started, Holds}
 use Rattle.drum_core.proofs.FaultLaws.{starts-append, given_from-append}
 
@@ -141,3 +143,96 @@ pub holds_start : (image : List (Option held.Given)) (cards : List ℕ) (lines :
     → Holds image cards (Some location) (lines ++ start location.number ∷ [])
 holds_start image cards lines location on_drum holds =
     holds_more image cards None (Some location) lines (start location.number) holds refl refl (λ past. omega (arith, past)) (ap (λ (xs : List ℕ). xs ++ location.number ∷ []) holds.begins) (omega arith)
+
+or_else_none : (one : Option Given) → or_else one None ≡ one
+or_else_none None = refl
+or_else_none (Some one) = refl
+
+-- where an image holds nothing, nothing is given
+unseen : (one : Option Given) → Some (seen one) ≡ Some None → one ≡ None
+unseen None e = refl
+unseen (Some one) e = cc
+
+none_given : (image : List (Option held.Given)) (cards : List ℕ) (begun : Option Location) (lines : List Line) (n : ℕ) → Holds image cards begun lines → n < 2000
+    → slice_get image n ≡ Some None → given_at (given_from 1 lines) n ≡ None
+none_given image cards begun lines n holds below free = unseen (given_at (given_from 1 lines) n) (sym (holds.words n below) ∙ free)
+
+-- what is found is given
+found_is_given : (xs : List Given) (n : ℕ) (one : Given) → given_at xs n ≡ Some one → IsGiven xs n
+found_is_given [] n one e = cc
+found_is_given (x ∷ xs) n one e = go (x.location == n) refl e (found_is_given xs n one)
+  where
+    go : (found : Bool) → (x.location == n) ≡ found → cond found (Some x) (given_at xs n) ≡ Some one → (given_at xs n ≡ Some one → IsGiven xs n) → IsGiven (x ∷ xs) n
+    go true test h further = (0, x, omega arith, refl, eqb-true x.location n test)
+    go false test h further = let rest = further h in (suc rest.0, rest.1, omega (arith, rest.2), rest.3, rest.4)
+
+-- where an image holds something, something is given
+seen_is_given : (xs : List Given) (n : ℕ) (one : held.Given) (found : Option Given) → given_at xs n ≡ found → Some (seen found) ≡ Some (Some one) → IsGiven xs n
+seen_is_given xs n one None e h = cc
+seen_is_given xs n one (Some it) e h = found_is_given xs n it e
+
+-- a card whose words go into locations that have none
+pub holds_card : (image image' : List (Option held.Given)) (cards : List ℕ) (begun : Option Location) (lines : List Line) (first : ℕ) (words : List Word) → Holds image cards begun lines
+    → first + length words ≤ 2000
+    → ((k : ℕ) → k < length words → slice_get image (first + k) ≡ Some None)
+    → ((k : ℕ) (word : Word) → slice_get words k ≡ Some word → slice_get image' (first + k) ≡ Some (Some (record { word = word; line = 1 + length lines })))
+    → ((n : ℕ) → (n < first) ⊎ (first + length words ≤ n) → slice_get image' n ≡ slice_get image n)
+    → Holds image' (cards ++ (1 + length lines) ∷ []) begun (lines ++ card first words ∷ [])
+holds_card image image' cards begun lines first words holds within free put others =
+    let before : List Given = given_from 1 lines in
+    let of_card : List Given = given_by_card (1 + length lines) first words in
+    let all : given_from 1 (lines ++ card first words ∷ []) ≡ before ++ of_card = given_from-push lines (card first words) in
+    let At : ℕ → Type 0 = λ n. slice_get image' n ≡ Some (seen (given_at (given_from 1 (lines ++ card first words ∷ [])) n)) in
+    let shape : (n : ℕ) → given_at (given_from 1 (lines ++ card first words ∷ [])) n ≡ or_else (given_at before n) (given_at of_card n) =
+    λ n. ap (λ (xs : List Given). given_at xs n) all ∙ given_at-append before of_card n in
+    let outside : (n : ℕ) → n < 2000 → (n < first) ⊎ (first + length words ≤ n) → At n = λ n below out.
+    others n out ∙ holds.words n below
+    ∙ ap (λ (one : Option Given). Some (seen one)) (sym (or_else_none (given_at before n)) ∙ ap (or_else (given_at before n)) (sym (given_at_card_out (1 + length lines) first words n out)) ∙ sym (shape n)) in
+    let inside : (k : ℕ) → k < length words → At (first + k) = λ k less.
+    let word = element words k less in
+    let nothing : given_at before (first + k) ≡ None = none_given image cards begun lines (first + k) holds (omega arith) (free k less) in
+    put k word.0 word.1 ∙ ap Some (sym (given_at_card_in (1 + length lines) first words k word.0 word.1) ∙ ap seen (ap (λ (one : Option Given). or_else one (given_at of_card (first + k))) (sym nothing) ∙ sym (shape (first + k)))) in
+    record {
+      words = λ n below. elim (cases_lt n first) [
+        | inl low ↦ outside n below (inl low)
+        | inr from ↦ elim (cases_lt n (first + length words)) [
+          | inl less ↦
+              let at : first + (n - first) ≡ n = omega arith in
+              subst At at (inside (n - first) (omega arith))
+          | inr high ↦ outside n below (inr high)
+        ]
+      ];
+      numbers = ap (λ (xs : List ℕ). xs ++ (1 + length lines) ∷ []) holds.numbers ∙ sym (cards_from-push 1 lines (card first words));
+      begins = starts-append lines (card first words ∷ []) ∙ append-nil (starts lines) ∙ holds.begins;
+      sound = record {
+        on_drum = all-push (λ (l : Line). ¬ IsPastDrum l) lines (card first words) holds.sound.on_drum (λ past. omega (arith, past));
+        once = subst AreDistinct (sym all) (distinct-append before of_card holds.sound.once (card_distinct (1 + length lines) first words)
+            (λ n given given_too.
+            let range = card_range (1 + length lines) first words n given_too in
+            let at : first + (n - first) ≡ n = omega (arith, range.0) in
+            let empty : slice_get image n ≡ Some None = subst (λ (m : ℕ). slice_get image m ≡ Some None) at (free (n - first) (omega (arith, range.0, range.1))) in
+            not_given before n (none_given image cards begun lines n holds (omega (arith, range.1)) empty) given));
+        one_start = omega (arith, ap length (starts-append lines (card first words ∷ []) ∙ append-nil (starts lines)), holds.sound.one_start);
+      };
+    }
+  where
+    element : (xs : List Word) (k : ℕ) → k < length xs → (x : Word) × (slice_get xs k ≡ Some x)
+    element [] k less = absurd (omega arith)
+    element (x ∷ xs) zero less = (x, refl)
+    element (x ∷ xs) (suc k) less = element xs k (omega arith)
+
+-- a card that gives a word to a location that has one
+pub twice_fault : (image : List (Option held.Given)) (cards : List ℕ) (begun : Option Location) (lines : List Line) (number : ℕ) (text : List ℕ) (first : ℕ) (words : List Word) (location : Location)
+    → Holds image cards begun lines → IsLine text (card first words) → first + length words ≤ 2000 → IsFirstTaken image first (length words) location.number
+    → IsFaultOfLine lines number text (Twice location)
+twice_fault image cards begun lines number text first words location holds is_card within taken = (
+  first,
+  words,
+  is_card,
+  within,
+  taken.low,
+  taken.high,
+  seen_is_given (given_from 1 lines) location.number taken.has.0 (given_at (given_from 1 lines) location.number) refl (sym (holds.words location.number (omega (arith, taken.high))) ∙ taken.has.1),
+  λ other low high given.
+      not_given (given_from 1 lines) other (none_given image cards begun lines other holds (omega (arith, taken.high)) (taken.free other low high)) given,
+)
