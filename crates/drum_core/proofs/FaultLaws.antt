@@ -1,19 +1,18 @@
 -- Laws of deck text: what is given is found, and a text has one fault.
-use Rattle.std.proofs.Common.{◌≡◌, ℕ, zero, suc, ◌+◌, ◌<◌, ◌≤◌, Bool, true, false, cond, List, [], ◌∷◌, ◌++◌, length, take, drop, refl, ap, sym, ◌∙◌, subst, arith, length-append, append_assoc, inl, inr, ◌⊎◌, Option, Some, None}
+use Rattle.std.proofs.Common.{◌≡◌, ℕ, zero, suc, ◌+◌, ◌<◌, ◌≤◌, List, [], ◌∷◌, ◌++◌, length, take, drop, refl, ap, sym, ◌∙◌, subst, arith, length-append, append_assoc, inl, inr, Some}
 use Rattle.std.proofs.Math.Seq.{take-append_seam, drop-append_seam}
 use Rattle.std.proofs.lemmas.Bool.{cases_lt, eq-eqb}
 use Rattle.std.specs.List.{AllByRecursion}
-use Rattle.std.specs.Prelude.{Contains, slice_index_or, Any}
+use Rattle.std.specs.Prelude.{Contains, slice_index_or}
 use borrow.Author.Tests.{ne_eqb}
 use denote.Struct.Props.{props}
 use Rattle.drum_core.specs.declared.deck.fault.DeckFault.{DeckFault}
 use Rattle.drum_core.specs.declared.deck.fault.DeckFault.TheVariants.{Read, Memory, Card, Twice, NoStart, TwoStarts, PastDrum, TooLong}
 use Rattle.drum_core.specs.declared.location.Location.{Location}
 use Rattle.drum_core.specs.declared.word.Word.{Word}
-use Rattle.drum_core.specs.DeckText.{Line, comment, start, card, IsLine, Say, Given, given_by_card, given_by, given_from, given_at, starts, IsPastDrum, IsGiven, AreDistinct, AreSound, IsTooLong, IsFaultOfLine, IsFirstFault, LacksStart, IsRefused}
-use Rattle.drum_core.specs.Lines.{lines_of}
+use Rattle.drum_core.specs.DeckText.{Line, comment, start, card, IsLine, Say, Given, given_by_card, given_by, given_from, given_at, starts, IsPastDrum, IsGiven, AreDistinct, AreSound, IsFaultOfLine, IsFirstFault, LacksStart, IsRefused}
 use Rattle.drum_core.specs.Location.{IsLocation}
-use Rattle.drum_core.proofs.DeckLaws.{line_one, same_front}
+use Rattle.drum_core.proofs.DeckLaws.{line_one}
 
 -- what is given to distinct locations is found there
 given_is_found : (given : List Given) (one : Given) (k : ℕ) → AreDistinct given → k < length given → slice_index_or given k one ≡ one → given_at given one.location ≡ Some one

@@ -1,14 +1,15 @@
 -- What one line more gives.
-use Rattle.std.proofs.Common.{◌≡◌, ℕ, zero, suc, ◌+◌, ◌-◌, ◌<◌, ◌≤◌, Bool, true, false, cond, List, [], ◌∷◌, ◌++◌, length, refl, ap, sym, ◌∙◌, subst, arith, inl, inr, ◌⊎◌, Option, Some, None, length-append, append_assoc}
+use Rattle.std.proofs.Common.{◌≡◌, ℕ, zero, suc, ◌+◌, ◌-◌, ◌<◌, ◌≤◌, Bool, true, false, cond, List, [], ◌∷◌, ◌++◌, length, refl, ap, sym, ◌∙◌, subst, arith, inl, inr, ◌⊎◌, Option, Some, None}
 use Rattle.std.proofs.lemmas.Bool.{cases_lt, eq-eqb}
 use Rattle.std.proofs.lemmas.List.{append-nil}
 use Rattle.std.specs.List.{AllByRecursion}
+use Rattle.std.specs.Option.{is_some}
 use Rattle.std.specs.Prelude.{slice_get, ◌==◌}
 use borrow.Author.Tests.{ne_eqb, eqb-true}
 use Rattle.drum_core.specs.declared.deck.Given as held
 use Rattle.drum_core.specs.declared.location.Location.{Location}
 use Rattle.drum_core.specs.declared.word.Word.{Word}
-use Rattle.drum_core.specs.DeckText.{Line, IsLine, IsFaultOfLine, comment, start, card, Given, given_by_card, given_by, given_from, given_at, cards_from, starts, IsPastDrum, IsGiven, AreDistinct, AreSound}
+use Rattle.drum_core.specs.DeckText.{Line, IsLine, IsFaultOfLine, comment, start, card, Given, given_by_card, given_by, given_from, given_at, cards_from, starts, IsPastDrum, IsGiven, AreDistinct}
 use Rattle.drum_core.specs.declared.deck.fault.DeckFault.TheVariants.{Twice}
 use Rattle.drum_core.specs.Taken.{IsFirstTaken}
 use Rattle.drum_core.specs.Holds.{seen, started, Holds}
@@ -139,9 +140,9 @@ pub holds_comment : (image : List (Option held.Given)) (cards : List ℕ) (begun
 holds_comment image cards begun lines holds =
     holds_more image cards begun begun lines comment holds refl refl (λ h. h) (append-nil (starts lines) ∙ holds.begins) (omega (arith, ap length holds.begins, holds.sound.one_start))
 
-pub holds_start : (image : List (Option held.Given)) (cards : List ℕ) (lines : List Line) (location : Location) → location.number < 2000 → Holds image cards None lines
+pub holds_start : (image : List (Option held.Given)) (cards : List ℕ) (lines : List Line) {location : Location} → location.number < 2000 → Holds image cards None lines
     → Holds image cards (Some location) (lines ++ start location.number ∷ [])
-holds_start image cards lines location on_drum holds =
+holds_start image cards lines {location} on_drum holds =
     holds_more image cards None (Some location) lines (start location.number) holds refl refl (λ past. omega (arith, past)) (ap (λ (xs : List ℕ). xs ++ location.number ∷ []) holds.begins) (omega arith)
 
 or_else_none : (one : Option Given) → or_else one None ≡ one
@@ -236,3 +237,7 @@ twice_fault image cards begun lines number text first words location holds is_ca
   λ other low high given.
       not_given (given_from 1 lines) other (none_given image cards begun lines other holds (omega (arith, taken.high)) (taken.free other low high)) given,
 )
+
+pub none_is : {A : Type 0} (one : Option A) → false ≡ is_some one → one ≡ None
+none_is None e = refl
+none_is (Some x) e = cc

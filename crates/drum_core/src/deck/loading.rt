@@ -1,4 +1,4 @@
-ghost use Rattle.std.specs.Prelude.{◌≡◌, ℕ, ◌+◌, ◌<◌, ◌≤◌, ◌⊎◌, vec_len, length, slice_get, OnOk, IfErr};
+ghost use Rattle.std.specs.Prelude.{◌≡◌, ℕ, ◌+◌, ◌<◌, ◌≤◌, ◌⊎◌, vec_len, length, take, slice_get, OnOk, IfErr};
 ghost use Rattle.drum_core.specs.Taken.{IsFirstTaken};
 ghost use Rattle.std.specs.Option.{ForSome};
 
@@ -24,8 +24,14 @@ pub struct Loading {
 }
 
 impl Loading {
+    ghost use Rattle.std.specs.Prelude.{◌≢◌, ◌++◌, ◌∷◌, [], List, IfOk};
+    ghost use Rattle.drum_core.specs.DeckText as text;
+    ghost use Rattle.drum_core.specs.Holds.{HoldsLines};
+
     /// A deck of which no line has been read.
-    pub fn new(alloc: Global) -> Result<Loading, AllocError> {
+    pub fn new(alloc: Global) -> Result<Loading, AllocError>
+        ensures { IfOk result (λ loading. HoldsLines loading []) }
+    {
         Ok(Loading {
             image: vec![in alloc; None; DRUM]?,
             cards: Vec::new(alloc),
@@ -34,7 +40,12 @@ impl Loading {
     }
 
     /// Takes the next line, of this number.
-    pub fn take(&mut self, bytes: &[u8], line: u16) -> Result<(), DeckFault> {
+    pub fn take(&mut self, bytes: &[u8], line: u16) -> Result<(), DeckFault>
+        ensures ok { OnOk result ((lines : List text.Line) → line ≡ 1 + length lines → HoldsLines self.old lines
+            → (one : text.Line) × text.IsLine bytes.now one × HoldsLines self.new (lines ++ one ∷ [])) }
+        ensures err { IfErr result (λ fault. fault ≢ DeckFault.Memory → (lines : List text.Line) → line ≡ 1 + length lines
+            → HoldsLines self.old lines → text.IsFaultOfLine lines line bytes.now fault) }
+    {
         match Line::read(bytes) {
             None => Err(DeckFault::Card(line)),
             Some(Line::Comment) => Ok(()),
@@ -43,7 +54,11 @@ impl Loading {
         }
     }
 
-    fn start_at(&mut self, address: u16, line: u16) -> Result<(), DeckFault> {
+    fn start_at(&mut self, address: u16, line: u16) -> Result<(), DeckFault>
+        ensures ok { OnOk result ((lines : List text.Line) → HoldsLines self.old lines → HoldsLines self.new (lines ++ text.start address ∷ [])) }
+        ensures err { IfErr result (λ fault. (lines : List text.Line) (bytes : List ℕ) → HoldsLines self.old lines
+            → text.IsLine bytes (text.start address) → text.IsFaultOfLine lines line bytes fault) }
+    {
         if address >= 2000 {
             return Err(DeckFault::PastDrum(line));
         }
@@ -54,7 +69,12 @@ impl Loading {
         Ok(())
     }
 
-    fn load(&mut self, card: &Card, line: u16) -> Result<(), DeckFault> {
+    fn load(&mut self, card: &Card, line: u16) -> Result<(), DeckFault>
+        ensures ok { OnOk result ((lines : List text.Line) → line ≡ 1 + length lines → HoldsLines self.old lines
+            → HoldsLines self.new (lines ++ text.card card.now.address (take card.now.len card.now.words) ∷ [])) }
+        ensures err { IfErr result (λ fault. fault ≢ DeckFault.Memory → (lines : List text.Line) (bytes : List ℕ) → HoldsLines self.old lines
+            → text.IsLine bytes (text.card card.now.address (take card.now.len card.now.words)) → text.IsFaultOfLine lines line bytes fault) }
+    {
         let words = card.words();
         if card.address as usize + words.len() > DRUM {
             return Err(DeckFault::PastDrum(line));

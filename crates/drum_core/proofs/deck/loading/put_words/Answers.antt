@@ -1,8 +1,6 @@
-use Rattle.std.proofs.Common.{◌≡◌, ℕ, ◌+◌, ◌<◌, ◌≤◌, length, Option, Some, None, sym, ◌∙◌, arith, true, false, refl}
-use Rattle.std.proofs.Math.ListN.{length-set}
+use Rattle.std.proofs.Common.{◌≡◌, ◌+◌, ◌<◌, length, Some, sym, ◌∙◌, arith, true, false, refl}
 use Rattle.std.proofs.lemmas.Option.{slice_get_read, slice_get_within}
 use Rattle.std.specs.Prelude.{slice_get, is_some}
-use Rattle.drum_core.specs.declared.deck.Given.{Given}
 use Rattle.drum_core.specs.declared.word.Word.{Word}
 use Rattle.drum_core.proofs.Puts.{taken_here, put_more}
 use Rattle.drum_core.proofs.deck.loading.put_words.Goals as goal

@@ -1,5 +1,4 @@
 use Rattle.std.proofs.Common.{◌≡◌, vec_len}
-use Rattle.drum_core.specs.declared.deck.Given.{Given}
 use Rattle.drum_core.specs.declared.word.Word.{Word}
 use Rattle.drum_core.proofs.Puts.{ArePut}
 use Rattle.drum_core.proofs.deck.loading.put_words.Given as goal

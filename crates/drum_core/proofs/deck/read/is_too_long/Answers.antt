@@ -1,4 +1,4 @@
-use Rattle.std.proofs.Common.{◌≡◌, ◌+◌, ◌<◌, ◌≤◌, List, ℕ, ◌∷◌, length, ap, sym, subst, arith}
+use Rattle.std.proofs.Common.{◌≡◌, ◌<◌, ◌≤◌, List, ℕ, ◌∷◌, length, ap, sym, subst, arith}
 use Rattle.std.specs.Prelude.{Any}
 use Rattle.drum_core.specs.Lines.{lines_of}
 use Rattle.drum_core.proofs.LineLemmas.{long_behind, long_among}
