@@ -4,6 +4,7 @@ pub mod Firsts
 pub mod LineLemmas
 pub mod Numerals
 pub mod Puts
+pub mod Progress
 pub mod Words
 pub mod DeckLaws
 mod Checks

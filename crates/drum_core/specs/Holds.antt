@@ -1,6 +1,7 @@
 -- What a deck holds of which lines have been read.
 use Rattle.std.specs.Prelude.{◌≡◌, ℕ, ◌<◌, List, [], ◌∷◌, slice_get, Option, Some, None}
 use Rattle.drum_core.specs.declared.deck.Given as held
+use Rattle.drum_core.specs.declared.deck.Deck.{Deck}
 use Rattle.drum_core.specs.declared.deck.loading.Loading.{Loading}
 use Rattle.drum_core.specs.declared.location.Location.{Location}
 use Rattle.drum_core.specs.DeckText.{Line, Given, given_from, given_at, cards_from, starts, AreSound}
@@ -24,3 +25,7 @@ pub record Holds (image : List (Option held.Given)) (cards : List ℕ) (start : 
 -- A deck of which some lines have been read holds these lines.
 abbrev pub HoldsLines : Loading → List Line → Type 0
 HoldsLines loading lines = Holds loading.image.items loading.cards.items loading.start lines
+
+-- A deck is the deck of these lines.
+abbrev pub IsDeckOf : Deck → List Line → Type 0
+IsDeckOf deck lines = Holds deck.image.items deck.cards.items (Some deck.start) lines

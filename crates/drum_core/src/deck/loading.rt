@@ -26,7 +26,7 @@ pub struct Loading {
 impl Loading {
     ghost use Rattle.std.specs.Prelude.{◌≢◌, ◌++◌, ◌∷◌, [], List, IfOk};
     ghost use Rattle.drum_core.specs.DeckText as text;
-    ghost use Rattle.drum_core.specs.Holds.{HoldsLines};
+    ghost use Rattle.drum_core.specs.Holds.{HoldsLines, IsDeckOf};
 
     /// A deck of which no line has been read.
     pub fn new(alloc: Global) -> Result<Loading, AllocError>
@@ -89,7 +89,11 @@ impl Loading {
     }
 
     /// The deck, once all lines have been taken.
-    pub fn finish(self) -> Result<Deck, DeckFault> {
+    pub fn finish(self) -> Result<Deck, DeckFault>
+        ensures ok { IfOk result (λ deck. (lines : List text.Line) → HoldsLines self lines → IsDeckOf deck lines) }
+        ensures err { IfErr result (λ fault. (fault ≡ DeckFault.NoStart) × ((lines : List text.Line) → HoldsLines self lines
+            → text.starts lines ≡ [])) }
+    {
         match self.start {
             None => Err(DeckFault::NoStart),
             Some(start) => Ok(Deck {

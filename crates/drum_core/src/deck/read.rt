@@ -1,5 +1,6 @@
-ghost use Rattle.std.specs.Prelude.{◌+◌, ◌^◌, ◌≤◌, ◌↔◌, IsTrue};
-ghost use Rattle.drum_core.specs.DeckText.{IsTooLong};
+ghost use Rattle.std.specs.Prelude.{◌≡◌, ◌≢◌, ◌+◌, ◌^◌, ◌≤◌, ◌↔◌, List, IsTrue, IsErrOf, IfOk, IfErr, IfSome};
+ghost use Rattle.drum_core.specs.DeckText.{Line, IsTooLong, IsDeck, IsRefused};
+ghost use Rattle.drum_core.specs.Holds.{IsDeckOf};
 
 use super::Deck;
 use super::fault::DeckFault;
@@ -41,6 +42,11 @@ fn is_too_long(text: &[u8]) -> bool
 /// fault, Card before PastDrum before TwoStarts before Twice; NoStart last.
 pub fn read_deck<I: Input>(alloc: Global, reader: &mut I) -> Result<Deck, DeckFault>
     requires { I.called reader.old ≤ 2 ^ 62 }
+    ensures deck { IfOk result (λ deck. IfSome (I.left reader.old) (λ bytes. (lines : List Line) × IsDeck bytes lines × IsDeckOf deck lines)) }
+    ensures refused { IfErr result (λ fault. fault ≢ DeckFault.Read → fault ≢ DeckFault.Memory
+        → IfSome (I.left reader.old) (λ bytes. IsRefused bytes fault)) }
+    ensures read { IsErrOf result DeckFault.Read ↔ (I.failed reader.new ≡ I.failed reader.old + 1) }
+    ensures once { I.failed reader.new ≤ I.failed reader.old + 1 }
     ensures asked { I.called reader.new ≤ I.called reader.old + 404001 }
 {
     let text = match read_whole(alloc, reader, BYTES) {
@@ -56,14 +62,21 @@ pub fn read_deck<I: Input>(alloc: Global, reader: &mut I) -> Result<Deck, DeckFa
 }
 
 /// The deck of a text that isn't too long.
-fn read_lines(alloc: Global, text: &[u8]) -> Result<Deck, DeckFault> {
+fn read_lines(alloc: Global, text: &[u8]) -> Result<Deck, DeckFault>
+    requires short { ¬ IsTooLong text.now }
+    ensures ok { IfOk result (λ deck. (lines : List Line) × IsDeck text.now lines × IsDeckOf deck lines) }
+    ensures err { IfErr result (λ fault. fault ≢ DeckFault.Memory → IsRefused text.now fault) }
+    ensures read { ¬ IsErrOf result DeckFault.Read }
+{
     let Ok(mut loading) = Loading::new(alloc) else {
         return Err(DeckFault::Memory);
     };
-    let mut number = 0u16;
+    let mut number = 0;
     for line in (Lines { rest: text }) {
-        number = number.saturating_add(1);
-        loading.take(line, number)?;
+        number += 1;
+        if let Err(fault) = loading.take(line, number) {
+            return Err(fault);
+        }
     }
     loading.finish()
 }

@@ -1,0 +1,49 @@
+use Rattle.std.proofs.Common.{◌≡◌, [], refl, sym, ap, arith, subst}
+use Rattle.drum_core.specs.declared.deck.fault.DeckFault.TheVariants as faults
+use Rattle.drum_core.specs.declared.deck.lines.Lines.{Lines}
+use Rattle.drum_core.specs.Lines.{lines_of}
+use Rattle.drum_core.specs.DeckText.{IsRefused}
+use Rattle.drum_core.proofs.Progress.{next_number, few_left, one_more, refused_here, deck_of_all, no_start_at_all}
+use Rattle.drum_core.proofs.deck.read.read_lines.Goals as goal
+
+pub loop-line-init : goal.loop-line-init
+loop-line-init c = record {
+  so_far = record {
+    texts = [];
+    lines = [];
+    split = ap (λ (lines : Lines). lines_of lines.rest.now) (sym c.into_iter-line-iterator.ensures.into_iter_gives);
+    said = tt;
+    holds = c.in-Ok.ensures;
+    counted = refl;
+  };
+}
+
+pub overflow_add-number : goal.overflow_add-number
+overflow_add-number c =
+    let few = few_left c.args.text.now c.loop-line.line-iterator.rest.now c.loop-line.loading c.loop-line.number c.requires.short c.loop-line.invariant.so_far in
+    omega (arith, few)
+
+pub returns-in-Err-clause-err : goal.returns-in-Err-clause-err
+returns-in-Err-clause-err c not_memory =
+    let p = c.loop-line.invariant.so_far in
+    refused_here c.args.text.now c.loop-line.line-iterator.rest.now c.next.new.self.rest.now c.loop-line.loading c.loop-line.number c.in-Some.line.now c.in-Err.fault c.requires.short p c.in-Some.ensures.steps
+    (c.in-Err.ensures.err not_memory p.lines (next_number c.args.text.now c.loop-line.line-iterator.rest.now c.loop-line.loading c.loop-line.number p) p.holds)
+
+pub returns-in-Err-clause-read : goal.returns-in-Err-clause-read
+returns-in-Err-clause-read c is_read =
+    let same : c.in-Err.fault ≡ faults.Read = cc in
+    subst (IsRefused c.args.text.now) same (returns-in-Err-clause-err c (λ is_memory. cc))
+
+pub loop-line-preserved : goal.loop-line-preserved
+loop-line-preserved c =
+    let p = c.loop-line.invariant.so_far in
+    let next = c.in_default-take.ensures.ok p.lines (next_number c.args.text.now c.loop-line.line-iterator.rest.now c.loop-line.loading c.loop-line.number p) p.holds in
+    record {
+      so_far = one_more c.args.text.now c.loop-line.line-iterator.rest.now c.next.new.self.rest.now c.loop-line.loading c.take.new.self c.loop-line.number c.in-Some.line.now next.0 p c.in-Some.ensures.steps next.1 next.2;
+    }
+
+pub returns-clause-ok : goal.returns-clause-ok
+returns-clause-ok c = deck_of_all c.args.text.now c.loop-line.line-iterator.rest.now c.loop-line.loading c.loop-line.number c.finish.result c.requires.short c.loop-line.invariant.so_far c.in-None.ensures.steps.0 c.finish.ensures.ok
+
+pub returns-clause-err : goal.returns-clause-err
+returns-clause-err c = no_start_at_all c.args.text.now c.loop-line.line-iterator.rest.now c.loop-line.loading c.loop-line.number c.finish.result c.requires.short c.loop-line.invariant.so_far c.in-None.ensures.steps.0 c.finish.ensures.err
