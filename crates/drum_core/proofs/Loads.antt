@@ -1,6 +1,6 @@
 -- What one line more gives.
 use Rattle.std.proofs.Common.{◌≡◌, ℕ, zero, suc, ◌+◌, ◌-◌, ◌<◌, ◌≤◌, Bool, true, false, cond, List, [], ◌∷◌, ◌++◌, length, refl, ap, sym, ◌∙◌, subst, arith, inl, inr, ◌⊎◌, Option, Some, None}
-use Rattle.std.proofs.lemmas.Bool.{cases_lt, eq-eqb}
+use Rattle.std.proofs.lemmas.Bool.{cases_lt, eq-eqb, lt-ltb}
 use Rattle.std.proofs.lemmas.List.{append-nil}
 use Rattle.std.specs.List.{AllByRecursion}
 use Rattle.std.specs.Option.{is_some}
@@ -9,7 +9,9 @@ use borrow.Author.Tests.{ne_eqb, eqb-true}
 use Rattle.drum_core.specs.declared.deck.Given as held
 use Rattle.drum_core.specs.declared.location.Location.{Location}
 use Rattle.drum_core.specs.declared.word.Word.{Word}
-use Rattle.drum_core.specs.DeckText.{Line, IsLine, IsFaultOfLine, comment, start, card, Given, given_by_card, given_by, given_from, given_at, cards_from, starts, IsPastDrum, IsGiven, AreDistinct}
+use Rattle.drum_core.specs.Kind.{kind_of}
+use Rattle.drum_core.specs.declared.location.Kind.TheVariants.{Drum}
+use Rattle.drum_core.specs.DeckText.{Line, IsLine, IsFaultOfLine, comment, start, card, Given, given_by_card, given_by, given_from, given_at, cards_from, starts, IsPastDrum, IsGiven, AreDistinct, AreSound}
 use Rattle.drum_core.specs.declared.deck.fault.DeckFault.TheVariants.{Twice}
 use Rattle.drum_core.specs.Taken.{IsFirstTaken}
 use Rattle.drum_core.specs.Holds.{seen, started, Holds}
@@ -241,3 +243,21 @@ twice_fault image cards begun lines number text first words location holds is_ca
 pub none_is : {A : Type 0} (one : Option A) → false ≡ is_some one → one ≡ None
 none_is None e = refl
 none_is (Some x) e = cc
+
+-- off the drum nothing is given
+none_given_off : (number : ℕ) (lines : List Line) (n : ℕ) → AllByRecursion (λ line. ¬ IsPastDrum line) lines → 2000 ≤ n → given_at (given_from number lines) n ≡ None
+none_given_off number [] n on_drum off = refl
+none_given_off number (comment ∷ lines) n on_drum off = none_given_off (number + 1) lines n on_drum.1 off
+none_given_off number (start at ∷ lines) n on_drum off = none_given_off (number + 1) lines n on_drum.1 off
+none_given_off number (card first words ∷ lines) n on_drum off =
+    let within : first + length words ≤ 2000 = elim (cases_lt 2000 (first + length words)) [ inl past ↦ absurd (on_drum.0 past) | inr within ↦ within ] in
+    let here : given_at (given_by_card number first words) n ≡ None = given_at_card_out number first words n (inr (omega (arith, within, off))) in
+    given_at-append (given_by_card number first words) (given_from (number + 1) lines) n
+    ∙ ap (λ (one : Option Given). or_else one (given_at (given_from (number + 1) lines) n)) here
+    ∙ none_given_off (number + 1) lines n on_drum.1 off
+
+off_drum : (n : ℕ) → (kind_of n ≡ Drum → ⊥) → 2000 ≤ n
+off_drum n not_drum = elim (cases_lt n 2000) [ inl below ↦ absurd (not_drum (rw (lt-ltb n 2000 below) refl)) | inr off ↦ off ]
+
+pub none_seen_off : (lines : List Line) (n : ℕ) → AreSound lines → (kind_of n ≡ Drum → ⊥) → None ≡ seen (given_at (given_from 1 lines) n)
+none_seen_off lines n sound not_drum = ap seen (sym (none_given_off 1 lines n sound.on_drum (off_drum n not_drum)))

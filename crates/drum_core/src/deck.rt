@@ -30,8 +30,14 @@ pub struct Deck {
 }
 
 impl Deck {
+    ghost use Rattle.std.specs.Prelude.{◌∷◌, [], List};
+    ghost use Rattle.drum_core.specs.DeckText.{Line, given_at, given_from, loads_of, card_of, cards_from, starts};
+    ghost use Rattle.drum_core.specs.Holds.{seen, IsDeckOf};
+
     /// What the deck gives the location: nothing but for locations on the drum that it loads.
-    fn given(&self, location: Location) -> Option<Given> {
+    fn given(&self, location: Location) -> Option<Given>
+        ensures { (lines : List Line) → IsDeckOf self.now lines → result ≡ seen (given_at (given_from 1 lines) location.number) }
+    {
         match location.kind() {
             Kind::Drum => self.image[location.number() as usize],
             _ => None,
@@ -39,25 +45,32 @@ impl Deck {
     }
 
     /// The word that the deck loads into the location; `None` where it loads none.
-    pub fn word(&self, location: Location) -> Option<Word> {
+    pub fn word(&self, location: Location) -> Option<Word>
+        ensures { (lines : List Line) → IsDeckOf self.now lines → result ≡ loads_of lines location.number }
+    {
         let given = self.given(location)?;
         Some(given.word)
     }
 
     /// The line of the card that loads the location; `None` where no card does.
-    pub fn card_of(&self, location: Location) -> Option<u16> {
+    pub fn card_of(&self, location: Location) -> Option<u16>
+        ensures { (lines : List Line) → IsDeckOf self.now lines → result ≡ card_of lines location.number }
+    {
         let given = self.given(location)?;
         Some(given.line)
     }
 
     /// The lines of its data cards, in order.
-    pub fn cards(&self) -> &[u16] {
+    pub fn cards(&self) -> &[u16]
+        ensures { (lines : List Line) → IsDeckOf self.now lines → result.now ≡ cards_from 1 lines }
+    {
         &self.cards
     }
 
     /// The location of the program's first instruction, on the drum.
     pub fn start(&self) -> Location
-        ensures { result.number < 2000 }
+        ensures on_drum { result.number < 2000 }
+        ensures begins { (lines : List Line) → IsDeckOf self.now lines → starts lines ≡ result.number ∷ [] }
     {
         self.start
     }
