@@ -10,7 +10,8 @@ use Rattle.drum_core.specs.declared.deck.fault.DeckFault.{DeckFault}
 use Rattle.drum_core.specs.declared.deck.fault.DeckFault.TheVariants.{Read, Memory, Card, Twice, NoStart, TwoStarts, PastDrum, TooLong}
 use Rattle.drum_core.specs.declared.location.Location.{Location}
 use Rattle.drum_core.specs.declared.word.Word.{Word}
-use Rattle.drum_core.specs.DeckText.{Line, comment, start, card, IsLine, Say, Given, given_by_card, given_by, given_from, given_at, starts, IsPastDrum, IsGiven, AreDistinct, AreSound, IsFaultOfLine, IsFirstFault, LacksStart, IsRefused}
+use Rattle.drum_core.specs.Lines.{lines_of}
+use Rattle.drum_core.specs.DeckText.{Line, comment, start, card, IsLine, Say, Given, given_by_card, given_by, given_from, given_at, starts, IsPastDrum, IsGiven, AreDistinct, AreSound, IsFaultOfLine, IsFirstFault, LacksStart, IsRefused, IsDeck}
 use Rattle.drum_core.specs.Location.{IsLocation}
 use Rattle.drum_core.proofs.DeckLaws.{line_one}
 
@@ -236,14 +237,30 @@ first_fault_one text fault other p q =
       sym (drop-append_seam xs ys) ∙ ap (drop (length xs)) e ∙ ap (λ n. drop n (xs' ++ ys')) long ∙ drop-append_seam xs' ys',
     )
 
--- a text without a start whose lines are sound has no faulty line
-not_both : (text : List ℕ) (fault : DeckFault) → LacksStart text → IsFirstFault text fault → ⊥
-not_both text fault lacks p =
-    let said : Say (p.texts ++ p.line ∷ p.others) lacks.lines = subst (λ (ts : List (List ℕ)). Say ts lacks.lines) p.split lacks.said in
-    let parts = parts_of p.texts p.line p.others lacks.lines said in
+-- a text whose lines are sound has no faulty line
+sound_not_faulty : (text : List ℕ) (lines : List Line) (fault : DeckFault) → Say (lines_of text) lines → AreSound lines → IsFirstFault text fault → ⊥
+sound_not_faulty text lines fault all_said sound p =
+    let said : Say (p.texts ++ p.line ∷ p.others) lines = subst (λ (ts : List (List ℕ)). Say ts lines) p.split all_said in
+    let parts = parts_of p.texts p.line p.others lines said in
     let front : p.before ≡ parts.front = say_one p.texts p.before parts.front p.said parts.said in
-    no_fault_among parts.front parts.line parts.behind (length p.texts + 1) p.line fault (subst AreSound parts.split lacks.sound) parts.says
+    no_fault_among parts.front parts.line parts.behind (length p.texts + 1) p.line fault (subst AreSound parts.split sound) parts.says
     (subst (λ (ls : List Line). IsFaultOfLine ls (length p.texts + 1) p.line fault) front p.first)
+
+not_both : (text : List ℕ) (fault : DeckFault) → LacksStart text → IsFirstFault text fault → ⊥
+not_both text fault lacks p = sound_not_faulty text lacks.lines fault lacks.said lacks.sound p
+
+-- a deck isn't refused
+pub deck_not_refused : (text : List ℕ) (lines : List Line) (fault : DeckFault) → IsDeck text lines → IsRefused text fault → ⊥
+deck_not_refused text lines Read deck p = p
+deck_not_refused text lines Memory deck p = p
+deck_not_refused text lines TooLong deck p = deck.short p
+deck_not_refused text lines NoStart deck p =
+    let same : lines ≡ p.1.lines = say_one (lines_of text) lines p.1.lines deck.said p.1.said in
+    omega (arith, ap (λ (ls : List Line). length (starts ls)) same, ap (λ (ns : List ℕ). length ns) p.1.none, deck.one_start)
+deck_not_refused text lines (Card n) deck p = sound_not_faulty text lines (Card n) deck.said deck.sound p.1
+deck_not_refused text lines (PastDrum n) deck p = sound_not_faulty text lines (PastDrum n) deck.said deck.sound p.1
+deck_not_refused text lines (TwoStarts n) deck p = sound_not_faulty text lines (TwoStarts n) deck.said deck.sound p.1
+deck_not_refused text lines (Twice l) deck p = sound_not_faulty text lines (Twice l) deck.said deck.sound p.1
 
 -- A text that is no deck has one fault.
 pub fault_one : (text : List ℕ) (fault other : DeckFault) → IsRefused text fault → IsRefused text other → fault ≡ other
