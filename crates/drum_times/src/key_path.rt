@@ -1,17 +1,21 @@
-ghost use Rattle.std.specs.Prelude.{◌^◌, ◌≤◌, length, string_len};
+ghost use Rattle.std.specs.Prelude.{◌≡◌, ◌^◌, ◌≤◌, ◌↔◌, IsSome, IfSome, length, string_len};
 
 use std::fmt;
 
 /// The path of a key of a document, with dots, as `op.19.per`. Elements of arrays are numbered from 1.
 #[derive(Debug, Drop, PartialEq, Eq)]
 pub struct KeyPath {
-    text: String,
+    /// With dots between the keys.
+    pub text: String,
     pub ghost short: { string_len text ≤ 2 ^ 32 },
 }
 
 impl KeyPath {
     /// The path of this text; `None` past 2^32 bytes, which no document under the limits holds.
-    pub fn new(text: String) -> Option<KeyPath> {
+    pub fn new(text: String) -> Option<KeyPath>
+        ensures valid { IsSome result ↔ (string_len text ≤ 2 ^ 32) }
+        ensures value { IfSome result (λ path. path.text ≡ text) }
+    {
         if text.len() <= 1 << 32 {
             Some(KeyPath { text })
         } else {
