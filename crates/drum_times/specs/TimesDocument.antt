@@ -7,6 +7,8 @@ use Rattle.drum_core.specs.declared.rotation.parity.Parity.TheVariants.{Any, Eve
 use Rattle.drum_core.specs.Numeral.{digits_of}
 use Rattle.drum_core.specs.Op.{number_of, ops}
 use Rattle.drum_times.specs.declared.entry.Entry.{Entry}
+use Rattle.drum_times.specs.declared.times.read_entry.Form.{Form}
+use Rattle.drum_times.specs.declared.times.read_entry.Form.TheVariants.{Plain, Units, Waits}
 use Rattle.drum_times.specs.Document.{Fault, kind, missing, unknown_in, missing_in, whole, text, number_at}
 use Rattle.toml.specs.Data.{Data, string, integer, table, Members, get_member}
 
@@ -15,25 +17,20 @@ abbrev pub key_of : Op → List ℕ
 key_of op = digits_of 2 (number_of op)
 
 -- what an entry has beside `before`, `after` and `parity`, by its operation
-pub data Form : Type 0 where
-  plain : Form
-  units : Form
-  waits : Form
-
 abbrev pub form_of : Op → Form
-form_of Divide = units
-form_of DivideReset = units
-form_of Multiply = units
-form_of (Shift s) = units
-form_of Read = waits
-form_of Punch = waits
-form_of _ = plain
+form_of Divide = Units
+form_of DivideReset = Units
+form_of Multiply = Units
+form_of (Shift s) = Units
+form_of Read = Waits
+form_of Punch = Waits
+form_of _ = Plain
 
 -- the keys of an entry, all required
 abbrev pub keys_of : Form → List (List ℕ)
-keys_of plain = codes "before" ∷ codes "after" ∷ codes "parity" ∷ []
-keys_of units = codes "before" ∷ codes "after" ∷ codes "parity" ∷ codes "per" ∷ []
-keys_of waits = codes "before" ∷ codes "after" ∷ codes "parity" ∷ codes "wait_min" ∷ codes "wait_max" ∷ []
+keys_of Plain = codes "before" ∷ codes "after" ∷ codes "parity" ∷ []
+keys_of Units = codes "before" ∷ codes "after" ∷ codes "parity" ∷ codes "per" ∷ []
+keys_of Waits = codes "before" ∷ codes "after" ∷ codes "parity" ∷ codes "wait_min" ∷ codes "wait_max" ∷ []
 
 abbrev pub text_of : Parity → List ℕ
 text_of Any = codes "any"
@@ -50,9 +47,9 @@ HasNumber fields key n = get_member key fields ≡ Some (integer (pos n))
 
 -- the numbers of an entry that not every operation has; without them they are 0
 abbrev pub HasRest : Form → Members → Entry → Type 0
-HasRest plain fields entry = (entry.per ≡ 0) × (entry.wait_min ≡ 0) × (entry.wait_max ≡ 0)
-HasRest units fields entry = HasNumber fields (codes "per") entry.per × (entry.wait_min ≡ 0) × (entry.wait_max ≡ 0)
-HasRest waits fields entry = (entry.per ≡ 0) × HasNumber fields (codes "wait_min") entry.wait_min × HasNumber fields (codes "wait_max") entry.wait_max
+HasRest Plain fields entry = (entry.per ≡ 0) × (entry.wait_min ≡ 0) × (entry.wait_max ≡ 0)
+HasRest Units fields entry = HasNumber fields (codes "per") entry.per × (entry.wait_min ≡ 0) × (entry.wait_max ≡ 0)
+HasRest Waits fields entry = (entry.per ≡ 0) × HasNumber fields (codes "wait_min") entry.wait_min × HasNumber fields (codes "wait_max") entry.wait_max
 
 -- The table says this entry, whose type keeps its numbers in their ranges, and nothing else.
 pub record IsEntry (op : Op) (fields : Members) (entry : Entry) : Type 0 where
@@ -72,9 +69,9 @@ pub record IsTimes (document : Members) (times : Op → Entry) : Type 0 where
 
 -- the faults of the values of an entry that not every operation has
 abbrev pub rest_faults : Form → List ℕ → Members → List Fault
-rest_faults plain at fields = []
-rest_faults units at fields = whole 0 longest at (codes "per") fields
-rest_faults waits at fields = whole 0 longest at (codes "wait_min") fields ++ whole (number_at (codes "wait_min") fields) longest at (codes "wait_max") fields
+rest_faults Plain at fields = []
+rest_faults Units at fields = whole 0 longest at (codes "per") fields
+rest_faults Waits at fields = whole 0 longest at (codes "wait_min") fields ++ whole (number_at (codes "wait_min") fields) longest at (codes "wait_max") fields
 
 -- The faults of an entry: unknown keys, missing keys, and then the values, each in the order of the keys.
 abbrev pub entry_faults : Op → List ℕ → Members → List Fault

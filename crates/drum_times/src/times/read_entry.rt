@@ -1,3 +1,6 @@
+ghost use Rattle.std.specs.Prelude.{◌≡◌};
+ghost use Rattle.drum_times.specs.TimesDocument as document;
+
 use crate::document::fields::Fields;
 use crate::entry::Entry;
 use crate::fault::NoteFault;
@@ -18,7 +21,9 @@ pub enum Form {
 }
 
 /// The form of an operation's entry.
-pub fn form_of(op: Op) -> Form {
+pub fn form_of(op: Op) -> Form
+    ensures { result ≡ document.form_of op }
+{
     match op {
         Op::Divide | Op::DivideReset | Op::Multiply | Op::Shift(_) => Form::Units,
         Op::Read | Op::Punch => Form::Waits,
