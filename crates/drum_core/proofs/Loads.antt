@@ -2,8 +2,9 @@
 use Rattle.std.proofs.Common.{◌≡◌, ℕ, zero, suc, ◌+◌, ◌-◌, ◌<◌, ◌≤◌, Bool, true, false, cond, List, [], ◌∷◌, ◌++◌, length, refl, ap, sym, ◌∙◌, subst, arith, inl, inr, ◌⊎◌, Option, Some, None}
 use Rattle.std.proofs.lemmas.Bool.{cases_lt, eq-eqb, lt-ltb}
 use Rattle.std.proofs.lemmas.List.{append-nil}
+use Rattle.std.proofs.lemmas.Option.{slice_get_past, slice_get_within}
 use Rattle.std.specs.List.{AllByRecursion}
-use Rattle.std.specs.Option.{is_some}
+use Rattle.std.specs.Option.{is_some, option_map}
 use Rattle.std.specs.Prelude.{slice_get, ◌==◌}
 use borrow.Author.Tests.{ne_eqb, eqb-true}
 use Rattle.drum_core.specs.declared.deck.Given as held
@@ -11,10 +12,11 @@ use Rattle.drum_core.specs.declared.location.Location.{Location}
 use Rattle.drum_core.specs.declared.word.Word.{Word}
 use Rattle.drum_core.specs.Kind.{kind_of}
 use Rattle.drum_core.specs.declared.location.Kind.TheVariants.{Drum}
-use Rattle.drum_core.specs.DeckText.{Line, IsLine, IsFaultOfLine, comment, start, card, Given, given_by_card, given_by, given_from, given_at, cards_from, starts, IsPastDrum, IsGiven, AreDistinct, AreSound}
+use Rattle.drum_core.specs.DeckText.{Line, IsLine, IsFaultOfLine, comment, start, card, Given, given_by_card, given_by, given_from, given_at, loads_of, cards_from, starts, IsPastDrum, IsGiven, AreDistinct, AreSound}
 use Rattle.drum_core.specs.declared.deck.fault.DeckFault.TheVariants.{Twice}
 use Rattle.drum_core.specs.Taken.{IsFirstTaken}
 use Rattle.drum_core.specs.Holds.{seen, started, Holds}
+use Rattle.drum_core.specs.Loads.{found_in}
 use Rattle.drum_core.proofs.FaultLaws.{starts-append, given_from-append}
 
 -- what the first has, or else the second
@@ -261,3 +263,34 @@ off_drum n not_drum = elim (cases_lt n 2000) [ inl below ↦ absurd (not_drum (r
 
 pub none_seen_off : (lines : List Line) (n : ℕ) → AreSound lines → (kind_of n ≡ Drum → ⊥) → None ≡ seen (given_at (given_from 1 lines) n)
 none_seen_off lines n sound not_drum = ap seen (sym (none_given_off 1 lines n sound.on_drum (off_drum n not_drum)))
+
+-- and an image has no place for it
+pub none_found_off : (image : List (Option held.Given)) (n : ℕ) → length image ≡ 2000 → (kind_of n ≡ Drum → ⊥) → None ≡ found_in (slice_get image n)
+none_found_off image n whole not_drum = ap found_in (sym (slice_get_past image n (omega (arith, whole, off_drum n not_drum))))
+
+-- the word of what an image holds, and of what lines give
+abbrev pub word_in : Option held.Given → Option Word
+word_in one = option_map (λ (one : held.Given). one.word) one
+
+word_seen : (one : Option Given) → word_in (seen one) ≡ option_map (λ (one : Given). one.word) one
+word_seen None = refl
+word_seen (Some one) = refl
+
+-- what an image holds of lines is what they load
+pub held_is_said : (image : List (Option held.Given)) (cards : List ℕ) (begun : Option Location) (lines : List Line) (n : ℕ) → length image ≡ 2000 → Holds image cards begun lines
+    → word_in (found_in (slice_get image n)) ≡ loads_of lines n
+held_is_said image cards begun lines n whole holds =
+    elim (cases_lt n 2000) [
+      | inl below ↦ ap (λ (one : Option (Option held.Given)). word_in (found_in one)) (holds.words n below) ∙ word_seen (given_at (given_from 1 lines) n)
+      | inr off ↦
+          ap (λ (one : Option (Option held.Given)). word_in (found_in one)) (slice_get_past image n (omega (arith, whole, off)))
+          ∙ ap (option_map (λ (one : Given). one.word)) (sym (none_given_off 1 lines n holds.sound.on_drum off))
+    ]
+
+-- what an image holds is held within it
+pub held_within : (image : List (Option held.Given)) (n : ℕ) (word : Word) → word_in (found_in (slice_get image n)) ≡ Some word → n < length image
+held_within image n word = go (slice_get image n) refl
+  where
+    go : (found : Option (Option held.Given)) → slice_get image n ≡ found → word_in (found_in found) ≡ Some word → n < length image
+    go None e h = cc
+    go (Some one) e h = slice_get_within image n one e

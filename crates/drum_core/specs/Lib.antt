@@ -8,10 +8,12 @@ pub mod Holds
 pub mod Instruction
 pub mod Kind
 pub mod Lines
+pub mod Loads
 pub mod Location
 pub mod Moment
 pub mod Numeral
 pub mod Op
+pub mod OpLaws
 pub mod Position
 pub mod Recurs
 pub mod Shift

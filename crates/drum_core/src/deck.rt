@@ -33,10 +33,12 @@ impl Deck {
     ghost use Rattle.std.specs.Prelude.{◌∷◌, [], List};
     ghost use Rattle.drum_core.specs.DeckText.{Line, given_at, given_from, loads_of, card_of, cards_from, starts};
     ghost use Rattle.drum_core.specs.Holds.{seen, IsDeckOf};
+    ghost use Rattle.drum_core.specs.Loads.{given_in, loads_in, start_in};
 
     /// What the deck gives the location: nothing but for locations on the drum that it loads.
     fn given(&self, location: Location) -> Option<Given>
-        ensures { (lines : List Line) → IsDeckOf self.now lines → result ≡ seen (given_at (given_from 1 lines) location.number) }
+        ensures held { result ≡ given_in self.now location.number }
+        ensures told { (lines : List Line) → IsDeckOf self.now lines → result ≡ seen (given_at (given_from 1 lines) location.number) }
     {
         match location.kind() {
             Kind::Drum => self.image[location.number() as usize],
@@ -46,7 +48,8 @@ impl Deck {
 
     /// The word that the deck loads into the location; `None` where it loads none.
     pub fn word(&self, location: Location) -> Option<Word>
-        ensures { (lines : List Line) → IsDeckOf self.now lines → result ≡ loads_of lines location.number }
+        ensures held { result ≡ loads_in self.now location.number }
+        ensures told { (lines : List Line) → IsDeckOf self.now lines → result ≡ loads_of lines location.number }
     {
         let given = self.given(location)?;
         Some(given.word)
@@ -69,6 +72,7 @@ impl Deck {
 
     /// The location of the program's first instruction, on the drum.
     pub fn start(&self) -> Location
+        ensures held { result.number ≡ start_in self.now }
         ensures on_drum { result.number < 2000 }
         ensures begins { (lines : List Line) → IsDeckOf self.now lines → starts lines ≡ result.number ∷ [] }
     {

@@ -1,8 +1,12 @@
 //! Laws of the definitions, each the contract of a function that does nothing.
 
-ghost use Rattle.std.specs.Prelude.{◌≡◌, ℕ, List, Some, Contains};
-ghost use Rattle.drum_core.specs.DeckText.{Given, Line, given_at, AreDistinct, IsDeck, IsRefused};
+ghost use Rattle.std.specs.Prelude.{◌≡◌, ℕ, ◌<◌, List, [], ◌∷◌, Some, Contains};
+ghost use Rattle.drum_core.specs.DeckText.{Given, Line, given_at, loads_of, starts, AreDistinct, IsDeck, IsRefused};
+ghost use Rattle.drum_core.specs.Holds.{IsDeckOf};
+ghost use Rattle.drum_core.specs.Loads.{loads_in, start_in};
+ghost use Rattle.drum_core.specs.declared.deck.Deck.{Deck};
 ghost use Rattle.drum_core.specs.declared.deck.fault.DeckFault.{DeckFault};
+ghost use Rattle.drum_core.specs.declared.word.Word.{Word};
 
 /// A text that is no deck has one fault.
 pub fn one_fault()
@@ -17,4 +21,11 @@ pub fn not_refused()
 /// The image of a deck is a function: what is given to a location is what is found there.
 pub fn one_word()
     ensures { (given : List Given) (one : Given) → AreDistinct given → Contains given one → given_at given one.location ≡ Some one }
+{}
+
+/// What a deck loads is what its lines say, and it starts where they say.
+pub fn loads_what_is_said()
+    ensures loads { (deck : Deck) (lines : List Line) (location : ℕ) → IsDeckOf deck lines → loads_in deck location ≡ loads_of lines location }
+    ensures on_drum { (deck : Deck) (location : ℕ) (word : Word) → loads_in deck location ≡ Some word → location < 2000 }
+    ensures starts { (deck : Deck) (lines : List Line) → IsDeckOf deck lines → starts lines ≡ start_in deck ∷ [] }
 {}

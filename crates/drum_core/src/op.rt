@@ -60,10 +60,18 @@ pub enum Operand {
 }
 
 impl Op {
-    ghost use Rattle.drum_core.specs.Op.{number_of, operand_of};
+    ghost use Rattle.drum_core.specs.Op.{number_of, op_of, operand_of};
 
     /// The operation of this number; `None` for a number outside the profile.
     pub fn of(number: u8) -> Option<Op>
+        ensures found { IfSome result (λ op. number_of op ≡ number) }
+        ensures none { IfNone result ((op : Op) → number_of op ≢ number) }
+        ensures listed { result ≡ op_of number }
+    {
+        Op::with_number(number)
+    }
+
+    fn with_number(number: u8) -> Option<Op>
         ensures found { IfSome result (λ op. number_of op ≡ number) }
         ensures none { IfNone result ((op : Op) → number_of op ≢ number) }
     {
