@@ -3,7 +3,7 @@ use Rattle.std.proofs.Common.{◌≡◌, ℕ, zero, suc, ◌+◌, ◌*◌, ◌/�
 use Rattle.std.proofs.Math.ListN.{get_or-append}
 use Rattle.std.proofs.Math.Seq.{take-append_seam, drop-append_seam}
 use Rattle.std.proofs.lemmas.Grind.{pow_more}
-use denote.Struct.Props.{props}
+use Rattle.drum_core.specs.Same.{same_word}
 use Rattle.drum_core.specs.declared.word.Word.{Word}
 use Rattle.drum_core.specs.DeckText.{Line, comment, start, card, IsLine}
 use Rattle.drum_core.specs.Numeral.{digits_of}
@@ -29,15 +29,6 @@ digits_of-one (suc k) a b h h' e =
     let h2 : b < 10 ^ (k + 1) = subst (λ (n : ℕ). b < 10 ^ n) next h' in
     let front : a / 10 ≡ b / 10 = digits_of-one k (a / 10) (b / 10) (omega arith) (omega arith) parts.0 in
     omega arith
-
--- words of one sign and one number are one
-same_word : (v w : Word) → v.minus ≡ w.minus → v.digits ≡ w.digits → v ≡ w
-same_word v w minus digits =
-    let one_proof : IsProp (v.digits < 10 ^ 10) = hlevel props in
-    let made : (m : Bool) (d : ℕ) → d < 10 ^ 10 → Word = λ m d t. record { minus = m; digits = d; ten = t } in
-    let Same : ℕ → Type 0 = λ d. (t : d < 10 ^ 10) → v ≡ made v.minus d t in
-    let here : Same v.digits = λ t. ap (made v.minus v.digits) (one_proof v.ten t) in
-    subst Same digits here w.ten ∙ ap (λ m. made m w.digits w.ten) minus
 
 abbrev sign_of : Bool → ℕ
 sign_of minus = cond minus 45 43

@@ -5,14 +5,12 @@ use Rattle.std.proofs.lemmas.Bool.{cases_lt, eq-eqb}
 use Rattle.std.specs.List.{AllByRecursion}
 use Rattle.std.specs.Prelude.{Contains, slice_index_or}
 use borrow.Author.Tests.{ne_eqb}
-use denote.Struct.Props.{props}
+use Rattle.drum_core.specs.Same.{same_location}
 use Rattle.drum_core.specs.declared.deck.fault.DeckFault.{DeckFault}
 use Rattle.drum_core.specs.declared.deck.fault.DeckFault.TheVariants.{Read, Memory, Card, Twice, NoStart, TwoStarts, PastDrum, TooLong}
-use Rattle.drum_core.specs.declared.location.Location.{Location}
 use Rattle.drum_core.specs.declared.word.Word.{Word}
 use Rattle.drum_core.specs.Lines.{lines_of}
 use Rattle.drum_core.specs.DeckText.{Line, comment, start, card, IsLine, Say, Given, given_by_card, given_by, given_from, given_at, starts, IsPastDrum, IsGiven, AreDistinct, AreSound, IsFaultOfLine, IsFirstFault, LacksStart, IsRefused, IsDeck}
-use Rattle.drum_core.specs.Location.{IsLocation}
 use Rattle.drum_core.proofs.DeckLaws.{line_one}
 
 -- what is given to distinct locations is found there
@@ -138,15 +136,6 @@ no_fault_among front line behind number text Read sound says p = p
 no_fault_among front line behind number text Memory sound says p = p
 no_fault_among front line behind number text NoStart sound says p = p
 no_fault_among front line behind number text TooLong sound says p = p
-
--- locations of one number are one
-same_location : (a b : Location) → a.number ≡ b.number → a ≡ b
-same_location a b number =
-    let one_proof : IsProp (IsLocation a.number) = hlevel props in
-    let made : (n : ℕ) → IsLocation n → Location = λ n exists. record { number = n; exists = exists } in
-    let Same : ℕ → Type 0 = λ n. (exists : IsLocation n) → a ≡ made n exists in
-    let here : Same a.number = λ exists. ap (made a.number) (one_proof a.exists exists) in
-    subst Same number here b.exists
 
 -- a line behind sound ones has one fault
 fault_of_line_one : (before : List Line) (number : ℕ) (text : List ℕ) (fault other : DeckFault) → IsFaultOfLine before number text fault → IsFaultOfLine before number text other → fault ≡ other

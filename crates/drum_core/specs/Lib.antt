@@ -16,6 +16,7 @@ pub mod Op
 pub mod OpLaws
 pub mod Position
 pub mod Recurs
+pub mod Same
 pub mod Shift
 pub mod Span
 pub mod Store

@@ -11,6 +11,7 @@ pub mod times;
 pub use entry::Entry;
 pub use fault::NoteFault;
 pub use key_path::KeyPath;
+pub use notes::Notes;
 pub use notes::mark::Mark;
 pub use notes::pattern::Pattern;
 pub use notes::programmed::Programmed;

@@ -1,5 +1,75 @@
-//! What the notes say of a program: the types that the definitions and later the reader speak of.
+//! What the notes say of a program: where the programmed switch stands, whether load cards are read, how often
+//! edges are passed, and what an altered word may become.
+ghost use Rattle.std.specs.Prelude.{◌≡◌, map, option_map, IsTrue, ◌↔◌};
+ghost use Rattle.drum_times.specs.Allowed as said;
+ghost use Rattle.drum_times.specs.Listed.{listed};
 
+pub mod listing;
 pub mod mark;
 pub mod pattern;
 pub mod programmed;
+
+use drum_core::Location;
+use listing::{Listing, patterns_in};
+use mark::Mark;
+use pattern::Pattern;
+use programmed::Programmed;
+use std::marker::Model;
+
+/// Notes on a program.
+#[derive(Debug, Drop)]
+pub struct Notes {
+    programmed: Programmed,
+    load_cards: bool,
+    marks: Vec<Mark>,
+    lists: Vec<Listing>,
+}
+
+impl Model for Notes {
+    ghost Value = { said.Notes };
+
+    ghost view = { λ n. record {
+      programmed = n.programmed;
+      load_cards = n.load_cards;
+      marks = n.marks.items;
+      lists = map listed n.lists.items;
+    } };
+
+    ghost invariant = { λ n. said.AreSound (record {
+      programmed = n.programmed;
+      load_cards = n.load_cards;
+      marks = n.marks.items;
+      lists = map listed n.lists.items;
+    }) };
+}
+
+impl Notes {
+    /// The patterns of a listed location, 1 to 64; `None` for one that isn't listed.
+    pub fn patterns(&self, location: Location) -> Option<&[Pattern]>
+        ensures { option_map (λ patterns. patterns.now) result ≡ said.patterns_of self.now location.number }
+    {
+        patterns_in(&self.lists, location)
+    }
+
+    /// The marks, at most 8, in order. Each has an edge of its own.
+    pub fn marks(&self) -> &[Mark]
+        ensures all { result.now ≡ self.now.marks }
+        ensures sound { said.AreSound self.now }
+    {
+        &self.marks
+    }
+
+    /// Where the programmed switch stands.
+    pub fn programmed(&self) -> Programmed
+        ensures { result ≡ self.now.programmed }
+    {
+        self.programmed
+    }
+
+    /// Whether load cards are read.
+    pub fn load_cards(&self) -> bool
+        ensures { result ≡ self.now.load_cards }
+    {
+        self.load_cards
+    }
+}

@@ -11,11 +11,16 @@ mod read_entry;
 pub struct Times {
     /// By the operation's two digits; what stands at other numbers means nothing.
     entries: [Entry; 100],
+    ghost all: { length entries ≡ 100 },
 }
 
 impl Times {
+    ghost use Rattle.drum_times.specs.Entries.{entry_in};
+
     /// How long the operation takes.
-    pub fn entry(&self, op: Op) -> Entry {
+    pub fn entry(&self, op: Op) -> Entry
+        ensures { result ≡ entry_in self.now op }
+    {
         self.entries[op.number() as usize]
     }
 }

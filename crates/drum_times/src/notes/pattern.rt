@@ -1,4 +1,6 @@
-ghost use Rattle.std.specs.Prelude.{◌^◌, ◌<◌, ◌≤◌};
+ghost use Rattle.std.specs.Prelude.{◌≡◌, ◌↔◌, ◌^◌, ◌<◌, ◌≤◌, IsTrue, length, slice_get};
+
+use drum_core::Instruction;
 
 /// A pattern: which instructions may stand at a location whose word the program alters.
 #[derive(Clone, Copy, Debug, PartialEq, Eq)]
@@ -15,4 +17,39 @@ pub struct Pattern {
     pub ghost ordered: { d_from ≤ d_to },
     pub ghost four: { d_to < 10 ^ 4 },
     pub ghost next_four: { i < 10 ^ 4 },
+}
+
+impl Pattern {
+    ghost use Rattle.drum_times.specs.Allowed.{Matches, matching};
+
+    /// Whether the instruction has the pattern's operation and I, and a D within its range.
+    pub fn matches(self, instruction: Instruction) -> bool
+        ensures { IsTrue result ↔ Matches self instruction }
+    {
+        instruction.op == self.op
+            && self.d_from <= instruction.d
+            && instruction.d <= self.d_to
+            && instruction.i == self.i
+    }
+
+    /// How many instructions match, 1 to 10,000.
+    pub fn len(self) -> usize
+        ensures { result ≡ length (matching self) }
+    {
+        (self.d_to - self.d_from) as usize + 1
+    }
+
+    /// The instruction at a place, from 0, of those that match, D ascending; `None` from [`Pattern::len`] on.
+    pub fn at(self, place: usize) -> Option<Instruction>
+        ensures { result ≡ slice_get (matching self) place }
+    {
+        if place >= self.len() {
+            return None;
+        }
+        Some(Instruction {
+            op: self.op,
+            d: self.d_from + place as u16,
+            i: self.i,
+        })
+    }
 }

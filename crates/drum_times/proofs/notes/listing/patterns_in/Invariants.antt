@@ -1,0 +1,8 @@
+use Rattle.std.proofs.Common.{◌≡◌, map, drop}
+use Rattle.drum_times.specs.Allowed as said
+use Rattle.drum_times.specs.Listed.{listed}
+use Rattle.drum_times.proofs.notes.listing.patterns_in.Given as goal
+
+-- what is left says what all say
+abbrev pub invariant-loop-list : goal.invariant-loop-list
+invariant-loop-list l = said.patterns_in (map listed (drop l.list-index l.lists)) l.location.number ≡ said.patterns_in (map listed l.lists) l.location.number

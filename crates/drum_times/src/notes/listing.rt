@@ -1,0 +1,26 @@
+ghost use Rattle.std.specs.Prelude.{◌≡◌, map, option_map};
+ghost use Rattle.drum_times.specs.Allowed as said;
+ghost use Rattle.drum_times.specs.Listed.{listed};
+
+use super::pattern::Pattern;
+use drum_core::Location;
+
+/// A list of the notes: what may stand at a location whose word the program alters.
+#[derive(Debug, Drop)]
+pub struct Listing {
+    pub location: Location,
+    /// 1 to 64, in order.
+    pub patterns: Vec<Pattern>,
+}
+
+/// The patterns of a location, where one of the lists is for it.
+pub fn patterns_in(lists: &[Listing], location: Location) -> Option<&[Pattern]>
+    ensures { option_map (λ patterns. patterns.now) result ≡ said.patterns_in (map listed lists.now) location.number }
+{
+    for list in lists {
+        if list.location.number == location.number {
+            return Some(&list.patterns);
+        }
+    }
+    None
+}
