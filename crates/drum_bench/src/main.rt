@@ -1,0 +1,25 @@
+//! Benchmarks, run by hand by the scripts of bench/. The first argument names one, which prints its figure;
+//! without an argument it prints which there are.
+#![tactic(auto)]
+
+mod full_deck;
+
+use std::env;
+use std::fmt::Debug;
+
+/// Whatever stopped a benchmark.
+#[derive(Debug, Drop)]
+struct Stopped;
+
+fn stop<E: Debug + Drop>(_: E) -> Stopped {
+    Stopped
+}
+
+fn main(rt: HostRuntime) -> Result<(), Stopped> {
+    let mut arguments = env::args(&rt).map_err(stop)?;
+    let _program = arguments.next();
+    match arguments.next() {
+        Some(name) if name.as_str() == "full-deck" => full_deck::run(&rt),
+        _ => println!(rt; "full-deck").map_err(stop),
+    }
+}
