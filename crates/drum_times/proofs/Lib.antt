@@ -1,1 +1,2 @@
 mod Matching
+mod Choices

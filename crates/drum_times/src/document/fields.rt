@@ -1,4 +1,8 @@
-ghost use Rattle.std.specs.Prelude.{◌≤◌, IfOk};
+ghost use Rattle.std.specs.Prelude.{◌≡◌, ◌≤◌, ◌∷◌, [], ◌++◌, Some, IfOk, IfErr, map, option_map, string_bytes};
+ghost use Rattle.drum_times.specs.Document as document;
+ghost use Rattle.drum_times.specs.Refused.{IsFirst};
+ghost use Rattle.toml.specs.Data.{get_member};
+ghost use Rattle.toml.specs.View.{view, table_view};
 
 use crate::fault::NoteFault;
 use crate::key_path::KeyPath;
@@ -14,32 +18,31 @@ pub struct Fields<'a> {
     pub table: &'a Table,
 }
 
-/// The document that the bytes are.
-///
-/// # Errors
-///
-/// Toml where they are no TOML document, or no UTF-8; Memory.
-pub fn read_document(alloc: Global, bytes: &[u8]) -> Result<Table, NoteFault> {
-    match toml::table_from_slice(alloc, bytes) {
-        Ok(table) => Ok(table),
-        Err(error) if error.is_memory() => Err(NoteFault::Memory),
-        Err(_) => Err(NoteFault::Toml),
-    }
-}
-
 impl Fields<'_> {
     /// The path of one of its keys. One past the limit of a path, for which no document has room, is
     /// refused as for want of memory.
-    pub fn path(&self, key: &str) -> Result<KeyPath, AllocError> {
+    pub fn path(&self, key: &str) -> Result<KeyPath, AllocError>
+        ensures { IfOk result (λ path. string_bytes path.text ≡ self.now.at.now ++ key.now) }
+    {
         let mut path = String::from_str(self.alloc, self.at)?;
         path.push_str(key)?;
         KeyPath::new(path).ok_or(AllocError)
     }
 
+    /// The value at a key, if there is one.
+    pub fn get(&self, key: &str) -> Option<&Value>
+        ensures { option_map (λ value. view value.now) result ≡ get_member key.now (table_view self.now.table.now) }
+    {
+        self.table.get(key)
+    }
+
     /// That each of its keys is known; else the first in byte order that isn't.
-    pub fn only(&self, known: &[&str]) -> Result<(), NoteFault> {
-        for key in self.table.keys() {
-            if !known.contains(&key.as_str()) {
+    pub fn only(&self, known: &[&str]) -> Result<(), NoteFault>
+        ensures none { IfOk result (λ _. document.unknown_in self.now.at.now (map (λ key. key.now) known.now) (table_view self.now.table.now) ≡ []) }
+        ensures first { IfErr result (IsFirst (document.unknown_in self.now.at.now (map (λ key. key.now) known.now) (table_view self.now.table.now))) }
+    {
+        for (key, _) in self.table.iter() {
+            if !is_among(key.as_str(), known) {
                 return Err(NoteFault::Unknown(self.path(key.as_str())?));
             }
         }
@@ -47,9 +50,12 @@ impl Fields<'_> {
     }
 
     /// That each of some keys is there; else the first that isn't.
-    pub fn all(&self, wanted: &[&str]) -> Result<(), NoteFault> {
+    pub fn all(&self, wanted: &[&str]) -> Result<(), NoteFault>
+        ensures none { IfOk result (λ _. document.missing_in self.now.at.now (map (λ key. key.now) wanted.now) (table_view self.now.table.now) ≡ []) }
+        ensures first { IfErr result (IsFirst (document.missing_in self.now.at.now (map (λ key. key.now) wanted.now) (table_view self.now.table.now))) }
+    {
         for key in wanted {
-            if !self.table.contains_key(*key) {
+            if self.get(key).is_none() {
                 return Err(NoteFault::Missing(self.path(key)?));
             }
         }
@@ -57,40 +63,25 @@ impl Fields<'_> {
     }
 
     /// The value at a key.
-    pub fn value(&self, key: &str) -> Result<&Value, NoteFault> {
-        match self.table.get(key) {
+    pub fn value(&self, key: &str) -> Result<&Value, NoteFault>
+        ensures found { IfOk result (λ value. get_member key.now (table_view self.now.table.now) ≡ Some (view value.now)) }
+        ensures first { IfErr result (IsFirst (document.missing_in self.now.at.now (key.now ∷ []) (table_view self.now.table.now))) }
+    {
+        match self.get(key) {
             Some(value) => Ok(value),
             None => Err(NoteFault::Missing(self.path(key)?)),
         }
     }
+}
 
-    /// The table at a key.
-    pub fn table(&self, key: &str) -> Result<&Table, NoteFault> {
-        match self.value(key)?.as_table() {
-            Some(table) => Ok(table),
-            None => Err(NoteFault::Kind(self.path(key)?)),
+/// Whether a key is one of these.
+fn is_among(key: &str, keys: &[&str]) -> bool
+    ensures { result ≡ document.is_among key.now (map (λ one. one.now) keys.now) }
+{
+    for one in keys {
+        if *one == key {
+            return true;
         }
     }
-
-    /// The whole number at a key, from `low` to `high`.
-    pub fn whole_number(&self, key: &str, low: u32, high: u32) -> Result<u32, NoteFault>
-        ensures low { IfOk result (λ number. low ≤ number) }
-        ensures high { IfOk result (λ number. number ≤ high) }
-    {
-        let Some(number) = self.value(key)?.as_integer() else {
-            return Err(NoteFault::Kind(self.path(key)?));
-        };
-        match u32::try_from(number) {
-            Ok(number) if low <= number && number <= high => Ok(number),
-            _ => Err(NoteFault::Range(self.path(key)?)),
-        }
-    }
-
-    /// The text at a key.
-    pub fn text(&self, key: &str) -> Result<&str, NoteFault> {
-        match self.value(key)?.as_str() {
-            Some(text) => Ok(text),
-            None => Err(NoteFault::Kind(self.path(key)?)),
-        }
-    }
+    false
 }

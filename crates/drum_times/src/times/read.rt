@@ -1,6 +1,7 @@
 use super::Times;
 use super::read_entry::read_entry;
-use crate::document::fields::{Fields, read_document};
+use crate::document::fields::Fields;
+use crate::document::read_document;
 use crate::entry::Entry;
 use crate::fault::NoteFault;
 use drum_core::{Op, Parity};

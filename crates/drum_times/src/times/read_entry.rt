@@ -39,14 +39,11 @@ fn keys_of(form: Form) -> &'static [&'static str] {
     }
 }
 
-fn read_parity(fields: &Fields<'_>) -> Result<Parity, NoteFault> {
-    match fields.text("parity")? {
-        "any" => Ok(Parity::Any),
-        "even" => Ok(Parity::Even),
-        "odd" => Ok(Parity::Odd),
-        _ => Err(NoteFault::Range(fields.path("parity")?)),
-    }
-}
+const PARITIES: [(&str, Parity); 3] = [
+    ("any", Parity::Any),
+    ("even", Parity::Even),
+    ("odd", Parity::Odd),
+];
 
 /// The entry of an operation, from the table that stands for it.
 pub fn read_entry(fields: &Fields<'_>, op: Op) -> Result<Entry, NoteFault> {
@@ -56,7 +53,7 @@ pub fn read_entry(fields: &Fields<'_>, op: Op) -> Result<Entry, NoteFault> {
     fields.all(keys)?;
     let before = fields.whole_number("before", 1, LONGEST)?;
     let after = fields.whole_number("after", 0, LONGEST)?;
-    let parity = read_parity(fields)?;
+    let parity = fields.choice("parity", &PARITIES)?;
     let plain = Entry {
         before,
         after,

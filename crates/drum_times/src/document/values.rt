@@ -1,0 +1,77 @@
+//! The values at the keys of a table.
+ghost use Rattle.std.specs.Prelude.{◌≡◌, ℕ, ◌≤◌, List, ◌∷◌, [], ◌++◌, Some, map, pos, IfOk, IfErr};
+ghost use Rattle.drum_times.specs.Document as document;
+ghost use Rattle.drum_times.specs.Refused.{IsFirst};
+ghost use Rattle.drum_times.specs.TimesDocument.{HasNumber};
+ghost use Rattle.drum_times.specs.Value.{fault_of, StandsFor};
+ghost use Rattle.toml.specs.Data.{Data, get_member, table as toml_table};
+ghost use Rattle.toml.specs.View.{table_view};
+
+use super::fields::Fields;
+use super::wrong::{self, Wrong};
+use crate::fault::NoteFault;
+use drum_core::Location;
+use toml::Table;
+
+impl Fields<'_> {
+    /// The fault of the value at a key, or Memory.
+    fn fault(&self, key: &str, wrong: Wrong) -> NoteFault
+        ensures { IsFirst (fault_of wrong (self.now.at.now ++ key.now) ∷ []) result }
+    {
+        let Ok(path) = self.path(key) else {
+            return NoteFault::Memory;
+        };
+        match wrong {
+            Wrong::Kind => NoteFault::Kind(path),
+            Wrong::Range => NoteFault::Range(path),
+        }
+    }
+
+    /// The table at a key.
+    pub fn table(&self, key: &str) -> Result<&Table, NoteFault>
+        ensures found { IfOk result (λ found. get_member key.now (table_view self.now.table.now) ≡ Some (toml_table (table_view found.now))) }
+        ensures first { IfErr result (IsFirst (document.missing_in self.now.at.now (key.now ∷ []) (table_view self.now.table.now) ++ document.at_key (document.element_faults (λ _ _ _. []) 0) self.now.at.now key.now (table_view self.now.table.now))) }
+    {
+        match self.value(key)?.as_table() {
+            Some(table) => Ok(table),
+            None => Err(self.fault(key, Wrong::Kind)),
+        }
+    }
+
+    /// The whole number at a key, from `low` to `high`.
+    pub fn whole_number(&self, key: &str, low: u32, high: u32) -> Result<u32, NoteFault>
+        ensures found { IfOk result (HasNumber (table_view self.now.table.now) key.now) }
+        ensures low { IfOk result (λ number. low ≤ number) }
+        ensures high { IfOk result (λ number. number ≤ high) }
+        ensures first { IfErr result (IsFirst (document.missing_in self.now.at.now (key.now ∷ []) (table_view self.now.table.now) ++ document.whole low high self.now.at.now key.now (table_view self.now.table.now))) }
+    {
+        match wrong::whole_number(self.value(key)?, low, high) {
+            Ok(number) => Ok(number),
+            Err(wrong) => Err(self.fault(key, wrong)),
+        }
+    }
+
+    /// The location at a key.
+    pub fn location(&self, key: &str) -> Result<Location, NoteFault>
+        ensures found { IfOk result (λ location. HasNumber (table_view self.now.table.now) key.now location.number) }
+        ensures first { IfErr result (IsFirst (document.missing_in self.now.at.now (key.now ∷ []) (table_view self.now.table.now) ++ document.location self.now.at.now key.now (table_view self.now.table.now))) }
+    {
+        match wrong::location(self.value(key)?) {
+            Ok(location) => Ok(location),
+            Err(wrong) => Err(self.fault(key, wrong)),
+        }
+    }
+
+    /// What the text at a key stands for.
+    pub fn choice<T: Copy + Drop>(&self, key: &str, choices: &[(&str, T)]) -> Result<T, NoteFault>
+        ensures found { IfOk result (λ chosen. (value : Data) × (get_member key.now (table_view self.now.table.now) ≡ Some value)
+            × StandsFor (map (λ choice. (choice.0.now, choice.1)) choices.now) value chosen) }
+        ensures first { IfErr result (IsFirst (document.missing_in self.now.at.now (key.now ∷ []) (table_view self.now.table.now)
+            ++ document.text (map (λ choice. choice.0.now) choices.now) self.now.at.now key.now (table_view self.now.table.now))) }
+    {
+        match wrong::choice(self.value(key)?, choices) {
+            Ok(chosen) => Ok(chosen),
+            Err(wrong) => Err(self.fault(key, wrong)),
+        }
+    }
+}
