@@ -1,2 +1,4 @@
 mod Matching
 mod Choices
+mod Sequences
+mod EntryFaults

@@ -45,19 +45,23 @@ longest = 1000000
 abbrev pub HasNumber : Members → List ℕ → ℕ → Type 0
 HasNumber fields key n = get_member key fields ≡ Some (integer (pos n))
 
--- the numbers of an entry that not every operation has; without them they are 0
-abbrev pub HasRest : Form → Members → Entry → Type 0
-HasRest Plain fields entry = (entry.per ≡ 0) × (entry.wait_min ≡ 0) × (entry.wait_max ≡ 0)
-HasRest Units fields entry = HasNumber fields (codes "per") entry.per × (entry.wait_min ≡ 0) × (entry.wait_max ≡ 0)
-HasRest Waits fields entry = (entry.per ≡ 0) × HasNumber fields (codes "wait_min") entry.wait_min × HasNumber fields (codes "wait_max") entry.wait_max
+-- the numbers of an entry that not every operation has: per, wait_min and wait_max; without them they are 0
+abbrev pub HasRest : Form → Members → ℕ → ℕ → ℕ → Type 0
+HasRest Plain fields per wait_min wait_max = (per ≡ 0) × (wait_min ≡ 0) × (wait_max ≡ 0)
+HasRest Units fields per wait_min wait_max = HasNumber fields (codes "per") per × (wait_min ≡ 0) × (wait_max ≡ 0)
+HasRest Waits fields per wait_min wait_max = (per ≡ 0) × HasNumber fields (codes "wait_min") wait_min × HasNumber fields (codes "wait_max") wait_max
+
+-- The table says what each operation's entry says.
+pub record IsPlain (fields : Members) (entry : Entry) : Type 0 where
+  pub before : HasNumber fields (codes "before") entry.before
+  pub after : HasNumber fields (codes "after") entry.after
+  pub parity : get_member (codes "parity") fields ≡ Some (string (text_of entry.parity))
 
 -- The table says this entry, whose type keeps its numbers in their ranges, and nothing else.
 pub record IsEntry (op : Op) (fields : Members) (entry : Entry) : Type 0 where
   pub only : unknown_in [] (keys_of (form_of op)) fields ≡ []
-  pub before : HasNumber fields (codes "before") entry.before
-  pub after : HasNumber fields (codes "after") entry.after
-  pub parity : get_member (codes "parity") fields ≡ Some (string (text_of entry.parity))
-  pub others : HasRest (form_of op) fields entry
+  pub plain : IsPlain fields entry
+  pub others : HasRest (form_of op) fields entry.per entry.wait_min entry.wait_max
 
 -- The document says these entries, one for each operation, and nothing else.
 pub record IsTimes (document : Members) (times : Op → Entry) : Type 0 where
@@ -66,6 +70,11 @@ pub record IsTimes (document : Members) (times : Op → Entry) : Type 0 where
   pub op : get_member (codes "op") document ≡ Some (table operations)
   pub only_operations : unknown_in [] (map key_of ops) operations ≡ []
   pub each : (op : Op) → (fields : Members) × (get_member (key_of op) operations ≡ Some (table fields)) × IsEntry op fields (times op)
+
+-- the faults of the values that each entry has
+abbrev pub plain_faults : List ℕ → Members → List Fault
+plain_faults at fields =
+    whole 1 longest at (codes "before") fields ++ whole 0 longest at (codes "after") fields ++ text (map text_of (Any ∷ Even ∷ Odd ∷ [])) at (codes "parity") fields
 
 -- the faults of the values of an entry that not every operation has
 abbrev pub rest_faults : Form → List ℕ → Members → List Fault
@@ -76,10 +85,7 @@ rest_faults Waits at fields = whole 0 longest at (codes "wait_min") fields ++ wh
 -- The faults of an entry: unknown keys, missing keys, and then the values, each in the order of the keys.
 abbrev pub entry_faults : Op → List ℕ → Members → List Fault
 entry_faults op at fields =
-    unknown_in at (keys_of (form_of op)) fields ++ missing_in at (keys_of (form_of op)) fields
-    ++ whole 1 longest at (codes "before") fields ++ whole 0 longest at (codes "after") fields
-    ++ text (map text_of (Any ∷ Even ∷ Odd ∷ [])) at (codes "parity") fields
-    ++ rest_faults (form_of op) at fields
+    unknown_in at (keys_of (form_of op)) fields ++ missing_in at (keys_of (form_of op)) fields ++ plain_faults at fields ++ rest_faults (form_of op) at fields
 
 -- the faults of what stands for an operation
 abbrev pub operation_faults : Members → Op → List Fault

@@ -1,5 +1,8 @@
-ghost use Rattle.std.specs.Prelude.{◌≡◌};
+ghost use Rattle.std.specs.Prelude.{◌≡◌, ◌^◌, ◌*◌, ◌≤◌, [], map, IfOk, IfErr};
+ghost use Rattle.drum_times.specs.Document.{missing_in};
+ghost use Rattle.drum_times.specs.Refused.{IsFirst};
 ghost use Rattle.drum_times.specs.TimesDocument as document;
+ghost use Rattle.toml.specs.View.{table_view};
 
 use crate::document::fields::Fields;
 use crate::entry::Entry;
@@ -31,7 +34,9 @@ pub fn form_of(op: Op) -> Form
     }
 }
 
-fn keys_of(form: Form) -> &'static [&'static str] {
+fn keys_of(form: Form) -> &'static [&'static str]
+    ensures { map (λ key. key.now) result.now ≡ document.keys_of form }
+{
     match form {
         Form::Plain => &["before", "after", "parity"],
         Form::Units => &["before", "after", "parity", "per"],
@@ -45,51 +50,72 @@ const PARITIES: [(&str, Parity); 3] = [
     ("odd", Parity::Odd),
 ];
 
-/// The entry of an operation, from the table that stands for it.
-pub fn read_entry(fields: &Fields<'_>, op: Op) -> Result<Entry, NoteFault> {
-    let form = form_of(op);
-    let keys = keys_of(form);
-    fields.only(keys)?;
-    fields.all(keys)?;
+/// What each operation's entry says, and nothing of what only some have. None of its keys is missing.
+fn read_plain(fields: &Fields<'_>) -> Result<Entry, NoteFault>
+    requires { missing_in fields.now.at.now (document.keys_of Form.Plain) (table_view fields.now.table.now) ≡ [] }
+    ensures said { IfOk result (document.IsPlain (table_view fields.now.table.now)) }
+    ensures none { IfOk result (λ _. document.plain_faults fields.now.at.now (table_view fields.now.table.now) ≡ []) }
+    ensures first { IfErr result (IsFirst (document.plain_faults fields.now.at.now (table_view fields.now.table.now))) }
+{
     let before = fields.whole_number("before", 1, LONGEST)?;
     let after = fields.whole_number("after", 0, LONGEST)?;
     let parity = fields.choice("parity", &PARITIES)?;
-    let plain = Entry {
+    Ok(Entry {
         before,
         after,
         parity,
         per: 0,
         wait_min: 0,
         wait_max: 0,
-    };
-    match form {
-        Form::Plain => Ok(plain),
-        Form::Units => with_units(fields, plain),
-        Form::Waits => with_waits(fields, plain),
-    }
-}
-
-fn with_units(fields: &Fields<'_>, plain: Entry) -> Result<Entry, NoteFault> {
-    let per = fields.whole_number("per", 0, LONGEST)?;
-    Ok(Entry {
-        before: plain.before,
-        after: plain.after,
-        parity: plain.parity,
-        per,
-        wait_min: 0,
-        wait_max: 0,
     })
 }
+/// The numbers that not every operation has, in word times; 0 for an operation without them.
+#[derive(Clone, Copy)]
+struct Rest {
+    per: u32,
+    wait_min: u32,
+    wait_max: u32,
+    ghost short_per: { per ≤ 1000000 },
+    ghost waits: { wait_min ≤ wait_max },
+    ghost short_wait: { wait_max ≤ 1000000 },
+}
 
-fn with_waits(fields: &Fields<'_>, plain: Entry) -> Result<Entry, NoteFault> {
-    let wait_min = fields.whole_number("wait_min", 0, LONGEST)?;
-    let wait_max = fields.whole_number("wait_max", wait_min, LONGEST)?;
+/// What an entry of a form says beside what each says. None of its keys is missing.
+fn read_rest(fields: &Fields<'_>, form: Form) -> Result<Rest, NoteFault>
+    requires { missing_in fields.now.at.now (document.keys_of form) (table_view fields.now.table.now) ≡ [] }
+    ensures said { IfOk result (λ rest. document.HasRest form (table_view fields.now.table.now) rest.per rest.wait_min rest.wait_max) }
+    ensures none { IfOk result (λ _. document.rest_faults form fields.now.at.now (table_view fields.now.table.now) ≡ []) }
+    ensures first { IfErr result (IsFirst (document.rest_faults form fields.now.at.now (table_view fields.now.table.now))) }
+{
+    let (per, wait_min, wait_max) = match form {
+        Form::Plain => (0, 0, 0),
+        Form::Units => (fields.whole_number("per", 0, LONGEST)?, 0, 0),
+        Form::Waits => {
+            let wait_min = fields.whole_number("wait_min", 0, LONGEST)?;
+            (0, wait_min, fields.whole_number("wait_max", wait_min, LONGEST)?)
+        }
+    };
+    Ok(Rest { per, wait_min, wait_max })
+}
+
+/// The entry of an operation, from the table that stands for it.
+pub fn read_entry(fields: &Fields<'_>, op: Op) -> Result<Entry, NoteFault>
+    ensures said { IfOk result (document.IsEntry op (table_view fields.now.table.now)) }
+    ensures none { IfOk result (λ _. document.entry_faults op fields.now.at.now (table_view fields.now.table.now) ≡ []) }
+    ensures first { IfErr result (IsFirst (document.entry_faults op fields.now.at.now (table_view fields.now.table.now))) }
+{
+    let form = form_of(op);
+    let keys = keys_of(form);
+    fields.only(keys)?;
+    fields.all(keys)?;
+    let plain = read_plain(fields)?;
+    let rest = read_rest(fields, form)?;
     Ok(Entry {
         before: plain.before,
         after: plain.after,
         parity: plain.parity,
-        per: 0,
-        wait_min,
-        wait_max,
+        per: rest.per,
+        wait_min: rest.wait_min,
+        wait_max: rest.wait_max,
     })
 }
