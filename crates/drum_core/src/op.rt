@@ -60,7 +60,57 @@ pub enum Operand {
 }
 
 impl Op {
-    ghost use Rattle.drum_core.specs.Op.{number_of, op_of, operand_of};
+    ghost use Rattle.drum_core.specs.Op.{number_of, op_of, operand_of, ops};
+
+    /// The 42 operations, in ascending order of their numbers.
+    pub fn all() -> [Op; 42]
+        ensures { result ≡ ops }
+    {
+        [
+            Op::NoOperation,
+            Op::Stop,
+            Op::Add(Amount::Upper),
+            Op::Add(Amount::MinusUpper),
+            Op::Divide,
+            Op::Add(Amount::Lower),
+            Op::Add(Amount::MinusLower),
+            Op::Add(Amount::AbsoluteLower),
+            Op::Add(Amount::MinusAbsoluteLower),
+            Op::Multiply,
+            Op::Store(Store::Lower),
+            Op::Store(Store::Upper),
+            Op::Store(Store::DataAddress),
+            Op::Store(Store::InstructionAddress),
+            Op::Store(Store::Distributor),
+            Op::Shift(Shift::Right),
+            Op::Shift(Shift::Round),
+            Op::Shift(Shift::Left),
+            Op::Branch(Branch::UpperNonZero),
+            Op::Branch(Branch::NonZero),
+            Op::Branch(Branch::Minus),
+            Op::Branch(Branch::Overflow),
+            Op::ResetAdd(Amount::Upper),
+            Op::ResetAdd(Amount::MinusUpper),
+            Op::DivideReset,
+            Op::ResetAdd(Amount::Lower),
+            Op::ResetAdd(Amount::MinusLower),
+            Op::ResetAdd(Amount::AbsoluteLower),
+            Op::ResetAdd(Amount::MinusAbsoluteLower),
+            Op::LoadDistributor,
+            Op::Read,
+            Op::Punch,
+            Op::BranchOnDigit(Position::Tenth),
+            Op::BranchOnDigit(Position::First),
+            Op::BranchOnDigit(Position::Second),
+            Op::BranchOnDigit(Position::Third),
+            Op::BranchOnDigit(Position::Fourth),
+            Op::BranchOnDigit(Position::Fifth),
+            Op::BranchOnDigit(Position::Sixth),
+            Op::BranchOnDigit(Position::Seventh),
+            Op::BranchOnDigit(Position::Eighth),
+            Op::BranchOnDigit(Position::Ninth),
+        ]
+    }
 
     /// The operation of this number; `None` for a number outside the profile.
     pub fn of(number: u8) -> Option<Op>

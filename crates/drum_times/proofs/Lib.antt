@@ -2,3 +2,4 @@ mod Matching
 mod Choices
 mod Sequences
 mod EntryFaults
+mod TimesFaults

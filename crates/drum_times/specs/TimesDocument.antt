@@ -63,13 +63,17 @@ pub record IsEntry (op : Op) (fields : Members) (entry : Entry) : Type 0 where
   pub plain : IsPlain fields entry
   pub others : HasRest (form_of op) fields entry.per entry.wait_min entry.wait_max
 
+-- The table of operations says this entry of an operation.
+abbrev pub SaysOperation : Members → Op → Entry → Type 0
+SaysOperation operations op entry = (fields : Members) × (get_member (key_of op) operations ≡ Some (table fields)) × IsEntry op fields entry
+
 -- The document says these entries, one for each operation, and nothing else.
 pub record IsTimes (document : Members) (times : Op → Entry) : Type 0 where
   pub only : unknown_in [] (codes "op" ∷ []) document ≡ []
   pub operations : Members
   pub op : get_member (codes "op") document ≡ Some (table operations)
   pub only_operations : unknown_in [] (map key_of ops) operations ≡ []
-  pub each : (op : Op) → (fields : Members) × (get_member (key_of op) operations ≡ Some (table fields)) × IsEntry op fields (times op)
+  pub each : (op : Op) → SaysOperation operations op (times op)
 
 -- the faults of the values that each entry has
 abbrev pub plain_faults : List ℕ → Members → List Fault

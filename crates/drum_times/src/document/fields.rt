@@ -1,4 +1,4 @@
-ghost use Rattle.std.specs.Prelude.{◌≡◌, ◌≤◌, ◌∷◌, [], ◌++◌, Some, IfOk, IfErr, map, option_map, string_bytes};
+ghost use Rattle.std.specs.Prelude.{◌≡◌, ◌≤◌, ◌∷◌, [], ◌++◌, Some, IfOk, IfErr, map, option_map, string_bytes, codes};
 ghost use Rattle.drum_times.specs.Document as document;
 ghost use Rattle.drum_times.specs.Refused.{IsFirst};
 ghost use Rattle.toml.specs.Data.{get_member};
@@ -27,6 +27,16 @@ impl Fields<'_> {
         let mut path = String::from_str(self.alloc, self.at)?;
         path.push_str(key)?;
         KeyPath::new(path).ok_or(AllocError)
+    }
+
+    /// Where the keys of the table at one of its keys stand.
+    pub fn inside(&self, key: &str) -> Result<String, AllocError>
+        ensures { IfOk result (λ at. string_bytes at ≡ self.now.at.now ++ key.now ++ codes ".") }
+    {
+        let mut at = String::from_str(self.alloc, self.at)?;
+        at.push_str(key)?;
+        at.push_str(".")?;
+        Ok(at)
     }
 
     /// The value at a key, if there is one.

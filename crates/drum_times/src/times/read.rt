@@ -1,3 +1,13 @@
+ghost use Rattle.std.specs.Prelude.{◌≡◌, ℕ, ◌<◌, [], length, map, codes, slice_get, Some, IfOk, IfErr};
+ghost use Rattle.std.specs.Prelude.{flat_map};
+ghost use Rattle.drum_core.specs.declared.op.Op.{Op};
+ghost use Rattle.drum_core.specs.Op.{ops};
+ghost use Rattle.drum_times.specs.Entries.{entry_in};
+ghost use Rattle.drum_times.specs.Refused.{IsDocument, IsFirst, IsRefused};
+ghost use Rattle.drum_times.specs.TimesDocument as document;
+ghost use Rattle.toml.specs.Data.{Members};
+ghost use Rattle.toml.specs.View.{table_view};
+
 use super::Times;
 use super::read_entry::read_entry;
 use crate::document::fields::Fields;
@@ -6,6 +16,7 @@ use crate::entry::Entry;
 use crate::fault::NoteFault;
 use drum_core::{Op, Parity};
 use std::alloc::Global;
+use toml::Table;
 
 /// Reads a timing table: a TOML document with the one key `op`, a table with one table for each of the 42
 /// operations, under its two digits.
@@ -15,12 +26,23 @@ use std::alloc::Global;
 /// Toml or Memory; then the first of: at the top the unknown keys in byte order, `op` missing or of
 /// another kind; in `op` the unknown keys in byte order; and each operation in ascending order, as
 /// [`NoteFault`] names them.
-pub fn read_times(alloc: Global, bytes: &[u8]) -> Result<Times, NoteFault> {
-    let document = read_document(alloc, bytes)?;
+pub fn read_times(alloc: Global, bytes: &[u8]) -> Result<Times, NoteFault>
+    ensures read { IfOk result (λ times. (whole : Members) × IsDocument bytes.now whole × document.IsTimes whole (entry_in times)) }
+    ensures refused { IfErr result (IsRefused document.times_faults bytes.now) }
+{
+    let table = read_document(alloc, bytes)?;
+    read_table(alloc, &table)
+}
+
+/// The timing table that a document is.
+fn read_table(alloc: Global, table: &Table) -> Result<Times, NoteFault>
+    ensures said { IfOk result (λ times. document.IsTimes (table_view table.now) (entry_in times)) }
+    ensures first { IfErr result (IsFirst (document.times_faults (table_view table.now))) }
+{
     let top = Fields {
         alloc,
         at: "",
-        table: &document,
+        table,
     };
     top.only(&["op"])?;
     let operations = Fields {
@@ -28,30 +50,18 @@ pub fn read_times(alloc: Global, bytes: &[u8]) -> Result<Times, NoteFault> {
         at: "op.",
         table: top.table("op")?,
     };
-    only_operations(&operations)?;
-    read_entries(&operations)
+    let keys = keys();
+    operations.only(&keys)?;
+    read_entries(&operations, &keys, &Op::all())
 }
 
-/// The operation that a key names, by its two digits.
-fn op_of(key: &str) -> Option<Op> {
-    match *key.as_bytes() {
-        [tens @ b'0'..=b'9', units @ b'0'..=b'9'] => { Op::of((tens - b'0') * 10 + (units - b'0')) }
-        _ => None,
-    }
-}
-
-/// That each key is an operation's; else the first in byte order that isn't.
-fn only_operations(operations: &Fields<'_>) -> Result<(), NoteFault> {
-    for key in operations.table.keys() {
-        if op_of(key.as_str()).is_none() {
-            return Err(NoteFault::Unknown(operations.path(key.as_str())?));
-        }
-    }
-    Ok(())
-}
-
-/// The entries, in ascending order of the operations.
-fn read_entries(operations: &Fields<'_>) -> Result<Times, NoteFault> {
+/// The entries of the operations, in their order; `keys` are their keys.
+fn read_entries(operations: &Fields<'_>, keys: &[&str], ops: &[Op]) -> Result<Times, NoteFault>
+    requires here { operations.now.at.now ≡ codes "op." }
+    requires keyed { map (λ key. key.now) keys.now ≡ map document.key_of ops.now }
+    ensures said { IfOk result (λ times. (k : ℕ) (op : Op) → slice_get ops.now k ≡ Some op → document.SaysOperation (table_view operations.now.table.now) op (entry_in times op)) }
+    ensures first { IfErr result (IsFirst (flat_map (document.operation_faults (table_view operations.now.table.now)) ops.now)) }
+{
     let blank = Entry {
         before: 1,
         after: 0,
@@ -61,22 +71,39 @@ fn read_entries(operations: &Fields<'_>) -> Result<Times, NoteFault> {
         wait_max: 0,
     };
     let mut entries = [blank; 100];
-    for number in 0..100u8 {
-        if let Some(op) = Op::of(number) {
-            entries[number as usize] = read_operation(operations, op)?;
+    for (at, op) in ops.iter().enumerate() {
+        match read_operation(operations, keys[at], *op) {
+            Ok(entry) => entries[op.number() as usize] = entry,
+            Err(fault) => return Err(fault),
         }
     }
     Ok(Times { entries })
 }
 
-fn read_operation(operations: &Fields<'_>, op: Op) -> Result<Entry, NoteFault> {
-    let alloc = operations.alloc;
-    let key = format!(in alloc; "{:02}", op.number())?;
-    let at = format!(in alloc; "op.{key}.")?;
+/// The entry of an operation, of which this is the key.
+fn read_operation(operations: &Fields<'_>, key: &str, op: Op) -> Result<Entry, NoteFault>
+    requires here { operations.now.at.now ≡ codes "op." }
+    requires keyed { key.now ≡ document.key_of op }
+    ensures said { IfOk result (document.SaysOperation (table_view operations.now.table.now) op) }
+    ensures none { IfOk result (λ _. document.operation_faults (table_view operations.now.table.now) op ≡ []) }
+    ensures first { IfErr result (IsFirst (document.operation_faults (table_view operations.now.table.now) op)) }
+{
+    let at = operations.inside(key)?;
     let fields = Fields {
-        alloc,
+        alloc: operations.alloc,
         at: at.as_str(),
-        table: operations.table(key.as_str())?,
+        table: operations.table(key)?,
     };
     read_entry(&fields, op)
+}
+
+/// The keys of the operations, in their order.
+fn keys() -> [&'static str; 42]
+    ensures { map (λ key. key.now) result ≡ map document.key_of ops }
+{
+    [
+        "00", "01", "10", "11", "14", "15", "16", "17", "18", "19", "20", "21", "22", "23", "24",
+        "30", "31", "35", "44", "45", "46", "47", "60", "61", "64", "65", "66", "67", "68", "69",
+        "70", "71", "90", "91", "92", "93", "94", "95", "96", "97", "98", "99",
+    ]
 }

@@ -92,10 +92,18 @@ fn read_rest(fields: &Fields<'_>, form: Form) -> Result<Rest, NoteFault>
         Form::Units => (fields.whole_number("per", 0, LONGEST)?, 0, 0),
         Form::Waits => {
             let wait_min = fields.whole_number("wait_min", 0, LONGEST)?;
-            (0, wait_min, fields.whole_number("wait_max", wait_min, LONGEST)?)
+            (
+                0,
+                wait_min,
+                fields.whole_number("wait_max", wait_min, LONGEST)?,
+            )
         }
     };
-    Ok(Rest { per, wait_min, wait_max })
+    Ok(Rest {
+        per,
+        wait_min,
+        wait_max,
+    })
 }
 
 /// The entry of an operation, from the table that stands for it.
