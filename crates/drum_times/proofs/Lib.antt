@@ -3,3 +3,4 @@ mod Choices
 mod Sequences
 mod EntryFaults
 mod TimesFaults
+mod TablesFaults

@@ -1,6 +1,6 @@
 -- What both documents are made of (this project's choice): TOML tables, whose keys are looked at one after the
 -- other. Here are the faults of a table, in their order; a document without a fault has none.
-use Rattle.std.specs.Prelude.{ℕ, suc, ◌+◌, ◌&&◌, Bool, true, if◌then◌else◌, nat_le, List, [], ◌∷◌, ◌++◌, flat_map, codes, decimal, pos, negsuc, Option, Some, None, is_some}
+use Rattle.std.specs.Prelude.{ℕ, suc, ◌+◌, ◌&&◌, Bool, if◌then◌else◌, nat_le, List, [], ◌∷◌, ◌++◌, flat_map, codes, decimal, pos, negsuc, Option, Some, None, is_some}
 use Rattle.std.specs.List.{list_any}
 use Rattle.drum_core.specs.Location.{is_location}
 use Rattle.toml.specs.Data.{Data, string, integer, array, table, Items, no_items, item, Members, no_members, member, get_member, same_key}
@@ -76,10 +76,15 @@ elements_faults check path number no_items = []
 elements_faults check path number (item value items) =
     element_faults check number (path ++ codes "." ++ decimal number) value ++ elements_faults check path (number + 1) items
 
+-- it is a number from low up to high, if there is a high
+abbrev pub is_count : ℕ → Option ℕ → ℕ → Bool
+is_count low None n = nat_le low n
+is_count low (Some high) n = nat_le low n && nat_le n high
+
 -- the faults of a value that is to be an array of tables, from low up to high of them, if there is a high
 abbrev pub array_faults : ℕ → Option ℕ → (ℕ → List ℕ → Members → List Fault) → List ℕ → Data → List Fault
 array_faults low high check path (array items) =
-    if nat_le low (count_of items) && (elim high [ None ↦ true | Some most ↦ nat_le (count_of items) most ]) then elements_faults check path 1 items else range path ∷ []
+    if is_count low high (count_of items) then elements_faults check path 1 items else range path ∷ []
 array_faults low high check path _ = kind path ∷ []
 
 -- an array of tables at a key; its elements are numbered from 1

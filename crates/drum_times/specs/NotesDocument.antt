@@ -8,7 +8,7 @@ use Rattle.drum_times.specs.declared.notes.programmed.Programmed.TheVariants.{St
 use Rattle.drum_times.specs.Allowed.{Notes, Listed, AreSound}
 use Rattle.drum_times.specs.Document.{Fault, two_marks, two_lists, unknown_in, missing_in, whole, location, text, tables, number_at}
 use Rattle.drum_times.specs.TimesDocument.{HasNumber}
-use Rattle.toml.specs.Data.{string, array, table, Items, no_items, item, Members, get_member}
+use Rattle.toml.specs.Data.{Data, string, array, table, Items, no_items, item, Members, get_member}
 
 abbrev pub text_of : Programmed → List ℕ
 text_of Stop = codes "stop"
@@ -52,10 +52,14 @@ pub record IsPattern (fields : Members) (pattern : Pattern) : Type 0 where
   pub d_to : HasNumber fields (codes "d_to") pattern.d_to
   pub i : HasNumber fields (codes "i") pattern.i
 
+-- the value is a table that says this, the element at this place
+abbrev pub IsTable : {A : Type 0} → (ℕ → Members → A → Type 0) → ℕ → Data → A → Type 0
+IsTable Say place value one = (fields : Members) × (value ≡ table fields) × Say place fields one
+
 -- the elements are tables that say these values, the first of which has this place
 abbrev pub AreTables : {A : Type 0} → (ℕ → Members → A → Type 0) → ℕ → Items → List A → Type 0
 AreTables Say place no_items [] = Unit {0}
-AreTables Say place (item value items) (one ∷ more) = ((fields : Members) × (value ≡ table fields) × Say place fields one) × AreTables Say (place + 1) items more
+AreTables Say place (item value items) (one ∷ more) = IsTable Say place value one × AreTables Say (place + 1) items more
 AreTables Say place no_items (one ∷ more) = ⊥
 AreTables Say place (item value items) [] = ⊥
 

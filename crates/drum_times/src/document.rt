@@ -5,6 +5,7 @@ ghost use Rattle.drum_times.specs.Refused.{IsDocument, IsUnread};
 ghost use Rattle.toml.specs.View.{table_view};
 
 pub mod fields;
+pub mod tables;
 mod values;
 mod wrong;
 

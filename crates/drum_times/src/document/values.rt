@@ -15,7 +15,7 @@ use toml::Table;
 
 impl Fields<'_> {
     /// The fault of the value at a key, or Memory.
-    fn fault(&self, key: &str, wrong: Wrong) -> NoteFault
+    pub fn fault(&self, key: &str, wrong: Wrong) -> NoteFault
         ensures { IsFirst (fault_of wrong (self.now.at.now ++ key.now) ∷ []) result }
     {
         let Ok(path) = self.path(key) else {
@@ -39,7 +39,7 @@ impl Fields<'_> {
     }
 
     /// The whole number at a key, from `low` to `high`.
-    pub fn whole_number(&self, key: &str, low: u32, high: u32) -> Result<u32, NoteFault>
+    pub fn whole_number(&self, key: &str, low: u64, high: u64) -> Result<u64, NoteFault>
         ensures found { IfOk result (HasNumber (table_view self.now.table.now) key.now) }
         ensures low { IfOk result (λ number. low ≤ number) }
         ensures high { IfOk result (λ number. number ≤ high) }

@@ -19,7 +19,7 @@ pub enum Wrong {
 }
 
 /// The whole number from `low` to `high` that a value is.
-pub fn whole_number(value: &Value, low: u32, high: u32) -> Result<u32, Wrong>
+pub fn whole_number(value: &Value, low: u64, high: u64) -> Result<u64, Wrong>
     ensures found { IfOk result (λ n. view value.now ≡ integer (pos n)) }
     ensures low { IfOk result (λ n. low ≤ n) }
     ensures high { IfOk result (λ n. n ≤ high) }
@@ -28,7 +28,7 @@ pub fn whole_number(value: &Value, low: u32, high: u32) -> Result<u32, Wrong>
     let Some(number) = value.as_integer() else {
         return Err(Wrong::Kind);
     };
-    match u32::try_from(number) {
+    match u64::try_from(number) {
         Ok(number) if low <= number && number <= high => Ok(number),
         _ => Err(Wrong::Range),
     }

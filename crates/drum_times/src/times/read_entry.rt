@@ -10,7 +10,7 @@ use crate::fault::NoteFault;
 use drum_core::{Op, Parity};
 
 /// The largest number in an entry, in word times.
-const LONGEST: u32 = 1_000_000;
+const LONGEST: u64 = 1_000_000;
 
 /// What an entry says beside `before`, `after` and `parity`.
 #[derive(Clone, Copy, Debug, PartialEq, Eq)]
@@ -61,8 +61,8 @@ fn read_plain(fields: &Fields<'_>) -> Result<Entry, NoteFault>
     let after = fields.whole_number("after", 0, LONGEST)?;
     let parity = fields.choice("parity", &PARITIES)?;
     Ok(Entry {
-        before,
-        after,
+        before: before as u32,
+        after: after as u32,
         parity,
         per: 0,
         wait_min: 0,
@@ -100,9 +100,9 @@ fn read_rest(fields: &Fields<'_>, form: Form) -> Result<Rest, NoteFault>
         }
     };
     Ok(Rest {
-        per,
-        wait_min,
-        wait_max,
+        per: per as u32,
+        wait_min: wait_min as u32,
+        wait_max: wait_max as u32,
     })
 }
 
