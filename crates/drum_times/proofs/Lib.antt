@@ -4,3 +4,4 @@ mod Sequences
 mod EntryFaults
 mod TimesFaults
 mod TablesFaults
+mod NotesFaults

@@ -14,6 +14,11 @@ pub data Fault : Type 0 where
   two_marks : ℕ → ℕ → Fault
   two_lists : ℕ → Fault
 
+-- the faults of checks that are made one after the other
+abbrev pub in_turn : List (List Fault) → List Fault
+in_turn [] = []
+in_turn (faults ∷ checks) = faults ++ in_turn checks
+
 -- the key is among these
 abbrev pub is_among : List ℕ → List (List ℕ) → Bool
 is_among key keys = list_any (λ one. same_key one key) keys

@@ -6,7 +6,7 @@ use Rattle.drum_times.specs.declared.notes.pattern.Pattern.{Pattern}
 use Rattle.drum_times.specs.declared.notes.programmed.Programmed.{Programmed}
 use Rattle.drum_times.specs.declared.notes.programmed.Programmed.TheVariants.{Stop, Run, Any}
 use Rattle.drum_times.specs.Allowed.{Notes, Listed, AreSound}
-use Rattle.drum_times.specs.Document.{Fault, two_marks, two_lists, unknown_in, missing_in, whole, location, text, tables, number_at}
+use Rattle.drum_times.specs.Document.{Fault, in_turn, two_marks, two_lists, unknown_in, missing_in, whole, location, text, tables, number_at}
 use Rattle.drum_times.specs.TimesDocument.{HasNumber}
 use Rattle.toml.specs.Data.{Data, string, array, table, Items, no_items, item, Members, get_member}
 
@@ -83,23 +83,38 @@ pub record IsNotes (document : Members) (notes : Notes) : Type 0 where
   pub lists : HasTables (λ place fields listed. IsListed fields listed) document (codes "list") notes.lists
   pub sound : AreSound notes
 
--- the faults of a mark of this number, from 1: unknown keys, missing keys, values
+-- the fault of the number of a mark's outer one, which is one of so many earlier ones
+abbrev pub inside_faults : ℕ → List ℕ → Members → List Fault
+inside_faults earlier at fields = whole 1 earlier at (codes "inside") fields
+
+-- the faults that each check of a mark of this number, from 1, finds: unknown keys, missing keys, and then the values
+abbrev pub mark_checks : ℕ → List ℕ → Members → List (List Fault)
+mark_checks number at fields =
+    unknown_in at mark_keys fields ∷ missing_in at (codes "from" ∷ codes "to" ∷ codes "most" ∷ []) fields
+    ∷ location at (codes "from") fields ∷ location at (codes "to") fields ∷ whole 0 9999 at (codes "most") fields
+    ∷ inside_faults (number - 1) at fields ∷ []
+
+abbrev pub pattern_checks : List ℕ → Members → List (List Fault)
+pattern_checks at fields =
+    unknown_in at pattern_keys fields ∷ missing_in at pattern_keys fields
+    ∷ whole 0 99 at (codes "op") fields ∷ whole 0 9999 at (codes "d_from") fields
+    ∷ whole (number_at (codes "d_from") fields) 9999 at (codes "d_to") fields ∷ whole 0 9999 at (codes "i") fields ∷ []
+
+-- the faults of a mark, and of a pattern
 abbrev pub mark_faults : ℕ → List ℕ → Members → List Fault
-mark_faults number at fields =
-    unknown_in at mark_keys fields ++ missing_in at (codes "from" ∷ codes "to" ∷ codes "most" ∷ []) fields
-    ++ location at (codes "from") fields ++ location at (codes "to") fields ++ whole 0 9999 at (codes "most") fields
-    ++ whole 1 (number - 1) at (codes "inside") fields
+mark_faults number at fields = in_turn (mark_checks number at fields)
 
 abbrev pub pattern_faults : ℕ → List ℕ → Members → List Fault
-pattern_faults number at fields =
-    unknown_in at pattern_keys fields ++ missing_in at pattern_keys fields
-    ++ whole 0 99 at (codes "op") fields ++ whole 0 9999 at (codes "d_from") fields
-    ++ whole (number_at (codes "d_from") fields) 9999 at (codes "d_to") fields ++ whole 0 9999 at (codes "i") fields
+pattern_faults number at fields = in_turn (pattern_checks at fields)
+
+-- the same of a list
+abbrev pub list_checks : List ℕ → Members → List (List Fault)
+list_checks at fields =
+    unknown_in at list_keys fields ∷ missing_in at list_keys fields
+    ∷ location at (codes "location") fields ∷ tables 1 (Some 64) pattern_faults at (codes "pattern") fields ∷ []
 
 abbrev pub list_faults : ℕ → List ℕ → Members → List Fault
-list_faults number at fields =
-    unknown_in at list_keys fields ++ missing_in at list_keys fields
-    ++ location at (codes "location") fields ++ tables 1 (Some 64) pattern_faults at (codes "pattern") fields
+list_faults number at fields = in_turn (list_checks at fields)
 
 -- those of an array's elements, and of the array at a key, that are tables
 abbrev pub tables_of : Items → List Members
@@ -123,11 +138,15 @@ location_faults earlier (list ∷ lists) =
     let at = number_at (codes "location") list in
     (if list_any (λ one. one == at) earlier then two_lists at ∷ [] else []) ++ location_faults (at ∷ earlier) lists
 
+-- The faults that each check of a document finds.
+abbrev pub notes_checks : Members → List (List Fault)
+notes_checks document =
+    unknown_in [] note_keys document ∷ missing_in [] (codes "programmed" ∷ codes "load_cards" ∷ []) document
+    ∷ text (map text_of (Stop ∷ Run ∷ Any ∷ [])) [] (codes "programmed") document
+    ∷ text (map load_text_of (false ∷ true ∷ [])) [] (codes "load_cards") document
+    ∷ tables 0 (Some 8) mark_faults [] (codes "mark") document ∷ tables 0 None list_faults [] (codes "list") document
+    ∷ edge_faults [] (tables_at (codes "mark") document) ∷ location_faults [] (tables_at (codes "list") document) ∷ []
+
 -- The faults of a document, in their order. The first is why it is refused, and what follows it has no meaning.
 abbrev pub notes_faults : Members → List Fault
-notes_faults document =
-    unknown_in [] note_keys document ++ missing_in [] (codes "programmed" ∷ codes "load_cards" ∷ []) document
-    ++ text (map text_of (Stop ∷ Run ∷ Any ∷ [])) [] (codes "programmed") document
-    ++ text (map load_text_of (false ∷ true ∷ [])) [] (codes "load_cards") document
-    ++ tables 0 (Some 8) mark_faults [] (codes "mark") document ++ tables 0 None list_faults [] (codes "list") document
-    ++ edge_faults [] (tables_at (codes "mark") document) ++ location_faults [] (tables_at (codes "list") document)
+notes_faults document = in_turn (notes_checks document)

@@ -8,6 +8,8 @@ pub mod listing;
 pub mod mark;
 pub mod pattern;
 pub mod programmed;
+mod read_list;
+mod read_mark;
 
 use drum_core::Location;
 use listing::{Listing, patterns_in};
