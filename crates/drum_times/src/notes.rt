@@ -12,7 +12,7 @@ mod read_list;
 mod read_mark;
 
 use drum_core::Location;
-use listing::{Listing, patterns_in};
+use listing::Listing;
 use mark::Mark;
 use pattern::Pattern;
 use programmed::Programmed;
@@ -50,7 +50,7 @@ impl Notes {
     pub fn patterns(&self, location: Location) -> Option<&[Pattern]>
         ensures { option_map (λ patterns. patterns.now) result ≡ said.patterns_of self.now location.number }
     {
-        patterns_in(&self.lists, location)
+        Listing::patterns_in(&self.lists, location)
     }
 
     /// The marks, at most 8, in order. Each has an edge of its own.

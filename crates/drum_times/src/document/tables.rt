@@ -1,10 +1,10 @@
 //! Arrays of tables, each element of which stands for a value.
-ghost use Rattle.std.specs.Prelude.{◌≡◌, ℕ, ◌+◌, ◌^◌, ◌<◌, List, [], ◌++◌, Option, Some, None, IfOk, IfErr, codes, decimal, string_bytes};
+ghost use Rattle.std.specs.Prelude.{◌≡◌, ℕ, ◌+◌, ◌^◌, ◌<◌, List, [], ◌++◌, Option, Some, None, IfOk, IfErr, IsSome, true, length, codes, decimal, string_bytes};
 ghost use Rattle.drum_times.specs.Document as document;
 ghost use Rattle.drum_times.specs.Document.{Fault};
 ghost use Rattle.drum_times.specs.NotesDocument.{AreTables, HasTables, IsTable};
 ghost use Rattle.drum_times.specs.Refused.{IsFirst};
-ghost use Rattle.toml.specs.Data.{Members};
+ghost use Rattle.toml.specs.Data.{Members, get_member};
 ghost use Rattle.toml.specs.View.{view, table_view, items_view};
 
 use super::fields::Fields;
@@ -37,6 +37,7 @@ impl Fields<'_> {
         high: Option<usize>,
     ) -> Result<Vec<T>, NoteFault>
         ensures said { IfOk result (λ elements. HasTables T.says (table_view self.now.table.now) key.now elements.items) }
+        ensures count { IfOk result (λ elements. IsSome (get_member key.now (table_view self.now.table.now)) → document.is_count low high (length elements.items) ≡ true) }
         ensures none { IfOk result (λ _. document.tables low high T.faults self.now.at.now key.now (table_view self.now.table.now) ≡ []) }
         ensures first { IfErr result (IsFirst (document.tables low high T.faults self.now.at.now key.now (table_view self.now.table.now))) }
     {
@@ -71,6 +72,7 @@ fn read_elements<T: Element + Drop>(
     items: &[Value],
 ) -> Result<Vec<T>, NoteFault>
     ensures said { IfOk result (λ elements. AreTables T.says 0 (items_view items.now) elements.items) }
+    ensures count { IfOk result (λ elements. length elements.items ≡ length items.now) }
     ensures none { IfOk result (λ _. document.elements_faults T.faults path.now 1 (items_view items.now) ≡ []) }
     ensures first { IfErr result (IsFirst (document.elements_faults T.faults path.now 1 (items_view items.now))) }
 {

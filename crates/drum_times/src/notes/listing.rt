@@ -1,6 +1,4 @@
-ghost use Rattle.std.specs.Prelude.{◌≡◌, map, option_map};
-ghost use Rattle.drum_times.specs.Allowed as said;
-ghost use Rattle.drum_times.specs.Listed.{listed};
+ghost use Rattle.std.specs.Prelude.{◌≡◌, ◌≤◌, map, option_map, vec_len};
 
 use super::pattern::Pattern;
 use drum_core::Location;
@@ -11,16 +9,23 @@ pub struct Listing {
     pub location: Location,
     /// 1 to 64, in order.
     pub patterns: Vec<Pattern>,
+    pub ghost some: { 1 ≤ vec_len patterns },
+    pub ghost few: { vec_len patterns ≤ 64 },
 }
 
-/// The patterns of a location, where one of the lists is for it.
-pub fn patterns_in(lists: &[Listing], location: Location) -> Option<&[Pattern]>
-    ensures { option_map (λ patterns. patterns.now) result ≡ said.patterns_in (map listed lists.now) location.number }
-{
-    for list in lists {
-        if list.location.number == location.number {
-            return Some(&list.patterns);
+impl Listing {
+    ghost use Rattle.drum_times.specs.Allowed as said;
+    ghost use Rattle.drum_times.specs.Listed.{listed};
+
+    /// The patterns of a location, where one of the lists is for it.
+    pub fn patterns_in(lists: &[Listing], location: Location) -> Option<&[Pattern]>
+        ensures { option_map (λ patterns. patterns.now) result ≡ said.patterns_in (map listed lists.now) location.number }
+    {
+        for list in lists {
+            if list.location.number == location.number {
+                return Some(&list.patterns);
+            }
         }
+        None
     }
-    None
 }

@@ -1,4 +1,4 @@
-use Rattle.std.proofs.Common.{◌≡◌, ◌+◌, ◌++◌, List, drop}
+use Rattle.std.proofs.Common.{◌≡◌, ◌+◌, ◌++◌, List, drop, length}
 use Rattle.toml.specs.View.{items_view}
 use Rattle.drum_times.specs.Document as document
 use Rattle.drum_times.specs.NotesDocument.{AreTables}
@@ -6,6 +6,7 @@ use Rattle.drum_times.proofs.document.tables.read_elements.Given as goal
 
 abbrev pub invariant-loop-place : goal.invariant-loop-place
 invariant-loop-place g l = record {
+  count : length l.elements.items ≡ l.place;
   -- what the tables that are left say, with what is there, is what all say
   said : (more : List g.row.T.Denot) → AreTables g.T.Element.says l.place (items_view (drop l.place l.items)) more → AreTables g.T.Element.says 0 (items_view l.items) (l.elements.items ++ more);
   -- the faults of those that are left are those of all

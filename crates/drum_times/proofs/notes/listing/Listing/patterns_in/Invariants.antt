@@ -1,7 +1,7 @@
 use Rattle.std.proofs.Common.{◌≡◌, map, drop}
 use Rattle.drum_times.specs.Allowed as said
 use Rattle.drum_times.specs.Listed.{listed}
-use Rattle.drum_times.proofs.notes.listing.patterns_in.Given as goal
+use Rattle.drum_times.proofs.notes.listing.Listing.patterns_in.Given as goal
 
 -- what is left says what all say
 abbrev pub invariant-loop-list : goal.invariant-loop-list
