@@ -5,3 +5,5 @@ mod EntryFaults
 mod TimesFaults
 mod TablesFaults
 mod NotesFaults
+mod NotesLaws
+mod NotesSound

@@ -31,7 +31,7 @@ either_true : (b : Bool) → (b || true) ≡ true
 either_true true = refl
 either_true false = refl
 
-is_location_true : (n : ℕ) → IsLocation n → is_location n ≡ true
+pub is_location_true : (n : ℕ) → IsLocation n → is_location n ≡ true
 is_location_true n exists = elim (cases_lt n 2000) [
   | inl below ↦ rw (lt-ltb n 2000 below) refl
   | inr from ↦ beside n (exists.1 from) exists.0

@@ -28,12 +28,12 @@ same_edge a b = a.from.number == b.from.number && a.onto.number == b.onto.number
 -- no two marks stand on one edge
 abbrev pub HaveOwnEdges : List Mark → Type 0
 HaveOwnEdges [] = Unit {0}
-HaveOwnEdges (mark ∷ marks) = (list_any (λ other. same_edge other mark) marks ≡ false) × HaveOwnEdges marks
+HaveOwnEdges (mark ∷ marks) = (list_any (same_edge mark) marks ≡ false) × HaveOwnEdges marks
 
 -- no two lists are for one location
 abbrev pub HaveOwnLocations : List Listed → Type 0
 HaveOwnLocations [] = Unit {0}
-HaveOwnLocations (list ∷ lists) = (list_any (λ other. other.location == list.location) lists ≡ false) × HaveOwnLocations lists
+HaveOwnLocations (list ∷ lists) = (list_any (λ other. list.location == other.location) lists ≡ false) × HaveOwnLocations lists
 
 -- an outer mark, if there is one, stands before this place
 abbrev pub IsEarlier : ℕ → Option ℕ → Type 0

@@ -63,10 +63,14 @@ AreTables Say place (item value items) (one ∷ more) = IsTable Say place value 
 AreTables Say place no_items (one ∷ more) = ⊥
 AreTables Say place (item value items) [] = ⊥
 
--- an array of tables at a key that say these values; without the key there are none
+-- an array of tables that say these values; without it there are none
+abbrev pub AreFound : {A : Type 0} → (ℕ → Members → A → Type 0) → Option Data → List A → Type 0
+AreFound Say None values = values ≡ []
+AreFound Say (Some value) values = (items : Items) × (value ≡ array items) × AreTables Say 0 items values
+
+-- the array of tables at a key says these values
 abbrev pub HasTables : {A : Type 0} → (ℕ → Members → A → Type 0) → Members → List ℕ → List A → Type 0
-HasTables Say fields key values =
-    elim (get_member key fields) [ None ↦ values ≡ [] | Some value ↦ (items : Items) × (value ≡ array items) × AreTables Say 0 items values ]
+HasTables Say fields key values = AreFound Say (get_member key fields) values
 
 -- The table says this list. (How many patterns it has, and that it is for a location, is a fact of sound notes.)
 pub record IsListed (fields : Members) (listed : Listed) : Type 0 where
@@ -121,22 +125,37 @@ abbrev pub tables_of : Items → List Members
 tables_of no_items = []
 tables_of (item value items) = (elim value [ table fields ↦ fields ∷ [] | _ ↦ [] ]) ++ tables_of items
 
+abbrev pub tables_in : Option Data → List Members
+tables_in None = []
+tables_in (Some value) = elim value [ array items ↦ tables_of items | _ ↦ [] ]
+
 abbrev pub tables_at : List ℕ → Members → List Members
-tables_at key fields = elim (get_member key fields) [ None ↦ [] | Some value ↦ (elim value [ array items ↦ tables_of items | _ ↦ [] ]) ]
+tables_at key fields = tables_in (get_member key fields)
 
--- a fault for each mark whose edge one of these earlier ones has, or another before it
-abbrev pub edge_faults : List (ℕ × ℕ) → List Members → List Fault
+-- the edge of a mark, and of a table that says one
+abbrev pub edge_of : Mark → ℕ × ℕ
+edge_of mark = (mark.from.number, mark.onto.number)
+
+abbrev pub edge_in : Members → ℕ × ℕ
+edge_in fields = (number_at (codes "from") fields, number_at (codes "to") fields)
+
+-- the edge is among these
+abbrev pub has_edge : List (ℕ × ℕ) → ℕ × ℕ → Bool
+has_edge edges edge = list_any (λ one. one.0 == edge.0 && one.1 == edge.1) edges
+
+-- a fault for each edge that is among these earlier ones, or among those before it
+abbrev pub edge_faults : List (ℕ × ℕ) → List (ℕ × ℕ) → List Fault
 edge_faults earlier [] = []
-edge_faults earlier (mark ∷ marks) =
-    let from = number_at (codes "from") mark in
-    let onto = number_at (codes "to") mark in
-    (if list_any (λ edge. edge.0 == from && edge.1 == onto) earlier then two_marks from onto ∷ [] else []) ++ edge_faults ((from, onto) ∷ earlier) marks
+edge_faults earlier (edge ∷ edges) = (if has_edge earlier edge then two_marks edge.0 edge.1 ∷ [] else []) ++ edge_faults (earlier ++ edge ∷ []) edges
 
-abbrev pub location_faults : List ℕ → List Members → List Fault
+-- the location is among these
+abbrev pub has_location : List ℕ → ℕ → Bool
+has_location places place = list_any (λ one. one == place) places
+
+-- the same of the locations of lists
+abbrev pub location_faults : List ℕ → List ℕ → List Fault
 location_faults earlier [] = []
-location_faults earlier (list ∷ lists) =
-    let at = number_at (codes "location") list in
-    (if list_any (λ one. one == at) earlier then two_lists at ∷ [] else []) ++ location_faults (at ∷ earlier) lists
+location_faults earlier (place ∷ places) = (if has_location earlier place then two_lists place ∷ [] else []) ++ location_faults (earlier ++ place ∷ []) places
 
 -- The faults that each check of a document finds.
 abbrev pub notes_checks : Members → List (List Fault)
@@ -145,7 +164,8 @@ notes_checks document =
     ∷ text (map text_of (Stop ∷ Run ∷ Any ∷ [])) [] (codes "programmed") document
     ∷ text (map load_text_of (false ∷ true ∷ [])) [] (codes "load_cards") document
     ∷ tables 0 (Some 8) mark_faults [] (codes "mark") document ∷ tables 0 None list_faults [] (codes "list") document
-    ∷ edge_faults [] (tables_at (codes "mark") document) ∷ location_faults [] (tables_at (codes "list") document) ∷ []
+    ∷ edge_faults [] (map edge_in (tables_at (codes "mark") document))
+    ∷ location_faults [] (map (number_at (codes "location")) (tables_at (codes "list") document)) ∷ []
 
 -- The faults of a document, in their order. The first is why it is refused, and what follows it has no meaning.
 abbrev pub notes_faults : Members → List Fault

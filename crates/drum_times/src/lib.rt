@@ -15,5 +15,6 @@ pub use notes::Notes;
 pub use notes::mark::Mark;
 pub use notes::pattern::Pattern;
 pub use notes::programmed::Programmed;
+pub use notes::read::read_notes;
 pub use times::Times;
 pub use times::read::read_times;

@@ -8,8 +8,10 @@ pub mod listing;
 pub mod mark;
 pub mod pattern;
 pub mod programmed;
+pub mod read;
 mod read_list;
 mod read_mark;
+mod repeated;
 
 use drum_core::Location;
 use listing::Listing;

@@ -1,0 +1,70 @@
+ghost use Rattle.std.specs.Prelude.{◌≡◌, ℕ, ◌++◌, [], ◌∷◌, length, map, IfOk, IfErr, IfNone, IfSome};
+ghost use Rattle.drum_times.specs.Listed.{listed};
+ghost use Rattle.drum_times.specs.NotesDocument as said;
+ghost use Rattle.drum_times.specs.Document.{two_marks, two_lists};
+ghost use Rattle.drum_times.specs.Refused.{Begin, IsDocument, IsFirst, IsRefused};
+ghost use Rattle.toml.specs.Data.{Members};
+ghost use Rattle.toml.specs.View.{table_view};
+
+use super::Notes;
+use super::listing::Listing;
+use super::mark::Mark;
+use super::programmed::Programmed;
+use super::repeated::{repeated_edge, repeated_location};
+use crate::document::fields::Fields;
+use crate::document::read_document;
+use crate::fault::NoteFault;
+use std::alloc::Global;
+use toml::Table;
+
+const PROGRAMMED: [(&str, Programmed); 3] = [
+    ("stop", Programmed::Stop),
+    ("run", Programmed::Run),
+    ("any", Programmed::Any),
+];
+
+const LOAD_CARDS: [(&str, bool); 2] = [("none", false), ("any", true)];
+
+/// Reads notes: a TOML document with the keys `programmed` and `load_cards`, and perhaps `mark` and `list`.
+///
+/// # Errors
+///
+/// Toml or Memory; then the first of: the unknown keys in byte order, the missing keys, what is wrong with
+/// `programmed`, `load_cards`, the marks and the lists; two marks on one edge, two lists for one location.
+pub fn read_notes(alloc: Global, bytes: &[u8]) -> Result<Notes, NoteFault>
+    ensures read { IfOk result (λ notes. (whole : Members) × IsDocument bytes.now whole × said.IsNotes whole notes) }
+    ensures refused { IfErr result (IsRefused said.notes_faults bytes.now) }
+{
+    let table = read_document(alloc, bytes)?;
+    read_table(alloc, &table)
+}
+
+/// The notes that a document is.
+fn read_table(alloc: Global, table: &Table) -> Result<Notes, NoteFault>
+    ensures said { IfOk result (said.IsNotes (table_view table.now)) }
+    ensures first { IfErr result (IsFirst (said.notes_faults (table_view table.now))) }
+{
+    let top = Fields {
+        alloc,
+        at: "",
+        table,
+    };
+    top.only(&["programmed", "load_cards", "mark", "list"])?;
+    top.all(&["programmed", "load_cards"])?;
+    let programmed = top.choice("programmed", &PROGRAMMED)?;
+    let load_cards = top.choice("load_cards", &LOAD_CARDS)?;
+    let marks: Vec<Mark> = top.tables("mark", 0, Some(8))?;
+    let lists: Vec<Listing> = top.tables("list", 0, None)?;
+    if let Some((from, onto)) = repeated_edge(&marks) {
+        return Err(NoteFault::TwoMarks(from, onto));
+    }
+    if let Some(location) = repeated_location(&lists) {
+        return Err(NoteFault::TwoLists(location));
+    }
+    Ok(Notes {
+        programmed,
+        load_cards,
+        marks,
+        lists,
+    })
+}
