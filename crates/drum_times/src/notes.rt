@@ -1,6 +1,6 @@
 //! What the notes say of a program: where the programmed switch stands, whether load cards are read, how often
 //! edges are passed, and what an altered word may become.
-ghost use Rattle.std.specs.Prelude.{◌≡◌, map, option_map, IsTrue, ◌↔◌};
+ghost use Rattle.std.specs.Prelude.{◌≡◌, ◌<◌, ◌↔◌, IsTrue, length, map, option_map};
 ghost use Rattle.drum_times.specs.Allowed as said;
 ghost use Rattle.drum_times.specs.Listed.{listed};
 
@@ -53,6 +53,13 @@ impl Notes {
         ensures { option_map (λ patterns. patterns.now) result ≡ said.patterns_of self.now location.number }
     {
         Listing::patterns_in(&self.lists, location)
+    }
+
+    /// Whether some location is listed.
+    pub fn has_lists(&self) -> bool
+        ensures { IsTrue result ↔ 0 < length self.now.lists }
+    {
+        !self.lists.is_empty()
     }
 
     /// The marks, at most 8, in order. Each has an edge of its own.

@@ -1,10 +1,9 @@
-//! The bound of a deck that goes straight on: one that executes 00, 01 and 69 alone, with the programmed
-//! switch at STOP and no load cards.
+//! The bound of a deck that goes straight on: one that executes 00, 01 and 69 alone, without marks and lists.
 
 ghost use Rattle.std.specs.Prelude.{◌+◌, ◌≤◌, length, vec_len};
 
 use drum_core::{Deck, Location};
-use drum_times::Times;
+use drum_times::{Programmed, Times};
 use std::alloc::{AllocError, Global};
 use visit::Visit;
 
@@ -48,9 +47,15 @@ impl Cycle {
     }
 }
 
-/// The most word times that the deck takes, from any start angle.
-pub fn bound(alloc: Global, deck: &Deck, times: &Times) -> Result<u64, Refusal> {
-    let executed = discover(alloc, deck)?;
+/// The most word times that the deck takes, from any start angle. Where the programmed switch may stand at
+/// RUN, 01 goes on, which takes no less than a stop there.
+pub fn bound(
+    alloc: Global,
+    deck: &Deck,
+    times: &Times,
+    programmed: Programmed,
+) -> Result<u64, Refusal> {
+    let executed = discover(alloc, deck, programmed)?;
     all_straight(&executed.visits)?;
     ends(alloc, &executed.visits)?;
     let mut worst = 0;
@@ -68,7 +73,7 @@ struct Executed {
 }
 
 /// The executed words, found from the start over all successors, D before I.
-fn discover(alloc: Global, deck: &Deck) -> Result<Executed, Refusal> {
+fn discover(alloc: Global, deck: &Deck, programmed: Programmed) -> Result<Executed, Refusal> {
     let mut visits = Vec::new(alloc);
     let mut found = Vec::new(alloc);
     found.push(deck.start()).map_err(AllocError::from)?;
@@ -76,7 +81,7 @@ fn discover(alloc: Global, deck: &Deck) -> Result<Executed, Refusal> {
         let Some(location) = found.get(at).copied() else {
             break;
         };
-        let visit = Visit::at(deck, location)?;
+        let visit = Visit::at(deck, location, programmed)?;
         add(&mut found, visit.branch())?;
         add(&mut found, visit.next())?;
         visits.push(visit).map_err(AllocError::from)?;

@@ -18,6 +18,8 @@ pub enum Fault {
     Deck(DeckFault),
     /// The timing table is refused.
     Times(NoteFault),
+    /// The notes are refused.
+    Notes(NoteFault),
     /// The analysis refuses the deck.
     Refused(Refusal),
 }
@@ -28,7 +30,7 @@ impl Fault {
         match self {
             Fault::InputRead | Fault::InputTooLong | Fault::Memory => Status::Failed,
             Fault::Deck(DeckFault::Read | DeckFault::Memory) => Status::Failed,
-            Fault::Times(NoteFault::Memory) => Status::Failed,
+            Fault::Times(NoteFault::Memory) | Fault::Notes(NoteFault::Memory) => Status::Failed,
             Fault::Refused(Refusal::Memory) => Status::Failed,
             _ => Status::Refused,
         }

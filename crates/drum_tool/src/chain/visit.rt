@@ -2,7 +2,7 @@ ghost use Rattle.std.specs.Prelude.{◌+◌, ◌^◌, ◌≤◌};
 
 use super::Refusal;
 use drum_core::{AtParity, Clockwork, Deck, Delay, Instruction, Kind, Location, Op, Operand, Seek};
-use drum_times::Times;
+use drum_times::{Programmed, Times};
 
 /// An executed word.
 #[derive(Clone, Copy, Debug)]
@@ -10,11 +10,13 @@ pub struct Visit {
     pub location: Location,
     pub op: Op,
     pub instruction: Instruction,
+    /// Where the programmed switch stands.
+    pub programmed: Programmed,
 }
 
 impl Visit {
     /// What the deck executes at a location.
-    pub fn at(deck: &Deck, location: Location) -> Result<Visit, Refusal> {
+    pub fn at(deck: &Deck, location: Location, programmed: Programmed) -> Result<Visit, Refusal> {
         let Some(word) = deck.word(location) else {
             return Err(Refusal::NotLoaded(location));
         };
@@ -25,6 +27,7 @@ impl Visit {
                 location,
                 op,
                 instruction,
+                programmed,
             }),
         }
     }
@@ -54,7 +57,10 @@ impl Visit {
 
     /// Where it may go on by its I.
     pub fn next(&self) -> Option<Location> {
-        if self.op == Op::Stop || self.lacks_operand() {
+        if self.op == Op::Stop && self.programmed == Programmed::Stop {
+            return None;
+        }
+        if self.lacks_operand() {
             return None;
         }
         Location::new(self.instruction.i())

@@ -18,7 +18,8 @@ pub fn write_fault<O: Output>(output: &mut O, fault: &Fault) -> Result<(), Unsen
         Fault::InputTooLong => write_whole(output, b"fault 52 input toolong\n"),
         Fault::Memory => write_whole(output, b"fault 53 memory\n"),
         Fault::Deck(fault) => write_deck_fault(output, fault),
-        Fault::Times(fault) => write_times_fault(output, fault),
+        Fault::Times(fault) => write_note_fault(output, b"times", fault),
+        Fault::Notes(fault) => write_note_fault(output, b"notes", fault),
         Fault::Refused(refusal) => write_refusal(output, refusal),
     }
 }
@@ -46,34 +47,64 @@ fn write_deck_fault<O: Output>(output: &mut O, fault: &DeckFault) -> Result<(), 
     }
 }
 
-fn write_times_fault<O: Output>(output: &mut O, fault: &NoteFault) -> Result<(), Unsent>
-    requires { O.called output.old ≤ 2 ^ 62 }
+/// Writes the line of a fault of the part of this name.
+fn write_note_fault<O: Output>(output: &mut O, part: &[u8], fault: &NoteFault) -> Result<(), Unsent>
+    requires called { O.called output.old ≤ 2 ^ 62 }
+    requires short { length part.now ≤ 5 }
 {
     match fault {
-        NoteFault::Toml => write_whole(output, b"fault 11 times toml\n"),
-        NoteFault::Memory => write_whole(output, b"fault 12 times memory\n"),
-        NoteFault::Missing(key) => write_keyed(output, b"fault 13 times missing ", key),
-        NoteFault::Unknown(key) => write_keyed(output, b"fault 14 times unknown ", key),
-        NoteFault::Range(key) => write_keyed(output, b"fault 15 times range ", key),
-        NoteFault::Kind(key) => write_keyed(output, b"fault 16 times kind ", key),
+        NoteFault::Toml => write_parted(output, b"fault 11 ", part, b" toml\n"),
+        NoteFault::Memory => write_parted(output, b"fault 12 ", part, b" memory\n"),
+        NoteFault::Missing(key) => {
+            write_parted(output, b"fault 13 ", part, b" missing ")?;
+            write_key(output, key)
+        }
+        NoteFault::Unknown(key) => {
+            write_parted(output, b"fault 14 ", part, b" unknown ")?;
+            write_key(output, key)
+        }
+        NoteFault::Range(key) => {
+            write_parted(output, b"fault 15 ", part, b" range ")?;
+            write_key(output, key)
+        }
+        NoteFault::Kind(key) => {
+            write_parted(output, b"fault 16 ", part, b" kind ")?;
+            write_key(output, key)
+        }
         NoteFault::TwoMarks(from, onto) => {
-            write_whole(output, b"fault 17 times twomarks ")?;
+            write_parted(output, b"fault 17 ", part, b" twomarks ")?;
             write_location(output, *from)?;
             write_located(output, b" ", *onto)
         }
-        NoteFault::TwoLists(location) => write_located(
-            output,
-            b"fault 18 times twolists ",
-            *location,
-        ),
+        NoteFault::TwoLists(location) => {
+            write_parted(output, b"fault 18 ", part, b" twolists ")?;
+            write_located(output, b"", *location)
+        }
     }
 }
 
-fn write_keyed<O: Output>(output: &mut O, text: &[u8], key: &KeyPath) -> Result<(), Unsent>
+/// Writes the name of a part between two texts.
+fn write_parted<O: Output>(
+    output: &mut O,
+    before: &[u8],
+    part: &[u8],
+    behind: &[u8],
+) -> Result<(), Unsent>
     requires called { O.called output.old ≤ 2 ^ 62 }
-    requires short { length text.now ≤ 100 }
+    requires before { length before.now ≤ 20 }
+    requires part { length part.now ≤ 5 }
+    requires behind { length behind.now ≤ 20 }
+    ensures { O.called output.new ≤ O.called output.old + 45 }
 {
-    write_whole(output, text)?;
+    write_whole(output, before)?;
+    write_whole(output, part)?;
+    write_whole(output, behind)
+}
+
+/// Writes a key, and ends the line.
+fn write_key<O: Output>(output: &mut O, key: &KeyPath) -> Result<(), Unsent>
+    requires { O.called output.old ≤ 2 ^ 62 + 45 }
+{
     write_whole(output, key.as_bytes())?;
     write_whole(output, b"\n")
 }
