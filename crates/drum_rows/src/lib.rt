@@ -9,6 +9,8 @@ mod devices;
 #[cfg(test)]
 mod memory;
 #[cfg(test)]
+mod notes;
+#[cfg(test)]
 mod rotation;
 #[cfg(test)]
 mod straight;

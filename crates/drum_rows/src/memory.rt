@@ -4,11 +4,12 @@
 
 ghost use Rattle.std.specs.Prelude.{◌≤◌};
 
+use crate::notes::WHOLE;
 use crate::support::joined;
 use crate::texts::{NOTES, TIMES, TWO_WORDS};
 use drum_core::device::whole::{WholeError, read_whole};
 use drum_core::{DeckFault, Op, Reading, Writing, read_deck};
-use drum_times::{NoteFault, read_times};
+use drum_times::{NoteFault, read_notes, read_times};
 use drum_tool::{Status, run_joined};
 use std::io;
 use std::io::Write;
@@ -90,6 +91,39 @@ fn of_read_times(rt: HostRuntime) {
                 assert_eq!(rt; fault, NoteFault::Memory);
                 refused = refused.saturating_add(1);
             }
+        }
+    }
+    assert!(rt; refused <= 1);
+}
+
+#[test]
+fn of_read_notes(rt: HostRuntime) {
+    let mut refused = 0u8;
+    for _ in 0..2 {
+        match read_notes(rt.alloc(), WHOLE.as_bytes()) {
+            Ok(notes) => assert_eq!(rt; notes.marks().len(), 2),
+            Err(fault) => {
+                assert_eq!(rt; fault, NoteFault::Memory);
+                refused = refused.saturating_add(1);
+            }
+        }
+    }
+    assert!(rt; refused <= 1);
+}
+
+#[test]
+fn of_a_notes_fault(rt: HostRuntime) {
+    let text =
+        b"programmed = \"stop\"\nload_cards = \"any\"\nmark = [{ from = 1, to = 1, most = 10000 }]\n";
+    let mut refused = 0u8;
+    for _ in 0..2 {
+        match read_notes(rt.alloc(), text) {
+            Err(NoteFault::Range(key)) => assert_eq!(rt; key.as_bytes(), b"mark.1.most".as_slice()),
+            Err(fault) => {
+                assert_eq!(rt; fault, NoteFault::Memory);
+                refused = refused.saturating_add(1);
+            }
+            Ok(_) => assert!(rt; false, "a mark passed too often"),
         }
     }
     assert!(rt; refused <= 1);
