@@ -169,6 +169,7 @@ fn of_run_joined(rt: HostRuntime) {
                 assert!(rt;
                     line.is("fault 2 deck memory\n")
                         || line.is("fault 12 times memory\n")
+                        || line.is("fault 12 notes memory\n")
                         || line.is("fault 31 memory\n")
                         || line.is("fault 53 memory\n")
                 );

@@ -7,3 +7,5 @@ mod TablesFaults
 mod NotesFaults
 mod NotesLaws
 mod NotesSound
+mod TimesSaid
+mod NotesSaid

@@ -72,7 +72,7 @@ made_of_tables {A} {B} Say f g same place (item value items) (one ∷ more) ((fi
     ap (λ (v : Data). map f ((elim v [ table fields ↦ fields ∷ [] | _ ↦ [] ]) ++ said.tables_of items)) is
     ∙ ap (λ (b : B). b ∷ map f (said.tables_of items)) (same place fields one says) ∙ ap (λ (bs : List B). g one ∷ bs) (made_of_tables Say f g same (place + 1) items more are)
 
-made_at : {A B : Type 0} (Say : ℕ → Members → A → Type 0) (f : Members → B) (g : A → B) → ((place : ℕ) (fields : Members) (one : A) → Say place fields one → f fields ≡ g one)
+pub made_at : {A B : Type 0} (Say : ℕ → Members → A → Type 0) (f : Members → B) (g : A → B) → ((place : ℕ) (fields : Members) (one : A) → Say place fields one → f fields ≡ g one)
     → (fields : Members) (key : List ℕ) (values : List A) → said.HasTables Say fields key values → map f (said.tables_at key fields) ≡ map g values
 made_at {A} {B} Say f g same fields key values = go (get_member key fields)
   where

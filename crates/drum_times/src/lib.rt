@@ -5,6 +5,7 @@ mod document;
 pub mod entry;
 pub mod fault;
 pub mod key_path;
+pub mod laws;
 pub mod notes;
 pub mod times;
 
