@@ -1,4 +1,5 @@
 mod Checks
 mod Effects
+pub mod Keeping
 mod Marks
 mod Setting

@@ -2,6 +2,7 @@ pub mod Contents
 pub mod Counts
 pub mod Effect
 pub mod Keeps
+pub mod Registers
 pub mod Run
 pub mod Step
 pub mod Timing

@@ -2,8 +2,10 @@
 //! definitions (specs/), and the plain types that they speak of.
 #![tactic(auto)]
 
+mod arithmetic;
 pub mod card;
 pub mod left;
+mod registers;
 pub mod why;
 
 pub use card::Card;
