@@ -3,11 +3,11 @@
 ghost use Rattle.std.specs.Prelude.{◌≡◌, ◌+◌, ◌*◌, ◌/◌, ◌%◌, ◌^◌, ◌<◌, ◌≤◌, unsigned_abs, false, ◌+ℤ◌};
 ghost use Rattle.drum_core.specs.Word.{word as word_of, signed as signed_of, number_in as number_of};
 ghost use Rattle.drum_machine.specs.Contents.{upper as upper_of, lower as lower_of, is_minus as minus_of};
-ghost use Rattle.drum_machine.specs.Effect.{amount_of as added_of, product as product_of, differ as differ_of, quotient as quotient_of, rest as rest_of, is_too_large as too_large_of, shifted as shifted_of, places as places_of};
+ghost use Rattle.drum_machine.specs.Effect.{amount_of as added_of, product as product_of, differ as differ_of, quotient as quotient_of, rest as rest_of, is_too_large as too_large_of, shifted as shifted_of, places as places_of, digit_at as digit_of};
 ghost use Rattle.drum_machine.specs.Timing.{digit_sum as digit_sum_of};
 ghost use Rattle.drum_core.specs.declared.op.shift.Shift.TheVariants as shift;
 
-use drum_core::{Amount, Shift, Word};
+use drum_core::{Amount, Position, Shift, Word};
 
 /// 10^10, the magnitudes of half an accumulator.
 pub const HALF: u128 = 10_000_000_000;
@@ -198,4 +198,23 @@ pub fn digit_sum(number: u128) -> u64
         left /= 10;
     }
     sum
+}
+
+/// The digit at a position of a word.
+pub fn digit_at(position: Position, word: Word) -> u64
+    ensures { result ≡ digit_of position word }
+{
+    let behind = match position {
+        Position::First => 0,
+        Position::Second => 1,
+        Position::Third => 2,
+        Position::Fourth => 3,
+        Position::Fifth => 4,
+        Position::Sixth => 5,
+        Position::Seventh => 6,
+        Position::Eighth => 7,
+        Position::Ninth => 8,
+        Position::Tenth => 9,
+    };
+    word.digits() / 10u64.pow(behind) % 10
 }

@@ -1,9 +1,11 @@
 ghost use Rattle.std.specs.Prelude.{◌≡◌, ◌^◌, ◌<◌, ◌≤◌, ◌+◌, unsigned_abs, vec_len};
+ghost use Rattle.drum_machine.specs.Effect.{band as band_of, with_words};
 
 use crate::arithmetic::{
-    HALF, WHOLE, amount_of, differ, is_minus, is_too_large, lower, make_word, number_in, product, quotient, rest, shifted,
+    HALF, WHOLE, amount_of, differ, digit_at, is_minus, is_too_large, lower, make_word, number_in, product, quotient, rest, shifted,
     signed, sum, upper,
 };
+use crate::card::Card;
 use crate::why::Why;
 use drum_core::{Amount, Branch, Kind, Location, Position, Shift, Store, Word};
 
@@ -33,10 +35,10 @@ pub struct Registers {
 }
 
 impl Registers {
-    ghost use Rattle.std.specs.Prelude.{List};
+    ghost use Rattle.std.specs.Prelude.{ℕ, List, ◌∷◌};
     ghost use Rattle.drum_machine.specs.declared.card.Card.{Card};
     ghost use Rattle.drum_machine.specs.Contents.{word_at as word_in, lower_word as lower_in, upper_word as upper_in};
-    ghost use Rattle.drum_machine.specs.Effect.{keeps as keeps_in, effect};
+    ghost use Rattle.drum_machine.specs.Effect.{keeps as keeps_in, stored as stored_in, holds as holds_in, punched as punched_in, goes, effect};
     ghost use Rattle.drum_core.specs.declared.op.Op.TheVariants as Op;
     ghost use Rattle.drum_machine.specs.Registers.{contents_with, HasEffect};
 
@@ -166,5 +168,122 @@ impl Registers {
     {
         self.distributor = self.word_at(d);
         Ok(i)
+    }
+
+    /// The word that a store instruction stores.
+    fn stored(&self, store: Store) -> Word
+        ensures { (cards : List Card) → result ≡ stored_in store (contents_with self.now cards) }
+    {
+        let word = self.distributor;
+        let lower = lower(self.accumulator);
+        match store {
+            Store::Lower => self.lower_word(),
+            Store::Upper => self.upper_word(),
+            Store::DataAddress => {
+                let address = lower / 10_000 % 10_000 * 10_000;
+                let digits = word.digits() / 100_000_000 * 100_000_000 + address + word.digits() % 10_000;
+                make_word(word.minus(), digits)
+            }
+            Store::InstructionAddress => {
+                make_word(word.minus(), word.digits() / 10_000 * 10_000 + lower % 10_000)
+            }
+            Store::Distributor => word,
+        }
+    }
+
+    /// 20 to 24: stores a word at D, and in the distributor.
+    pub fn store(&mut self, store: Store, d: u16, i: u16) -> Result<u16, Why>
+        requires { d < 2000 }
+        ensures { HasEffect (λ c. effect c (Op.Store store) d i) self.old self.new result }
+    {
+        let word = self.stored(store);
+        self.drum[d as usize] = word;
+        self.distributor = word;
+        Ok(i)
+    }
+
+    /// Whether a branch goes on at D.
+    fn holds(&self, branch: Branch) -> bool
+        ensures { (cards : List Card) → result ≡ holds_in branch (contents_with self.now cards) }
+    {
+        match branch {
+            Branch::UpperNonZero => upper(self.accumulator) != 0,
+            Branch::NonZero => self.accumulator.unsigned_abs() != 0,
+            Branch::Minus => is_minus(self.accumulator),
+            Branch::Overflow => self.latch,
+        }
+    }
+
+    /// 44 to 47: goes on at D where what it tests holds; a branch on overflow turns the latch off.
+    pub fn branch(&mut self, branch: Branch, d: u16, i: u16) -> Result<u16, Why>
+        ensures { HasEffect (λ c. effect c (Op.Branch branch) d i) self.old self.new result }
+    {
+        let next = if self.holds(branch) { d } else { i };
+        if let Branch::Overflow = branch {
+            self.latch = false;
+        }
+        Ok(next)
+    }
+
+    /// 90 to 99: goes on at D by an 8 at a position of the distributor, at I by a 9; else stops.
+    pub fn branch_on_digit(&self, position: Position, d: u16, i: u16) -> Result<u16, Why>
+        ensures { HasEffect (λ c. effect c (Op.BranchOnDigit position) d i) self.now self.now result }
+    {
+        match digit_at(position, self.distributor) {
+            8 => Ok(d),
+            9 => Ok(i),
+            _ => Err(Why::Digit),
+        }
+    }
+
+    /// 01: stops where the programmed switch is at STOP.
+    pub fn stop(&self, i: u16) -> Result<u16, Why>
+        ensures { (d : ℕ) → HasEffect (λ c. effect c Op.Stop d i) self.now self.now result }
+    {
+        if self.programmed_stops {
+            Err(Why::Programmed)
+        } else {
+            Ok(i)
+        }
+    }
+
+    /// 70: reads a card into words 01 to 10 of D's band; the next location, which is D for a load card.
+    pub fn read_card(&mut self, card: &Card, d: u16, i: u16) -> u16
+        requires { d < 2000 }
+        ensures { (cards : List Card) → effect (contents_with self.old (card.now ∷ cards)) Op.Read d i ≡ goes (contents_with self.new cards) result }
+    {
+        write_words(&mut self.drum, band(d) + 1, &card.words);
+        if card.load { d } else { i }
+    }
+
+    /// The words that 71 punches: 27 to 36 of D's band.
+    pub fn punched(&self, d: u16) -> [Word; 10]
+        requires { d < 2000 }
+        ensures { (cards : List Card) → result ≡ punched_in (contents_with self.now cards) d }
+    {
+        let from = band(d) + 27;
+        let mut words = [self.distributor; 10];
+        words.copy_from_slice(&self.drum[from..from + 10]);
+        words
+    }
+}
+
+/// The first location of the band that a drum location lies in.
+fn band(d: u16) -> usize
+    requires { d < 2000 }
+    ensures value { result ≡ band_of d }
+    ensures on_drum { result ≤ 1950 }
+{
+    50 * (d as usize / 50)
+}
+
+/// Writes ten words into consecutive drum locations.
+fn write_words(drum: &mut Vec<Word>, at: usize, words: &[Word; 10])
+    requires { at + 10 ≤ vec_len drum.old }
+    ensures words { drum.new.items ≡ with_words drum.old.items at words.now }
+    ensures len { vec_len drum.new ≡ vec_len drum.old }
+{
+    for place in 0..10 {
+        drum[at + place] = words[place];
     }
 }
