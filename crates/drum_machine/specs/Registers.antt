@@ -1,5 +1,5 @@
 -- What the registers and the drum hold, and the cards in the reader beside them.
-use Rattle.std.specs.Prelude.{◌≡◌, ℕ, List, Result, Ok, Err}
+use Rattle.std.specs.Prelude.{◌≡◌, ℕ, List, ◌∷◌, Option, Some, None, Result, Ok, Err}
 use Rattle.drum_machine.specs.declared.card.Card.{Card}
 use Rattle.drum_machine.specs.declared.registers.Registers.{Registers}
 use Rattle.drum_machine.specs.declared.why.Why as whys
@@ -18,6 +18,11 @@ contents_with r cards = record {
   overflow_stops = r.overflow_stops;
   cards = cards;
 }
+
+-- the cards in the reader before one of them was taken
+abbrev pub cards_before : Option Card → List Card → List Card
+cards_before None cards = cards
+cards_before (Some card) cards = card ∷ cards
 
 -- the outcome of which code answers the next location or the stop, and leaves these contents
 abbrev pub outcome_of : Result ℕ whys.Why → Contents → Outcome

@@ -7,7 +7,7 @@ use crate::arithmetic::{
 };
 use crate::card::Card;
 use crate::why::Why;
-use drum_core::{Amount, Branch, Kind, Location, Position, Shift, Store, Word};
+use drum_core::{Amount, Branch, Kind, Location, Op, Position, Shift, Store, Word};
 
 /// What a machine holds apart from the time and from the cards in its reader.
 ///
@@ -35,12 +35,15 @@ pub struct Registers {
 }
 
 impl Registers {
-    ghost use Rattle.std.specs.Prelude.{ℕ, List, ◌∷◌};
+    ghost use Rattle.std.specs.Prelude.{ℕ, List, ◌∷◌, true, is_some};
+    ghost use Rattle.drum_core.specs.Location.{is_location};
+    ghost use Rattle.drum_core.specs.Op.{operand_of};
+    ghost use Rattle.drum_machine.specs.Step.{is_operand, is_read};
     ghost use Rattle.drum_machine.specs.declared.card.Card.{Card};
     ghost use Rattle.drum_machine.specs.Contents.{word_at as word_in, lower_word as lower_in, upper_word as upper_in};
     ghost use Rattle.drum_machine.specs.Effect.{keeps as keeps_in, stored as stored_in, holds as holds_in, punched as punched_in, goes, effect};
     ghost use Rattle.drum_core.specs.declared.op.Op.TheVariants as Op;
-    ghost use Rattle.drum_machine.specs.Registers.{contents_with, HasEffect};
+    ghost use Rattle.drum_machine.specs.Registers.{contents_with, cards_before, outcome_of, HasEffect};
 
     /// The lower ten digits of the accumulator as a word.
     fn lower_word(&self) -> Word
@@ -70,6 +73,14 @@ impl Registers {
         }
     }
 
+    /// The word at D, where D is a location.
+    fn operand(&self, d: u16) -> Word
+        requires { is_location d ≡ true }
+        ensures { (cards : List Card) → result ≡ word_in (contents_with self.now cards) d }
+    {
+        self.word_at(Location { number: d })
+    }
+
     /// The accumulator becomes what twenty digits hold of the number. Where more are wanted, that is an overflow: a
     /// stop where the overflow switch is at STOP, and else the latch goes on.
     fn keep(&mut self, number: i128, next: u16) -> Result<u16, Why>
@@ -91,20 +102,22 @@ impl Registers {
     }
 
     /// 10, 11, 15 to 18: adds to the accumulator.
-    pub fn add(&mut self, amount: Amount, d: Location, i: u16) -> Result<u16, Why>
-        ensures { HasEffect (λ c. effect c (Op.Add amount) d.number i) self.old self.new result }
+    pub fn add(&mut self, amount: Amount, d: u16, i: u16) -> Result<u16, Why>
+        requires { is_location d ≡ true }
+        ensures { HasEffect (λ c. effect c (Op.Add amount) d i) self.old self.new result }
     {
-        let word = self.word_at(d);
+        let word = self.operand(d);
         self.distributor = word;
         let number = sum(self.accumulator, amount, word);
         self.keep(number, i)
     }
 
     /// 60, 61, 65 to 68: adds to an accumulator set to 0.
-    pub fn reset_add(&mut self, amount: Amount, d: Location, i: u16) -> Result<u16, Why>
-        ensures { HasEffect (λ c. effect c (Op.ResetAdd amount) d.number i) self.old self.new result }
+    pub fn reset_add(&mut self, amount: Amount, d: u16, i: u16) -> Result<u16, Why>
+        requires { is_location d ≡ true }
+        ensures { HasEffect (λ c. effect c (Op.ResetAdd amount) d i) self.old self.new result }
     {
-        let word = self.word_at(d);
+        let word = self.operand(d);
         self.distributor = word;
         self.accumulator = amount_of(amount, number_in(word));
         self.remainder = None;
@@ -112,20 +125,22 @@ impl Registers {
     }
 
     /// 19: multiplies the upper half of the accumulator.
-    pub fn multiply(&mut self, d: Location, i: u16) -> Result<u16, Why>
-        ensures { HasEffect (λ c. effect c Op.Multiply d.number i) self.old self.new result }
+    pub fn multiply(&mut self, d: u16, i: u16) -> Result<u16, Why>
+        requires { is_location d ≡ true }
+        ensures { HasEffect (λ c. effect c Op.Multiply d i) self.old self.new result }
     {
-        let word = self.word_at(d);
+        let word = self.operand(d);
         self.distributor = word;
         let number = product(self.accumulator, number_in(word));
         self.keep(number, i)
     }
 
     /// 14: divides, and leaves the quotient in the lower half and the remainder in the upper.
-    pub fn divide(&mut self, d: Location, i: u16) -> Result<u16, Why>
-        ensures { HasEffect (λ c. effect c Op.Divide d.number i) self.old self.new result }
+    pub fn divide(&mut self, d: u16, i: u16) -> Result<u16, Why>
+        requires { is_location d ≡ true }
+        ensures { HasEffect (λ c. effect c Op.Divide d i) self.old self.new result }
     {
-        let word = self.word_at(d);
+        let word = self.operand(d);
         let by = number_in(word);
         if is_too_large(self.accumulator, by) {
             return Err(Why::Quotient);
@@ -138,10 +153,11 @@ impl Registers {
     }
 
     /// 64: divides, and leaves the quotient in the lower half and 0 in the upper.
-    pub fn divide_reset(&mut self, d: Location, i: u16) -> Result<u16, Why>
-        ensures { HasEffect (λ c. effect c Op.DivideReset d.number i) self.old self.new result }
+    pub fn divide_reset(&mut self, d: u16, i: u16) -> Result<u16, Why>
+        requires { is_location d ≡ true }
+        ensures { HasEffect (λ c. effect c Op.DivideReset d i) self.old self.new result }
     {
-        let word = self.word_at(d);
+        let word = self.operand(d);
         let by = number_in(word);
         if is_too_large(self.accumulator, by) {
             return Err(Why::Quotient);
@@ -163,10 +179,11 @@ impl Registers {
     }
 
     /// 69: loads the distributor.
-    pub fn load_distributor(&mut self, d: Location, i: u16) -> Result<u16, Why>
-        ensures { HasEffect (λ c. effect c Op.LoadDistributor d.number i) self.old self.new result }
+    pub fn load_distributor(&mut self, d: u16, i: u16) -> Result<u16, Why>
+        requires { is_location d ≡ true }
+        ensures { HasEffect (λ c. effect c Op.LoadDistributor d i) self.old self.new result }
     {
-        self.distributor = self.word_at(d);
+        self.distributor = self.operand(d);
         Ok(i)
     }
 
@@ -238,7 +255,8 @@ impl Registers {
 
     /// 01: stops where the programmed switch is at STOP.
     pub fn stop(&self, i: u16) -> Result<u16, Why>
-        ensures { (d : ℕ) → HasEffect (λ c. effect c Op.Stop d i) self.now self.now result }
+        // D plays no part
+        ensures { HasEffect (λ c. effect c Op.Stop 0 i) self.now self.now result }
     {
         if self.programmed_stops {
             Err(Why::Programmed)
@@ -265,6 +283,35 @@ impl Registers {
         let mut words = [self.distributor; 10];
         words.copy_from_slice(&self.drum[from..from + 10]);
         words
+    }
+
+    /// What an instruction of this operation does, with the card that it reads: the number of the next location, or the
+    /// stop.
+    pub fn act(&mut self, op: Op, d: u16, i: u16, card: Option<Card>) -> Result<u16, Why>
+        requires operand { is_operand (operand_of op) d ≡ true }
+        requires card { is_some card ≡ is_read op }
+        ensures { (cards : List Card)
+            → effect (contents_with self.old (cards_before card cards)) op d i
+            ≡ outcome_of result (contents_with self.new cards) }
+    {
+        match op {
+            Op::NoOperation | Op::Punch => Ok(i),
+            Op::Stop => self.stop(i),
+            Op::Add(amount) => self.add(amount, d, i),
+            Op::ResetAdd(amount) => self.reset_add(amount, d, i),
+            Op::Divide => self.divide(d, i),
+            Op::DivideReset => self.divide_reset(d, i),
+            Op::Multiply => self.multiply(d, i),
+            Op::Store(store) => self.store(store, d, i),
+            Op::Shift(shift) => self.shift(shift, d, i),
+            Op::Branch(branch) => self.branch(branch, d, i),
+            Op::LoadDistributor => self.load_distributor(d, i),
+            Op::Read => match card {
+                Some(card) => Ok(self.read_card(&card, d, i)),
+                None => unreachable!(),
+            },
+            Op::BranchOnDigit(position) => self.branch_on_digit(position, d, i),
+        }
     }
 }
 

@@ -13,7 +13,7 @@ returns c cards =
     let a = c.args.self.now.accumulator in
     let fits : FitsSigned w128 c.sum-number.result = search rules in
     let whole : FitsSigned w128 a = search rules in
-    let word = c.word_at-word.ensures cards in
+    let word = c.operand-word.ensures cards in
     let value = simp to_z-of_z at c.sum-number.ensures.value in
     let kept = simp to_z-of_z at c.keep.ensures cards in
     same_kept (contents_with c.args.self.now cards) _ _ _ _ _ (sym word) (sym (value ∙ ap (λ (w : Word). a +ℤ amount_of c.args.amount (number_in w)) word)) ∙ kept

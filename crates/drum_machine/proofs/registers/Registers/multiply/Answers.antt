@@ -14,7 +14,7 @@ returns c cards =
     let fits : FitsSigned w128 c.product-number.result = search rules in
     let by_fits : FitsSigned w128 c.number_in.result = search rules in
     let whole : FitsSigned w128 a = search rules in
-    let word = c.word_at-word.ensures cards in
+    let word = c.operand-word.ensures cards in
     let value = simp to_z-of_z at c.product-number.ensures.value in
     let kept = simp to_z-of_z at c.keep.ensures cards in
     same_kept (contents_with c.args.self.now cards) _ _ _ _ _ (sym word) (sym (value ∙ ap (product a) c.number_in.ensures.value ∙ ap (λ (w : Word). product a (number_in w)) word)) ∙ kept
