@@ -1,6 +1,7 @@
 pub mod Contents
 pub mod Counts
 pub mod Effect
+pub mod Feed
 pub mod Keeps
 pub mod Registers
 pub mod Run

@@ -4,10 +4,13 @@
 
 mod arithmetic;
 pub mod card;
+pub mod feed;
 pub mod left;
+mod moments;
 mod registers;
 pub mod why;
 
 pub use card::Card;
+pub use feed::Feed;
 pub use left::Left;
 pub use why::Why;

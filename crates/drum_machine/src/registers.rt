@@ -2,8 +2,8 @@ ghost use Rattle.std.specs.Prelude.{◌≡◌, ◌^◌, ◌<◌, ◌≤◌, ◌+
 ghost use Rattle.drum_machine.specs.Effect.{band as band_of, with_words};
 
 use crate::arithmetic::{
-    HALF, WHOLE, amount_of, differ, digit_at, is_minus, is_too_large, lower, make_word, number_in, product, quotient, rest, shifted,
-    signed, sum, upper,
+    HALF, WHOLE, amount_of, differ, digit_at, digit_sum, is_minus, is_too_large, lower, make_word,
+    number_in, places, product, quotient, rest, shifted, signed, sum, upper,
 };
 use crate::card::Card;
 use crate::why::Why;
@@ -43,6 +43,7 @@ impl Registers {
     ghost use Rattle.drum_machine.specs.Contents.{word_at as word_in, lower_word as lower_in, upper_word as upper_in};
     ghost use Rattle.drum_machine.specs.Effect.{keeps as keeps_in, stored as stored_in, holds as holds_in, punched as punched_in, goes, effect};
     ghost use Rattle.drum_core.specs.declared.op.Op.TheVariants as Op;
+    ghost use Rattle.drum_machine.specs.Timing.{units_of};
     ghost use Rattle.drum_machine.specs.Registers.{contents_with, cards_before, outcome_of, HasEffect};
 
     /// The lower ten digits of the accumulator as a word.
@@ -198,11 +199,16 @@ impl Registers {
             Store::Upper => self.upper_word(),
             Store::DataAddress => {
                 let address = lower / 10_000 % 10_000 * 10_000;
-                let digits = word.digits() / 100_000_000 * 100_000_000 + address + word.digits() % 10_000;
+                let digits = word.digits() / 100_000_000 * 100_000_000
+                    + address
+                    + word.digits() % 10_000;
                 make_word(word.minus(), digits)
             }
             Store::InstructionAddress => {
-                make_word(word.minus(), word.digits() / 10_000 * 10_000 + lower % 10_000)
+                make_word(
+                    word.minus(),
+                    word.digits() / 10_000 * 10_000 + lower % 10_000,
+                )
             }
             Store::Distributor => word,
         }
@@ -283,6 +289,33 @@ impl Registers {
         let mut words = [self.distributor; 10];
         words.copy_from_slice(&self.drum[from..from + 10]);
         words
+    }
+
+    /// The units of an operation's work: the places of a shift, the digit sum of the multiplier or of the quotient.
+    pub fn units(&self, op: Op, d: u16) -> u64
+        requires { is_operand (operand_of op) d ≡ true }
+        ensures value { (cards : List Card) → result ≡ units_of op d (contents_with self.now cards) }
+        ensures ninety { result ≤ 90 }
+    {
+        match op {
+            Op::Divide | Op::DivideReset => self.quotient_units(d),
+            Op::Multiply => digit_sum(u128::from(upper(self.accumulator))),
+            Op::Shift(shift) => u64::from(places(shift, d)),
+            _ => 0,
+        }
+    }
+
+    /// The units of a division by the word at D.
+    fn quotient_units(&self, d: u16) -> u64
+        requires { is_location d ≡ true }
+        ensures value { (cards : List Card) → result ≡ units_of Op.Divide d (contents_with self.now cards) }
+        ensures ninety { result ≤ 90 }
+    {
+        let by = number_in(self.operand(d));
+        if is_too_large(self.accumulator, by) {
+            return 0;
+        }
+        digit_sum(quotient(self.accumulator, by))
     }
 
     /// What an instruction of this operation does, with the card that it reads: the number of the next location, or the

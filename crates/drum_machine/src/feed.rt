@@ -1,0 +1,59 @@
+ghost use Rattle.std.specs.Prelude.{◌≡◌, ◌≤◌};
+ghost use Rattle.drum_machine.specs.Timing.{IsWait};
+ghost use Rattle.drum_machine.specs.Feed.{cards_left, waits_left, card_for, cards_after, wait_for, waits_after};
+
+use crate::card::Card;
+use drum_core::Op;
+use drum_times::Entry;
+use std::vec::IntoIter;
+
+/// What the card machine is fed with: cards for the reader, and how long it lets the machine wait.
+///
+/// That waits are given one by one is this project's choice.
+#[derive(Drop)]
+pub struct Feed {
+    cards: IntoIter<Card>,
+    waits: IntoIter<u32>,
+}
+
+impl Feed {
+    /// A feed of these cards, in order, and of these waits in word times, in order.
+    pub fn new(cards: Vec<Card>, waits: Vec<u32>) -> Feed
+        ensures cards { cards_left result ≡ cards.items }
+        ensures waits { waits_left result ≡ waits.items }
+    {
+        Feed {
+            cards: cards.into_iter(),
+            waits: waits.into_iter(),
+        }
+    }
+
+    /// The card that an operation reads: for 70 the next one, if there is one, which is then taken.
+    pub fn take_card(&mut self, op: Op) -> Option<Card>
+        ensures card { result ≡ card_for op (cards_left self.old) }
+        ensures cards { cards_left self.new ≡ cards_after op (cards_left self.old) }
+        ensures waits { waits_left self.new ≡ waits_left self.old }
+    {
+        match op {
+            Op::Read => self.cards.next(),
+            _ => None,
+        }
+    }
+
+    /// The wait of an operation: for 70 and 71 the nearest to the next one that is in the entry's range, or the range's
+    /// longest where none is left; for others none.
+    pub fn take_wait(&mut self, op: Op, entry: Entry) -> u32
+        ensures wait { result ≡ wait_for op entry (waits_left self.old) }
+        ensures waits { waits_left self.new ≡ waits_after op (waits_left self.old) }
+        ensures cards { cards_left self.new ≡ cards_left self.old }
+        ensures may { IsWait op entry result }
+    {
+        match op {
+            Op::Read | Op::Punch => match self.waits.next() {
+                Some(wait) => wait.min(entry.wait_max).max(entry.wait_min),
+                None => entry.wait_max,
+            },
+            _ => 0,
+        }
+    }
+}

@@ -1,0 +1,67 @@
+//! The moments of a step. A clock counts word times from a moment of angle 0 on.
+
+ghost use Rattle.std.specs.Prelude.{◌≡◌, ◌^◌, ◌<◌, ◌≤◌, ◌+◌, ◌*◌, true};
+ghost use Rattle.drum_core.specs.Available.{has_parity};
+ghost use Rattle.drum_core.specs.Location.{is_location};
+ghost use Rattle.drum_core.specs.Moment.{first};
+ghost use Rattle.drum_core.specs.Op.{operand_of};
+ghost use Rattle.drum_machine.specs.Step.{is_operand};
+ghost use Rattle.drum_machine.specs.Timing.{found as found_at, waits_for_operand, reached as reached_at};
+
+use drum_core::{AtParity, Clockwork, Location, Op, Seek};
+use drum_times::Entry;
+
+/// The first moment at which the word at the location can be had.
+pub fn found(location: Location, clock: u64) -> u64
+    requires { clock ≤ 2 ^ 62 + 2 ^ 39 }
+    ensures value { result ≡ found_at location.number clock }
+    ensures later { clock ≤ result }
+    ensures near { result ≤ clock + 49 }
+{
+    Seek::of(location).go(clock)
+}
+
+/// Whether the operation waits for its operand at D.
+fn waits(op: Op) -> bool
+    ensures { result ≡ waits_for_operand op }
+{
+    match op {
+        Op::Add(_)
+        | Op::ResetAdd(_)
+        | Op::Divide
+        | Op::DivideReset
+        | Op::Multiply
+        | Op::Store(_)
+        | Op::LoadDistributor => true,
+        _ => false,
+    }
+}
+
+/// From x on, the moment at which the operation has its operand.
+pub fn reached(op: Op, d: u16, x: u64) -> u64
+    requires operand { is_operand (operand_of op) d ≡ true }
+    requires soon { x ≤ 2 ^ 62 + 2 ^ 39 }
+    ensures value { result ≡ reached_at op d x }
+    ensures later { x ≤ result }
+    ensures near { result ≤ x + 49 }
+{
+    if waits(op) {
+        found(Location { number: d }, x)
+    } else {
+        x
+    }
+}
+
+/// From x on, the moment at which the step ends, with so many units of work and a wait for the card machine.
+pub fn ended(entry: Entry, op: Op, d: u16, units: u64, wait: u32, x: u64) -> u64
+    requires operand { is_operand (operand_of op) d ≡ true }
+    requires work { entry.per * units + wait ≤ 90000000 }
+    requires soon { x ≤ 2 ^ 62 + 2 ^ 38 }
+    ensures value { result ≡ first (has_parity entry.parity) (reached_at op d x) + entry.after + entry.per * units + wait }
+    ensures later { x ≤ result }
+    ensures near { result ≤ x + 91000050 }
+{
+    let acts = AtParity::new(entry.parity).go(reached(op, d, x));
+    let work = u64::from(entry.per) * units + u64::from(wait);
+    acts + u64::from(entry.after) + work
+}
