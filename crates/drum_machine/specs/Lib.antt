@@ -3,6 +3,7 @@ pub mod Counts
 pub mod Effect
 pub mod Feed
 pub mod Keeps
+pub mod Machine
 pub mod Registers
 pub mod Run
 pub mod Step

@@ -6,11 +6,16 @@ mod arithmetic;
 pub mod card;
 pub mod feed;
 pub mod left;
+pub mod machine;
 mod moments;
 mod registers;
+pub mod step;
+mod stop;
 pub mod why;
 
 pub use card::Card;
 pub use feed::Feed;
 pub use left::Left;
+pub use machine::Machine;
+pub use step::Step;
 pub use why::Why;

@@ -1,0 +1,67 @@
+-- What a machine is at the beginning of a step, and what its calls answer.
+use Rattle.std.specs.Prelude.{◌≡◌, ℕ, Bool, List, Option, Some, None}
+use Rattle.drum_core.specs.declared.location.Location.{Location}
+use Rattle.drum_core.specs.declared.op.Op.{Op}
+use Rattle.drum_core.specs.declared.op.Op.TheVariants.{Punch}
+use Rattle.drum_core.specs.declared.word.Word.{Word}
+use Rattle.drum_core.specs.Op.{op_of}
+use Rattle.drum_times.specs.declared.entry.Entry.{Entry}
+use Rattle.drum_machine.specs.declared.card.Card.{Card}
+use Rattle.drum_machine.specs.declared.feed.Feed.{Feed}
+use Rattle.drum_machine.specs.declared.machine.Machine.{Machine}
+use Rattle.drum_machine.specs.declared.step.Step.{Step}
+use Rattle.drum_machine.specs.declared.step.Step.TheVariants.{Went, Stopped}
+use Rattle.drum_machine.specs.Effect.{punched}
+use Rattle.drum_machine.specs.Feed.{cards_left, waits_left, wait_for}
+use Rattle.drum_machine.specs.Keeps.{reads_load}
+use Rattle.drum_machine.specs.Registers.{contents_with}
+use Rattle.drum_machine.specs.Step.{State, Stepped, on, stopped, step, fetched, instruction_in, MayWait}
+
+-- the state of a machine that goes on, with the cards in the reader
+abbrev pub state_in : Machine → List Card → State
+state_in m cards = record { contents = contents_with m.registers cards; sought = m.sought.number; time = m.used; start = m.start }
+
+-- the words that an operation punches
+abbrev pub punched_by : Op → State → Option (List Word)
+punched_by Punch s = Some (punched s.contents (instruction_in s).d)
+punched_by _ s = None
+
+abbrev pub punched_with : Option Op → State → Option (List Word)
+punched_with None s = None
+punched_with (Some op) s = punched_by op s
+
+-- What is answered of a step: where it began, the word that was fetched there, where it goes on or why it stops, and
+-- the word times used; of one that goes on, whether it read a load card, and what it punched.
+abbrev pub Tells : Stepped → Location → Word → Bool → Option (List Word) → Step → Type 0
+Tells (on next) origin word load words (Went from fetch onto used read punch) =
+    (from ≡ origin) × (fetch ≡ word) × (onto.number ≡ next.sought) × (used ≡ next.time) × (read ≡ load) × (punch ≡ words)
+Tells (on next) origin word load words (Stopped from fetch why used) = ⊥
+Tells (stopped because moment) origin word load words answer = answer ≡ Stopped origin word because moment
+
+-- What the machine is after a step, with these cards left. One that has stopped seeks what it sought, and what its
+-- registers hold isn't said.
+abbrev pub Becomes : Stepped → Location → Word → Machine → List Card → Type 0
+Becomes (on next) origin word m cards = (m.stop ≡ None) × (state_in m cards ≡ next)
+Becomes (stopped because moment) origin word m cards =
+    (m.stop ≡ Some (record { word = word; why = because })) × (m.sought ≡ origin) × (m.used ≡ moment)
+
+-- the operation of the fetched word, where the profile has it
+abbrev pub op_in : State → Option Op
+op_in s = op_of (instruction_in s).op
+
+-- the wait that the step is given
+abbrev pub wait_with : (Op → Entry) → Option Op → List ℕ → ℕ
+wait_with times None waits = 0
+wait_with times (Some op) waits = wait_for op (times op) waits
+
+-- A machine takes a step and answers it: a step of the definitions, with the feed's cards as the cards left, and the
+-- wait that the feed gives.
+pub record TakesStep (times : Op → Entry) (before : Machine) (fed : Feed) (answer : Step) (after : Machine) (left : Feed) : Type 0 where
+  pub may_wait :
+      let s = state_in before (cards_left fed) in MayWait times (op_in s) (wait_with times (op_in s) (waits_left fed))
+  pub tells :
+      let s = state_in before (cards_left fed) in
+      Tells (step times s (wait_with times (op_in s) (waits_left fed))) before.sought (fetched s) (reads_load s) (punched_with (op_in s) s) answer
+  pub becomes :
+      let s = state_in before (cards_left fed) in
+      Becomes (step times s (wait_with times (op_in s) (waits_left fed))) before.sought (fetched s) after (cards_left left)
