@@ -3,3 +3,4 @@ mod Effects
 pub mod Keeping
 mod Marks
 mod Setting
+pub mod Stepping

@@ -1,6 +1,6 @@
 -- What the card machine is fed with: the cards and the waits that are left (how waits are given is this project's
 -- choice).
-use Rattle.std.specs.Prelude.{ℕ, drop, slice_get, min, max, Bool, true, false, if◌then◌else◌, List, [], ◌∷◌, Option, None}
+use Rattle.std.specs.Prelude.{ℕ, drop, slice_get, min, max, Bool, true, false, if◌then◌else◌, List, [], ◌∷◌, Option, Some, None}
 use Rattle.std.specs.Vec.Iter.{into_iter_items}
 use Rattle.drum_core.specs.declared.op.Op.{Op}
 use Rattle.drum_core.specs.declared.op.Op.TheVariants.{Read, Punch}
@@ -23,6 +23,11 @@ card_for op cards = if is_read op then slice_get cards 0 else None
 
 abbrev pub cards_after : Op → List Card → List Card
 cards_after op cards = if is_read op then drop 1 cards else cards
+
+-- a load card was read
+abbrev pub is_load : Option Card → Bool
+is_load None = false
+is_load (Some card) = card.load
 
 -- the operation waits for the card machine
 abbrev pub has_wait : Op → Bool

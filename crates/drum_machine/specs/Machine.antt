@@ -1,10 +1,10 @@
 -- What a machine is at the beginning of a step, and what its calls answer.
-use Rattle.std.specs.Prelude.{◌≡◌, ℕ, Bool, List, Option, Some, None}
+use Rattle.std.specs.Prelude.{◌≡◌, ℕ, Bool, not, ◌&&◌, if◌then◌else◌, List, Option, Some, None}
 use Rattle.drum_core.specs.declared.location.Location.{Location}
 use Rattle.drum_core.specs.declared.op.Op.{Op}
 use Rattle.drum_core.specs.declared.op.Op.TheVariants.{Punch}
 use Rattle.drum_core.specs.declared.word.Word.{Word}
-use Rattle.drum_core.specs.Op.{op_of}
+use Rattle.drum_core.specs.Op.{op_of, operand_of}
 use Rattle.drum_times.specs.declared.entry.Entry.{Entry}
 use Rattle.drum_machine.specs.declared.card.Card.{Card}
 use Rattle.drum_machine.specs.declared.feed.Feed.{Feed}
@@ -12,10 +12,10 @@ use Rattle.drum_machine.specs.declared.machine.Machine.{Machine}
 use Rattle.drum_machine.specs.declared.step.Step.{Step}
 use Rattle.drum_machine.specs.declared.step.Step.TheVariants.{Went, Stopped}
 use Rattle.drum_machine.specs.Effect.{punched}
-use Rattle.drum_machine.specs.Feed.{cards_left, waits_left, wait_for}
+use Rattle.drum_machine.specs.Feed.{cards_left, waits_left, wait_for, cards_after, waits_after}
 use Rattle.drum_machine.specs.Keeps.{reads_load}
 use Rattle.drum_machine.specs.Registers.{contents_with}
-use Rattle.drum_machine.specs.Step.{State, Stepped, on, stopped, step, fetched, instruction_in, MayWait}
+use Rattle.drum_machine.specs.Step.{State, Stepped, on, stopped, step, fetched, instruction_in, is_operand, lacks_card, MayWait}
 
 -- the state of a machine that goes on, with the cards in the reader
 abbrev pub state_in : Machine → List Card → State
@@ -54,6 +54,19 @@ abbrev pub wait_with : (Op → Entry) → Option Op → List ℕ → ℕ
 wait_with times None waits = 0
 wait_with times (Some op) waits = wait_for op (times op) waits
 
+-- D is what the operation wants, and 70 finds a card: the step goes past x
+abbrev pub goes_past_x : Op → State → Bool
+goes_past_x op s = is_operand (operand_of op) (instruction_in s).d && not (lacks_card op s.contents)
+
+-- the cards and the waits that a step leaves
+abbrev pub cards_with : Option Op → State → List Card → List Card
+cards_with None s cards = cards
+cards_with (Some op) s cards = if goes_past_x op s then cards_after op cards else cards
+
+abbrev pub waits_with : Option Op → State → List ℕ → List ℕ
+waits_with None s waits = waits
+waits_with (Some op) s waits = if goes_past_x op s then waits_after op waits else waits
+
 -- A machine takes a step and answers it: a step of the definitions, with the feed's cards as the cards left, and the
 -- wait that the feed gives.
 pub record TakesStep (times : Op → Entry) (before : Machine) (fed : Feed) (answer : Step) (after : Machine) (left : Feed) : Type 0 where
@@ -65,3 +78,5 @@ pub record TakesStep (times : Op → Entry) (before : Machine) (fed : Feed) (ans
   pub becomes :
       let s = state_in before (cards_left fed) in
       Becomes (step times s (wait_with times (op_in s) (waits_left fed))) before.sought (fetched s) after (cards_left left)
+  pub cards : let s = state_in before (cards_left fed) in cards_left left ≡ cards_with (op_in s) s (cards_left fed)
+  pub waits : let s = state_in before (cards_left fed) in waits_left left ≡ waits_with (op_in s) s (waits_left fed)

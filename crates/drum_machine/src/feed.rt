@@ -1,4 +1,6 @@
-ghost use Rattle.std.specs.Prelude.{◌≡◌, ◌≤◌};
+ghost use Rattle.std.specs.Prelude.{◌≡◌, ◌≤◌, ◌&&◌, is_some};
+ghost use Rattle.drum_machine.specs.Registers.{cards_before};
+ghost use Rattle.drum_machine.specs.Step.{is_read, has_cards};
 ghost use Rattle.drum_machine.specs.Timing.{IsWait};
 ghost use Rattle.drum_machine.specs.Feed.{cards_left, waits_left, card_for, cards_after, wait_for, waits_after};
 
@@ -33,6 +35,8 @@ impl Feed {
         ensures card { result ≡ card_for op (cards_left self.old) }
         ensures cards { cards_left self.new ≡ cards_after op (cards_left self.old) }
         ensures waits { waits_left self.new ≡ waits_left self.old }
+        ensures before { cards_before result (cards_left self.new) ≡ cards_left self.old }
+        ensures taken { is_some result ≡ (is_read op && has_cards (cards_left self.old)) }
     {
         match op {
             Op::Read => self.cards.next(),

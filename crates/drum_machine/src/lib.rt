@@ -5,6 +5,7 @@
 mod arithmetic;
 pub mod card;
 pub mod feed;
+mod fetch;
 pub mod left;
 pub mod machine;
 mod moments;

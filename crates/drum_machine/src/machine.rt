@@ -1,14 +1,14 @@
 ghost use Rattle.std.specs.Prelude.{◌≡◌, ◌+◌, ◌-◌, ◌^◌, ◌≤◌, ℕ};
 
-use crate::card::Card;
 use crate::feed::Feed;
+use crate::fetch::{instruction_of, is_load, is_operand, is_read};
 use crate::moments::{ended, found};
 use crate::registers::Registers;
 use crate::step::Step;
 use crate::stop::Stop;
 use crate::why::Why;
-use drum_core::{Instruction, Location, Op, Operand, Word};
-use drum_times::{Entry, Times};
+use drum_core::{Location, Op, Word};
+use drum_times::Times;
 
 /// A machine: what it holds, where it seeks its next instruction, and the time that it has used.
 ///
@@ -23,12 +23,16 @@ pub struct Machine {
 }
 
 impl Machine {
-    ghost use Rattle.std.specs.Prelude.{List, Some, None, Result};
+    ghost use Rattle.std.specs.Prelude.{List, Some, None, Result, true};
+    ghost use Rattle.drum_core.specs.Op.{operand_of};
+    ghost use Rattle.drum_times.specs.Entries.{entry_in};
+    ghost use Rattle.drum_machine.specs.declared.stop.Stop.{Stop};
+    ghost use Rattle.drum_machine.specs.Feed.{cards_left};
     ghost use Rattle.drum_machine.specs.declared.card.Card.{Card};
     ghost use Rattle.drum_machine.specs.declared.step.Step.TheVariants as Step;
-    ghost use Rattle.drum_machine.specs.Step.{State, leaves};
+    ghost use Rattle.drum_machine.specs.Step.{State, leaves, fetched, instruction_in, is_operand as is_operand_of};
     ghost use Rattle.drum_machine.specs.Registers.{contents_with, outcome_of};
-    ghost use Rattle.drum_machine.specs.Machine.{Tells, Becomes, TakesStep};
+    ghost use Rattle.drum_machine.specs.Machine.{Tells, Becomes, TakesStep, state_in, op_in, punched_by};
 
     /// The word times used since time 0; of a machine that has stopped, up to the stop.
     pub fn used(&self) -> u64
@@ -40,7 +44,8 @@ impl Machine {
     /// The drum's clock, which was the start angle at time 0.
     fn clock(&self) -> u64
         requires { self.now.used ≤ 2 ^ 62 }
-        ensures { result ≡ self.now.start + self.now.used }
+        ensures value { result ≡ self.now.start + self.now.used }
+        ensures near { result ≤ self.now.used + 255 }
     {
         u64::from(self.start) + self.used
     }
@@ -94,6 +99,70 @@ impl Machine {
             used: self.used,
             load,
             punched,
+        }
+    }
+
+    /// Takes the step of an operation that was fetched, from x on.
+    fn run(&mut self, op: Op, word: Word, times: &Times, feed: &mut Feed) -> Step
+        requires early { self.old.used ≤ 2 ^ 62 }
+        requires runs { self.old.stop ≡ None }
+        requires fetched { word ≡ fetched (state_in self.old (cards_left feed.old)) }
+        requires op { op_in (state_in self.old (cards_left feed.old)) ≡ Some op }
+        ensures { TakesStep (entry_in times.now) self.old feed.old result self.new feed.new }
+    {
+        let entry = times.entry(op);
+        let instruction = instruction_of(word);
+        let (d, i) = (instruction.d, instruction.i);
+        let x = found(self.sought, self.clock()) + u64::from(entry.before);
+        if !is_operand(op.operand(), d) {
+            return self.halt(word, Why::Operand, x);
+        }
+        let card = feed.take_card(op);
+        if is_read(op) && card.is_none() {
+            return self.halt(word, Why::Card, x);
+        }
+        let units = self.registers.units(op, d);
+        let wait = feed.take_wait(op, entry);
+        let end = ended(entry, op, d, units, wait, x);
+        let load = is_load(card);
+        let punched = self.punched(op, d);
+        let acted = self.registers.act(op, d, i, card);
+        self.finish(word, acted, end, load, punched)
+    }
+
+    /// The words that an operation punches.
+    fn punched(&self, op: Op, d: u16) -> Option<[Word; 10]>
+        requires { is_operand_of (operand_of op) d ≡ true }
+        ensures { (s : State) (cards : List Card) → s.contents ≡ contents_with self.now.registers cards → (instruction_in s).d ≡ d → result ≡ punched_by op s }
+    {
+        match op {
+            Op::Punch => Some(self.registers.punched(d)),
+            _ => None,
+        }
+    }
+
+    /// Takes a step. A machine that has stopped answers the same again, and nothing changes.
+    pub fn step(&mut self, times: &Times, feed: &mut Feed) -> Step
+        requires { self.old.used ≤ 2 ^ 62 }
+        ensures goes { self.old.stop ≡ None → TakesStep (entry_in times.now) self.old feed.old result self.new feed.new }
+        ensures rests { (stop : Stop) → self.old.stop ≡ Some stop
+            → (result ≡ Step.Stopped self.old.sought stop.word stop.why self.old.used) × (self.new ≡ self.old) × (feed.new ≡ feed.old) }
+    {
+        if let Some(stop) = self.stop {
+            return Step::Stopped {
+                origin: self.sought,
+                word: stop.word,
+                why: stop.why,
+                used: self.used,
+            };
+        }
+        let word = self.registers.word_at(self.sought);
+        match Op::of(instruction_of(word).op) {
+            Some(op) => self.run(op, word, times, feed),
+            None => {
+                let clock = found(self.sought, self.clock());
+                self.halt(word, Why::Operation, clock)
+            }
         }
     }
 }
