@@ -1,4 +1,4 @@
-ghost use Rattle.std.specs.Prelude.{◌≡◌, ◌+◌, ◌-◌, ◌^◌, ◌≤◌, ℕ};
+ghost use Rattle.std.specs.Prelude.{◌≡◌, ◌+◌, ◌-◌, ◌^◌, ◌<◌, ◌≤◌, ℕ};
 
 use crate::feed::Feed;
 use crate::fetch::{instruction_of, is_load, is_operand, is_read};
@@ -79,6 +79,7 @@ impl Machine {
         requires runs { self.old.stop ≡ None }
         ensures tells { (s : State) (cards : List Card) → s.start ≡ self.old.start
             → Tells (leaves s clock (outcome_of acted (contents_with self.old.registers cards))) self.old.sought word load punched result }
+        ensures used { self.new.used ≡ clock - self.old.start }
         ensures becomes { (s : State) (cards : List Card) → s.start ≡ self.old.start
             → Becomes (leaves s clock (outcome_of acted (contents_with self.old.registers cards))) self.old.sought word self.new cards }
     {
@@ -108,7 +109,9 @@ impl Machine {
         requires runs { self.old.stop ≡ None }
         requires fetched { word ≡ fetched (state_in self.old (cards_left feed.old)) }
         requires op { op_in (state_in self.old (cards_left feed.old)) ≡ Some op }
-        ensures { TakesStep (entry_in times.now) self.old feed.old result self.new feed.new }
+        ensures takes { TakesStep (entry_in times.now) self.old feed.old result self.new feed.new }
+        ensures advances { self.old.used < self.new.used }
+        ensures near { self.new.used ≤ self.old.used + 92000099 }
     {
         let entry = times.entry(op);
         let instruction = instruction_of(word);
@@ -145,6 +148,8 @@ impl Machine {
     pub fn step(&mut self, times: &Times, feed: &mut Feed) -> Step
         requires { self.old.used ≤ 2 ^ 62 }
         ensures goes { self.old.stop ≡ None → TakesStep (entry_in times.now) self.old feed.old result self.new feed.new }
+        ensures advances { self.new.stop ≡ None → self.old.used < self.new.used }
+        ensures near { self.new.used ≤ self.old.used + 92000099 }
         ensures rests { (stop : Stop) → self.old.stop ≡ Some stop
             → (result ≡ Step.Stopped self.old.sought stop.word stop.why self.old.used) × (self.new ≡ self.old) × (feed.new ≡ feed.old) }
     {

@@ -22,8 +22,8 @@ ended-end-requires-clause-work c =
     subst (λ (n : ℕ). c.entry-entry.result.per * n + c.take_wait-wait.result ≤ 90000000) (sym units)
     (short_work c.args.op c.entry-entry.result c.instruction_of-instruction.result.d c.take_wait-wait.result before (omega (arith, units, c.units-units.ensures.ninety)) c.take_wait-wait.ensures.may)
 
-pub returns : goal.returns
-returns c =
+pub returns-clause-takes : goal.returns-clause-takes
+returns-clause-takes c =
     let before = c.args.self.now in
     let fed = c.args.feed.now in
     let left = c.take_wait-wait.new.self in
