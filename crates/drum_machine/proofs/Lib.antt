@@ -2,5 +2,6 @@ mod Checks
 mod Effects
 pub mod Keeping
 mod Marks
+pub mod OwnLocations
 mod Setting
 pub mod Stepping

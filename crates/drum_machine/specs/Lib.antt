@@ -6,6 +6,7 @@ pub mod Keeps
 pub mod Machine
 pub mod Registers
 pub mod Run
+pub mod Setup
 pub mod Step
 pub mod Timing
 pub mod Ways
