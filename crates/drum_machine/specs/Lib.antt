@@ -2,6 +2,7 @@ pub mod Contents
 pub mod Counts
 pub mod Effect
 pub mod Feed
+pub mod FirstState
 pub mod Keeps
 pub mod Machine
 pub mod Registers

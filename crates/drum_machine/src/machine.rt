@@ -1,14 +1,18 @@
-ghost use Rattle.std.specs.Prelude.{◌≡◌, ◌+◌, ◌-◌, ◌^◌, ◌<◌, ◌≤◌, ℕ};
+ghost use Rattle.std.specs.Prelude.{◌≡◌, ◌+◌, ◌-◌, ◌^◌, ◌<◌, ◌≤◌, ℕ, IfOk};
 
 use crate::feed::Feed;
 use crate::fetch::{instruction_of, is_load, is_operand, is_read};
+use crate::first_drum::first_drum;
+use crate::memory::Memory;
 use crate::moments::{ended, found};
 use crate::registers::Registers;
+use crate::setup::Setup;
 use crate::step::Step;
 use crate::stop::Stop;
 use crate::why::Why;
-use drum_core::{Location, Op, Word};
+use drum_core::{Deck, Location, Op, Word};
 use drum_times::Times;
+use std::alloc::Global;
 
 /// A machine: what it holds, where it seeks its next instruction, and the time that it has used.
 ///
@@ -25,14 +29,42 @@ pub struct Machine {
 impl Machine {
     ghost use Rattle.std.specs.Prelude.{List, Some, None, Result, true};
     ghost use Rattle.drum_core.specs.Op.{operand_of};
+    ghost use Rattle.drum_core.specs.Loads.{loads_in, start_in};
     ghost use Rattle.drum_times.specs.Entries.{entry_in};
     ghost use Rattle.drum_machine.specs.declared.stop.Stop.{Stop};
+    ghost use Rattle.drum_machine.specs.FirstState.{IsSetUp};
     ghost use Rattle.drum_machine.specs.Feed.{cards_left};
     ghost use Rattle.drum_machine.specs.declared.card.Card.{Card};
     ghost use Rattle.drum_machine.specs.declared.step.Step.TheVariants as Step;
     ghost use Rattle.drum_machine.specs.Step.{State, leaves, fetched, instruction_in, is_operand as is_operand_of};
     ghost use Rattle.drum_machine.specs.Registers.{contents_with, outcome_of};
     ghost use Rattle.drum_machine.specs.Machine.{Tells, Becomes, TakesStep, state_in, op_in, punched_by};
+
+    /// A machine at time 0: it seeks the deck's start; it has the setup's angle, registers, latch and switches, and no
+    /// remainder's sign; its drum has the deck's words, elsewhere the setup's, else +0.
+    pub fn new(alloc: Global, deck: &Deck, setup: &Setup) -> Result<Machine, Memory>
+        ensures runs { IfOk result (λ machine. machine.stop ≡ None) }
+        ensures set_up { IfOk result (λ machine. (cards : List Card)
+            → IsSetUp (loads_in deck.now) (start_in deck.now) setup.now (state_in machine cards)) }
+    {
+        let drum = first_drum(alloc, deck, setup)?;
+        Ok(Machine {
+            registers: Registers {
+                drum,
+                switches: setup.switches,
+                distributor: setup.distributor,
+                accumulator: setup.accumulator,
+                remainder: None,
+                latch: setup.latch,
+                programmed_stops: setup.programmed,
+                overflow_stops: setup.on_overflow,
+            },
+            sought: deck.start(),
+            used: 0,
+            start: setup.angle,
+            stop: None,
+        })
+    }
 
     /// The word times used since time 0; of a machine that has stopped, up to the stop.
     pub fn used(&self) -> u64
