@@ -13,6 +13,8 @@ mod notes;
 #[cfg(test)]
 mod rotation;
 #[cfg(test)]
+mod steps;
+#[cfg(test)]
 mod straight;
 #[cfg(test)]
 mod support;
