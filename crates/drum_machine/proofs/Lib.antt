@@ -1,3 +1,4 @@
+pub mod Allowing
 mod Checks
 mod Effects
 pub mod Keeping

@@ -11,6 +11,7 @@ pub mod left;
 pub mod machine;
 pub mod memory;
 mod moments;
+pub mod monitor;
 mod registers;
 pub mod setup;
 pub mod step;
