@@ -4,5 +4,6 @@ mod Effects
 pub mod Keeping
 mod Marks
 pub mod OwnLocations
+pub mod Passing
 mod Setting
 pub mod Stepping

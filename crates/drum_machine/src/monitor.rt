@@ -1,1 +1,2 @@
 mod allowed;
+mod passes;

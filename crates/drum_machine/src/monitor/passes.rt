@@ -1,0 +1,75 @@
+//! How often marks are passed.
+
+ghost use Rattle.std.specs.Prelude.{◌≡◌, ◌≤◌, ◌<◌, ◌+◌, length, take, slice_get, ◌==◌, if◌then◌else◌};
+ghost use Rattle.std.specs.List.{All};
+ghost use Rattle.drum_machine.specs.Counts as counted;
+
+use drum_core::Location;
+use drum_times::Mark;
+
+/// How many marks notes have at most.
+pub const MOST_MARKS: usize = 8;
+
+/// The place of the mark on an edge; `None` where none is.
+pub fn mark_on(marks: &[Mark], from: Location, onto: Location) -> Option<usize>
+    ensures { result ≡ counted.mark_on marks.now from.number onto.number }
+{
+    for (place, mark) in marks.iter().enumerate() {
+        if mark.from.number() == from.number() && mark.onto.number() == onto.number() {
+            return Some(place);
+        }
+    }
+    None
+}
+
+/// The place of the mark that the one at a place stands inside of.
+fn outer_of(marks: &[Mark], place: usize) -> Option<usize>
+    ensures { result ≡ counted.outer_of (slice_get marks.now place) }
+{
+    if place >= marks.len() {
+        return None;
+    }
+    marks[place].inside
+}
+
+/// Whether the mark at one place stands inside the one at another, directly or through others.
+fn is_inside(marks: &[Mark], inner: usize, outer: usize) -> bool
+    ensures { result ≡ counted.is_inside marks.now inner outer }
+{
+    let mut place = inner;
+    for _ in 0..marks.len() {
+        let Some(next) = outer_of(marks, place) else {
+            return false;
+        };
+        if next == outer {
+            return true;
+        }
+        place = next;
+    }
+    false
+}
+
+/// The count of the mark at a place after a pass of another, or of itself.
+fn count_after(marks: &[Mark], passed: usize, place: usize, count: u16) -> u16
+    requires { count ≤ 9999 }
+    ensures { result ≡ (if place == passed then count + 1 else (if counted.is_inside marks.now place passed then 0 else count)) }
+{
+    if place == passed {
+        count + 1
+    } else if is_inside(marks, place, passed) {
+        0
+    } else {
+        count
+    }
+}
+
+/// Counts a pass of the mark at a place.
+pub fn count_pass(counts: &mut [u16; MOST_MARKS], marks: &[Mark], passed: usize)
+    requires few { length marks.now ≤ 8 }
+    requires short { All (λ count. count ≤ 9999) counts.old }
+    ensures { take (length marks.now) counts.new ≡ counted.passed_from marks.now passed 0 (take (length marks.now) counts.old) }
+{
+    for place in 0..marks.len() {
+        counts[place] = count_after(marks, passed, place, counts[place]);
+    }
+}
