@@ -6,4 +6,5 @@ mod Marks
 pub mod OwnLocations
 pub mod Passing
 mod Setting
+pub mod Within
 pub mod Stepping

@@ -23,7 +23,7 @@ inside_outward marks counter place next outer more is other =
 -- the counts before a place are those after the pass, and the others as they were
 pub record CountedBelow (marks : List Mark) (passed place : ℕ) (counts before : List ℕ) : Type 0 where
   pub counted : take place counts ++ passed_from marks passed place (drop place (take (length marks) counts)) ≡ passed_from marks passed 0 (take (length marks) before)
-  pub short : (k : ℕ) → place ≤ k → k < 8 → get_or counts k 0 ≤ 9999
+  pub short : place ≤ passed → get_or counts passed 0 ≤ 9999
 
 -- one more count
 taken_more : (counts : List ℕ) (place x : ℕ) → place < length counts → take (place + 1) (slice_set counts place x) ≡ take place counts ++ x ∷ []
@@ -52,8 +52,8 @@ counted_more marks passed place counts before x below few eight is h =
           ∙ ap (λ (v : ℕ). front ++ (v ∷ passed_from marks passed (place + 1) left)) is
           ∙ ap (λ (d : List ℕ). front ++ passed_from marks passed place d) (sym next)
           ∙ h.counted;
-      short = λ k from small.
-          let other : k ≢ place = omega arith in
-          let same : get_or (slice_set counts place x) k 0 ≡ get_or counts k 0 = rw get_or-set_other refl in
-          omega (arith, same, h.short k (omega arith) small);
+      short = λ later.
+          let other : passed ≢ place = omega arith in
+          let same : get_or (slice_set counts place x) passed 0 ≡ get_or counts passed 0 = rw get_or-set_other refl in
+          omega (arith, same, h.short (omega arith));
     }

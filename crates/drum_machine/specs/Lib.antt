@@ -5,6 +5,7 @@ pub mod Feed
 pub mod FirstState
 pub mod Keeps
 pub mod Machine
+pub mod Monitor
 pub mod Registers
 pub mod Run
 pub mod Setup

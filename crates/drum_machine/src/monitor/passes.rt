@@ -1,7 +1,6 @@
 //! How often marks are passed.
 
-ghost use Rattle.std.specs.Prelude.{◌≡◌, ◌≤◌, ◌<◌, ◌+◌, length, take, slice_get, ◌==◌, if◌then◌else◌};
-ghost use Rattle.std.specs.List.{All};
+ghost use Rattle.std.specs.Prelude.{◌≡◌, ◌≤◌, ◌<◌, ◌+◌, length, take, slice_get, slice_index, IfSome, ◌==◌, if◌then◌else◌};
 ghost use Rattle.drum_machine.specs.Counts as counted;
 
 use drum_core::Location;
@@ -12,7 +11,8 @@ pub const MOST_MARKS: usize = 8;
 
 /// The place of the mark on an edge; `None` where none is.
 pub fn mark_on(marks: &[Mark], from: Location, onto: Location) -> Option<usize>
-    ensures { result ≡ counted.mark_on marks.now from.number onto.number }
+    ensures value { result ≡ counted.mark_on marks.now from.number onto.number }
+    ensures inside { IfSome result (λ place. place < length marks.now) }
 {
     for (place, mark) in marks.iter().enumerate() {
         if mark.from.number() == from.number() && mark.onto.number() == onto.number() {
@@ -51,7 +51,7 @@ fn is_inside(marks: &[Mark], inner: usize, outer: usize) -> bool
 
 /// The count of the mark at a place after a pass of another, or of itself.
 fn count_after(marks: &[Mark], passed: usize, place: usize, count: u16) -> u16
-    requires { count ≤ 9999 }
+    requires { place ≡ passed → count ≤ 9999 }
     ensures { result ≡ (if place == passed then count + 1 else (if counted.is_inside marks.now place passed then 0 else count)) }
 {
     if place == passed {
@@ -66,7 +66,8 @@ fn count_after(marks: &[Mark], passed: usize, place: usize, count: u16) -> u16
 /// Counts a pass of the mark at a place.
 pub fn count_pass(counts: &mut [u16; MOST_MARKS], marks: &[Mark], passed: usize)
     requires few { length marks.now ≤ 8 }
-    requires short { All (λ count. count ≤ 9999) counts.old }
+    requires inside { passed < length marks.now }
+    requires short { slice_index counts.old passed ≤ 9999 }
     ensures { take (length marks.now) counts.new ≡ counted.passed_from marks.now passed 0 (take (length marks.now) counts.old) }
 {
     for place in 0..marks.len() {

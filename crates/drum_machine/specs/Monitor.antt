@@ -1,0 +1,36 @@
+-- What a monitor has seen of a run, and how it judges a step (this project's choice).
+use Rattle.std.specs.Prelude.{◌≡◌, ℕ, List, [], ◌∷◌, take, length, Option}
+use Rattle.drum_core.specs.declared.location.Location.{Location}
+use Rattle.drum_core.specs.declared.op.Op.{Op}
+use Rattle.drum_core.specs.declared.word.Word.{Word}
+use Rattle.drum_times.specs.declared.entry.Entry.{Entry}
+use Rattle.drum_times.specs.Allowed.{Notes}
+use Rattle.drum_machine.specs.declared.monitor.Monitor.{Monitor}
+use Rattle.drum_machine.specs.declared.step.Step as answers
+use Rattle.drum_machine.specs.Counts.{no_counts}
+use Rattle.drum_machine.specs.Keeps.{AreKept, counts_after, reads_load}
+use Rattle.drum_machine.specs.Machine.{Tells}
+use Rattle.drum_machine.specs.Run.{Turn}
+use Rattle.drum_machine.specs.Step.{fetched, step}
+
+-- the counts of the notes' marks, as a monitor holds them
+abbrev pub counts_in : Monitor → Notes → List ℕ
+counts_in m notes = take (length notes.marks) m.counts
+
+-- the counts after turns
+abbrev pub counts_over : Notes → List ℕ → List Turn → List ℕ
+counts_over notes counts [] = counts
+counts_over notes counts (turn ∷ turns) = counts_over notes (counts_after notes counts turn) turns
+
+-- a monitor has seen these turns, which keep to the notes
+pub record HasSeen (loads : ℕ → Option Word) (notes : Notes) (m : Monitor) (turns : List Turn) : Type 0 where
+  pub counts : counts_in m notes ≡ counts_over notes (no_counts notes.marks) turns
+  pub kept : AreKept loads notes (no_counts notes.marks) turns
+
+-- the answer of a step tells of this turn, which is a step of the definitions
+pub record IsToldOf (times : Op → Entry) (turn : Turn) (answer : answers.Step) : Type 0 where
+  pub stepped : turn.outcome ≡ step times turn.origin turn.wait
+  pub origin : Location
+  pub sought : origin.number ≡ turn.origin.sought
+  pub punched : Option (List Word)
+  pub tells : Tells turn.outcome origin (fetched turn.origin) (reads_load turn.origin) punched answer
