@@ -22,7 +22,7 @@ use Rattle.drum_machine.specs.Step.{State, Stepped, step, step_with, step_of, le
 use Rattle.drum_machine.specs.Timing.{units_of, ended, reached, IsWait}
 
 -- a step that goes past x ends as the effect leaves it
-acts : (times : Op → Entry) (s : State) (op : Op) (wait : ℕ) → is_operand (operand_of op) (instruction_in s).d ≡ true → lacks_card op s.contents ≡ false
+pub acts : (times : Op → Entry) (s : State) (op : Op) (wait : ℕ) → is_operand (operand_of op) (instruction_in s).d ≡ true → lacks_card op s.contents ≡ false
     → step_of times s wait op
     ≡ leaves s (ended (times op) op (instruction_in s).d s.sought (units_of op (instruction_in s).d s.contents) wait (clock_of s)) (effect s.contents op (instruction_in s).d (instruction_in s).i)
 acts times s op wait operand card = rw (operand, card) refl

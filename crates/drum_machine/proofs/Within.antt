@@ -1,5 +1,5 @@
 -- Counts after a pass, and how often marks may be passed.
-use Rattle.std.proofs.Common.{◌≡◌, ℕ, zero, suc, ◌+◌, ◌≤◌, ◌<◌, Bool, true, false, List, [], ◌∷◌, length, take, get_or, Option, Some, None, refl, subst, sym, ap, ◌∙◌, eq-eqb, arith}
+use Rattle.std.proofs.Common.{◌≡◌, ℕ, zero, suc, ◌+◌, ◌≤◌, ◌<◌, Bool, true, false, List, [], ◌∷◌, length, take, get_or, Option, Some, None, refl, subst, sym, ap, eq-eqb, arith}
 use Rattle.std.specs.Prelude.{◌==◌, if◌then◌else◌}
 use Rattle.std.proofs.lemmas.Bool.{eqb-true}
 use Rattle.std.proofs.lemmas.List.{get_or_read, get_or-take}
@@ -22,9 +22,10 @@ within_most : (all : List Mark) (passed place : ℕ) (marks : List Mark) (counts
 within_most all passed place [] [] within room = tt
 within_most all passed place [] (count ∷ counts) within room = within
 within_most all passed place (mark ∷ marks) [] within room = within
-within_most all passed place (mark ∷ marks) (count ∷ counts) within room =
-    (one_within (place == passed) (is_inside all place passed) count mark.most within.0 (λ here. room 0 mark (omega (arith, eqb-true place passed here)) (omega arith)),
-    within_most all passed (place + 1) marks counts within.1 (λ k d at inside. room (suc k) d (omega (arith, at)) (omega arith)))
+within_most all passed place (mark ∷ marks) (count ∷ counts) within room = (
+  one_within (place == passed) (is_inside all place passed) count mark.most within.0 (λ here. room 0 mark (omega (arith, eqb-true place passed here)) (omega arith)),
+  within_most all passed (place + 1) marks counts within.1 (λ k d at inside. room (suc k) d (omega (arith, at)) (omega arith)),
+)
 
 one_over : (here inside : Bool) (count most : ℕ) → here ≡ true → most ≤ count → ¬ ((if here then count + 1 else (if inside then 0 else count)) ≤ most)
 one_over true inside count most is over = λ within. omega arith
@@ -57,7 +58,7 @@ within_after marks counts from onto passed mark found inside is room within =
     let most_at : (d : Mark) → mark ≡ get_or marks passed d = get_or_read marks passed mark inside is in
     let count : get_or (take (length marks) counts) passed 0 ≡ get_or counts passed 0 = get_or-take (length marks) counts passed 0 inside in
     let roomy : (k : ℕ) (d : Mark) → 0 + k ≡ passed → k < length marks → get_or (take (length marks) counts) k 0 < (get_or marks k d).most =
-        λ k d at below.
-            let same : k ≡ passed = omega arith in
-            subst (λ (j : ℕ). get_or (take (length marks) counts) j 0 < (get_or marks j d).most) (sym same) (omega (arith, count, ap (λ (m : Mark). m.most) (most_at d))) in
+    λ k d at below.
+    let same : k ≡ passed = omega arith in
+    subst (λ (j : ℕ). get_or (take (length marks) counts) j 0 < (get_or marks j d).most) (sym same) (omega (arith, count, ap (λ (m : Mark). m.most) (most_at d))) in
     subst (AreWithin marks) (sym (counts_passed marks from onto passed (take size counts) found)) (within_most marks passed 0 marks (take size counts) within roomy)

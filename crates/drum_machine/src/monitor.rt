@@ -29,7 +29,7 @@ fn unlisted(notes: &Notes, deck: &Deck, location: Location, word: Word) -> Optio
     ensures { MatchOption result
         (IsTrue (is_listed notes.now location.number) → Contains (allowed_at (loads_in deck.now) notes.now location.number) (instruction_in word))
         (λ left. (left ≡ Left.Unlisted location word)
-            × ¬ (IsTrue (is_listed notes.now location.number) → Contains (allowed_at (loads_in deck.now) notes.now location.number) (instruction_in word))) }
+        × ¬ (IsTrue (is_listed notes.now location.number) → Contains (allowed_at (loads_in deck.now) notes.now location.number) (instruction_in word))) }
 {
     if is_allowed(notes, deck, location, instruction_of(word)) {
         None
@@ -58,9 +58,9 @@ impl Monitor {
         requires { length marks.now ≤ 8 }
         ensures { MatchOption result
             ((take (length marks.now) self.new.counts ≡ after_pass marks.now from.number onto.number (take (length marks.now) self.old.counts))
-                × (AreWithin marks.now (take (length marks.now) self.old.counts) → AreWithin marks.now (after_pass marks.now from.number onto.number (take (length marks.now) self.old.counts))))
+            × (AreWithin marks.now (take (length marks.now) self.old.counts) → AreWithin marks.now (after_pass marks.now from.number onto.number (take (length marks.now) self.old.counts))))
             (λ left. (left ≡ Left.TooOften from onto)
-                × ¬ AreWithin marks.now (after_pass marks.now from.number onto.number (take (length marks.now) self.old.counts))) }
+            × ¬ AreWithin marks.now (after_pass marks.now from.number onto.number (take (length marks.now) self.old.counts))) }
     {
         let Some(passed) = mark_on(marks, from, onto) else {
             return None;
@@ -76,8 +76,8 @@ impl Monitor {
     fn judge(&mut self, notes: &Notes, deck: &Deck, step: &Step) -> Option<Left>
         ensures { (times : Op → Entry) (turn : Turn) → IsToldOf times turn step.now → MatchOption result
             (AreWithin notes.now.marks (counts_in self.old notes.now)
-                → IsKeptTurn (loads_in deck.now) notes.now (counts_in self.old notes.now) turn
-                × (counts_in self.new notes.now ≡ counts_after notes.now (counts_in self.old notes.now) turn))
+            → IsKeptTurn (loads_in deck.now) notes.now (counts_in self.old notes.now) turn
+            × (counts_in self.new notes.now ≡ counts_after notes.now (counts_in self.old notes.now) turn))
             (λ left. Leaves (loads_in deck.now) notes.now (counts_in self.old notes.now) turn left) }
     {
         match step {
