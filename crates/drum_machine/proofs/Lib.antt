@@ -7,5 +7,6 @@ mod Marks
 pub mod OwnLocations
 pub mod Passing
 mod Setting
+pub mod Watching
 pub mod Within
 pub mod Stepping

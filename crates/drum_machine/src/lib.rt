@@ -1,5 +1,5 @@
-//! The timed machine: what a step does and when, what a run is, and when a run keeps to the notes. Today its
-//! definitions (specs/), and the plain types that they speak of.
+//! The timed machine: what a step does and when, what a run is, and the monitor, which tells when a run leaves the
+//! notes.
 #![tactic(auto)]
 
 mod arithmetic;
@@ -23,6 +23,7 @@ pub use feed::Feed;
 pub use left::Left;
 pub use machine::Machine;
 pub use memory::Memory;
+pub use monitor::Monitor;
 pub use setup::Setup;
 pub use step::Step;
 pub use why::Why;

@@ -1,4 +1,5 @@
-ghost use Rattle.std.specs.Prelude.{◌≡◌, ◌≤◌, ◌∷◌, [], ◌++◌, length, List, Some, None, MatchOption, IsTrue, Contains, take};
+ghost use Rattle.std.specs.Prelude.{◌≡◌, ◌≤◌, ◌∷◌, [], ◌++◌, length, List, Some, None, MatchOption, MatchBool, IsTrue, Contains, take};
+ghost use Rattle.drum_machine.specs.Keeps.{IsAsDeclared};
 ghost use Rattle.drum_core.specs.Instruction.{instruction_of as instruction_in};
 ghost use Rattle.drum_core.specs.Loads.{loads_in};
 ghost use Rattle.drum_times.specs.Allowed.{is_listed, allowed as allowed_at};
@@ -24,6 +25,17 @@ pub struct Monitor {
     left: Option<Left>,
 }
 
+/// Whether the programmed switch is as declared.
+fn is_as_declared(programmed: Programmed, stops: bool) -> bool
+    ensures { MatchBool result (IsAsDeclared programmed stops) (¬ IsAsDeclared programmed stops) }
+{
+    match programmed {
+        Programmed::Stop => stops,
+        Programmed::Run => !stops,
+        Programmed::Any => true,
+    }
+}
+
 /// Whether the word that was fetched at the location leaves the notes.
 fn unlisted(notes: &Notes, deck: &Deck, location: Location, word: Word) -> Option<Left>
     ensures { MatchOption result
@@ -39,12 +51,34 @@ fn unlisted(notes: &Notes, deck: &Deck, location: Location, word: Word) -> Optio
 }
 
 impl Monitor {
+    ghost use Rattle.std.specs.Prelude.{ℕ, Option};
     ghost use Rattle.drum_core.specs.declared.op.Op.{Op};
+    ghost use Rattle.drum_core.specs.declared.word.Word.{Word};
+    ghost use Rattle.drum_machine.specs.declared.left.Left.{Left as LeftType};
     ghost use Rattle.drum_times.specs.declared.entry.Entry.{Entry};
     ghost use Rattle.drum_machine.specs.Keeps.{IsKeptTurn, Leaves, counts_after};
     ghost use Rattle.drum_machine.specs.Run.{Turn};
-    ghost use Rattle.drum_machine.specs.Counts.{after_pass, AreWithin};
+    ghost use Rattle.drum_machine.specs.Counts.{after_pass, no_counts, AreWithin};
     ghost use Rattle.drum_machine.specs.Monitor.{counts_in, counts_over, HasSeen, IsToldOf};
+
+    /// A monitor of a run from this setup. It has answered where the programmed switch isn't as the notes declare it.
+    pub fn new(notes: &Notes, setup: &Setup) -> Monitor
+        ensures declared { MatchOption result.left
+            (IsAsDeclared notes.now.programmed setup.now.programmed)
+            (λ left. (left ≡ Left.Switch) × ¬ IsAsDeclared notes.now.programmed setup.now.programmed) }
+        ensures seen { (loads : ℕ → Option Word) → HasSeen loads notes.now result [] }
+    {
+        prove!(notes.marks().len() <= MOST_MARKS);
+        let left = if is_as_declared(notes.programmed(), setup.programmed) {
+            None
+        } else {
+            Some(Left::Switch)
+        };
+        Monitor {
+            counts: [0; MOST_MARKS],
+            left,
+        }
+    }
 
     /// How the run left the notes, where it has.
     pub fn left(&self) -> Option<Left>
@@ -98,5 +132,25 @@ impl Monitor {
                 self.pass(notes.marks(), *origin, *next)
             }
         }
+    }
+
+    /// How the run leaves the notes at this step, or has left them; `None` while it keeps to them. The steps of one run
+    /// are given in order, with one deck and the notes and the setup that the monitor was made for. Once there is an
+    /// answer it stays, and nothing changes.
+    pub fn check(&mut self, notes: &Notes, deck: &Deck, step: &Step) -> Option<Left>
+        ensures answered { result ≡ self.new.left }
+        ensures judged { self.old.left ≡ None → (times : Op → Entry) (turns : List Turn) (turn : Turn)
+            → HasSeen (loads_in deck.now) notes.now self.old turns → IsToldOf times turn step.now
+            → MatchOption result
+            (HasSeen (loads_in deck.now) notes.now self.new (turns ++ turn ∷ []))
+            (λ left. Leaves (loads_in deck.now) notes.now (counts_over notes.now (no_counts notes.now.marks) turns) turn left) }
+        ensures stays { (left : LeftType) → self.old.left ≡ Some left → (result ≡ Some left) × (self.new ≡ self.old) }
+    {
+        if let Some(left) = self.left {
+            return Some(left);
+        }
+        let judged = self.judge(notes, deck, step);
+        self.left = judged;
+        judged
     }
 }
