@@ -22,3 +22,5 @@ mod support;
 mod texts;
 #[cfg(test)]
 mod timings;
+#[cfg(test)]
+mod watched;
