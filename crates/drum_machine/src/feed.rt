@@ -31,7 +31,7 @@ impl Feed {
     }
 
     /// The card that an operation reads: for 70 the next one, if there is one, which is then taken.
-    pub fn take_card(&mut self, op: Op) -> Option<Card>
+    pub(crate) fn take_card(&mut self, op: Op) -> Option<Card>
         ensures card { result ≡ card_for op (cards_left self.old) }
         ensures cards { cards_left self.new ≡ cards_after op (cards_left self.old) }
         ensures waits { waits_left self.new ≡ waits_left self.old }
@@ -46,7 +46,7 @@ impl Feed {
 
     /// The wait of an operation: for 70 and 71 the nearest to the next one that is in the entry's range, or the range's
     /// longest where none is left; for others none.
-    pub fn take_wait(&mut self, op: Op, entry: Entry) -> u32
+    pub(crate) fn take_wait(&mut self, op: Op, entry: Entry) -> u32
         ensures wait { result ≡ wait_for op entry (waits_left self.old) }
         ensures waits { waits_left self.new ≡ waits_after op (waits_left self.old) }
         ensures cards { cards_left self.new ≡ cards_left self.old }

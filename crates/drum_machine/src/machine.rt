@@ -33,6 +33,7 @@ impl Machine {
     ghost use Rattle.drum_times.specs.Entries.{entry_in};
     ghost use Rattle.drum_machine.specs.declared.stop.Stop.{Stop};
     ghost use Rattle.drum_machine.specs.FirstState.{IsSetUp};
+    ghost use Rattle.drum_machine.specs.Run.{IsFirstState};
     ghost use Rattle.drum_machine.specs.Feed.{cards_left};
     ghost use Rattle.drum_machine.specs.declared.card.Card.{Card};
     ghost use Rattle.drum_machine.specs.declared.step.Step.TheVariants as Step;
@@ -46,6 +47,9 @@ impl Machine {
         ensures runs { IfOk result (λ machine. machine.stop ≡ None) }
         ensures set_up { IfOk result (λ machine. (cards : List Card)
             → IsSetUp (loads_in deck.now) (start_in deck.now) setup.now (state_in machine cards)) }
+        // it agrees with the deck at every location
+        ensures first { IfOk result (λ machine. (cards : List Card)
+            → IsFirstState (loads_in deck.now) (λ _. Unit {0}) (start_in deck.now) (state_in machine cards)) }
     {
         let drum = first_drum(alloc, deck, setup)?;
         Ok(Machine {

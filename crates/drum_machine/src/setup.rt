@@ -104,7 +104,7 @@ impl Setup {
     }
 
     /// The word that is given to a location; `None` where none is.
-    pub fn given(&self, location: Location) -> Option<Word>
+    pub(crate) fn given(&self, location: Location) -> Option<Word>
         ensures { result ≡ given_to location.number self.now.words.items }
     {
         let given = self
