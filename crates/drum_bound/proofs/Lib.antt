@@ -1,1 +1,3 @@
 mod Checks
+pub mod Lists
+pub mod Searches

@@ -1,7 +1,10 @@
 pub mod Accepted
 pub mod Executed
+pub mod Graph
 pub mod Hops
 pub mod Passes
+pub mod Rows
+pub mod Search
 pub mod Table
 pub mod Walk
 pub mod WalkTime

@@ -3,6 +3,7 @@
 #![tactic(auto)]
 
 pub mod cycle;
+pub mod graph;
 pub mod hop;
 pub mod laws;
 pub mod refusal;

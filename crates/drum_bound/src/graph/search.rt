@@ -1,0 +1,103 @@
+ghost use Rattle.std.specs.Prelude.{◌≡◌, ℕ, ◌<◌, ◌≤◌, ◌≢◌, [], List, length, slice_get, Some, IfOk, IfSome, IfNone, OnOk, Contains};
+ghost use Rattle.drum_bound.specs.declared.graph.progress.Progress.TheVariants.{New, Finished};
+
+use crate::graph::Graph;
+use crate::graph::progress::Progress;
+use std::alloc::{AllocError, Global};
+
+/// A depth-first search of a graph.
+#[derive(Debug, Drop)]
+pub struct Search {
+    /// How far it has come with each node.
+    pub states: Vec<Progress>,
+    /// How many nodes of each node's row it has passed.
+    pub passed: Vec<usize>,
+    /// The nodes from the root on whose edges it follows.
+    pub path: Vec<usize>,
+    /// The nodes that it has finished, in order.
+    pub finished: Vec<usize>,
+}
+
+impl Search {
+    ghost use Rattle.drum_bound.specs.Graph.{row, size, IsCycle};
+    ghost use Rattle.drum_bound.specs.Search.{Searches, IsSearch, work_left, ForgetsNone, last_of};
+
+    /// A search that hasn't begun.
+    pub fn new(alloc: Global, graph: &Graph) -> Result<Search, AllocError>
+        ensures sound { IfOk result (λ search. Searches (row graph.now) (size graph.now) search) }
+        ensures empty { IfOk result (λ search. search.path.items ≡ []) }
+    {
+        let size = graph.size();
+        let states = vec![in alloc; Progress::New; size]?;
+        let passed = vec![in alloc; 0; size]?;
+        Ok(Search { states, passed, path: Vec::new(alloc), finished: Vec::new(alloc) })
+    }
+
+    /// Goes on to a new node, to which an edge of the path's last node leads, if it has one.
+    pub fn enter(&mut self, graph: &Graph, node: usize) -> Result<(), AllocError>
+        requires sound { Searches (row graph.now) (size graph.now) self.old }
+        requires new { slice_get self.old.states.items node ≡ Some New }
+        requires linked { (last : ℕ) → last_of self.old.path.items ≡ Some last → Contains (row graph.now last) node }
+        ensures sound { OnOk result (Searches (row graph.now) (size graph.now) self.new) }
+        ensures less { OnOk result (work_left self.new < work_left self.old) }
+        ensures kept { OnOk result (ForgetsNone self.old.states.items self.new.states.items) }
+        ensures met { OnOk result (slice_get self.new.states.items node ≢ Some New) }
+    {
+        self.path.push(node)?;
+        self.states[node] = Progress::Open;
+        Ok(())
+    }
+
+    /// Finishes the path's last node, all of whose edges lead to finished nodes.
+    fn leave(&mut self, graph: &Graph, node: usize) -> Result<(), AllocError>
+        requires sound { Searches (row graph.now) (size graph.now) self.old }
+        requires last { last_of self.old.path.items ≡ Some node }
+        requires all { (next : ℕ) → Contains (row graph.now node) next → slice_get self.old.states.items next ≡ Some Finished }
+        ensures sound { OnOk result (Searches (row graph.now) (size graph.now) self.new) }
+        ensures less { OnOk result (work_left self.new < work_left self.old) }
+        ensures kept { OnOk result (ForgetsNone self.old.states.items self.new.states.items) }
+    {
+        self.finished.push(node)?;
+        self.path.pop();
+        self.states[node] = Progress::Finished;
+        Ok(())
+    }
+
+    /// The next node of a node's row that isn't finished; `None` where all are.
+    fn pass(&mut self, graph: &Graph, node: usize) -> Option<usize>
+        requires sound { Searches (row graph.now) (size graph.now) self.old }
+        requires within { node < size graph.now }
+        ensures sound { Searches (row graph.now) (size graph.now) self.new }
+        ensures same { self.new ≡ record self.old { passed = self.new.passed } }
+        ensures edge { IfSome result (λ next. Contains (row graph.now node) next) }
+        ensures unfinished { IfSome result (λ next. slice_get self.new.states.items next ≢ Some Finished) }
+        ensures all { IfNone result ((next : ℕ) → Contains (row graph.now node) next → slice_get self.new.states.items next ≡ Some Finished) }
+    {
+        let row = graph.row(node);
+        let at = first_unfinished(&self.states, row, self.passed[node]);
+        self.passed[node] = at;
+        node_at(row, at)
+    }
+}
+
+/// The node at a place of a row; `None` past its end.
+fn node_at(row: &[usize], at: usize) -> Option<usize>
+    ensures { result ≡ slice_get row.now at }
+{
+    row.get(at).copied()
+}
+
+/// The place of the first node of a row, from a place on, that isn't finished; the row's length where all are.
+fn first_unfinished(states: &[Progress], row: &[usize], from: usize) -> usize
+    requires within { (next : ℕ) → Contains row.now next → next < length states.now }
+    ensures finished { (k next : ℕ) → from ≤ k → k < result → slice_get row.now k ≡ Some next → slice_get states.now next ≡ Some Finished }
+    ensures least { (next : ℕ) → slice_get row.now result ≡ Some next → slice_get states.now next ≢ Some Finished }
+{
+    for at in from..row.len() {
+        let next = row[at];
+        if !states[next].is_finished() {
+            return at;
+        }
+    }
+    row.len()
+}
