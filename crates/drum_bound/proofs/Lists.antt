@@ -1,9 +1,9 @@
 -- Lemmas on lists of numbers: members, lists without repeats, and a member that is written.
-use Rattle.std.proofs.Common.{◌≡◌, ◌≢◌, ℕ, zero, suc, ◌+◌, ◌-◌, ◌<◌, ◌≤◌, List, [], ◌∷◌, ◌++◌, length, get_or, set, drop, reverse, replicate, Option, Some, None, refl, ap, sym, ◌∙◌, subst, inl, inr, ◌⊎◌, arith}
+use Rattle.std.proofs.Common.{◌≡◌, ◌≢◌, ℕ, zero, suc, ◌<◌, List, [], ◌∷◌, ◌++◌, length, get_or, set, drop, reverse, replicate, Some, refl, ap, sym, subst, inl, inr, ◌⊎◌, arith}
 use Rattle.std.specs.Prelude.{slice_get, Contains}
 use Rattle.std.proofs.lemmas.List.{reverse-append}
 use Rattle.std.proofs.lemmas.List.Elements.{Contains-append_left, Contains-append_right, Contains-append_cases}
-use Rattle.drum_bound.specs.Graph.{AreDistinct}
+use Rattle.drum_bound.specs.Graph.{AreDifferent}
 
 pub contains_here : (x : ℕ) (xs : List ℕ) → Contains (x ∷ xs) x
 contains_here x xs = (0, omega arith, refl)
@@ -39,16 +39,18 @@ contains_reverse (x ∷ xs) y h =
     let split : reverse (x ∷ xs) ≡ reverse xs ++ x ∷ [] = reverse-append (x ∷ []) xs in
     subst (λ (ys : List ℕ). Contains ys y) (sym split)
     (elim (contains_cases x y xs h) [
-      inl e ↦ Contains-append_right (reverse xs) (x ∷ []) y (subst (λ (z : ℕ). Contains (x ∷ []) z) e (contains_here x []))
-      | inr there ↦ Contains-append_left (reverse xs) (x ∷ []) y (contains_reverse xs y there) ])
+      | inl e ↦ Contains-append_right (reverse xs) (x ∷ []) y (subst (λ (z : ℕ). Contains (x ∷ []) z) e (contains_here x []))
+      | inr there ↦ Contains-append_left (reverse xs) (x ∷ []) y (contains_reverse xs y there)
+    ])
 
 pub contains_reversed : (xs : List ℕ) (y : ℕ) → Contains (reverse xs) y → Contains xs y
 contains_reversed [] y h = absurd (contains_none y h)
 contains_reversed (x ∷ xs) y h =
     let split : reverse (x ∷ xs) ≡ reverse xs ++ x ∷ [] = reverse-append (x ∷ []) xs in
     elim (Contains-append_cases (reverse xs) (x ∷ []) y (subst (λ (ys : List ℕ). Contains ys y) split h)) [
-      inl left ↦ contains_there x y xs (contains_reversed xs y left)
-      | inr last ↦ (elim (contains_cases x y [] last) [ inl e ↦ subst (λ (z : ℕ). Contains (x ∷ xs) z) e (contains_here x xs) | inr none ↦ absurd (contains_none y none) ]) ]
+      | inl left ↦ contains_there x y xs (contains_reversed xs y left)
+      | inr last ↦ (elim (contains_cases x y [] last) [ inl e ↦ subst (λ (z : ℕ). Contains (x ∷ xs) z) e (contains_here x xs) | inr none ↦ absurd (contains_none y none) ])
+    ]
 
 pub contains_dropped : (xs : List ℕ) (k y : ℕ) → Contains (drop k xs) y → Contains xs y
 contains_dropped xs zero y h = h
@@ -56,34 +58,38 @@ contains_dropped [] (suc k) y h = absurd (contains_none y h)
 contains_dropped (x ∷ xs) (suc k) y h = contains_there x y xs (contains_dropped xs k y h)
 
 -- a list without repeats, with one more at its end
-pub distinct_push : (xs : List ℕ) (y : ℕ) → AreDistinct xs → ¬ Contains xs y → AreDistinct (xs ++ y ∷ [])
+pub distinct_push : (xs : List ℕ) (y : ℕ) → AreDifferent xs → ¬ Contains xs y → AreDifferent (xs ++ y ∷ [])
 distinct_push [] y d new = (contains_none y, tt)
-distinct_push (x ∷ xs) y d new = (λ there. elim (Contains-append_cases xs (y ∷ []) x there) [
-      inl in_xs ↦ d.0 in_xs
-      | inr last ↦ (elim (contains_cases y x [] last) [ inl e ↦ new (subst (λ (z : ℕ). Contains (x ∷ xs) z) (sym e) (contains_here x xs)) | inr none ↦ contains_none x none ]) ],
-    distinct_push xs y d.1 (λ there. new (contains_there x y xs there)))
+distinct_push (x ∷ xs) y d new = (
+  λ there. elim (Contains-append_cases xs (y ∷ []) x there) [
+    | inl in_xs ↦ d.0 in_xs
+    | inr last ↦ (elim (contains_cases y x [] last) [ inl e ↦ new (subst (λ (z : ℕ). Contains (x ∷ xs) z) (sym e) (contains_here x xs)) | inr none ↦ contains_none x none ])
+  ],
+  distinct_push xs y d.1 (λ there. new (contains_there x y xs there)),
+)
 
 -- and with one less there
-pub distinct_front : (xs : List ℕ) (y : ℕ) → AreDistinct (xs ++ y ∷ []) → AreDistinct xs
+pub distinct_front : (xs : List ℕ) (y : ℕ) → AreDifferent (xs ++ y ∷ []) → AreDifferent xs
 distinct_front [] y d = tt
 distinct_front (x ∷ xs) y d = (λ there. d.0 (Contains-append_left xs (y ∷ []) x there), distinct_front xs y d.1)
 
-pub distinct_last : (xs : List ℕ) (y : ℕ) → AreDistinct (xs ++ y ∷ []) → ¬ Contains xs y
+pub distinct_last : (xs : List ℕ) (y : ℕ) → AreDifferent (xs ++ y ∷ []) → ¬ Contains xs y
 distinct_last [] y d h = contains_none y h
 distinct_last (x ∷ xs) y d h = elim (contains_cases x y xs h) [
-      inl e ↦ d.0 (subst (λ (z : ℕ). Contains (xs ++ y ∷ []) z) (sym e) (Contains-append_right xs (y ∷ []) y (contains_here y [])))
-      | inr there ↦ distinct_last xs y d.1 there ]
+  | inl e ↦ d.0 (subst (λ (z : ℕ). Contains (xs ++ y ∷ []) z) (sym e) (Contains-append_right xs (y ∷ []) y (contains_here y [])))
+  | inr there ↦ distinct_last xs y d.1 there
+]
 
-pub distinct_dropped : (xs : List ℕ) (k : ℕ) → AreDistinct xs → AreDistinct (drop k xs)
+pub distinct_dropped : (xs : List ℕ) (k : ℕ) → AreDifferent xs → AreDifferent (drop k xs)
 distinct_dropped xs zero d = d
 distinct_dropped [] (suc k) d = tt
 distinct_dropped (x ∷ xs) (suc k) d = distinct_dropped xs k d.1
 
-pub distinct_reversed : (xs : List ℕ) → AreDistinct xs → AreDistinct (reverse xs)
+pub distinct_reversed : (xs : List ℕ) → AreDifferent xs → AreDifferent (reverse xs)
 distinct_reversed [] d = tt
 distinct_reversed (x ∷ xs) d =
     let split : reverse (x ∷ xs) ≡ reverse xs ++ x ∷ [] = reverse-append (x ∷ []) xs in
-    subst AreDistinct (sym split) (distinct_push (reverse xs) x (distinct_reversed xs d.1) (λ there. d.0 (contains_reversed xs x there)))
+    subst AreDifferent (sym split) (distinct_push (reverse xs) x (distinct_reversed xs d.1) (λ there. d.0 (contains_reversed xs x there)))
 
 -- a member that is written
 pub get_written : {X : Type 0} (xs : List X) (k : ℕ) (y : X) → k < length xs → slice_get (set xs k y) k ≡ Some y

@@ -1,5 +1,5 @@
 -- The moves of a depth-first search: each leaves a search, with fewer steps to take.
-use Rattle.std.proofs.Common.{◌≡◌, ◌≢◌, ℕ, zero, suc, ◌+◌, ◌-◌, ◌<◌, ◌≤◌, List, [], ◌∷◌, ◌++◌, length, get_or, set, drop, reverse, replicate, Option, Some, None, refl, ap, sym, ◌∙◌, subst, inl, inr, ◌⊎◌, arith}
+use Rattle.std.proofs.Common.{◌≡◌, ◌≢◌, ℕ, zero, suc, ◌-◌, ◌<◌, ◌≤◌, List, [], ◌∷◌, ◌++◌, length, get_or, set, drop, reverse, replicate, Option, Some, None, refl, ap, sym, ◌∙◌, subst, inl, inr, arith}
 use Rattle.std.specs.Prelude.{slice_get, slice_index, sum_by, Contains, IsSome, option_to_list, true, false}
 use Rattle.std.proofs.lemmas.Bool.{cases_eq, cases_lt}
 use Rattle.std.proofs.lemmas.List.{length-set, length-replicate, get_or-replicate, get_or_past, get_or-set_same, get_or-set_other, reverse-append}
@@ -8,9 +8,9 @@ use Rattle.std.proofs.lemmas.List.Sums.{sum_by-set}
 use Rattle.std.proofs.lemmas.Option.{slice_get_within, slice_get-get_or, get_or_from_slice_get}
 use Rattle.drum_bound.specs.declared.graph.progress.Progress.{Progress}
 use Rattle.drum_bound.specs.declared.graph.progress.Progress.TheVariants.{New, Open, Finished}
-use Rattle.drum_bound.specs.Graph.{AreDistinct, GoOn, LeadRound, IsClosed, IsCycle}
+use Rattle.drum_bound.specs.Graph.{AreDifferent, GoOn, LeadRound, IsClosed, IsCycle, IsTopologicalOrder}
 use Rattle.drum_bound.specs.Search.{LeadAlong, AreLinked, last_of, IsSearch, steps_left, ForgetsNone}
-use Rattle.drum_bound.proofs.Lists.{contains_here, contains_at, contains_from_get, contains_there, contains_cases, contains_none, contains_reverse, contains_dropped, distinct_push, distinct_front, distinct_last, distinct_dropped, get_written, get_other, get_replicated}
+use Rattle.drum_bound.proofs.Lists.{contains_at, contains_from_get, contains_cases, contains_none, contains_reverse, contains_reversed, contains_dropped, distinct_push, distinct_front, distinct_last, distinct_dropped, distinct_reversed, get_written, get_other, get_replicated}
 
 last_cons : (a b : ℕ) (bs : List ℕ) → last_of (a ∷ b ∷ bs) ≡ last_of (b ∷ bs)
 last_cons a b bs =
@@ -58,14 +58,17 @@ module _ (row : ℕ → List ℕ) (size : ℕ) (states : List Progress) (passed 
         states_long = length-set states node Open ∙ s.states_long;
         passed_long = s.passed_long;
         open_on_path = λ other e. elim (cases_eq other node) [
-          inl same ↦ subst (λ (z : ℕ). Contains (path ++ node ∷ []) z) (sym same) (Contains-push path node)
-          | inr ne ↦ Contains-append_left path (node ∷ []) other (s.open_on_path other (sym (get_other states node other Open ne) ∙ e)) ];
+          | inl same ↦ subst (λ (z : ℕ). Contains (path ++ node ∷ []) z) (sym same) (Contains-push path node)
+          | inr ne ↦ Contains-append_left path (node ∷ []) other (s.open_on_path other (sym (get_other states node other Open ne) ∙ e))
+        ];
         path_open = λ other there. elim (Contains-append_cases path (node ∷ []) other there) [
-          inl on_path ↦ get_other states node other Open (not_open other (s.path_open other on_path)) ∙ s.path_open other on_path
-          | inr last ↦ (elim (contains_cases node other [] last) [ inl same ↦ sym (ap (slice_get (set states node Open)) same) ∙ here | inr none ↦ absurd (contains_none other none) ]) ];
+          | inl on_path ↦ get_other states node other Open (not_open other (s.path_open other on_path)) ∙ s.path_open other on_path
+          | inr last ↦ (elim (contains_cases node other [] last) [ inl same ↦ sym (ap (slice_get (set states node Open)) same) ∙ here | inr none ↦ absurd (contains_none other none) ])
+        ];
         finished_there = λ other e. elim (cases_eq other node) [
-          inl same ↦ absurd (clash_here other same e here)
-          | inr ne ↦ s.finished_there other (sym (get_other states node other Open ne) ∙ e) ];
+          | inl same ↦ absurd (clash_here other same e here)
+          | inr ne ↦ s.finished_there other (sym (get_other states node other Open ne) ∙ e)
+        ];
         there_finished = λ other there. get_other states node other Open (not_finished other (s.there_finished other there)) ∙ s.there_finished other there;
         behind = λ from k next lt at. get_other states node next Open (not_finished next (s.behind from k next lt at)) ∙ s.behind from k next lt at;
         linked = linked_push row path node s.linked edge;
@@ -83,7 +86,7 @@ module _ (row : ℕ → List ℕ) (size : ℕ) (states : List Progress) (passed 
       → ((next : ℕ) → Contains (row node) next → slice_get states next ≡ Some Finished)
       → IsSearch row size (set states node Finished) passed front (finished ++ node ∷ [])
   leave_sound front s split all =
-      let path_distinct : AreDistinct (front ++ node ∷ []) = subst AreDistinct split s.path_distinct in
+      let path_distinct : AreDifferent (front ++ node ∷ []) = subst AreDifferent split s.path_distinct in
       let on_path : Contains path node = subst (λ (xs : List ℕ). Contains xs node) (sym split) (Contains-push front node) in
       let opened : slice_get states node ≡ Some Open = s.path_open node on_path in
       let long : node < length states = slice_get_within states node Open opened in
@@ -99,17 +102,21 @@ module _ (row : ℕ → List ℕ) (size : ℕ) (states : List Progress) (passed 
         states_long = length-set states node Finished ∙ s.states_long;
         passed_long = s.passed_long;
         open_on_path = λ other e. elim (cases_eq other node) [
-          inl same ↦ absurd (clash_here other same e here)
+          | inl same ↦ absurd (clash_here other same e here)
           | inr ne ↦ (elim (Contains-append_cases front (node ∷ []) other (subst (λ (xs : List ℕ). Contains xs other) split (s.open_on_path other (sym (get_other states node other Finished ne) ∙ e)))) [
-            inl there ↦ there
-            | inr last ↦ (elim (contains_cases node other [] last) [ inl same ↦ absurd (ne (sym same)) | inr none ↦ absurd (contains_none other none) ]) ]) ];
+            | inl there ↦ there
+            | inr last ↦ (elim (contains_cases node other [] last) [ inl same ↦ absurd (ne (sym same)) | inr none ↦ absurd (contains_none other none) ])
+          ])
+        ];
         path_open = λ other there. get_other states node other Finished (not_in_front other there) ∙ s.path_open other (in_front other there);
         finished_there = λ other e. elim (cases_eq other node) [
-          inl same ↦ subst (λ (z : ℕ). Contains (finished ++ node ∷ []) z) (sym same) (Contains-push finished node)
-          | inr ne ↦ Contains-append_left finished (node ∷ []) other (s.finished_there other (sym (get_other states node other Finished ne) ∙ e)) ];
+          | inl same ↦ subst (λ (z : ℕ). Contains (finished ++ node ∷ []) z) (sym same) (Contains-push finished node)
+          | inr ne ↦ Contains-append_left finished (node ∷ []) other (s.finished_there other (sym (get_other states node other Finished ne) ∙ e))
+        ];
         there_finished = λ other there. elim (Contains-append_cases finished (node ∷ []) other there) [
-          inl before ↦ get_other states node other Finished (not_finished other (s.there_finished other before)) ∙ s.there_finished other before
-          | inr last ↦ (elim (contains_cases node other [] last) [ inl same ↦ sym (ap (slice_get (set states node Finished)) same) ∙ here | inr none ↦ absurd (contains_none other none) ]) ];
+          | inl before ↦ get_other states node other Finished (not_finished other (s.there_finished other before)) ∙ s.there_finished other before
+          | inr last ↦ (elim (contains_cases node other [] last) [ inl same ↦ sym (ap (slice_get (set states node Finished)) same) ∙ here | inr none ↦ absurd (contains_none other none) ])
+        ];
         behind = λ from k next lt at. get_other states node next Finished (not_finished next (s.behind from k next lt at)) ∙ s.behind from k next lt at;
         linked = linked_front row front node (subst (AreLinked row) split s.linked);
         path_distinct = distinct_front front node path_distinct;
@@ -126,8 +133,9 @@ module _ (row : ℕ → List ℕ) (size : ℕ) (states : List Progress) (passed 
 -- nothing is forgotten where a node's state is written, but not as new
 pub forgets_none : (states : List Progress) (node : ℕ) (state : Progress) → node < length states → state ≢ New → ForgetsNone states (set states node state)
 forgets_none states node state long ne other e = elim (cases_eq other node) [
-      inl same ↦ absurd (ne (same_state (sym (get_written states node state long) ∙ sym (ap (slice_get (set states node state)) same) ∙ e)))
-      | inr different ↦ sym (get_other states node other state different) ∙ e ]
+  | inl same ↦ absurd (ne (same_state (sym (get_written states node state long) ∙ sym (ap (slice_get (set states node state)) same) ∙ e)))
+  | inr different ↦ sym (get_other states node other state different) ∙ e
+]
   where
     same_state : ◌≡◌ {A = Option Progress} (Some state) (Some New) → state ≡ New
     same_state h = cc
@@ -160,14 +168,17 @@ new_sound row size = record {
     never_open node e =
         let clash : New ≡ Open = get_replicated size node New Open e in
         cc
+
     never_finished : (node : ℕ) → slice_get (replicate size New) node ≡ Some Finished → ⊥
     never_finished node e =
         let clash : New ≡ Finished = get_replicated size node New Finished e in
         cc
+
     none_passed : (node k : ℕ) → k < get_or (replicate size 0) node 0 → ⊥
     none_passed node k lt = elim (cases_lt node size) [
-      inl within ↦ omega (arith, lt, get_or-replicate {A = ℕ} size node 0 0 within)
-      | inr past ↦ omega (arith, lt, get_or_past {X = ℕ} (replicate size 0) node 0 (long past)) ]
+      | inl within ↦ omega (arith, lt, get_or-replicate {A = ℕ} size node 0 0 within)
+      | inr past ↦ omega (arith, lt, get_or_past {X = ℕ} (replicate size 0) node 0 (long past))
+    ]
       where
         long : size ≤ node → length {A = ℕ} (replicate size 0) ≤ node
         long past = omega (arith, past, length-replicate {A = ℕ} size 0)
@@ -201,8 +212,9 @@ pass_sound row size states passed path finished node at s more = record {
   finished_there = s.finished_there;
   there_finished = s.there_finished;
   behind = λ from k next lt here. elim (cases_eq from node) [
-    inl same ↦ at_node from k next lt here same
-    | inr ne ↦ s.behind from k next (omega (arith, lt, get_or-set_other passed node from at 0 ne)) here ];
+    | inl same ↦ at_node from k next lt here same
+    | inr ne ↦ s.behind from k next (omega (arith, lt, get_or-set_other passed node from at 0 ne)) here
+  ];
   linked = s.linked;
   path_distinct = s.path_distinct;
   finished_distinct = s.finished_distinct;
@@ -211,13 +223,15 @@ pass_sound row size states passed path finished node at s more = record {
   where
     at_node : (from k next : ℕ) → k < get_or (set passed node at) from 0 → slice_get (row from) k ≡ Some next → from ≡ node → slice_get states next ≡ Some Finished
     at_node from k next lt here same = elim (cases_lt k (get_or passed node 0)) [
-      inl before ↦ s.behind from k next (omega (arith, before, ap (λ (n : ℕ). get_or passed n 0) same)) here
-      | inr later ↦ more k next later (k_below from k lt same) (sym (ap (λ (n : ℕ). slice_get (row n) k) same) ∙ here) ]
+      | inl before ↦ s.behind from k next (omega (arith, before, ap (λ (n : ℕ). get_or passed n 0) same)) here
+      | inr later ↦ more k next later (k_below from k lt same) (sym (ap (λ (n : ℕ). slice_get (row n) k) same) ∙ here)
+    ]
       where
         k_below : (from k : ℕ) → k < get_or (set passed node at) from 0 → from ≡ node → k < at
         k_below from k lt same = elim (cases_lt node (length passed)) [
-          inl within ↦ omega (arith, lt, ap (λ (n : ℕ). get_or (set passed node at) n 0) same, get_or-set_same passed node at 0 within)
-          | inr past ↦ absurd (omega (arith, lt, ap (λ (n : ℕ). get_or (set passed node at) n 0) same, past_end past)) ]
+          | inl within ↦ omega (arith, lt, ap (λ (n : ℕ). get_or (set passed node at) n 0) same, get_or-set_same passed node at 0 within)
+          | inr past ↦ absurd (omega (arith, lt, ap (λ (n : ℕ). get_or (set passed node at) n 0) same, past_end past))
+        ]
           where
             past_end : length passed ≤ node → get_or (set passed node at) node 0 ≡ 0
             past_end past = get_or_past (set passed node at) node 0 (omega (arith, past, length-set passed node at))
@@ -241,3 +255,54 @@ row_passed row states passed at before more past next there =
             let at_in : at < length row = omega (arith, k_in, le) in
             let clash : ◌≡◌ {A = Option ℕ} None (Some (get_or row at 0)) = sym past ∙ slice_get-get_or row at 0 at_in in
             cc
+
+-- the edges along a list, from a place of it on, and one from its last node to the first of these, lead round
+round_from : (row : ℕ → List ℕ) (first node : ℕ) (xs : List ℕ) → LeadAlong row node xs → ((last : ℕ) → last_of (node ∷ xs) ≡ Some last → Contains (row last) first)
+    → LeadRound row first node xs
+round_from row first node [] along edge = edge node refl
+round_from row first node (b ∷ bs) along edge = (along.0, round_from row first b bs along.1 (λ last e. edge last (last_cons node b bs ∙ e)))
+
+closed_along : (row : ℕ → List ℕ) (at first node : ℕ) (xs : List ℕ) → LeadAlong row node xs → slice_get (node ∷ xs) at ≡ Some first
+    → ((last : ℕ) → last_of (node ∷ xs) ≡ Some last → Contains (row last) first) → IsClosed row (drop at (node ∷ xs))
+closed_along row zero first node xs along here edge =
+    let same : node ≡ first = cc in
+    round_from row node node xs along (λ last e. subst (λ (z : ℕ). Contains (row last) z) (sym same) (edge last e))
+closed_along row (suc at) first node [] along here edge = cc
+closed_along row (suc at) first node (b ∷ bs) along here edge = closed_along row at first b bs along.1 here (λ last e. edge last (last_cons node b bs ∙ e))
+
+-- the cycle that an edge from the path's last node to one of its nodes closes
+pub cycle_closed : (row : ℕ → List ℕ) (size : ℕ) (states : List Progress) (passed path finished : List ℕ) (at first : ℕ) → IsSearch row size states passed path finished
+    → slice_get path at ≡ Some first → ((last : ℕ) → last_of path ≡ Some last → Contains (row last) first) → IsCycle row size (drop at path)
+cycle_closed row size states passed path finished at first s here edge = record {
+  within = λ node there.
+      let opened : slice_get states node ≡ Some Open = s.path_open node (contains_dropped path at node there) in
+      omega (arith, slice_get_within states node Open opened, s.states_long);
+  distinct = distinct_dropped path at s.path_distinct;
+  closed = closed path s.linked here edge;
+}
+  where
+    closed : (nodes : List ℕ) → AreLinked row nodes → slice_get nodes at ≡ Some first → ((last : ℕ) → last_of nodes ≡ Some last → Contains (row last) first) → IsClosed row (drop at nodes)
+    closed [] linked e edge = cc
+    closed (node ∷ nodes) linked e edge = closed_along row at first node nodes linked e edge
+
+-- a search that has met all nodes, with an empty path, has them in order
+pub all_ordered : (row : ℕ → List ℕ) (size : ℕ) (states : List Progress) (passed path finished : List ℕ) → IsSearch row size states passed path finished → path ≡ []
+    → ((node : ℕ) → node < size → slice_get states node ≢ Some New) → IsTopologicalOrder row size (reverse finished)
+all_ordered row size states passed path finished s empty met = record {
+  all = λ node within. contains_reverse finished node (s.finished_there node (done node (get_or states node New) (omega (arith, within, s.states_long))
+      (slice_get-get_or states node New (omega (arith, within, s.states_long)))));
+  within = λ node there. omega (arith, slice_get_within states node Finished (s.there_finished node (contains_reversed finished node there)), s.states_long);
+  distinct = distinct_reversed finished s.finished_distinct;
+  onward = s.onward;
+}
+  where
+    done : (node : ℕ) (state : Progress) → node < length states → slice_get states node ≡ Some state → slice_get states node ≡ Some Finished
+    done node New long here = absurd (met node (omega (arith, long, s.states_long)) here)
+    done node Open long here = absurd (contains_none node (subst (λ (xs : List ℕ). Contains xs node) empty (s.open_on_path node here)))
+    done node Finished long here = here
+
+-- the path's last node has a number
+pub last_within : (row : ℕ → List ℕ) (size : ℕ) (states : List Progress) (passed path finished : List ℕ) (node : ℕ) → IsSearch row size states passed path finished
+    → last_of path ≡ Some node → node < size
+last_within row size states passed path finished node s last =
+    omega (arith, slice_get_within states node Open (last_open row size states passed path finished node s last), s.states_long)

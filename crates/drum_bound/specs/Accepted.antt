@@ -8,6 +8,7 @@ use Rattle.drum_times.specs.Allowed.{Notes, is_listed, allowed}
 use Rattle.drum_machine.specs.Counts.{mark_on}
 use Rattle.drum_machine.specs.Writes.{writes}
 use Rattle.drum_bound.specs.Executed.{IsOrder, found_after}
+use Rattle.drum_bound.specs.Graph.{AreDifferent}
 use Rattle.drum_bound.specs.Hops.{IsEdge, IsExecuted}
 
 -- the counts that there can be: the product of `most + 1` over the marks
@@ -107,11 +108,6 @@ abbrev pub IsTooLarge : (ℕ → Option Word) → Notes → ℕ → ℕ → Type
 IsTooLarge loads notes start product =
     IsSound loads notes start × (4000000 < product)
     × ((executed : List ℕ) × IsOrder loads notes start executed × (product ≡ length executed * counts_of notes.marks))
-
--- no member twice
-abbrev pub AreDifferent : List ℕ → Type 0
-AreDifferent [] = Unit {0}
-AreDifferent (place ∷ places) = ¬ Contains places place × AreDifferent places
 
 -- the first member is the smallest
 abbrev pub IsSmallestFirst : List ℕ → Type 0

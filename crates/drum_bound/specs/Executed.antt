@@ -5,7 +5,7 @@ use Rattle.std.specs.List.{list_any}
 use Rattle.drum_core.specs.declared.word.Word.{Word}
 use Rattle.drum_times.specs.Allowed.{Notes}
 use Rattle.drum_machine.specs.Ways.{Way, early, to, late}
-use Rattle.drum_bound.specs.Hops.{Hop, hops}
+use Rattle.drum_bound.specs.Hops.{hops}
 
 -- where a way goes on
 abbrev pub target_of : Way → Option ℕ

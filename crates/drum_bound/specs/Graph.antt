@@ -15,9 +15,9 @@ abbrev pub size : Graph → ℕ
 size graph = length graph.rows.items
 
 -- no member twice
-abbrev pub AreDistinct : List ℕ → Type 0
-AreDistinct [] = Unit {0}
-AreDistinct (node ∷ nodes) = ¬ Contains nodes node × AreDistinct nodes
+abbrev pub AreDifferent : List ℕ → Type 0
+AreDifferent [] = Unit {0}
+AreDifferent (node ∷ nodes) = ¬ Contains nodes node × AreDifferent nodes
 
 -- each edge of a member leads to a later member
 abbrev pub GoOn : (ℕ → List ℕ) → List ℕ → Type 0
@@ -28,7 +28,7 @@ GoOn row (node ∷ nodes) = ((next : ℕ) → Contains (row node) next → Conta
 pub record IsTopologicalOrder (row : ℕ → List ℕ) (size : ℕ) (order : List ℕ) : Type 0 where
   pub all : (node : ℕ) → node < size → Contains order node
   pub within : (node : ℕ) → Contains order node → node < size
-  pub distinct : AreDistinct order
+  pub distinct : AreDifferent order
   pub onward : GoOn row order
 
 -- edges lead from a node along these, and from the last to the first
@@ -43,7 +43,7 @@ IsClosed row (node ∷ nodes) = LeadRound row node node nodes
 -- Some nodes, none twice: edges lead from each to the next, and from the last to the first.
 pub record IsCycle (row : ℕ → List ℕ) (size : ℕ) (cycle : List ℕ) : Type 0 where
   pub within : (node : ℕ) → Contains cycle node → node < size
-  pub distinct : AreDistinct cycle
+  pub distinct : AreDifferent cycle
   pub closed : IsClosed row cycle
 
 -- an order in which every edge goes on, or a cycle

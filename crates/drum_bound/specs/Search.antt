@@ -4,7 +4,7 @@ use Rattle.std.specs.Prelude.{◌≡◌, ℕ, ◌-◌, ◌<◌, List, [], ◌∷
 use Rattle.drum_bound.specs.declared.graph.progress.Progress.{Progress}
 use Rattle.drum_bound.specs.declared.graph.progress.Progress.TheVariants.{New, Open, Finished}
 use Rattle.drum_bound.specs.declared.graph.search.Search.{Search}
-use Rattle.drum_bound.specs.Graph.{AreDistinct, GoOn}
+use Rattle.drum_bound.specs.Graph.{AreDifferent, GoOn}
 
 -- edges lead from a node along these
 abbrev pub LeadAlong : (ℕ → List ℕ) → ℕ → List ℕ → Type 0
@@ -31,8 +31,8 @@ pub record IsSearch (row : ℕ → List ℕ) (size : ℕ) (states : List Progres
   pub there_finished : (node : ℕ) → Contains finished node → slice_get states node ≡ Some Finished
   pub behind : (node k next : ℕ) → k < slice_index passed node → slice_get (row node) k ≡ Some next → slice_get states next ≡ Some Finished
   pub linked : AreLinked row path
-  pub path_distinct : AreDistinct path
-  pub finished_distinct : AreDistinct finished
+  pub path_distinct : AreDifferent path
+  pub finished_distinct : AreDifferent finished
   pub onward : GoOn row (reverse finished)
 
 abbrev pub Searches : (ℕ → List ℕ) → ℕ → Search → Type 0

@@ -1,5 +1,5 @@
-ghost use Rattle.std.specs.Prelude.{◌≡◌, ℕ, ◌<◌, ◌≤◌, ◌≢◌, [], List, length, slice_get, Some, IfOk, IfSome, IfNone, OnOk, Contains};
-ghost use Rattle.drum_bound.specs.declared.graph.progress.Progress.TheVariants.{New, Finished};
+ghost use Rattle.std.specs.Prelude.{◌≡◌, ℕ, ◌<◌, ◌≤◌, ◌≢◌, [], List, length, slice_get, Some, IfOk, IfSome, IfNone, OnOk, Contains, reverse};
+ghost use Rattle.drum_bound.specs.declared.graph.progress.Progress.TheVariants.{New, Open, Finished};
 
 use crate::graph::Graph;
 use crate::graph::progress::Progress;
@@ -30,7 +30,20 @@ impl Search {
         let size = graph.size();
         let states = vec![in alloc; Progress::New; size]?;
         let passed = vec![in alloc; 0; size]?;
-        Ok(Search { states, passed, path: Vec::new(alloc), finished: Vec::new(alloc) })
+        Ok(Search {
+            states,
+            passed,
+            path: Vec::new(alloc),
+            finished: Vec::new(alloc),
+        })
+    }
+
+    /// How far it has come with a node.
+    fn state(&self, node: usize) -> Progress
+        requires { node < length self.now.states.items }
+        ensures { slice_get self.now.states.items node ≡ Some result }
+    {
+        self.states[node]
     }
 
     /// Goes on to a new node, to which an edge of the path's last node leads, if it has one.
@@ -78,6 +91,120 @@ impl Search {
         self.passed[node] = at;
         node_at(row, at)
     }
+
+    /// The cycle that an edge from the path's last node to an open one closes.
+    fn cycle(&self, alloc: Global, graph: &Graph, first: usize) -> Result<Vec<usize>, AllocError>
+        requires sound { Searches (row graph.now) (size graph.now) self.now }
+        requires open { slice_get self.now.states.items first ≡ Some Open }
+        requires edge { (last : ℕ) → last_of self.now.path.items ≡ Some last → Contains (row graph.now last) first }
+        ensures { IfOk result (λ cycle. IsCycle (row graph.now) (size graph.now) cycle.items) }
+    {
+        let at = place_of(&self.path, first);
+        Vec::from_slice(alloc, &self.path[at..])
+    }
+
+    /// Follows the next edge of the path's last node, or finishes it; a cycle where the edge closes one.
+    fn step(
+        &mut self,
+        alloc: Global,
+        graph: &Graph,
+        node: usize,
+    ) -> Result<Option<Vec<usize>>, AllocError>
+        requires sound { Searches (row graph.now) (size graph.now) self.old }
+        requires last { last_of self.old.path.items ≡ Some node }
+        ensures sound { IfOk result (λ found. IfNone found (Searches (row graph.now) (size graph.now) self.new)) }
+        ensures less { IfOk result (λ found. IfNone found (work_left self.new < work_left self.old)) }
+        ensures kept { IfOk result (λ found. IfNone found (ForgetsNone self.old.states.items self.new.states.items)) }
+        ensures cycle { IfOk result (λ found. IfSome found (λ cycle. IsCycle (row graph.now) (size graph.now) cycle.items)) }
+    {
+        let Some(next) = self.pass(graph, node) else {
+            self.leave(graph, node)?;
+            return Ok(None);
+        };
+        match self.state(next) {
+            Progress::New => {
+                self.enter(graph, next)?;
+                Ok(None)
+            }
+            Progress::Open => {
+                let cycle = self.cycle(alloc, graph, next)?;
+                Ok(Some(cycle))
+            }
+            Progress::Finished => unreachable!(),
+        }
+    }
+
+    /// The path's last node.
+    fn last(&self) -> Option<usize>
+        ensures { result ≡ last_of self.now.path.items }
+    {
+        self.path.last().copied()
+    }
+
+    /// Finishes the path's nodes; a cycle where one is met.
+    fn finish(&mut self, alloc: Global, graph: &Graph) -> Result<Option<Vec<usize>>, AllocError>
+        requires { Searches (row graph.now) (size graph.now) self.old }
+        ensures sound { IfOk result (λ found. IfNone found (Searches (row graph.now) (size graph.now) self.new)) }
+        ensures empty { IfOk result (λ found. IfNone found (self.new.path.items ≡ [])) }
+        ensures kept { IfOk result (λ found. IfNone found (ForgetsNone self.old.states.items self.new.states.items)) }
+        ensures cycle { IfOk result (λ found. IfSome found (λ cycle. IsCycle (row graph.now) (size graph.now) cycle.items)) }
+    {
+        while let Some(node) = self.last() {
+            match self.step(alloc, graph, node) {
+                Err(error) => return Err(error),
+                Ok(Some(cycle)) => return Ok(Some(cycle)),
+                Ok(None) => {}
+            }
+        }
+        Ok(None)
+    }
+
+    /// Finishes a node and all that it leads to; a cycle where one is met.
+    pub fn finish_root(
+        &mut self,
+        alloc: Global,
+        graph: &Graph,
+        root: usize,
+    ) -> Result<Option<Vec<usize>>, AllocError>
+        requires sound { Searches (row graph.now) (size graph.now) self.old }
+        requires empty { self.old.path.items ≡ [] }
+        requires within { root < size graph.now }
+        ensures sound { IfOk result (λ found. IfNone found (Searches (row graph.now) (size graph.now) self.new)) }
+        ensures empty { IfOk result (λ found. IfNone found (self.new.path.items ≡ [])) }
+        ensures kept { IfOk result (λ found. IfNone found (ForgetsNone self.old.states.items self.new.states.items)) }
+        ensures met { IfOk result (λ found. IfNone found (slice_get self.new.states.items root ≢ Some New)) }
+        ensures cycle { IfOk result (λ found. IfSome found (λ cycle. IsCycle (row graph.now) (size graph.now) cycle.items)) }
+    {
+        match self.state(root) {
+            Progress::New => {
+                self.enter(graph, root)?;
+                self.finish(alloc, graph)
+            }
+            Progress::Open | Progress::Finished => Ok(None),
+        }
+    }
+
+    /// The finished nodes, the last first.
+    pub fn into_order(self) -> Vec<usize>
+        ensures { result.items ≡ reverse self.finished.items }
+    {
+        let Search { mut finished, .. } = self;
+        finished.reverse();
+        finished
+    }
+}
+
+/// Where a node stands on a path.
+fn place_of(path: &[usize], node: usize) -> usize
+    requires { Contains path.now node }
+    ensures { slice_get path.now result ≡ Some node }
+{
+    for (at, other) in path.iter().enumerate() {
+        if *other == node {
+            return at;
+        }
+    }
+    unreachable!()
 }
 
 /// The node at a place of a row; `None` past its end.

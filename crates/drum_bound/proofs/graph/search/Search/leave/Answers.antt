@@ -1,7 +1,6 @@
-use Rattle.std.proofs.Common.{◌≡◌, ◌≢◌, ◌<◌, ◌++◌, ◌∷◌, [], ℕ, List, length, vec_len, Option, Some, sym, ap, ◌∙◌, subst, arith}
+use Rattle.std.proofs.Common.{◌≡◌, ◌≢◌, ◌<◌, ◌++◌, ◌∷◌, [], ℕ, List, length, Some, sym, subst, arith}
 use Rattle.std.specs.Prelude.{slice_get, slice_set, IsSome}
 use Rattle.std.proofs.lemmas.Option.{slice_get_within}
-use Rattle.drum_bound.specs.declared.graph.progress.Progress.{Progress}
 use Rattle.drum_bound.specs.declared.graph.progress.Progress.TheVariants.{New, Open, Finished}
 use Rattle.drum_bound.specs.Graph.{row, size}
 use Rattle.drum_bound.specs.Search.{IsSearch}

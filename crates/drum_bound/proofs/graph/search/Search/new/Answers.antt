@@ -1,8 +1,6 @@
-use Rattle.std.proofs.Common.{rules, ◌≡◌, ℕ, [], List, replicate, sym, ap, ◌∙◌, subst}
-use Rattle.drum_bound.specs.declared.graph.progress.Progress.{Progress}
+use Rattle.std.proofs.Common.{rules, ◌≡◌, ℕ, replicate, ap, ◌∙◌}
 use Rattle.drum_bound.specs.declared.graph.progress.Progress.TheVariants.{New}
 use Rattle.drum_bound.specs.Graph.{row, size}
-use Rattle.drum_bound.specs.Search.{IsSearch}
 use Rattle.drum_bound.proofs.Searches.{new_sound}
 use Rattle.drum_bound.proofs.graph.search.Search.new.Goals as goal
 

@@ -1,4 +1,4 @@
-use Rattle.std.proofs.Common.{◌≡◌, ◌≢◌, ℕ, ◌<◌, ◌≤◌, length, List, Option, Some, None, IfSome, IfNone, Contains, sym, ap, ◌∙◌, subst, inl, inr, refl, arith}
+use Rattle.std.proofs.Common.{◌≡◌, ℕ, ◌<◌, ◌≤◌, length, List, Option, Some, None, IfNone, Contains, sym, ap, ◌∙◌, subst, refl, arith}
 use Rattle.std.specs.Prelude.{slice_get, slice_index}
 use Rattle.std.proofs.lemmas.List.{get_or_read}
 use Rattle.drum_bound.specs.declared.graph.progress.Progress.{Progress}
@@ -10,10 +10,10 @@ use Rattle.drum_bound.proofs.graph.search.Search.pass.Goals as goal
 pub first_unfinished-at-requires : goal.first_unfinished-at-requires
 first_unfinished-at-requires c = record {
   within = λ next there.
-  let edge : Contains (row c.args.graph.now c.args.node) next = subst (λ (xs : List ℕ). Contains xs next) c.row-row.ensures there in
-  let inside = c.args.graph.now.within c.args.node next edge in
-  let long : length c.deref.result.now ≡ size c.args.graph.now = ap (λ xs. length {A = Progress} xs) c.deref.ensures.value ∙ c.requires.sound.states_long in
-  omega (arith, inside, long);
+      let edge : Contains (row c.args.graph.now c.args.node) next = subst (λ (xs : List ℕ). Contains xs next) c.row-row.ensures there in
+      let inside = c.args.graph.now.within c.args.node next edge in
+      let long : length c.deref.result.now ≡ size c.args.graph.now = ap (λ xs. length {A = Progress} xs) c.deref.ensures.value ∙ c.requires.sound.states_long in
+      omega (arith, inside, long);
 }
 
 if_none : (found : Option ℕ) (P : Type 0) → (found ≡ None → P) → IfNone found P
