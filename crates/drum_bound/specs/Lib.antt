@@ -5,6 +5,7 @@ pub mod Hops
 pub mod Passes
 pub mod Rows
 pub mod Search
+pub mod Seen
 pub mod Table
 pub mod Walk
 pub mod WalkTime

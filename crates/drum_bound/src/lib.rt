@@ -9,6 +9,7 @@ pub mod laws;
 pub mod refusal;
 pub mod visit;
 pub mod way;
+pub mod ways;
 pub mod worst;
 
 pub use cycle::Cycle;
