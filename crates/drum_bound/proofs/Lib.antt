@@ -1,3 +1,4 @@
 mod Checks
+pub mod Instructed
 pub mod Lists
 pub mod Searches
