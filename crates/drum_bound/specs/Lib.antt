@@ -2,6 +2,7 @@ pub mod Accepted
 pub mod Executed
 pub mod Graph
 pub mod Hops
+pub mod HopsLeft
 pub mod Instructions
 pub mod Passes
 pub mod Rows

@@ -1,4 +1,4 @@
-ghost use Rattle.std.specs.Prelude.{◌≡◌, flat_map, option_to_list};
+ghost use Rattle.std.specs.Prelude.{◌≡◌, [], flat_map, option_to_list};
 ghost use Rattle.std.specs.Iterator.{YieldsFirst, item_count};
 ghost use Rattle.drum_core.specs.Loads.{loads_in};
 ghost use Rattle.drum_times.specs.Allowed as allowed;
@@ -24,6 +24,17 @@ impl<'a> Instructions<'a> {
         Instructions {
             loaded: loaded(deck, location),
             patterns: listed(notes, location),
+            place: 0,
+        }
+    }
+
+    /// No instruction.
+    pub fn none() -> Instructions<'a>
+        ensures { instructions_left result ≡ [] }
+    {
+        Instructions {
+            loaded: None,
+            patterns: &[],
             place: 0,
         }
     }

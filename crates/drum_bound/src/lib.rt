@@ -5,6 +5,7 @@
 pub mod cycle;
 pub mod graph;
 pub mod hop;
+pub mod hops;
 pub mod instructions;
 pub mod laws;
 pub mod refusal;

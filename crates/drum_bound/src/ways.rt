@@ -40,7 +40,7 @@ impl Ways {
     }
 
     /// No way.
-    fn none() -> Ways
+    pub fn none() -> Ways
         ensures { result ≡ record { stops_early = false; branch = None; next = None; stops_late = false } }
     {
         Ways {
