@@ -1,5 +1,6 @@
 pub mod Accepted
 pub mod Executed
+pub mod Found
 pub mod Graph
 pub mod Hops
 pub mod HopsLeft

@@ -3,6 +3,7 @@
 #![tactic(auto)]
 
 pub mod cycle;
+pub mod executed;
 pub mod graph;
 pub mod hop;
 pub mod hops;
