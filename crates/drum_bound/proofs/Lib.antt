@@ -2,4 +2,5 @@ mod Checks
 pub mod Founds
 pub mod Instructed
 pub mod Lists
+pub mod Orders
 pub mod Searches

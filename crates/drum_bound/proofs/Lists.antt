@@ -5,28 +5,28 @@ use Rattle.std.proofs.lemmas.List.{reverse-append}
 use Rattle.std.proofs.lemmas.List.Elements.{Contains-append_left, Contains-append_right, Contains-append_cases}
 use Rattle.drum_bound.specs.Graph.{AreDifferent}
 
-pub contains_here : (x : ℕ) (xs : List ℕ) → Contains (x ∷ xs) x
+pub contains_here : {X : Type 0} (x : X) (xs : List X) → Contains (x ∷ xs) x
 contains_here x xs = (0, omega arith, refl)
 
-pub contains_there : (x y : ℕ) (xs : List ℕ) → Contains xs y → Contains (x ∷ xs) y
+pub contains_there : {X : Type 0} (x y : X) (xs : List X) → Contains xs y → Contains (x ∷ xs) y
 contains_there x y xs h = (suc h.0, omega (arith, h.1), h.2)
 
-pub contains_cases : (x y : ℕ) (xs : List ℕ) → Contains (x ∷ xs) y → (x ≡ y) ⊎ Contains xs y
+pub contains_cases : {X : Type 0} (x y : X) (xs : List X) → Contains (x ∷ xs) y → (x ≡ y) ⊎ Contains xs y
 contains_cases x y xs h = go h.0 h.1 h.2
   where
     go : (k : ℕ) → k < length (x ∷ xs) → get_or (x ∷ xs) k y ≡ y → (x ≡ y) ⊎ Contains xs y
     go zero lt e = inl e
     go (suc k) lt e = inr (k, omega (arith, lt), e)
 
-pub contains_none : (y : ℕ) → ¬ Contains [] y
+pub contains_none : {X : Type 0} (y : X) → ¬ Contains [] y
 contains_none y h = omega (arith, h.1)
 
 -- a member stands somewhere
-pub contains_at : (xs : List ℕ) (y : ℕ) → Contains xs y → (k : ℕ) × (slice_get xs k ≡ Some y)
+pub contains_at : {X : Type 0} (xs : List X) (y : X) → Contains xs y → (k : ℕ) × (slice_get xs k ≡ Some y)
 contains_at [] y h = absurd (contains_none y h)
 contains_at (x ∷ xs) y h = elim (contains_cases x y xs h) [ inl e ↦ (0, ap Some e) | inr there ↦ (let found : (k : ℕ) × (slice_get xs k ≡ Some y) = contains_at xs y there in (suc found.0, found.1)) ]
 
-pub contains_from_get : (xs : List ℕ) (k y : ℕ) → slice_get xs k ≡ Some y → Contains xs y
+pub contains_from_get : {X : Type 0} (xs : List X) (k : ℕ) (y : X) → slice_get xs k ≡ Some y → Contains xs y
 contains_from_get [] k y e = cc
 contains_from_get (x ∷ xs) zero y e =
     let same : x ≡ y = cc in

@@ -1,11 +1,13 @@
 pub mod Accepted
 pub mod Executed
+pub mod Flow
 pub mod Found
 pub mod Graph
 pub mod Hops
 pub mod HopsLeft
 pub mod Instructions
 pub mod Passes
+pub mod Refused
 pub mod Rows
 pub mod Search
 pub mod Seen

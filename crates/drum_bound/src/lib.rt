@@ -3,12 +3,15 @@
 #![tactic(auto)]
 
 pub mod cycle;
+mod discovery;
 pub mod executed;
+mod flow_graph;
 pub mod graph;
 pub mod hop;
 pub mod hops;
 pub mod instructions;
 pub mod laws;
+mod place;
 pub mod refusal;
 pub mod visit;
 pub mod way;
@@ -16,6 +19,8 @@ pub mod ways;
 pub mod worst;
 
 pub use cycle::Cycle;
+pub use discovery::flow;
+pub use flow_graph::Flow;
 pub use hop::Hop;
 pub use refusal::Refusal;
 pub use visit::Visit;

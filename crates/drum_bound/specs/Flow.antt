@@ -1,0 +1,21 @@
+-- What a flow is of: a deck, its notes, and the executed locations.
+use Rattle.std.specs.Prelude.{ℕ, List, Option, Contains}
+use Rattle.drum_core.specs.declared.word.Word.{Word}
+use Rattle.drum_times.specs.Allowed.{Notes}
+use Rattle.drum_bound.specs.declared.flow_graph.Flow.{Flow}
+use Rattle.drum_bound.specs.Accepted.{IsGood}
+use Rattle.drum_bound.specs.Executed.{IsOrder}
+use Rattle.drum_bound.specs.Found.{places_of}
+use Rattle.drum_bound.specs.Hops.{IsExecuted}
+
+-- the executed locations, in the order of discovery
+abbrev pub executed_in : Flow → List ℕ
+executed_in flow = places_of flow.executed
+
+-- These are the executed locations in the order of discovery, all of them loaded or listed, with operations in the
+-- profile alone.
+pub record AreExecuted (loads : ℕ → Option Word) (notes : Notes) (start : ℕ) (places : List ℕ) : Type 0 where
+  pub order : IsOrder loads notes start places
+  pub all : (place : ℕ) → IsExecuted loads notes start place → Contains places place
+  pub only : (place : ℕ) → Contains places place → IsExecuted loads notes start place
+  pub good : (place : ℕ) → Contains places place → IsGood loads notes place

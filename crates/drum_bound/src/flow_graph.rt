@@ -1,0 +1,39 @@
+ghost use Rattle.std.specs.Prelude.{◌≡◌, [], map, Contains};
+ghost use Rattle.drum_core.specs.Loads.{loads_in};
+ghost use Rattle.drum_bound.specs.Hops as said;
+ghost use Rattle.drum_bound.specs.HopsLeft.{hops_left};
+ghost use Rattle.drum_bound.specs.Flow.{executed_in};
+
+use crate::executed::Executed;
+use crate::hops::Hops;
+use drum_core::{Deck, Location};
+use drum_times::Notes;
+
+/// The flow graph of a deck under its notes: the executed locations, and the hops of each.
+#[derive(Debug, Drop)]
+pub struct Flow<'a> {
+    pub(crate) deck: &'a Deck,
+    pub(crate) notes: &'a Notes,
+    pub(crate) executed: Executed,
+}
+
+impl<'a> Flow<'a> {
+    /// The executed locations, in the order of discovery.
+    pub fn executed(&self) -> &[Location]
+        ensures { map (λ location. location.number) result.now ≡ executed_in self.now }
+    {
+        self.executed.locations()
+    }
+
+    /// The hops of a location, in order; none of one that isn't executed.
+    pub fn hops(&self, location: Location) -> Hops<'a>
+        ensures executed { Contains (executed_in self.now) location.number
+            → hops_left result ≡ said.hops (loads_in self.now.deck.now) self.now.notes.now location.number }
+        ensures others { ¬ Contains (executed_in self.now) location.number → hops_left result ≡ [] }
+    {
+        match self.executed.place_of(location) {
+            Some(_) => Hops::at(self.deck, self.notes, location),
+            None => Hops::none(self.notes),
+        }
+    }
+}
