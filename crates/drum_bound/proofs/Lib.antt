@@ -1,4 +1,5 @@
 mod Checks
+pub mod Flags
 pub mod Founds
 pub mod Instructed
 pub mod Lists

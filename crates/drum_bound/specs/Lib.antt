@@ -1,5 +1,7 @@
 pub mod Accepted
+pub mod Altering
 pub mod Executed
+pub mod Fixed
 pub mod Flow
 pub mod Found
 pub mod Graph

@@ -2,9 +2,11 @@
 //! walks, and the bound. Today its definitions (specs/), and the plain types that they speak of.
 #![tactic(auto)]
 
+mod altering;
 pub mod cycle;
 mod discovery;
 pub mod executed;
+mod fixed;
 mod flow_graph;
 pub mod graph;
 pub mod hop;
@@ -16,6 +18,7 @@ pub mod refusal;
 pub mod visit;
 pub mod way;
 pub mod ways;
+mod writes;
 pub mod worst;
 
 pub use cycle::Cycle;

@@ -2,6 +2,7 @@
 
 ghost use Rattle.std.specs.Prelude.{◌≡◌, ℕ, MatchBool, IfSome, IfNone, IfErr, OnOk};
 ghost use Rattle.drum_core.specs.Loads.{loads_in};
+ghost use Rattle.drum_times.specs.Allowed as listed;
 ghost use Rattle.drum_times.specs.Allowed.{allowed};
 ghost use Rattle.drum_bound.specs.Accepted.{IsThere, IsInProfile, IsGood, IsFirstIn};
 ghost use Rattle.drum_bound.specs.Refused.{IsOutside, IsWrong};
@@ -36,6 +37,13 @@ fn is_there(deck: &Deck, notes: &Notes, location: Location) -> bool
     if deck.word(location).is_some() {
         return true;
     }
+    is_listed(notes, location)
+}
+
+/// Whether the location has a list.
+pub fn is_listed(notes: &Notes, location: Location) -> bool
+    ensures { result ≡ listed.is_listed notes.now location.number }
+{
     notes.patterns(location).is_some()
 }
 
