@@ -1,7 +1,7 @@
 -- The instructions that are allowed at a location, from those that are left of a pattern.
 use Rattle.std.proofs.Common.{◌≡◌, ℕ, zero, suc, ◌+◌, ◌-◌, ◌*◌, ◌/◌, ◌%◌, ◌^◌, ◌<◌, ◌≤◌, List, [], ◌∷◌, ◌++◌, length, get_or, drop, Some, None, refl, ap, sym, ◌∙◌, inl, inr, subst, arith}
 use Rattle.std.proofs.lemmas.Bool.{cases_lt}
-use Rattle.std.proofs.lemmas.List.{append_assoc, length-map, drop_more, drop_all}
+use Rattle.std.proofs.lemmas.List.{append-nil, append_assoc, length-map, drop_more, drop_all}
 use Rattle.std.proofs.lemmas.List.Elements.{Contains-push_cases}
 use Rattle.std.proofs.lemmas.Option.{slice_get_within, get_or_from_slice_get}
 use Rattle.std.proofs.lemmas.List.FromFn.{length-range_with_len}
@@ -88,3 +88,7 @@ none_more Property xs x before here other there = elim (Contains-push_cases xs x
 -- one more instruction taken from those that are left
 pub taken_more : (taken left others all : List Instruction) (x : Instruction) → taken ++ left ≡ all → left ≡ x ∷ others → (taken ++ x ∷ []) ++ others ≡ all
 taken_more taken left others all x split first = append_assoc taken (x ∷ []) others ∙ sym (ap (λ (xs : List Instruction). taken ++ xs) first) ∙ split
+
+-- all are taken where none are left
+pub taken_all : (taken left all : List Instruction) → taken ++ left ≡ all → left ≡ [] → taken ≡ all
+taken_all taken left all split none = sym (append-nil taken) ∙ sym (ap (λ (xs : List Instruction). taken ++ xs) none) ∙ split

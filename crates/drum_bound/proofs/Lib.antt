@@ -1,3 +1,4 @@
+pub mod Alterations
 mod Checks
 pub mod Flags
 pub mod Founds

@@ -19,7 +19,8 @@ fn lowest_altered(flow: &Flow<'_>, fixed: &Fixed, instruction: Instruction) -> O
     ensures some { IfSome result (λ word. IsLowestAltered (loads_in flow.now.deck.now) flow.now.notes.now (start_in flow.now.deck.now) instruction word.number) }
     ensures none { IfNone result (¬ said.Alters (loads_in flow.now.deck.now) flow.now.notes.now (start_in flow.now.deck.now) instruction) }
 {
-    for number in writes(instruction) {
+    let words = writes(instruction);
+    for number in words.start..words.end {
         if fixed.has(number) {
             return Location::new(number);
         }
@@ -56,7 +57,10 @@ pub fn check_unaltered(flow: &Flow<'_>, fixed: &Fixed) -> Result<(), Refusal>
 {
     for writer in flow.executed() {
         if let Some(word) = first_altered(flow, fixed, *writer) {
-            return Err(Refusal::Alters { writer: *writer, word });
+            return Err(Refusal::Alters {
+                writer: *writer,
+                word,
+            });
         }
     }
     Ok(())

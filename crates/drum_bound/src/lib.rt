@@ -18,8 +18,8 @@ pub mod refusal;
 pub mod visit;
 pub mod way;
 pub mod ways;
-mod writes;
 pub mod worst;
+mod writes;
 
 pub use cycle::Cycle;
 pub use discovery::flow;

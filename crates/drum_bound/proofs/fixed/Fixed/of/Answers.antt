@@ -1,4 +1,4 @@
-use Rattle.std.proofs.Common.{rules, ◌≡◌, ℕ, ◌+◌, ◌<◌, ◌≤◌, true, false, length, map, take, get_or, List, ◌++◌, ◌∷◌, [], Bool, replicate, sym, ap, ◌∙◌, subst, arith}
+use Rattle.std.proofs.Common.{rules, ◌≡◌, ℕ, ◌+◌, ◌<◌, true, false, length, take, get_or, List, ◌++◌, ◌∷◌, [], Bool, replicate, sym, ap, ◌∙◌, subst, arith}
 use Rattle.std.specs.Prelude.{slice_set}
 use Rattle.std.proofs.lemmas.List.{map_more, take_all}
 use Rattle.drum_core.specs.declared.location.Location.{Location}
