@@ -5,4 +5,5 @@ pub mod Founds
 pub mod Instructed
 pub mod Lists
 pub mod Orders
+pub mod Products
 pub mod Searches

@@ -3,6 +3,7 @@
 #![tactic(auto)]
 
 mod altering;
+mod counts;
 pub mod cycle;
 mod discovery;
 pub mod executed;
