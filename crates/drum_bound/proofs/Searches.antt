@@ -8,7 +8,7 @@ use Rattle.std.proofs.lemmas.List.Sums.{sum_by-set}
 use Rattle.std.proofs.lemmas.Option.{slice_get_within, slice_get-get_or, get_or_from_slice_get}
 use Rattle.drum_bound.specs.declared.graph.progress.Progress.{Progress}
 use Rattle.drum_bound.specs.declared.graph.progress.Progress.TheVariants.{New, Open, Finished}
-use Rattle.drum_bound.specs.Graph.{AreDifferent, GoOn, LeadRound, IsClosed, IsCycle, IsTopologicalOrder}
+use Rattle.drum_bound.specs.Graph.{AreDifferent, GoOn, Leads, LeadRound, IsClosed, IsCycle, IsTopologicalOrder}
 use Rattle.drum_bound.specs.Search.{LeadAlong, AreLinked, last_of, IsSearch, steps_left, ForgetsNone}
 use Rattle.drum_bound.proofs.Lists.{contains_at, contains_from_get, contains_cases, contains_none, contains_reverse, contains_reversed, contains_dropped, distinct_push, distinct_front, distinct_last, distinct_dropped, distinct_reversed, get_written, get_other, get_replicated}
 
@@ -121,7 +121,7 @@ module _ (row : ℕ → List ℕ) (size : ℕ) (states : List Progress) (passed 
         linked = linked_front row front node (subst (AreLinked row) split s.linked);
         path_distinct = distinct_front front node path_distinct;
         finished_distinct = distinct_push finished node s.finished_distinct (λ there. not_finished node (s.there_finished node there) refl);
-        onward = subst (GoOn row) (sym (reverse-append finished (node ∷ [])))
+        onward = subst (GoOn (Leads row)) (sym (reverse-append finished (node ∷ [])))
             (λ next edge. contains_reverse finished next (s.finished_there next (all next edge)), s.onward);
       }
     where

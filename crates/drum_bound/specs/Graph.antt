@@ -20,16 +20,20 @@ AreDifferent [] = Unit {0}
 AreDifferent (node ∷ nodes) = ¬ Contains nodes node × AreDifferent nodes
 
 -- each edge of a member leads to a later member
-abbrev pub GoOn : (ℕ → List ℕ) → List ℕ → Type 0
-GoOn row [] = Unit {0}
-GoOn row (node ∷ nodes) = ((next : ℕ) → Contains (row node) next → Contains nodes next) × GoOn row nodes
+abbrev pub GoOn : (ℕ → ℕ → Type 0) → List ℕ → Type 0
+GoOn Edge [] = Unit {0}
+GoOn Edge (node ∷ nodes) = ((next : ℕ) → Edge node next → Contains nodes next) × GoOn Edge nodes
+
+-- an edge of rows leads from the one node to the other
+abbrev pub Leads : (ℕ → List ℕ) → ℕ → ℕ → Type 0
+Leads row node next = Contains (row node) next
 
 -- All nodes, none twice, and every edge goes on.
 pub record IsTopologicalOrder (row : ℕ → List ℕ) (size : ℕ) (order : List ℕ) : Type 0 where
   pub all : (node : ℕ) → node < size → Contains order node
   pub within : (node : ℕ) → Contains order node → node < size
   pub distinct : AreDifferent order
-  pub onward : GoOn row order
+  pub onward : GoOn (Leads row) order
 
 -- edges lead from a node along these, and from the last to the first
 abbrev pub LeadRound : (ℕ → List ℕ) → ℕ → ℕ → List ℕ → Type 0

@@ -4,7 +4,7 @@ use Rattle.std.specs.Prelude.{◌≡◌, ℕ, ◌-◌, ◌<◌, List, [], ◌∷
 use Rattle.drum_bound.specs.declared.graph.progress.Progress.{Progress}
 use Rattle.drum_bound.specs.declared.graph.progress.Progress.TheVariants.{New, Open, Finished}
 use Rattle.drum_bound.specs.declared.graph.search.Search.{Search}
-use Rattle.drum_bound.specs.Graph.{AreDifferent, GoOn}
+use Rattle.drum_bound.specs.Graph.{AreDifferent, GoOn, Leads}
 
 -- edges lead from a node along these
 abbrev pub LeadAlong : (ℕ → List ℕ) → ℕ → List ℕ → Type 0
@@ -33,7 +33,7 @@ pub record IsSearch (row : ℕ → List ℕ) (size : ℕ) (states : List Progres
   pub linked : AreLinked row path
   pub path_distinct : AreDifferent path
   pub finished_distinct : AreDifferent finished
-  pub onward : GoOn row (reverse finished)
+  pub onward : GoOn (Leads row) (reverse finished)
 
 abbrev pub Searches : (ℕ → List ℕ) → ℕ → Search → Type 0
 Searches row size search = IsSearch row size search.states.items search.passed.items search.path.items search.finished.items

@@ -14,6 +14,7 @@ pub mod hop;
 pub mod hops;
 pub mod instructions;
 pub mod laws;
+mod marked;
 mod place;
 pub mod refusal;
 pub mod visit;
