@@ -1,11 +1,11 @@
 -- The executed locations, held as a set, are the definitions' list of numbers.
-use Rattle.std.proofs.Common.{◌≡◌, ℕ, ◌-◌, ◌<◌, ◌≤◌, Bool, true, false, eqb, List, [], ◌∷◌, ◌++◌, length, get_or, map, Some, refl, ap, sym, ◌∙◌, subst, inl, inr, ◌⊎◌, arith}
+use Rattle.std.proofs.Common.{◌≡◌, ℕ, ◌+◌, ◌-◌, ◌<◌, ◌≤◌, Bool, true, false, eqb, List, [], ◌∷◌, ◌++◌, length, get_or, take, map, Some, refl, ap, sym, ◌∙◌, subst, inl, inr, ◌⊎◌, arith}
 use Rattle.std.specs.Prelude.{slice_get, Contains, if◌then◌else◌, ◌||◌, nat_lt, position, option_map}
 use Rattle.std.specs.List.{list_any, AllByRecursion, IsDistinct}
 use Rattle.std.proofs.lemmas.Bool.{eqb-true, eq-eqb}
 use borrow.Author.Tests.{ltb-true, ltb-false}
 use Rattle.std.proofs.lemmas.Bool.Decides.{eqb_tells}
-use Rattle.std.proofs.lemmas.List.{length-map}
+use Rattle.std.proofs.lemmas.List.{length-map, map_more}
 use Rattle.std.proofs.lemmas.List.Quantifiers.{position-Some}
 use Rattle.std.proofs.lemmas.Map.Keys.{IsDistinct-head, IsDistinct-tail, IsDistinct-cons}
 use Rattle.std.proofs.lemmas.Map.Steps.{length-le_from_distinct_below}
@@ -160,3 +160,9 @@ with_new_one places x xs = go (list_any (λ place. eqb place x) places)
     go : (b : Bool) → with_new (if b then places else places ++ x ∷ []) xs ≡ (if b then with_new places xs else with_new (places ++ x ∷ []) xs)
     go true = refl
     go false = refl
+
+-- the numbers so far and this one
+pub numbers_more : (locations : List Location) (place : ℕ) (location : Location) → place < length locations → location ≡ get_or locations place location
+    → numbers (take (place + 1) locations) ≡ numbers (take place locations) ++ location.number ∷ []
+numbers_more locations place location inside here =
+    map_more (λ (one : Location). one.number) locations place location inside ∙ ap (λ (one : Location). numbers (take place locations) ++ one.number ∷ []) (sym here)

@@ -2,6 +2,7 @@ pub mod Alterations
 mod Checks
 pub mod Flags
 pub mod Founds
+pub mod FreeRows
 pub mod Instructed
 pub mod Lists
 pub mod Orders

@@ -47,7 +47,7 @@ kept places xs x there =
     contains_from_get (with_new places xs) found.0 x (with_new_keeps places xs found.0 x found.1)
 
 -- all that is to be added is there
-with_new_has : (places xs : List ℕ) (x : ℕ) → Contains xs x → Contains (with_new places xs) x
+pub with_new_has : (places xs : List ℕ) (x : ℕ) → Contains xs x → Contains (with_new places xs) x
 with_new_has places [] x there = absurd (contains_none x there)
 with_new_has places (y ∷ xs) x there = go (list_any (λ place. eqb place y) places) refl (with_new_has places xs x) (with_new_has (places ++ y ∷ []) xs x)
   where
@@ -63,7 +63,7 @@ with_new_has places (y ∷ xs) x there = go (list_any (λ place. eqb place y) pl
     ]
 
 -- and nothing else
-with_new_only : (places xs : List ℕ) (x : ℕ) → Contains (with_new places xs) x → Contains places x ⊎ Contains xs x
+pub with_new_only : (places xs : List ℕ) (x : ℕ) → Contains (with_new places xs) x → Contains places x ⊎ Contains xs x
 with_new_only places [] x there = inl there
 with_new_only places (y ∷ xs) x there = go (list_any (λ place. eqb place y) places) there (with_new_only places xs x) (with_new_only (places ++ y ∷ []) xs x)
   where
@@ -91,7 +91,7 @@ with_new_before places xs k x inside e =
 abbrev targets : List Hop → List ℕ
 targets all = filter_map (λ hop. target_of hop.way) all
 
-target_there : (all : List Hop) (ins : Instruction) (next : ℕ) → Contains all (record { ins = ins; way = to next }) → Contains (targets all) next
+pub target_there : (all : List Hop) (ins : Instruction) (next : ℕ) → Contains all (record { ins = ins; way = to next }) → Contains (targets all) next
 target_there [] ins next there = absurd (contains_none _ there)
 target_there (hop ∷ others) ins next there = elim (contains_cases hop (record { ins = ins; way = to next }) others there) [
   | inl same ↦ here hop.way (ap (λ (h : Hop). h.way) same)
@@ -110,7 +110,7 @@ target_there (hop ∷ others) ins next there = elim (contains_cases hop (record 
     later (to one) there = contains_there one next (targets others) there
     later late there = there
 
-hop_there : (all : List Hop) (next : ℕ) → Contains (targets all) next → (ins : Instruction) × Contains all (record { ins = ins; way = to next })
+pub hop_there : (all : List Hop) (next : ℕ) → Contains (targets all) next → (ins : Instruction) × Contains all (record { ins = ins; way = to next })
 hop_there [] next there = absurd (contains_none next there)
 hop_there (hop ∷ others) next there = go hop.way there (hop_there others next)
   where

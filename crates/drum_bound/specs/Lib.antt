@@ -4,6 +4,7 @@ pub mod Executed
 pub mod Fixed
 pub mod Flow
 pub mod Found
+pub mod Free
 pub mod Graph
 pub mod Hops
 pub mod HopsLeft

@@ -10,13 +10,22 @@ use drum_core::Location;
 use indexmap::IndexSet;
 use std::alloc::{AllocError, Global};
 
-/// The executed locations, in the order in which they are found.
+/// Locations without repeats, in the order in which they are found: the executed ones, or the successors of one.
 #[derive(Debug, Drop)]
 pub struct Executed {
     locations: IndexSet<Location>,
 }
 
 impl Executed {
+    /// No location.
+    pub fn none(alloc: Global) -> Executed
+        ensures { places_of result ≡ [] }
+    {
+        Executed {
+            locations: IndexSet::new(alloc),
+        }
+    }
+
     /// The start alone.
     pub fn new(alloc: Global, start: Location) -> Result<Executed, AllocError>
         ensures { IfOk result (λ executed. places_of executed ≡ start.number ∷ []) }

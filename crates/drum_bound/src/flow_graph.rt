@@ -1,8 +1,9 @@
-ghost use Rattle.std.specs.Prelude.{◌≡◌, [], map, Contains};
+ghost use Rattle.std.specs.Prelude.{◌≡◌, ◌≤◌, [], map, length, slice_get, Some, Contains, IfSome, IfNone};
 ghost use Rattle.drum_core.specs.Loads.{loads_in};
 ghost use Rattle.drum_bound.specs.Hops as said;
 ghost use Rattle.drum_bound.specs.HopsLeft.{hops_left};
 ghost use Rattle.drum_bound.specs.Flow.{executed_in};
+ghost use Rattle.drum_bound.specs.Graph.{AreDifferent};
 
 use crate::executed::Executed;
 use crate::hops::Hops;
@@ -20,9 +21,21 @@ pub struct Flow<'a> {
 impl<'a> Flow<'a> {
     /// The executed locations, in the order of discovery.
     pub fn executed(&self) -> &[Location]
-        ensures { map (λ location. location.number) result.now ≡ executed_in self.now }
+        ensures all { map (λ location. location.number) result.now ≡ executed_in self.now }
+        ensures different { AreDifferent (executed_in self.now) }
+        ensures few { length (executed_in self.now) ≤ 2004 }
     {
         self.executed.locations()
+    }
+
+    /// The place of a location in that order; `None` for one that isn't executed.
+    pub fn place_of(&self, location: Location) -> Option<usize>
+        ensures found { IfSome result (λ place. slice_get (executed_in self.now) place ≡ Some location.number) }
+        ensures none { IfNone result (¬ Contains (executed_in self.now) location.number) }
+        ensures different { AreDifferent (executed_in self.now) }
+    {
+        let _executed = self.executed.locations();
+        self.executed.place_of(location)
     }
 
     /// The hops of a location, in order; none of one that isn't executed.

@@ -9,6 +9,7 @@ mod discovery;
 pub mod executed;
 mod fixed;
 mod flow_graph;
+mod free;
 pub mod graph;
 pub mod hop;
 pub mod hops;

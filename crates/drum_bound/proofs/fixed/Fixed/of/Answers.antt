@@ -1,11 +1,11 @@
-use Rattle.std.proofs.Common.{rules, ◌≡◌, ℕ, ◌+◌, ◌<◌, true, false, length, take, get_or, List, ◌++◌, ◌∷◌, [], Bool, replicate, sym, ap, ◌∙◌, subst, arith}
+use Rattle.std.proofs.Common.{rules, ◌≡◌, ℕ, ◌<◌, true, false, length, take, List, [], Bool, replicate, sym, ◌∙◌, subst, arith}
 use Rattle.std.specs.Prelude.{slice_set}
-use Rattle.std.proofs.lemmas.List.{map_more, take_all}
+use Rattle.std.proofs.lemmas.List.{take_all}
 use Rattle.drum_core.specs.declared.location.Location.{Location}
 use Rattle.drum_times.specs.Allowed.{is_listed}
 use Rattle.drum_bound.specs.Fixed.{AreFlagged}
 use Rattle.drum_bound.proofs.Flags.{none_flagged, flag_more, flag_same}
-use Rattle.drum_bound.proofs.Founds.{numbers}
+use Rattle.drum_bound.proofs.Founds.{numbers, numbers_more}
 use Rattle.drum_bound.proofs.fixed.Fixed.of.Goals as goal
 
 pub loop-location-init : goal.loop-location-init
@@ -16,12 +16,6 @@ loop-location-init c =
       flagged = subst (λ (all : List Bool). AreFlagged [] c.args.notes.now all) (sym flags) (none_flagged c.args.notes.now 8004);
     }
 
--- the locations so far and this one
-more_so_far : (executed : List Location) (place : ℕ) (location : Location) → place < length executed → location ≡ get_or executed place location
-    → numbers (take (place + 1) executed) ≡ numbers (take place executed) ++ location.number ∷ []
-more_so_far executed place location inside here =
-    map_more (λ (one : Location). one.number) executed place location inside ∙ ap (λ (one : Location). numbers (take place executed) ++ one.number ∷ []) (sym here)
-
 pub loop-location-preserved-then-is_listed : goal.loop-location-preserved-then-is_listed
 loop-location-preserved-then-is_listed c =
     let executed = c.args.executed.now in
@@ -30,7 +24,7 @@ loop-location-preserved-then-is_listed c =
     let notes = c.args.notes.now in
     record {
       long = c.loop-location.invariant.long;
-      flagged = subst (λ (all : List ℕ). AreFlagged all notes c.loop-location.flags.items) (sym (more_so_far executed place location c.loop-location-test.true c.location-item.is))
+      flagged = subst (λ (all : List ℕ). AreFlagged all notes c.loop-location.flags.items) (sym (numbers_more executed place location c.loop-location-test.true c.location-item.is))
           (flag_same (numbers (take place executed)) notes c.loop-location.flags.items location.number c.loop-location.invariant.flagged (sym c.is_listed.ensures ∙ c.if-is_listed.true));
     }
 
@@ -47,7 +41,7 @@ loop-location-preserved c =
     cc in
     record {
       long = c.loop-location.invariant.long;
-      flagged = subst (λ (all : List ℕ). AreFlagged all notes (slice_set flags.items location.number true)) (sym (more_so_far executed place location c.loop-location-test.true c.location-item.is))
+      flagged = subst (λ (all : List ℕ). AreFlagged all notes (slice_set flags.items location.number true)) (sym (numbers_more executed place location c.loop-location-test.true c.location-item.is))
           (flag_more (numbers (take place executed)) notes flags.items location.number c.loop-location.invariant.flagged inside free);
     }
 
