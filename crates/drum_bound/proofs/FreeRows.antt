@@ -1,5 +1,9 @@
 -- Rows of the places that edges free of marks lead to.
-use Rattle.std.proofs.Common.{◌≡◌, ℕ, zero, suc, Bool, true, false, List, [], ◌∷◌, ◌++◌, Option, Some, refl, ap, sym, ◌∙◌, subst, inl, inr}
+use Rattle.std.proofs.Common.{◌≡◌, ℕ, zero, suc, ◌+◌, ◌<◌, ◌≤◌, Bool, true, false, List, [], ◌∷◌, ◌++◌, length, get_or, Option, Some, refl, ap, sym, ◌∙◌, subst, inl, inr, arith}
+use Rattle.std.proofs.lemmas.Bool.{cases_lt}
+use Rattle.std.proofs.lemmas.Option.{slice_get_within, slice_get-get_or}
+use Rattle.std.specs.Prelude.{Vec}
+use Rattle.std.specs.declared.alloc.Global.{Global}
 use Rattle.std.specs.Prelude.{slice_get, Contains, IsNone, is_some}
 use Rattle.std.proofs.lemmas.List.Elements.{Contains-append_left, Contains-push, Contains-push_cases}
 use Rattle.drum_core.specs.declared.word.Word.{Word}
@@ -7,7 +11,8 @@ use Rattle.drum_times.specs.Allowed.{Notes}
 use Rattle.drum_times.specs.declared.notes.mark.Mark.{Mark}
 use Rattle.drum_machine.specs.Counts.{mark_on}
 use Rattle.drum_bound.specs.Executed.{successors, with_new}
-use Rattle.drum_bound.specs.Free.{IsFreeRow, IsUnmarkedRow}
+use Rattle.drum_bound.specs.Free.{IsFreeRow, IsUnmarkedRow, AreFreeRows}
+use Rattle.drum_bound.specs.Rows.{row_in, AreWithin}
 use Rattle.drum_bound.specs.Graph.{AreDifferent}
 use Rattle.drum_bound.specs.Hops.{hops}
 use Rattle.drum_bound.proofs.Lists.{contains_none, contains_from_get}
@@ -89,3 +94,43 @@ row_free loads notes executed targets from row all unmarked = record {
       | inl none ↦ absurd (contains_none onto none)
       | inr one ↦ one
     ]
+
+-- the rows with one more
+row_of_more : (rows : List (Vec ℕ Global)) (more : Vec ℕ Global) (place : ℕ) → place < length rows → row_in (rows ++ more ∷ []) place ≡ row_in rows place
+row_of_more [] more place inside = absurd (omega (arith, inside))
+row_of_more (one ∷ rows) more zero inside = refl
+row_of_more (one ∷ rows) more (suc place) inside = row_of_more rows more place (omega (arith, inside))
+
+row_of_last : (rows : List (Vec ℕ Global)) (more : Vec ℕ Global) (place : ℕ) → place ≡ length rows → row_in (rows ++ more ∷ []) place ≡ more.items
+row_of_last [] more zero last = refl
+row_of_last [] more (suc place) last = absurd (omega (arith, last))
+row_of_last (one ∷ rows) more zero last = absurd (omega (arith, last))
+row_of_last (one ∷ rows) more (suc place) last = row_of_last rows more place (omega (arith, last))
+
+row_past : (rows : List (Vec ℕ Global)) (place : ℕ) → length rows ≤ place → row_in rows place ≡ []
+row_past [] place past = refl
+row_past (one ∷ rows) zero past = absurd (omega (arith, past))
+row_past (one ∷ rows) (suc place) past = row_past rows place (omega (arith, past))
+
+-- the rows of one more place
+pub rows_more : (loads : ℕ → Option Word) (notes : Notes) (executed : List ℕ) (rows : List (Vec ℕ Global)) (more : Vec ℕ Global) (k location : ℕ) → length rows ≡ k
+    → ((place from : ℕ) → place < k → slice_get executed place ≡ Some from → IsFreeRow loads notes executed from (row_in rows place))
+    → slice_get executed k ≡ Some location → IsFreeRow loads notes executed location more.items
+    → (place from : ℕ) → place < k + 1 → slice_get executed place ≡ Some from → IsFreeRow loads notes executed from (row_in (rows ++ more ∷ []) place)
+rows_more loads notes executed rows more k location long before here last place from lt at = elim (cases_lt place k) [
+  | inl earlier ↦ subst (IsFreeRow loads notes executed from) (sym (row_of_more rows more place (omega (arith, earlier, long)))) (before place from earlier at)
+  | inr later ↦ (let same : place ≡ k = omega (arith, lt, later) in
+      let equal : ◌≡◌ {A = Option ℕ} (Some location) (Some from) = sym here ∙ ap (slice_get executed) (sym same) ∙ at in
+      let one : location ≡ from = cc in
+      subst (IsFreeRow loads notes executed from) (sym (row_of_last rows more place (omega (arith, same, long)))) (subst (λ (n : ℕ). IsFreeRow loads notes executed n more.items) one last))
+]
+
+-- the rows lead to places that have rows
+pub rows_within : (loads : ℕ → Option Word) (notes : Notes) (executed : List ℕ) (rows : List (Vec ℕ Global)) → length rows ≡ length executed
+    → AreFreeRows loads notes executed (row_in rows) → AreWithin rows
+rows_within loads notes executed rows long free node next there = elim (cases_lt node (length rows)) [
+  | inl inside ↦ (let at : slice_get executed node ≡ Some (get_or executed node 0) = slice_get-get_or executed node 0 (omega (arith, inside, long)) in
+      let found = (free node (get_or executed node 0) at).free next there in
+      omega (arith, slice_get_within executed next found.0 found.1, long))
+  | inr past ↦ absurd (contains_none next (subst (λ (row : List ℕ). Contains row next) (row_past rows node past) there))
+]

@@ -23,3 +23,7 @@ pub record IsFreeOrder (loads : ℕ → Option Word) (notes : Notes) (executed o
   pub only : (place : ℕ) → Contains order place → Contains executed place
   pub different : AreDifferent order
   pub onward : GoOn (IsFree loads notes) order
+
+-- Each place's row is that of its location.
+abbrev pub AreFreeRows : (ℕ → Option Word) → Notes → List ℕ → (ℕ → List ℕ) → Type 0
+AreFreeRows loads notes executed row = (place from : ℕ) → slice_get executed place ≡ Some from → IsFreeRow loads notes executed from (row place)
