@@ -14,6 +14,7 @@ pub mod Refused
 pub mod Rows
 pub mod Search
 pub mod Seen
+pub mod Size
 pub mod Table
 pub mod Walk
 pub mod WalkTime

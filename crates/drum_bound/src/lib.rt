@@ -18,6 +18,7 @@ pub mod laws;
 mod marked;
 mod place;
 pub mod refusal;
+mod size;
 pub mod visit;
 pub mod way;
 pub mod ways;
