@@ -8,3 +8,4 @@ pub mod Lists
 pub mod Orders
 pub mod Products
 pub mod Searches
+pub mod Turns

@@ -16,6 +16,7 @@ pub mod Search
 pub mod Seen
 pub mod Size
 pub mod Table
+pub mod Turned
 pub mod Walk
 pub mod WalkTime
 pub mod Worst
