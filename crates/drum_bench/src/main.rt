@@ -3,6 +3,8 @@
 #![tactic(auto)]
 
 mod full_deck;
+mod machine_steps;
+mod table;
 
 use std::env;
 use std::fmt::Debug;
@@ -20,6 +22,7 @@ fn main(rt: HostRuntime) -> Result<(), Stopped> {
     let _program = arguments.next();
     match arguments.next() {
         Some(name) if name.as_str() == "full-deck" => full_deck::run(&rt),
-        _ => println!(rt; "full-deck").map_err(stop),
+        Some(name) if name.as_str() == "machine-steps" => machine_steps::run(&rt),
+        _ => println!(rt; "full-deck machine-steps").map_err(stop),
     }
 }

@@ -8,7 +8,8 @@ use crate::notes::WHOLE;
 use crate::support::joined;
 use crate::texts::{NOTES, TIMES, TWO_WORDS};
 use drum_core::device::whole::{WholeError, read_whole};
-use drum_core::{DeckFault, Op, Reading, Writing, read_deck};
+use drum_core::{DeckFault, Op, Reading, Word, Writing, read_deck};
+use drum_machine::{Machine, Memory, Setup};
 use drum_times::{NoteFault, read_notes, read_times};
 use drum_tool::{Status, run_joined};
 use std::io;
@@ -76,6 +77,28 @@ fn of_read_deck(rt: HostRuntime) {
                 assert_eq!(rt; fault, DeckFault::Memory);
                 refused = refused.saturating_add(1);
             }
+        }
+    }
+    assert!(rt; refused <= 1);
+}
+
+#[test]
+fn of_a_machine(rt: HostRuntime) {
+    let Ok(deck) = read_deck(rt.alloc(), &mut Reading::new(TWO_WORDS.as_bytes())) else {
+        return;
+    };
+    let Some(zero) = Word::new(false, 0) else {
+        return;
+    };
+    let words = Vec::new(rt.alloc());
+    let Some(setup) = Setup::new(0, zero, zero, 0, false, true, true, words) else {
+        return;
+    };
+    let mut refused = 0u8;
+    for _ in 0..2 {
+        match Machine::new(rt.alloc(), &deck, &setup) {
+            Ok(machine) => assert_eq!(rt; machine.used(), 0),
+            Err(Memory) => refused = refused.saturating_add(1),
         }
     }
     assert!(rt; refused <= 1);

@@ -30,7 +30,16 @@ fn setup(
 ) -> Option<Setup> {
     let zero = word("+0000000000");
     let words = Vec::new(alloc);
-    Setup::new(angle, zero, word(distributor), accumulator, false, programmed, true, words)
+    Setup::new(
+        angle,
+        zero,
+        word(distributor),
+        accumulator,
+        false,
+        programmed,
+        true,
+        words,
+    )
 }
 
 /// The end of a run of this deck under these notes.
@@ -82,7 +91,11 @@ fn location(number: u16) -> Result<Location, Fail> {
 #[test]
 fn stops(rt: HostRuntime) -> Result<(), Fail> {
     for (deck, why, used) in [
-        ("0100 +1401030106\n0106 +0100000106\nSTART 0100\n", Why::Quotient, 9),
+        (
+            "0100 +1401030106\n0106 +0100000106\nSTART 0100\n",
+            Why::Quotient,
+            9,
+        ),
         ("0100 +0000002500\nSTART 0100\n", Why::Next, 1),
         ("0100 +2480000106\nSTART 0100\n", Why::Operand, 3),
     ] {
@@ -95,7 +108,8 @@ fn stops(rt: HostRuntime) -> Result<(), Fail> {
 
 #[test]
 fn a_listed_word(rt: HostRuntime) -> Result<(), Fail> {
-    let list = "[[list]]\nlocation = 106\n[[list.pattern]]\nop = 1\nd_from = 0\nd_to = 9999\ni = 106\n";
+    let list =
+        "[[list]]\nlocation = 106\n[[list.pattern]]\nop = 1\nd_from = 0\nd_to = 9999\ni = 106\n";
     let notes = notes_with(rt.alloc(), list)?;
     let deck = "0100 +2401060106\n0106 +0100000106\nSTART 0100\n";
     let other = setup(rt.alloc(), 1, "+6900000000", 0, true);
@@ -167,7 +181,8 @@ fn marks(rt: HostRuntime) -> Result<(), Fail> {
 #[test]
 fn marks_inside_of_marks(rt: HostRuntime) -> Result<(), Fail> {
     let deck = "0100 +4501000110\n0110 +4501000120\n0120 +0100000120\nSTART 0100\n";
-    let nested = "[[mark]]\nfrom = 110\nto = 100\nmost = 1\n[[mark]]\nfrom = 100\nto = 100\nmost = 2\ninside = 1\n";
+    let nested =
+        "[[mark]]\nfrom = 110\nto = 100\nmost = 1\n[[mark]]\nfrom = 100\nto = 100\nmost = 2\ninside = 1\n";
     let notes = notes_with(rt.alloc(), nested)?;
     let machine = setup(rt.alloc(), 1, "+0000000000", 0, true);
     let ended = run(&rt, deck, &notes, machine, no_feed(rt.alloc()))?;
