@@ -1,4 +1,4 @@
-ghost use Rattle.std.specs.Prelude.{◌≡◌, ◌^◌, ◌≤◌, ◌↔◌, IsSome, IfSome, length, string_len};
+ghost use Rattle.std.specs.Prelude.{◌≡◌, ◌^◌, ◌≤◌, ◌↔◌, IsSome, IfSome, Some, length, string_bytes, string_len};
 
 use std::fmt;
 
@@ -25,13 +25,16 @@ impl KeyPath {
 
     /// Its text, of at most 2^32 bytes.
     pub fn as_bytes(&self) -> &[u8]
-        ensures { length result.now ≤ 2 ^ 32 }
+        ensures value { result.now ≡ string_bytes self.now.text }
+        ensures short { length result.now ≤ 2 ^ 32 }
     {
         self.text.as_bytes()
     }
 }
 
 impl fmt::Display for KeyPath {
+    ghost output = { λ path. Some (string_bytes path.text) };
+
     fn fmt<W: fmt::Write>(&self, f: &mut fmt::Formatter<W>) -> fmt::Result {
         f.write_str(self.text.as_str())
     }
