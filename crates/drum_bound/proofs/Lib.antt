@@ -8,4 +8,5 @@ pub mod Lists
 pub mod Orders
 pub mod Products
 pub mod Searches
+pub mod Translations
 pub mod Turns

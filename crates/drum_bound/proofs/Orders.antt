@@ -160,7 +160,7 @@ module _ (loads : ℕ → Option Word) (notes : Notes) (start : ℕ) where
             sym (ap (λ (o : Option ℕ). slice_get (with_new (found_after loads notes start turns) (added_by loads notes o)) k) none) ∙ e)
       ]
 
-  lead_push : (node mid next : ℕ) (through : List ℕ) → Lead loads notes node through mid → IsEdge loads notes mid next → Lead loads notes node (through ++ next ∷ []) next
+  pub lead_push : (node mid next : ℕ) (through : List ℕ) → Lead loads notes node through mid → IsEdge loads notes mid next → Lead loads notes node (through ++ next ∷ []) next
   lead_push node mid next [] lead edge = (subst (λ (n : ℕ). IsEdge loads notes n next) (sym lead) edge, refl)
   lead_push node mid next (one ∷ through) lead edge = (lead.0, lead_push one mid next through lead.1 edge)
 

@@ -10,6 +10,7 @@ pub mod executed;
 mod fixed;
 mod flow_graph;
 mod free;
+mod free_order;
 pub mod graph;
 pub mod hop;
 pub mod hops;
