@@ -1,3 +1,4 @@
+pub mod Acceptances
 pub mod Alterations
 mod Checks
 pub mod Flags

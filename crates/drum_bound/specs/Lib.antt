@@ -1,3 +1,4 @@
+pub mod Acceptance
 pub mod Accepted
 pub mod Altering
 pub mod Executed

@@ -2,6 +2,7 @@
 //! walks, and the bound. Today its definitions (specs/), and the plain types that they speak of.
 #![tactic(auto)]
 
+mod acceptance;
 mod altering;
 mod counts;
 pub mod cycle;
@@ -26,6 +27,7 @@ pub mod ways;
 pub mod worst;
 mod writes;
 
+pub use acceptance::accept;
 pub use cycle::Cycle;
 pub use discovery::flow;
 pub use flow_graph::Flow;
