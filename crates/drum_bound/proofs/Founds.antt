@@ -153,14 +153,6 @@ few_locations ks d =
       length-map ks (λ (location : Location). location.number),
     )
 
--- places and then more: those at the head of the more come first
-pub with_new_one : (places : List ℕ) (x : ℕ) (xs : List ℕ) → with_new (with_new places (x ∷ [])) xs ≡ with_new places (x ∷ xs)
-with_new_one places x xs = go (list_any (λ place. eqb place x) places)
-  where
-    go : (b : Bool) → with_new (if b then places else places ++ x ∷ []) xs ≡ (if b then with_new places xs else with_new (places ++ x ∷ []) xs)
-    go true = refl
-    go false = refl
-
 -- the numbers so far and this one
 pub numbers_more : (locations : List Location) (place : ℕ) (location : Location) → place < length locations → location ≡ get_or locations place location
     → numbers (take (place + 1) locations) ≡ numbers (take place locations) ++ location.number ∷ []

@@ -71,13 +71,6 @@ module _ (marks : List Mark) (executed targets : List ℕ) (from : ℕ) (row : L
     ];
   }
 
--- no target, no place
-pub row_none : (marks : List Mark) (executed : List ℕ) (from : ℕ) → IsUnmarkedRow marks executed [] from []
-row_none marks executed from = record {
-  free = λ place there. absurd (contains_none place there);
-  all = λ place onto here there free. absurd (contains_none onto there);
-}
-
 -- where the targets are a location's successors
 pub row_free : (loads : ℕ → Option Word) (notes : Notes) (executed targets : List ℕ) (from : ℕ) (row : List ℕ) → targets ≡ with_new [] (successors loads notes from)
     → IsUnmarkedRow notes.marks executed targets from row → IsFreeRow loads notes executed from row

@@ -1,8 +1,8 @@
 -- The moves of a depth-first search: each leaves a search, with fewer steps to take.
 use Rattle.std.proofs.Common.{◌≡◌, ◌≢◌, ℕ, zero, suc, ◌-◌, ◌<◌, ◌≤◌, List, [], ◌∷◌, ◌++◌, length, get_or, set, drop, reverse, replicate, Option, Some, None, refl, ap, sym, ◌∙◌, subst, inl, inr, arith}
-use Rattle.std.specs.Prelude.{slice_get, slice_index, sum_by, Contains, IsSome, option_to_list, true, false}
+use Rattle.std.specs.Prelude.{slice_get, sum_by, Contains, IsSome, option_to_list, true, false}
 use Rattle.std.proofs.lemmas.Bool.{cases_eq, cases_lt}
-use Rattle.std.proofs.lemmas.List.{length-set, length-replicate, get_or-replicate, get_or_past, get_or-set_same, get_or-set_other, reverse-append}
+use Rattle.std.proofs.lemmas.List.{length-set, length-replicate, get_or-replicate, get_or_past, reverse-append}
 use Rattle.std.proofs.lemmas.List.Elements.{Contains-append_left, Contains-append_cases, Contains-push}
 use Rattle.std.proofs.lemmas.List.Sums.{sum_by-set}
 use Rattle.std.proofs.lemmas.Option.{slice_get_within, slice_get-get_or, get_or_from_slice_get}
@@ -199,42 +199,6 @@ popped path front (Some one) node split some last =
 pub last_open : (row : ℕ → List ℕ) (size : ℕ) (states : List Progress) (passed path finished : List ℕ) (node : ℕ) → IsSearch row size states passed path finished
     → last_of path ≡ Some node → slice_get states node ≡ Some Open
 last_open row size states passed path finished node s last = s.path_open node (contains_from_get path (length path - 1) node last)
-
--- more nodes of a row are passed, which are finished
-pub pass_sound : (row : ℕ → List ℕ) (size : ℕ) (states : List Progress) (passed path finished : List ℕ) (node at : ℕ) → IsSearch row size states passed path finished
-    → ((k next : ℕ) → slice_index passed node ≤ k → k < at → slice_get (row node) k ≡ Some next → slice_get states next ≡ Some Finished)
-    → IsSearch row size states (set passed node at) path finished
-pass_sound row size states passed path finished node at s more = record {
-  states_long = s.states_long;
-  passed_long = length-set passed node at ∙ s.passed_long;
-  open_on_path = s.open_on_path;
-  path_open = s.path_open;
-  finished_there = s.finished_there;
-  there_finished = s.there_finished;
-  behind = λ from k next lt here. elim (cases_eq from node) [
-    | inl same ↦ at_node from k next lt here same
-    | inr ne ↦ s.behind from k next (omega (arith, lt, get_or-set_other passed node from at 0 ne)) here
-  ];
-  linked = s.linked;
-  path_distinct = s.path_distinct;
-  finished_distinct = s.finished_distinct;
-  onward = s.onward;
-}
-  where
-    at_node : (from k next : ℕ) → k < get_or (set passed node at) from 0 → slice_get (row from) k ≡ Some next → from ≡ node → slice_get states next ≡ Some Finished
-    at_node from k next lt here same = elim (cases_lt k (get_or passed node 0)) [
-      | inl before ↦ s.behind from k next (omega (arith, before, ap (λ (n : ℕ). get_or passed n 0) same)) here
-      | inr later ↦ more k next later (k_below from k lt same) (sym (ap (λ (n : ℕ). slice_get (row n) k) same) ∙ here)
-    ]
-      where
-        k_below : (from k : ℕ) → k < get_or (set passed node at) from 0 → from ≡ node → k < at
-        k_below from k lt same = elim (cases_lt node (length passed)) [
-          | inl within ↦ omega (arith, lt, ap (λ (n : ℕ). get_or (set passed node at) n 0) same, get_or-set_same passed node at 0 within)
-          | inr past ↦ absurd (omega (arith, lt, ap (λ (n : ℕ). get_or (set passed node at) n 0) same, past_end past))
-        ]
-          where
-            past_end : length passed ≤ node → get_or (set passed node at) node 0 ≡ 0
-            past_end past = get_or_past (set passed node at) node 0 (omega (arith, past, length-set passed node at))
 
 -- all nodes of a row are finished where those are that were passed and those up to the row's end
 pub row_passed : (row : List ℕ) (states : List Progress) (passed at : ℕ)

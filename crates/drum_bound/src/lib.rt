@@ -1,5 +1,5 @@
 //! How many word times a deck can take at most: the flow of a deck under its notes, when it is accepted, its
-//! walks, and the bound. Today its definitions (specs/), and the plain types that they speak of.
+//! walks, and the bound. Of walks and the bound today the definitions (specs/), and the plain types that they speak of.
 #![tactic(auto)]
 
 mod acceptance;
