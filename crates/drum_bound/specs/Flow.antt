@@ -1,5 +1,5 @@
 -- What a flow is of: a deck, its notes, and the executed locations.
-use Rattle.std.specs.Prelude.{ℕ, List, Option, Contains}
+use Rattle.std.specs.Prelude.{ℕ, List, Option, Contains, map}
 use Rattle.drum_core.specs.declared.word.Word.{Word}
 use Rattle.drum_times.specs.Allowed.{Notes}
 use Rattle.drum_bound.specs.declared.flow_graph.Flow.{Flow}
@@ -11,6 +11,10 @@ use Rattle.drum_bound.specs.Hops.{IsExecuted}
 -- the executed locations, in the order of discovery
 abbrev pub executed_in : Flow → List ℕ
 executed_in flow = places_of flow.executed
+
+-- the locations that are kept in an order of their own
+abbrev pub order_in : Flow → List ℕ
+order_in flow = map (λ location. location.number) flow.order.items
 
 -- These are the executed locations in the order of discovery, all of them loaded or listed, with operations in the
 -- profile alone.

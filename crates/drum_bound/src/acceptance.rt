@@ -2,7 +2,8 @@ ghost use Rattle.std.specs.Prelude.{◌≡◌, IfOk, IfErr};
 ghost use Rattle.drum_core.specs.Loads.{loads_in, start_in};
 ghost use Rattle.drum_bound.specs.Acceptance.{IsRefusal};
 ghost use Rattle.drum_bound.specs.Accepted.{IsAccepted};
-ghost use Rattle.drum_bound.specs.Flow.{executed_in};
+ghost use Rattle.drum_bound.specs.Flow.{executed_in, order_in};
+ghost use Rattle.drum_bound.specs.Free.{IsFreeOrder};
 
 use crate::altering::check_unaltered;
 use crate::discovery::flow;
@@ -25,9 +26,10 @@ pub fn accept<'a>(alloc: Global, deck: &'a Deck, notes: &'a Notes) -> Result<Flo
     ensures deck { IfOk result (λ flow. flow.deck.now ≡ deck.now) }
     ensures notes { IfOk result (λ flow. flow.notes.now ≡ notes.now) }
     ensures accepted { IfOk result (λ flow. IsAccepted (loads_in deck.now) notes.now (start_in deck.now) (executed_in flow)) }
+    ensures order { IfOk result (λ flow. IsFreeOrder (loads_in deck.now) notes.now (executed_in flow) (order_in flow)) }
     ensures refused { IfErr result (IsRefusal (loads_in deck.now) notes.now (start_in deck.now)) }
 {
-    let flow = match flow(alloc, deck, notes) {
+    let mut flow = match flow(alloc, deck, notes) {
         Ok(flow) => flow,
         Err(refusal) => return Err(refusal),
     };
@@ -40,8 +42,9 @@ pub fn accept<'a>(alloc: Global, deck: &'a Deck, notes: &'a Notes) -> Result<Flo
     if let Err(refusal) = check_small(&flow) {
         return Err(refusal);
     }
-    if let Err(refusal) = free_order(alloc, &flow) {
-        return Err(refusal);
+    match free_order(alloc, &flow) {
+        Ok(order) => flow.order = order,
+        Err(refusal) => return Err(refusal),
     }
     Ok(flow)
 }

@@ -44,5 +44,6 @@ pub fn flow<'a>(alloc: Global, deck: &'a Deck, notes: &'a Notes) -> Result<Flow<
         deck,
         notes,
         executed,
+        order: Vec::new(alloc),
     })
 }

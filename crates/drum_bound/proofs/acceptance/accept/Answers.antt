@@ -7,6 +7,7 @@ use Rattle.drum_bound.specs.Accepted.{IsAccepted}
 use Rattle.drum_bound.specs.Altering.{FlagsFixed}
 use Rattle.drum_bound.specs.Fixed.{AreFlagged}
 use Rattle.drum_bound.specs.Flow.{executed_in, AreExecuted}
+use Rattle.drum_bound.specs.Free.{IsFreeOrder}
 use Rattle.drum_bound.proofs.Acceptances.{flags_fixed, too_much, unbounded, is_accepted}
 use Rattle.drum_bound.proofs.Founds.{numbers}
 use Rattle.drum_bound.proofs.acceptance.accept.Goals as goal
@@ -55,4 +56,10 @@ returns-clause-accepted c =
     moved (λ d n. AreExecuted (loads_in d) n (start_in d) (executed_in flow)) c.args.deck.now deck c.args.notes.now notes (sym c.in-Ok.ensures.deck) (sym c.in-Ok.ensures.notes) c.in-Ok.ensures.executed in
     moved (λ d n. IsAccepted (loads_in d) n (start_in d) (executed_in flow)) deck c.args.deck.now notes c.args.notes.now c.in-Ok.ensures.deck c.in-Ok.ensures.notes
     (is_accepted (loads_in deck) notes (start_in deck) (executed_in flow) executed c.in_default-check_unaltered.ensures.unaltered c.in_default-check_small.ensures.small
-    (numbers c.in_default-free_order.field-0.items) c.in_default-free_order.ensures.order)
+    (numbers c.in-Ok-free_order.order.items) c.in-Ok-free_order.ensures.order)
+
+pub returns-clause-order : goal.returns-clause-order
+returns-clause-order c =
+    let flow = c.in-Ok.flow in
+    moved (λ d n. IsFreeOrder (loads_in d) n (executed_in flow) (numbers c.in-Ok-free_order.order.items)) flow.deck.now c.args.deck.now flow.notes.now c.args.notes.now
+    c.in-Ok.ensures.deck c.in-Ok.ensures.notes c.in-Ok-free_order.ensures.order
