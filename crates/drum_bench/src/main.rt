@@ -2,6 +2,7 @@
 //! without an argument it prints which there are.
 #![tactic(auto)]
 
+mod acceptance;
 mod full_deck;
 mod machine_steps;
 mod table;
@@ -23,6 +24,7 @@ fn main(rt: HostRuntime) -> Result<(), Stopped> {
     match arguments.next() {
         Some(name) if name.as_str() == "full-deck" => full_deck::run(&rt),
         Some(name) if name.as_str() == "machine-steps" => machine_steps::run(&rt),
-        _ => println!(rt; "full-deck machine-steps").map_err(stop),
+        Some(name) if name.as_str() == "acceptance" => acceptance::run(&rt),
+        _ => println!(rt; "acceptance full-deck machine-steps").map_err(stop),
     }
 }

@@ -7,6 +7,8 @@ mod decks;
 #[cfg(test)]
 mod devices;
 #[cfg(test)]
+mod flow;
+#[cfg(test)]
 mod memory;
 #[cfg(test)]
 mod notes;

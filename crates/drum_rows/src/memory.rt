@@ -7,6 +7,7 @@ ghost use Rattle.std.specs.Prelude.{◌≤◌};
 use crate::notes::WHOLE;
 use crate::support::joined;
 use crate::texts::{NOTES, TIMES, TWO_WORDS};
+use drum_bound::{Refusal, accept, flow};
 use drum_core::device::whole::{WholeError, read_whole};
 use drum_core::{DeckFault, Op, Reading, Word, Writing, read_deck};
 use drum_machine::{Machine, Memory, Setup};
@@ -99,6 +100,60 @@ fn of_a_machine(rt: HostRuntime) {
         match Machine::new(rt.alloc(), &deck, &setup) {
             Ok(machine) => assert_eq!(rt; machine.used(), 0),
             Err(Memory) => refused = refused.saturating_add(1),
+        }
+    }
+    assert!(rt; refused <= 1);
+}
+
+#[test]
+fn of_flow_and_accept(rt: HostRuntime) {
+    let Ok(deck) = read_deck(rt.alloc(), &mut Reading::new(TWO_WORDS.as_bytes())) else {
+        return;
+    };
+    let Ok(notes) = read_notes(rt.alloc(), NOTES.as_bytes()) else {
+        return;
+    };
+    let mut refused = 0u8;
+    for _ in 0..2 {
+        match flow(rt.alloc(), &deck, &notes) {
+            Ok(graph) => assert_eq!(rt; graph.executed().len(), 2),
+            Err(refusal) => {
+                assert!(rt; matches!(&refusal, Refusal::Memory));
+                refused = refused.saturating_add(1);
+            }
+        }
+        match accept(rt.alloc(), &deck, &notes) {
+            Ok(graph) => assert_eq!(rt; graph.executed().len(), 2),
+            Err(refusal) => {
+                assert!(rt; matches!(&refusal, Refusal::Memory));
+                refused = refused.saturating_add(1);
+            }
+        }
+    }
+    assert!(rt; refused <= 1);
+}
+
+#[test]
+fn of_a_cycle(rt: HostRuntime) {
+    let text = b"0100 +0000000106\n0106 +0000000100\nSTART 0106\n".as_slice();
+    let Ok(deck) = read_deck(rt.alloc(), &mut Reading::new(text)) else {
+        return;
+    };
+    let Ok(notes) = read_notes(rt.alloc(), NOTES.as_bytes()) else {
+        return;
+    };
+    let mut refused = 0u8;
+    for _ in 0..2 {
+        let Err(refusal) = accept(rt.alloc(), &deck, &notes) else {
+            assert!(rt; false, "a cycle is accepted");
+            return;
+        };
+        match refusal {
+            Refusal::Unbounded(cycle) => assert_eq!(rt; cycle.locations.len(), 2),
+            other => {
+                assert!(rt; matches!(&other, Refusal::Memory));
+                refused = refused.saturating_add(1);
+            }
         }
     }
     assert!(rt; refused <= 1);
