@@ -1,8 +1,12 @@
+pub mod Alone
 pub mod Contents
 pub mod Counts
 pub mod Effect
+pub mod Ending
+pub mod Ends
 pub mod Feed
 pub mod FirstState
+pub mod Going
 pub mod Keeps
 pub mod Machine
 pub mod Monitor

@@ -7,6 +7,7 @@ pub mod card;
 pub mod feed;
 mod fetch;
 mod first_drum;
+pub mod laws;
 pub mod left;
 pub mod machine;
 pub mod memory;
