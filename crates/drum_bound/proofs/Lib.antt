@@ -5,6 +5,7 @@ pub mod Flags
 pub mod Founds
 pub mod FreeRows
 pub mod Instructed
+pub mod KeptWalk
 pub mod Lists
 pub mod Orders
 pub mod Products
