@@ -8,5 +8,6 @@ pub mod OwnLocations
 pub mod Passing
 mod Setting
 pub mod Watching
+pub mod Wholes
 pub mod Within
 pub mod Stepping

@@ -266,3 +266,10 @@ own_without s none = rw none (last (reads_with s (op_of (instruction_in s).op)))
 pub ends_by_its_own : (times : Op → Entry) (s : State) (wait : ℕ) (op : Op) → op_of (instruction_in s).op ≡ Some op
     → Contains (ways (own_notes s) (instruction_in s)) (ended_by (step times s wait))
 ends_by_its_own times s wait op is = (step_ends times s wait op (own_notes s) is (own_declared s.contents.programmed_stops) (own_without s)).by
+
+-- and so it ends at x or at e
+pub ends_then : (times : Op → Entry) (s : State) (wait : ℕ) (op : Op) → op_of (instruction_in s).op ≡ Some op
+    → s.start + time_of (step times s wait)
+    ≡ clock_by (ended_by (step times s wait)) (ready (times op) s.sought (clock_of s))
+    (ended (times op) op (instruction_in s).d s.sought (units_of op (instruction_in s).d s.contents) wait (clock_of s))
+ends_then times s wait op is = (step_ends times s wait op (own_notes s) is (own_declared s.contents.programmed_stops) (own_without s)).at

@@ -1,11 +1,13 @@
 //! Laws of the definitions, each the contract of a function that does nothing.
 
-ghost use Rattle.std.specs.Prelude.{◌≡◌, ℕ, slice_get, Some, Contains};
+ghost use Rattle.std.specs.Prelude.{◌≡◌, ℕ, ◌+◌, slice_get, Some, Contains};
 ghost use Rattle.drum_core.specs.declared.op.Op.{Op};
 ghost use Rattle.drum_core.specs.Op.{op_of};
 ghost use Rattle.drum_times.specs.declared.entry.Entry.{Entry};
-ghost use Rattle.drum_machine.specs.Ending.{ended_by, own_notes};
-ghost use Rattle.drum_machine.specs.Step.{State, on, step, instruction_in};
+ghost use Rattle.drum_machine.specs.Ending.{ended_by, clock_by, own_notes};
+ghost use Rattle.drum_machine.specs.Run.{IsWhole, time_of};
+ghost use Rattle.drum_machine.specs.Step.{State, on, step, instruction_in, clock_of};
+ghost use Rattle.drum_machine.specs.Timing.{ready, ended, units_of};
 ghost use Rattle.drum_machine.specs.Ways.{ways};
 ghost use Rattle.drum_machine.specs.Writes.{writes};
 
@@ -20,4 +22,20 @@ pub fn writes_alone()
 pub fn ends_by_a_way()
     ensures { (times : Op → Entry) (s : State) (wait : ℕ) (op : Op) → op_of (instruction_in s).op ≡ Some op
         → Contains (ways (own_notes s) (instruction_in s)) (ended_by (step times s wait)) }
+{}
+
+/// A step of an operation in the profile ends at x if by Early, else at e with the units of its work. (Clocks count from
+/// a moment of angle 0, in word times.)
+pub fn ends_then()
+    ensures { (times : Op → Entry) (s : State) (wait : ℕ) (op : Op) → op_of (instruction_in s).op ≡ Some op
+        → let d = (instruction_in s).d in
+        s.start + time_of (step times s wait)
+        ≡ clock_by (ended_by (step times s wait)) (ready (times op) s.sought (clock_of s))
+        (ended (times op) op d s.sought (units_of op d s.contents) wait (clock_of s)) }
+{}
+
+/// A step that goes on leaves whole contents whole: 2000 words on the drum, twenty digits in the accumulator.
+pub fn stays_whole()
+    ensures { (times : Op → Entry) (s : State) (wait : ℕ) (next : State) → IsWhole s.contents → step times s wait ≡ on next
+        → IsWhole next.contents }
 {}
