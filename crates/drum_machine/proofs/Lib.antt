@@ -2,6 +2,7 @@ pub mod Allowing
 mod Checks
 mod Effects
 pub mod Keeping
+pub mod Fronts
 pub mod Judging
 mod Marks
 pub mod OwnLocations

@@ -1,11 +1,14 @@
 //! Laws of the definitions, each the contract of a function that does nothing.
 
-ghost use Rattle.std.specs.Prelude.{◌≡◌, ℕ, ◌+◌, slice_get, Some, Contains};
+ghost use Rattle.std.specs.Prelude.{◌≡◌, ℕ, ◌+◌, List, take, slice_get, Option, Some, Contains};
 ghost use Rattle.drum_core.specs.declared.op.Op.{Op};
+ghost use Rattle.drum_core.specs.declared.word.Word.{Word};
 ghost use Rattle.drum_core.specs.Op.{op_of};
 ghost use Rattle.drum_times.specs.declared.entry.Entry.{Entry};
+ghost use Rattle.drum_times.specs.Allowed.{Notes};
 ghost use Rattle.drum_machine.specs.Ending.{ended_by, clock_by, own_notes};
-ghost use Rattle.drum_machine.specs.Run.{IsWhole, time_of};
+ghost use Rattle.drum_machine.specs.Keeps.{IsKept};
+ghost use Rattle.drum_machine.specs.Run.{Turn, IsRun, IsWhole, time_of};
 ghost use Rattle.drum_machine.specs.Step.{State, on, step, instruction_in, clock_of};
 ghost use Rattle.drum_machine.specs.Timing.{ready, ended, units_of};
 ghost use Rattle.drum_machine.specs.Ways.{ways};
@@ -38,4 +41,15 @@ pub fn ends_then()
 pub fn stays_whole()
     ensures { (times : Op → Entry) (s : State) (wait : ℕ) (next : State) → IsWhole s.contents → step times s wait ≡ on next
         → IsWhole next.contents }
+{}
+
+/// Each front of a run is a run.
+pub fn fronts_are_runs()
+    ensures { (times : Op → Entry) (s : State) (turns : List Turn) (n : ℕ) → IsRun times s turns → IsRun times s (take n turns) }
+{}
+
+/// Each front of a run that keeps to the notes keeps to them.
+pub fn fronts_are_kept()
+    ensures { (loads : ℕ → Option Word) (notes : Notes) (s : State) (turns : List Turn) (n : ℕ) → IsKept loads notes s turns
+        → IsKept loads notes s (take n turns) }
 {}
