@@ -4,9 +4,9 @@ use Rattle.std.proofs.Common.{refl, subst}
 use Rattle.drum_core.specs.declared.op.Op.{Op}
 use Rattle.drum_core.specs.Location.{is_location}
 use Rattle.drum_core.specs.Op.{op_of, operand_of}
+use Rattle.drum_core.specs.Word.{signed}
 use Rattle.drum_times.specs.declared.entry.Entry.{Entry}
 use Rattle.drum_machine.specs.declared.why.Why.TheVariants as why
-use Rattle.drum_core.specs.Word.{signed}
 use Rattle.drum_machine.specs.Contents.{Contents, is_minus}
 use Rattle.drum_machine.specs.Effect.{Outcome, goes, stops, effect, becomes, keeps, branches_on}
 use Rattle.drum_machine.specs.Step.{State, Stepped, on, stopped, step, step_with, step_of, instruction_in, is_operand, lacks_card, leaves, clock_of}
