@@ -12,3 +12,4 @@ pub mod Products
 pub mod Searches
 pub mod Translations
 pub mod Turns
+mod Refusals

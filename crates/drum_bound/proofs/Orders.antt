@@ -165,7 +165,7 @@ module _ (loads : ℕ → Option Word) (notes : Notes) (start : ℕ) where
   lead_push node mid next (one ∷ through) lead edge = (lead.0, lead_push one mid next through lead.1 edge)
 
   -- all that is found is executed
-  only_executed : (turns place : ℕ) → Contains (found_after loads notes start turns) place → IsExecuted loads notes start place
+  pub only_executed : (turns place : ℕ) → Contains (found_after loads notes start turns) place → IsExecuted loads notes start place
   only_executed zero place there = elim (contains_cases start place [] there) [ inl same ↦ ([], same) | inr none ↦ absurd (contains_none place none) ]
   only_executed (suc turns) place there =
       elim (with_new_only (found_after loads notes start turns) (added_by loads notes (slice_get (found_after loads notes start turns) turns)) place there) [

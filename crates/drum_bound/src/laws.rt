@@ -1,15 +1,19 @@
 //! Laws of the definitions, each the contract of a function that does nothing.
 
-ghost use Rattle.std.specs.Prelude.{◌≡◌, ℕ, ◌<◌, List, Some};
+ghost use Rattle.std.specs.Prelude.{◌≡◌, ℕ, ◌<◌, List, Option, Some};
 ghost use Rattle.drum_core.specs.declared.op.Op.{Op};
+ghost use Rattle.drum_core.specs.declared.word.Word.{Word};
 ghost use Rattle.drum_times.specs.declared.notes.mark.Mark.{Mark};
-ghost use Rattle.drum_times.specs.Allowed.{StandInEarlier};
+ghost use Rattle.drum_times.specs.Allowed.{Notes, StandInEarlier};
 ghost use Rattle.drum_machine.specs.Contents.{Contents};
 ghost use Rattle.drum_machine.specs.Counts.{after_pass, mark_on, AreWithin};
 ghost use Rattle.drum_machine.specs.Keeps.{IsKept};
 ghost use Rattle.drum_machine.specs.Run.{Turn, IsRun, IsFirstState, used_from};
 ghost use Rattle.drum_machine.specs.Step.{State};
 ghost use Rattle.drum_machine.specs.Timing.{units_of};
+ghost use Rattle.drum_bound.specs.declared.refusal.Refusal.{Refusal};
+ghost use Rattle.drum_bound.specs.declared.refusal.Refusal.TheVariants.{Memory};
+ghost use Rattle.drum_bound.specs.Acceptance.{IsRefusal};
 ghost use Rattle.drum_bound.specs.Accepted.{IsAccepted, IsFixed};
 ghost use Rattle.drum_bound.specs.Passes.{leading};
 ghost use Rattle.drum_bound.specs.Walk.{Setting, IsProper, Taken, MayHaveUnits, IsWalk, time_of};
@@ -37,4 +41,10 @@ pub fn kept_run_is_a_walk()
 /// The units of an operation's work, whatever the contents, are units that a hop may have.
 pub fn units_in_range()
     ensures { (op : Op) (d : ℕ) (c : Contents) → MayHaveUnits op d (units_of op d c) }
+{}
+
+/// A deck that is accepted with its notes isn't refused, but for want of memory.
+pub fn accepted_is_not_refused()
+    ensures { (loads : ℕ → Option Word) (notes : Notes) (start : ℕ) (executed : List ℕ) (refusal : Refusal)
+        → IsAccepted loads notes start executed → IsRefusal loads notes start refusal → refusal ≡ Memory }
 {}
