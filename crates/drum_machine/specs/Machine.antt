@@ -11,11 +11,28 @@ use Rattle.drum_machine.specs.declared.feed.Feed.{Feed}
 use Rattle.drum_machine.specs.declared.machine.Machine.{Machine}
 use Rattle.drum_machine.specs.declared.step.Step.{Step}
 use Rattle.drum_machine.specs.declared.step.Step.TheVariants.{Went, Stopped}
+use Rattle.drum_machine.specs.declared.why.Why as whys
 use Rattle.drum_machine.specs.Effect.{punched}
 use Rattle.drum_machine.specs.Feed.{cards_left, waits_left, wait_for, cards_after, waits_after}
 use Rattle.drum_machine.specs.Keeps.{reads_load}
 use Rattle.drum_machine.specs.Registers.{contents_with}
 use Rattle.drum_machine.specs.Step.{State, Stepped, on, stopped, step, fetched, instruction_in, is_operand, lacks_card, MayWait}
+
+-- the machine goes on
+abbrev pub GoesOn : Machine → Type 0
+GoesOn m = m.stop ≡ None
+
+-- it has stopped, with this word fetched, for this reason
+abbrev pub HasStopped : Machine → Word → whys.Why → Type 0
+HasStopped m w because = m.stop ≡ Some (record { word = w; why = because })
+
+-- where it seeks its next instruction, or sought the one at which it stopped
+abbrev pub sought_by : Machine → Location
+sought_by m = m.sought
+
+-- the word times that it has used
+abbrev pub used_by : Machine → ℕ
+used_by m = m.used
 
 -- the state of a machine that goes on, with the cards in the reader
 abbrev pub state_in : Machine → List Card → State
@@ -41,9 +58,9 @@ Tells (stopped because moment) origin word load words answer = answer ≡ Stoppe
 -- What the machine is after a step, with these cards left. One that has stopped seeks what it sought, and what its
 -- registers hold isn't said.
 abbrev pub Becomes : Stepped → Location → Word → Machine → List Card → Type 0
-Becomes (on next) origin word m cards = (m.stop ≡ None) × (state_in m cards ≡ next)
+Becomes (on next) origin word m cards = GoesOn m × (state_in m cards ≡ next)
 Becomes (stopped because moment) origin word m cards =
-    (m.stop ≡ Some (record { word = word; why = because })) × (m.sought ≡ origin) × (m.used ≡ moment)
+    HasStopped m word because × (sought_by m ≡ origin) × (used_by m ≡ moment)
 
 -- the operation of the fetched word, where the profile has it
 abbrev pub op_in : State → Option Op

@@ -5,6 +5,7 @@ use Rattle.drum_core.specs.declared.op.Op.{Op}
 use Rattle.drum_core.specs.declared.word.Word.{Word}
 use Rattle.drum_times.specs.declared.entry.Entry.{Entry}
 use Rattle.drum_times.specs.Allowed.{Notes}
+use Rattle.drum_machine.specs.declared.left.Left.{Left}
 use Rattle.drum_machine.specs.declared.monitor.Monitor.{Monitor}
 use Rattle.drum_machine.specs.declared.step.Step as answers
 use Rattle.drum_machine.specs.Counts.{no_counts}
@@ -12,6 +13,10 @@ use Rattle.drum_machine.specs.Keeps.{AreKept, counts_after, reads_load}
 use Rattle.drum_machine.specs.Machine.{Tells}
 use Rattle.drum_machine.specs.Run.{Turn}
 use Rattle.drum_machine.specs.Step.{fetched, step}
+
+-- what a monitor has answered so far
+abbrev pub answer_of : Monitor → Option Left
+answer_of m = m.left
 
 -- the counts of the notes' marks, as a monitor holds them
 abbrev pub counts_in : Monitor → Notes → List ℕ

@@ -31,7 +31,8 @@ impl Machine {
     ghost use Rattle.drum_core.specs.Op.{operand_of};
     ghost use Rattle.drum_core.specs.Loads.{loads_in, start_in};
     ghost use Rattle.drum_times.specs.Entries.{entry_in};
-    ghost use Rattle.drum_machine.specs.declared.stop.Stop.{Stop};
+    ghost use Rattle.drum_core.specs.declared.word.Word.{Word as WordType};
+    ghost use Rattle.drum_machine.specs.declared.why.Why.{Why as WhyType};
     ghost use Rattle.drum_machine.specs.FirstState.{IsSetUp};
     ghost use Rattle.drum_machine.specs.Run.{IsFirstState};
     ghost use Rattle.drum_machine.specs.Feed.{cards_left};
@@ -39,12 +40,12 @@ impl Machine {
     ghost use Rattle.drum_machine.specs.declared.step.Step.TheVariants as Step;
     ghost use Rattle.drum_machine.specs.Step.{State, leaves, fetched, instruction_in, is_operand as is_operand_of};
     ghost use Rattle.drum_machine.specs.Registers.{contents_with, outcome_of};
-    ghost use Rattle.drum_machine.specs.Machine.{Tells, Becomes, TakesStep, state_in, op_in, punched_by};
+    ghost use Rattle.drum_machine.specs.Machine.{GoesOn, HasStopped, sought_by, used_by, Tells, Becomes, TakesStep, state_in, op_in, punched_by};
 
     /// A machine at time 0: it seeks the deck's start; it has the setup's angle, registers, latch and switches, and no
     /// remainder's sign; its drum has the deck's words, elsewhere the setup's, else +0.
     pub fn new(alloc: Global, deck: &Deck, setup: &Setup) -> Result<Machine, Memory>
-        ensures runs { IfOk result (λ machine. machine.stop ≡ None) }
+        ensures runs { IfOk result GoesOn }
         ensures set_up { IfOk result (λ machine. (cards : List Card)
             → IsSetUp (loads_in deck.now) (start_in deck.now) setup.now (state_in machine cards)) }
         // it agrees with the deck at every location
@@ -72,7 +73,7 @@ impl Machine {
 
     /// The word times used since time 0; of a machine that has stopped, up to the stop.
     pub fn used(&self) -> u64
-        ensures { result ≡ self.now.used }
+        ensures { result ≡ used_by self.now }
     {
         self.used
     }
@@ -182,12 +183,12 @@ impl Machine {
 
     /// Takes a step. A machine that has stopped answers the same again, and nothing changes.
     pub fn step(&mut self, times: &Times, feed: &mut Feed) -> Step
-        requires { self.old.used ≤ 2 ^ 62 }
-        ensures goes { self.old.stop ≡ None → TakesStep (entry_in times.now) self.old feed.old result self.new feed.new }
-        ensures advances { self.new.stop ≡ None → self.old.used < self.new.used }
-        ensures near { self.new.used ≤ self.old.used + 92000099 }
-        ensures rests { (stop : Stop) → self.old.stop ≡ Some stop
-            → (result ≡ Step.Stopped self.old.sought stop.word stop.why self.old.used) × (self.new ≡ self.old) × (feed.new ≡ feed.old) }
+        requires { used_by self.old ≤ 2 ^ 62 }
+        ensures goes { GoesOn self.old → TakesStep (entry_in times.now) self.old feed.old result self.new feed.new }
+        ensures advances { GoesOn self.new → used_by self.old < used_by self.new }
+        ensures near { used_by self.new ≤ used_by self.old + 92000099 }
+        ensures rests { (word : WordType) (why : WhyType) → HasStopped self.old word why
+            → (result ≡ Step.Stopped (sought_by self.old) word why (used_by self.old)) × (self.new ≡ self.old) × (feed.new ≡ feed.old) }
     {
         if let Some(stop) = self.stop {
             return Step::Stopped {

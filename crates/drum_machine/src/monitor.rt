@@ -59,11 +59,11 @@ impl Monitor {
     ghost use Rattle.drum_machine.specs.Keeps.{IsKeptTurn, Leaves, counts_after};
     ghost use Rattle.drum_machine.specs.Run.{Turn};
     ghost use Rattle.drum_machine.specs.Counts.{after_pass, no_counts, AreWithin};
-    ghost use Rattle.drum_machine.specs.Monitor.{counts_in, counts_over, HasSeen, IsToldOf};
+    ghost use Rattle.drum_machine.specs.Monitor.{answer_of, counts_in, counts_over, HasSeen, IsToldOf};
 
     /// A monitor of a run from this setup. It has answered where the programmed switch isn't as the notes declare it.
     pub fn new(notes: &Notes, setup: &Setup) -> Monitor
-        ensures declared { MatchOption result.left
+        ensures declared { MatchOption (answer_of result)
             (IsAsDeclared notes.now.programmed setup.now.programmed)
             (λ left. (left ≡ Left.Switch) × ¬ IsAsDeclared notes.now.programmed setup.now.programmed) }
         ensures seen { (loads : ℕ → Option Word) → HasSeen loads notes.now result [] }
@@ -82,7 +82,7 @@ impl Monitor {
 
     /// How the run left the notes, where it has.
     pub fn left(&self) -> Option<Left>
-        ensures { result ≡ self.now.left }
+        ensures { result ≡ answer_of self.now }
     {
         self.left
     }
@@ -138,13 +138,13 @@ impl Monitor {
     /// are given in order, with one deck and the notes and the setup that the monitor was made for. Once there is an
     /// answer it stays, and nothing changes.
     pub fn check(&mut self, notes: &Notes, deck: &Deck, step: &Step) -> Option<Left>
-        ensures answered { result ≡ self.new.left }
-        ensures judged { self.old.left ≡ None → (times : Op → Entry) (turns : List Turn) (turn : Turn)
+        ensures answered { result ≡ answer_of self.new }
+        ensures judged { answer_of self.old ≡ None → (times : Op → Entry) (turns : List Turn) (turn : Turn)
             → HasSeen (loads_in deck.now) notes.now self.old turns → IsToldOf times turn step.now
             → MatchOption result
             (HasSeen (loads_in deck.now) notes.now self.new (turns ++ turn ∷ []))
             (λ left. Leaves (loads_in deck.now) notes.now (counts_over notes.now (no_counts notes.now.marks) turns) turn left) }
-        ensures stays { (left : LeftType) → self.old.left ≡ Some left → (result ≡ Some left) × (self.new ≡ self.old) }
+        ensures stays { (left : LeftType) → answer_of self.old ≡ Some left → (result ≡ Some left) × (self.new ≡ self.old) }
     {
         if let Some(left) = self.left {
             return Some(left);
