@@ -1,5 +1,6 @@
 -- What a flow is of: a deck, its notes, and the executed locations.
 use Rattle.std.specs.Prelude.{ℕ, List, Option, Contains, map}
+use Rattle.drum_core.specs.declared.deck.Deck.{Deck}
 use Rattle.drum_core.specs.declared.word.Word.{Word}
 use Rattle.drum_times.specs.Allowed.{Notes}
 use Rattle.drum_bound.specs.declared.flow_graph.Flow.{Flow}
@@ -7,6 +8,13 @@ use Rattle.drum_bound.specs.Accepted.{IsGood}
 use Rattle.drum_bound.specs.Executed.{IsOrder}
 use Rattle.drum_bound.specs.Found.{places_of}
 use Rattle.drum_bound.specs.Hops.{IsExecuted}
+
+-- the deck and the notes that a flow is of
+abbrev pub deck_of : Flow → Deck
+deck_of flow = flow.deck.now
+
+abbrev pub notes_of : Flow → Notes
+notes_of flow = flow.notes.now
 
 -- the executed locations, in the order of discovery
 abbrev pub executed_in : Flow → List ℕ

@@ -2,7 +2,7 @@ ghost use Rattle.std.specs.Prelude.{◌≡◌, IfOk, IfErr};
 ghost use Rattle.drum_core.specs.Loads.{loads_in, start_in};
 ghost use Rattle.drum_bound.specs.Acceptance.{IsRefusal};
 ghost use Rattle.drum_bound.specs.Accepted.{IsAccepted};
-ghost use Rattle.drum_bound.specs.Flow.{executed_in, order_in};
+ghost use Rattle.drum_bound.specs.Flow.{deck_of, notes_of, executed_in, order_in};
 ghost use Rattle.drum_bound.specs.Free.{IsFreeOrder};
 
 use crate::altering::check_unaltered;
@@ -23,8 +23,8 @@ use std::alloc::Global;
 /// The first that applies: [`Refusal::NotLoaded`] or [`Refusal::NotInProfile`], as discovery meets them;
 /// [`Refusal::Alters`]; [`Refusal::TooLarge`]; [`Refusal::Unbounded`]. [`Refusal::Memory`] where memory is wanting.
 pub fn accept<'a>(alloc: Global, deck: &'a Deck, notes: &'a Notes) -> Result<Flow<'a>, Refusal>
-    ensures deck { IfOk result (λ flow. flow.deck.now ≡ deck.now) }
-    ensures notes { IfOk result (λ flow. flow.notes.now ≡ notes.now) }
+    ensures deck { IfOk result (λ flow. deck_of flow ≡ deck.now) }
+    ensures notes { IfOk result (λ flow. notes_of flow ≡ notes.now) }
     ensures accepted { IfOk result (λ flow. IsAccepted (loads_in deck.now) notes.now (start_in deck.now) (executed_in flow)) }
     ensures order { IfOk result (λ flow. IsFreeOrder (loads_in deck.now) notes.now (executed_in flow) (order_in flow)) }
     ensures refused { IfErr result (IsRefusal (loads_in deck.now) notes.now (start_in deck.now)) }

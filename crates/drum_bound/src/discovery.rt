@@ -1,6 +1,6 @@
 ghost use Rattle.std.specs.Prelude.{◌≡◌, IfOk, IfErr};
 ghost use Rattle.drum_core.specs.Loads.{loads_in, start_in};
-ghost use Rattle.drum_bound.specs.Flow.{executed_in, AreExecuted};
+ghost use Rattle.drum_bound.specs.Flow.{deck_of, notes_of, executed_in, AreExecuted};
 ghost use Rattle.drum_bound.specs.Refused.{IsFlowRefusal};
 
 use crate::executed::Executed;
@@ -19,8 +19,8 @@ use std::alloc::Global;
 /// [`Refusal::NotLoaded`] or [`Refusal::NotInProfile`] for the first location that discovery meets which is neither
 /// loaded nor listed, or has an operation outside the profile; [`Refusal::Memory`].
 pub fn flow<'a>(alloc: Global, deck: &'a Deck, notes: &'a Notes) -> Result<Flow<'a>, Refusal>
-    ensures deck { IfOk result (λ flow. flow.deck.now ≡ deck.now) }
-    ensures notes { IfOk result (λ flow. flow.notes.now ≡ notes.now) }
+    ensures deck { IfOk result (λ flow. deck_of flow ≡ deck.now) }
+    ensures notes { IfOk result (λ flow. notes_of flow ≡ notes.now) }
     ensures executed { IfOk result (λ flow. AreExecuted (loads_in deck.now) notes.now (start_in deck.now) (executed_in flow)) }
     ensures refused { IfErr result (IsFlowRefusal (loads_in deck.now) notes.now (start_in deck.now)) }
 {

@@ -2,7 +2,7 @@ ghost use Rattle.std.specs.Prelude.{◌≡◌, ◌≤◌, [], map, length, slice
 ghost use Rattle.drum_core.specs.Loads.{loads_in};
 ghost use Rattle.drum_bound.specs.Hops as said;
 ghost use Rattle.drum_bound.specs.HopsLeft.{hops_left};
-ghost use Rattle.drum_bound.specs.Flow.{executed_in, order_in};
+ghost use Rattle.drum_bound.specs.Flow.{deck_of, notes_of, executed_in, order_in};
 ghost use Rattle.drum_bound.specs.Graph.{AreDifferent};
 
 use crate::executed::Executed;
@@ -50,7 +50,7 @@ impl<'a> Flow<'a> {
     /// The hops of a location, in order; none of one that isn't executed.
     pub fn hops(&self, location: Location) -> Hops<'a>
         ensures executed { Contains (executed_in self.now) location.number
-            → hops_left result ≡ said.hops (loads_in self.now.deck.now) self.now.notes.now location.number }
+            → hops_left result ≡ said.hops (loads_in (deck_of self.now)) (notes_of self.now) location.number }
         ensures others { ¬ Contains (executed_in self.now) location.number → hops_left result ≡ [] }
     {
         match self.executed.place_of(location) {
