@@ -53,15 +53,6 @@ wrong_after at fields fault before present has low high first =
     (first_behind (before_faults at fields) (after_faults at fields) fault (number_is_right at (codes "before") fields 1 longest before has low high)
     (first_there at (keys_of Plain) fields (codes "after") (after_faults at fields) fault present refl first))
 
-pub wrong_parity : (at : List ℕ) (fields : Members) (fault : NoteFault) (before after : ℕ) → Present at fields → HasNumber fields (codes "before") before → 1 ≤ before → before ≤ longest
-    → HasNumber fields (codes "after") after → after ≤ longest
-    → IsFirst (missing_in at (codes "parity" ∷ []) fields ++ text (map text_of (Any ∷ Even ∷ Odd ∷ [])) at (codes "parity") fields) fault → IsFirst (plain_faults at fields) fault
-wrong_parity at fields fault before after present has low high has_after high_after first =
-    first_behind (before_faults at fields ++ after_faults at fields) (parity_faults at fields) fault
-    (no_faults (before_faults at fields) (after_faults at fields) (number_is_right at (codes "before") fields 1 longest before has low high)
-    (number_is_right at (codes "after") fields 0 longest after has_after (omega arith) high_after))
-    (first_there at (keys_of Plain) fields (codes "parity") (parity_faults at fields) fault present refl first)
-
 pub plain_is_right : (at : List ℕ) (fields : Members) (before after : ℕ) (parity : Parity) → HasNumber fields (codes "before") before → 1 ≤ before → before ≤ longest
     → HasNumber fields (codes "after") after → after ≤ longest → get_member (codes "parity") fields ≡ Some (string (text_of parity)) → plain_faults at fields ≡ []
 plain_is_right at fields before after parity has low high has_after high_after has_parity =

@@ -1,9 +1,9 @@
 -- Arrays of tables.
-use Rattle.std.proofs.Common.{◌≡◌, ℕ, suc, ◌+◌, ◌<◌, Bool, true, cond, List, [], ◌∷◌, ◌++◌, drop, length, get_or, Option, Some, None, refl, ap, sym, ◌∙◌, subst, append_assoc, append-nil}
+use Rattle.std.proofs.Common.{◌≡◌, ℕ, suc, ◌+◌, ◌<◌, Bool, true, cond, List, [], ◌∷◌, ◌++◌, drop, length, get_or, Option, Some, None, refl, ap, sym, ◌∙◌, subst, append-nil}
 use Rattle.std.specs.Prelude.{codes, decimal}
 use Rattle.drum_times.specs.declared.fault.NoteFault.{NoteFault}
 use Rattle.drum_times.specs.Document.{Fault, range, is_count, count_of, element_faults, elements_faults, array_faults, tables}
-use Rattle.drum_times.specs.NotesDocument.{AreTables, IsTable}
+use Rattle.drum_times.specs.NotesDocument.{AreTables}
 use Rattle.drum_times.specs.Refused.{IsFirst}
 use Rattle.drum_times.proofs.Sequences.{first_before}
 use Rattle.toml.proofs.Views.{items_view-drop}
@@ -26,9 +26,6 @@ array_from (table ms) items e = cc
 pub count_seen : (vs : List Value) → count_of (items_view vs) ≡ length vs
 count_seen [] = refl
 count_seen (v ∷ vs) = ap suc (count_seen vs)
-
-Check : Type 0
-Check = ℕ → List ℕ → Members → List Fault
 
 -- the faults of an array of so many tables
 pub tables_are : (low : ℕ) (high : Option ℕ) (check : ℕ → List ℕ → Members → List Fault) (at key : List ℕ) (fields : Members) (d : Data) (vs : List Value) (fits : Bool)
@@ -55,24 +52,7 @@ wrong_element check path vs place v all fault within is same first =
     subst (λ (xs : List Fault). IsFirst xs fault) (sym (left check path vs place v within is) ∙ same)
     (first_before (element_faults check (place + 1) (path ++ codes "." ++ decimal (place + 1)) (view v)) (elements_faults check path (place + 1 + 1) (items_view (drop (place + 1) vs))) fault first)
 
-pub right_element : (check : ℕ → List ℕ → Members → List Fault) (path : List ℕ) (vs : List Value) (place : ℕ) (v : Value) (all : List Fault) → place < length vs → v ≡ get_or vs place v
-    → elements_faults check path (place + 1) (items_view (drop place vs)) ≡ all → element_faults check (place + 1) (path ++ codes "." ++ decimal (place + 1)) (view v) ≡ []
-    → elements_faults check path (place + 1 + 1) (items_view (drop (place + 1) vs)) ≡ all
-right_element check path vs place v all within is same none =
-    ap (λ (xs : List Fault). xs ++ elements_faults check path (place + 1 + 1) (items_view (drop (place + 1) vs))) (sym none) ∙ sym (left check path vs place v within is) ∙ same
-
--- one element more says what it says
-pub says_more : {A : Type 0} (Say : ℕ → Members → A → Type 0) (vs : List Value) (place : ℕ) (v : Value) (elements elements' : List A) (one : A) → place < length vs → v ≡ get_or vs place v
-    → elements' ≡ elements ++ one ∷ [] → IsTable Say place (view v) one
-    → ((more : List A) → AreTables Say place (items_view (drop place vs)) more → AreTables Say 0 (items_view vs) (elements ++ more))
-    → (more : List A) → AreTables Say (place + 1) (items_view (drop (place + 1) vs)) more → AreTables Say 0 (items_view vs) (elements' ++ more)
-says_more {A} Say vs place v elements elements' one within is pushed says all more behind =
-    let here : AreTables Say place (items_view (drop place vs)) (one ∷ more) =
-    subst (λ (items : Items). AreTables Say place items (one ∷ more)) (sym (items_view-drop vs place v within))
-    (subst (λ (w : Value). IsTable Say place (view w) one) is says, behind) in
-    subst (λ (xs : List A). AreTables Say 0 (items_view vs) xs) (sym (append_assoc elements (one ∷ []) more) ∙ ap (λ (xs : List A). xs ++ more) (sym pushed)) (all (one ∷ more) here)
-
--- and the last of them says what all say
+-- where nothing is left, what is there says what all say
 pub says_all : {A : Type 0} (Say : ℕ → Members → A → Type 0) (vs : List Value) (place : ℕ) (elements : List A) → drop place vs ≡ []
     → ((more : List A) → AreTables Say place (items_view (drop place vs)) more → AreTables Say 0 (items_view vs) (elements ++ more)) → AreTables Say 0 (items_view vs) elements
 says_all {A} Say vs place elements past all =
