@@ -1,4 +1,8 @@
-ghost use Rattle.std.specs.Prelude.{◌+◌, ◌^◌, ◌≤◌};
+ghost use Rattle.std.specs.Prelude.{◌≡◌, ◌+◌, ◌^◌, ◌≤◌, Some, IfOk, IfSome};
+ghost use Rattle.drum_core.specs.declared.word.Word.{Word};
+ghost use Rattle.drum_core.specs.Instruction.{IsInstructionOf};
+ghost use Rattle.drum_core.specs.Loads.{loads_in};
+ghost use Rattle.drum_core.specs.Op.{op_of};
 
 use super::Refusal;
 use drum_core::{AtParity, Clockwork, Deck, Delay, Instruction, Kind, Location, Op, Operand, Seek};
@@ -16,7 +20,12 @@ pub struct Visit {
 
 impl Visit {
     /// What the deck executes at a location.
-    pub fn at(deck: &Deck, location: Location, programmed: Programmed) -> Result<Visit, Refusal> {
+    pub fn at(deck: &Deck, location: Location, programmed: Programmed) -> Result<Visit, Refusal>
+        ensures here { IfOk result (λ visit. visit.location ≡ location) }
+        ensures switch { IfOk result (λ visit. visit.programmed ≡ programmed) }
+        ensures fetched { IfOk result (λ visit. (word : Word) → loads_in deck.now location.number ≡ Some word → IsInstructionOf word.digits visit.instruction) }
+        ensures operation { IfOk result (λ visit. op_of visit.instruction.op ≡ Some visit.op) }
+    {
         let Some(word) = deck.word(location) else {
             return Err(Refusal::NotLoaded(location));
         };
@@ -48,7 +57,9 @@ impl Visit {
     }
 
     /// Where it may go on by its D.
-    pub fn branch(&self) -> Option<Location> {
+    pub fn branch(&self) -> Option<Location>
+        ensures { IfSome result (λ next. next.number ≡ self.now.instruction.d) }
+    {
         match self.op {
             Op::Branch(_) | Op::BranchOnDigit(_) => Location::new(self.instruction.d()),
             _ => None,
@@ -56,7 +67,9 @@ impl Visit {
     }
 
     /// Where it may go on by its I.
-    pub fn next(&self) -> Option<Location> {
+    pub fn next(&self) -> Option<Location>
+        ensures { IfSome result (λ next. next.number ≡ self.now.instruction.i) }
+    {
         if self.op == Op::Stop && self.programmed == Programmed::Stop {
             return None;
         }
