@@ -1,8 +1,8 @@
 //! How long it takes to accept a deck of 2004 executed words, each with a list of 10,000 instructions.
 
 use crate::{Stopped, stop};
-use drum_bound::accept;
 use drum_core::{Reading, read_deck};
+use drum_flow::accept;
 use drum_times::read_notes;
 use std::alloc::{AllocError, Global};
 use std::rt::Clock;

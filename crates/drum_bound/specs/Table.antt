@@ -3,7 +3,7 @@ use Rattle.std.specs.Prelude.{◌≡◌, ℕ, ◌+◌, ◌*◌, ◌%◌, ◌≤�
 use Rattle.drum_times.specs.declared.notes.mark.Mark.{Mark}
 use Rattle.drum_machine.specs.Counts.{after_pass, no_counts}
 use Rattle.drum_machine.specs.Ways.{Way, early, to, late}
-use Rattle.drum_bound.specs.Walk.{Setting, Taken, IsWalk}
+use Rattle.drum_flow.specs.Walk.{Setting, Taken, IsWalk}
 
 -- counts as one number: the first mark's, and in units of its `most + 1` the number of the others'
 abbrev pub number_of : List Mark → List ℕ → ℕ

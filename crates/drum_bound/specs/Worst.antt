@@ -1,6 +1,6 @@
 -- The bound (this project's choice): the time that some walk has and none passes.
 use Rattle.std.specs.Prelude.{◌≡◌, ℕ, ◌≤◌, List}
-use Rattle.drum_bound.specs.Walk.{Setting, Taken, IsWalk, time_of}
+use Rattle.drum_flow.specs.Walk.{Setting, Taken, IsWalk, time_of}
 
 pub record IsWorst (g : Setting) (bound : ℕ) : Type 0 where
   -- some walk has it

@@ -1,5 +1,5 @@
-use crate::way::Way;
 use drum_core::{Instruction, Location};
+use drum_flow::Way;
 
 /// A hop of a walk, and when it was taken.
 #[derive(Clone, Copy, Debug, PartialEq, Eq)]

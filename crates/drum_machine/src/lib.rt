@@ -11,14 +11,16 @@ pub mod laws;
 pub mod left;
 pub mod machine;
 pub mod memory;
-mod moments;
+pub mod moments;
 pub mod monitor;
+pub mod passes;
 mod registers;
 pub mod setup;
 pub mod step;
 mod stop;
 pub mod why;
 
+pub use arithmetic::places;
 pub use card::Card;
 pub use feed::Feed;
 pub use left::Left;

@@ -6,16 +6,15 @@ ghost use Rattle.drum_times.specs.Allowed.{is_listed, allowed as allowed_at};
 ghost use Rattle.drum_machine.specs.declared.left.Left.TheVariants as Left;
 
 mod allowed;
-mod passes;
 
 use crate::fetch::instruction_of;
 use crate::left::Left;
+use crate::passes::{MOST_MARKS, count_pass, mark_on};
 use crate::setup::Setup;
 use crate::step::Step;
 use allowed::is_allowed;
 use drum_core::{Deck, Location, Word};
 use drum_times::{Mark, Notes, Programmed};
-use passes::{MOST_MARKS, count_pass, mark_on};
 
 /// Watches the steps of a run, and tells how the run leaves the notes.
 #[derive(Debug, Drop)]

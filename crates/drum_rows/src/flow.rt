@@ -1,8 +1,8 @@
 //! The flow graph of a deck: its hops, and why decks aren't accepted.
 
 use crate::texts::{NOTES, TWO_WORDS};
-use drum_bound::{Refusal, Way, accept, flow};
 use drum_core::{Location, Reading, read_deck};
+use drum_flow::{Refusal, Way, accept, flow};
 use drum_times::read_notes;
 use std::alloc::{AllocError, Global};
 use std::process::Abort;

@@ -1,0 +1,15 @@
+pub mod Acceptances
+pub mod Alterations
+mod Checks
+pub mod Flags
+pub mod Founds
+pub mod FreeRows
+pub mod Instructed
+pub mod KeptWalk
+pub mod Lists
+pub mod Orders
+pub mod Products
+pub mod Searches
+pub mod Translations
+pub mod Turns
+mod Refusals

@@ -1,0 +1,65 @@
+use Rattle.std.proofs.Common.{◌≡◌, ℕ, List, sym, subst}
+use Rattle.drum_core.specs.declared.deck.Deck.{Deck}
+use Rattle.drum_core.specs.Loads.{loads_in, start_in}
+use Rattle.drum_times.specs.Allowed.{Notes}
+use Rattle.drum_flow.specs.Acceptance.{IsRefusal}
+use Rattle.drum_flow.specs.Accepted.{IsAccepted}
+use Rattle.drum_flow.specs.Altering.{FlagsFixed}
+use Rattle.drum_flow.specs.Fixed.{AreFlagged}
+use Rattle.drum_flow.specs.Flow.{executed_in, AreExecuted}
+use Rattle.drum_flow.specs.Free.{IsFreeOrder}
+use Rattle.drum_flow.proofs.Acceptances.{flags_fixed, too_much, unbounded, is_accepted}
+use Rattle.drum_flow.proofs.Founds.{numbers}
+use Rattle.drum_flow.proofs.acceptance.accept.Goals as goal
+
+-- what is so of one deck and its notes is so of those that are the same
+moved : (Holds : Deck → Notes → Type 0) (deck other : Deck) (notes others : Notes) → deck ≡ other → notes ≡ others → Holds deck notes → Holds other others
+moved Holds deck other notes others same equal holds = subst (Holds other) equal (subst (λ (d : Deck). Holds d notes) same holds)
+
+pub check_unaltered-requires-clause-fixed : goal.check_unaltered-requires-clause-fixed
+check_unaltered-requires-clause-fixed c =
+    let flow = c.in-Ok.flow in
+    let deck = c.args.deck.now in
+    let notes = c.args.notes.now in
+    let flagged : AreFlagged (executed_in flow) notes c.in-Ok-of.fixed.flags.items = subst (λ (places : List ℕ). AreFlagged places notes c.in-Ok-of.fixed.flags.items) c.executed.ensures.all c.in-Ok-of.ensures in
+    moved (λ d n. FlagsFixed (loads_in d) n (start_in d) c.in-Ok-of.fixed) deck flow.deck.now notes flow.notes.now (sym c.in-Ok.ensures.deck) (sym c.in-Ok.ensures.notes)
+    (flags_fixed (loads_in deck) notes (start_in deck) (executed_in flow) c.in-Ok-of.fixed c.in-Ok.ensures.executed flagged)
+
+pub returns-in-Err-check_small-clause-refused : goal.returns-in-Err-check_small-clause-refused
+returns-in-Err-check_small-clause-refused c =
+    let flow = c.in-Ok.flow in
+    let deck = flow.deck.now in
+    let notes = flow.notes.now in
+    let refusal = c.in-Err-check_small.refusal in
+    let executed : AreExecuted (loads_in deck) notes (start_in deck) (executed_in flow) =
+    moved (λ d n. AreExecuted (loads_in d) n (start_in d) (executed_in flow)) c.args.deck.now deck c.args.notes.now notes (sym c.in-Ok.ensures.deck) (sym c.in-Ok.ensures.notes) c.in-Ok.ensures.executed in
+    moved (λ d n. IsRefusal (loads_in d) n (start_in d) refusal) deck c.args.deck.now notes c.args.notes.now c.in-Ok.ensures.deck c.in-Ok.ensures.notes
+    (too_much (loads_in deck) notes (start_in deck) (executed_in flow) executed c.in_default-check_unaltered.ensures.unaltered refusal c.in-Err-check_small.ensures.large)
+
+pub returns-in-Err-free_order-clause-refused : goal.returns-in-Err-free_order-clause-refused
+returns-in-Err-free_order-clause-refused c =
+    let flow = c.in-Ok.flow in
+    let deck = flow.deck.now in
+    let notes = flow.notes.now in
+    let refusal = c.in-Err-free_order.refusal in
+    let executed : AreExecuted (loads_in deck) notes (start_in deck) (executed_in flow) =
+    moved (λ d n. AreExecuted (loads_in d) n (start_in d) (executed_in flow)) c.args.deck.now deck c.args.notes.now notes (sym c.in-Ok.ensures.deck) (sym c.in-Ok.ensures.notes) c.in-Ok.ensures.executed in
+    moved (λ d n. IsRefusal (loads_in d) n (start_in d) refusal) deck c.args.deck.now notes c.args.notes.now c.in-Ok.ensures.deck c.in-Ok.ensures.notes
+    (unbounded (loads_in deck) notes (start_in deck) (executed_in flow) executed c.in_default-check_unaltered.ensures.unaltered c.in_default-check_small.ensures.small refusal c.in-Err-free_order.ensures.cycle)
+
+pub returns-clause-accepted : goal.returns-clause-accepted
+returns-clause-accepted c =
+    let flow = c.in-Ok.flow in
+    let deck = flow.deck.now in
+    let notes = flow.notes.now in
+    let executed : AreExecuted (loads_in deck) notes (start_in deck) (executed_in flow) =
+    moved (λ d n. AreExecuted (loads_in d) n (start_in d) (executed_in flow)) c.args.deck.now deck c.args.notes.now notes (sym c.in-Ok.ensures.deck) (sym c.in-Ok.ensures.notes) c.in-Ok.ensures.executed in
+    moved (λ d n. IsAccepted (loads_in d) n (start_in d) (executed_in flow)) deck c.args.deck.now notes c.args.notes.now c.in-Ok.ensures.deck c.in-Ok.ensures.notes
+    (is_accepted (loads_in deck) notes (start_in deck) (executed_in flow) executed c.in_default-check_unaltered.ensures.unaltered c.in_default-check_small.ensures.small
+    (numbers c.in-Ok-free_order.order.items) c.in-Ok-free_order.ensures.order)
+
+pub returns-clause-order : goal.returns-clause-order
+returns-clause-order c =
+    let flow = c.in-Ok.flow in
+    moved (λ d n. IsFreeOrder (loads_in d) n (executed_in flow) (numbers c.in-Ok-free_order.order.items)) flow.deck.now c.args.deck.now flow.notes.now c.args.notes.now
+    c.in-Ok.ensures.deck c.in-Ok.ensures.notes c.in-Ok-free_order.ensures.order

@@ -1,0 +1,7 @@
+use Rattle.std.proofs.Common.{◌≡◌, ◌*◌, drop}
+use Rattle.drum_flow.specs.Accepted as said
+use Rattle.drum_flow.proofs.counts.counts_of.Given as goal
+
+-- the product so far, and the counts of the marks that are left
+abbrev pub invariant-loop-mark : goal.invariant-loop-mark
+invariant-loop-mark l = l.counts * said.counts_of (drop l.mark-index l.marks) ≡ said.counts_of l.marks

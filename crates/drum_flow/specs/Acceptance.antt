@@ -1,0 +1,16 @@
+-- Why a deck with its notes isn't accepted.
+use Rattle.std.specs.Prelude.{ℕ, map, Option}
+use Rattle.drum_core.specs.declared.word.Word.{Word}
+use Rattle.drum_times.specs.Allowed.{Notes}
+use Rattle.drum_flow.specs.declared.refusal.Refusal.{Refusal}
+use Rattle.drum_flow.specs.declared.refusal.Refusal.TheVariants.{Memory, NotLoaded, NotInProfile, Alters, Unbounded, TooLarge}
+use Rattle.drum_flow.specs.Accepted.{IsNotLoaded, IsNotInProfile, IsAltered, IsTooLarge, IsUnbounded}
+
+-- the refusal is that of the deck with its notes, or memory is wanting
+abbrev pub IsRefusal : (ℕ → Option Word) → Notes → ℕ → Refusal → Type 0
+IsRefusal loads notes start (NotLoaded location) = IsNotLoaded loads notes start location.number
+IsRefusal loads notes start (NotInProfile location op) = IsNotInProfile loads notes start location.number op
+IsRefusal loads notes start (Alters writer word) = IsAltered loads notes start writer.number word.number
+IsRefusal loads notes start (TooLarge product) = IsTooLarge loads notes start product
+IsRefusal loads notes start (Unbounded cycle) = IsUnbounded loads notes start (map (λ location. location.number) cycle.locations.items)
+IsRefusal loads notes start Memory = Unit {0}

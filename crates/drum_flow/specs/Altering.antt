@@ -1,0 +1,42 @@
+-- How an instruction alters an executed location without a list.
+use Rattle.std.specs.Prelude.{ℕ, ◌≤◌, Option, Contains}
+use Rattle.drum_core.specs.declared.instruction.Instruction.{Instruction}
+use Rattle.drum_core.specs.declared.word.Word.{Word}
+use Rattle.drum_times.specs.Allowed.{Notes, allowed}
+use Rattle.drum_machine.specs.Writes.{writes}
+use Rattle.drum_flow.specs.declared.fixed.Fixed.{Fixed}
+use Rattle.drum_flow.specs.declared.refusal.Refusal.{Refusal}
+use Rattle.drum_flow.specs.declared.refusal.Refusal.TheVariants.{Memory, NotLoaded, NotInProfile, Alters, Unbounded, TooLarge}
+use Rattle.drum_flow.specs.Accepted as said
+use Rattle.drum_flow.specs.Accepted.{IsFixed, IsFirstIn, IsAltered}
+use Rattle.drum_flow.specs.Fixed.{IsFlagged}
+
+-- the flags are those of the executed locations without a list
+pub record FlagsFixed (loads : ℕ → Option Word) (notes : Notes) (start : ℕ) (fixed : Fixed) : Type 0 where
+  pub only : (place : ℕ) → IsFlagged fixed place → IsFixed loads notes start place
+  pub all : (place : ℕ) → IsFixed loads notes start place → IsFlagged fixed place
+
+-- the word is the lowest that the instruction alters
+pub record IsLowestAltered (loads : ℕ → Option Word) (notes : Notes) (start : ℕ) (ins : Instruction) (word : ℕ) : Type 0 where
+  pub written : Contains (writes ins) word
+  pub fixed : IsFixed loads notes start word
+  pub lowest : (other : ℕ) → Contains (writes ins) other → IsFixed loads notes start other → word ≤ other
+
+-- the word is the lowest that the first instruction of a place alters which alters any
+pub record IsFirstAltered (loads : ℕ → Option Word) (notes : Notes) (start place word : ℕ) : Type 0 where
+  pub ins : Instruction
+  pub first : IsFirstIn (allowed loads notes place) (said.Alters loads notes start) ins
+  pub lowest : IsLowestAltered loads notes start ins word
+
+-- no instruction of a place alters
+abbrev pub AltersNone : (ℕ → Option Word) → Notes → ℕ → ℕ → Type 0
+AltersNone loads notes start place = (ins : Instruction) → Contains (allowed loads notes place) ins → ¬ said.Alters loads notes start ins
+
+-- the refusal of a deck that alters
+abbrev pub IsAlteredBy : (ℕ → Option Word) → Notes → ℕ → Refusal → Type 0
+IsAlteredBy loads notes start (Alters writer word) = IsAltered loads notes start writer.number word.number
+IsAlteredBy loads notes start Memory = ⊥
+IsAlteredBy loads notes start (NotLoaded location) = ⊥
+IsAlteredBy loads notes start (NotInProfile location op) = ⊥
+IsAlteredBy loads notes start (Unbounded cycle) = ⊥
+IsAlteredBy loads notes start (TooLarge product) = ⊥

@@ -1,0 +1,33 @@
+-- What a flow is of: a deck, its notes, and the executed locations.
+use Rattle.std.specs.Prelude.{ℕ, List, Option, Contains, map}
+use Rattle.drum_core.specs.declared.deck.Deck.{Deck}
+use Rattle.drum_core.specs.declared.word.Word.{Word}
+use Rattle.drum_times.specs.Allowed.{Notes}
+use Rattle.drum_flow.specs.declared.flow_graph.Flow.{Flow}
+use Rattle.drum_flow.specs.Accepted.{IsGood}
+use Rattle.drum_flow.specs.Executed.{IsOrder}
+use Rattle.drum_flow.specs.Found.{places_of}
+use Rattle.drum_flow.specs.Hops.{IsExecuted}
+
+-- the deck and the notes that a flow is of
+abbrev pub deck_of : Flow → Deck
+deck_of flow = flow.deck.now
+
+abbrev pub notes_of : Flow → Notes
+notes_of flow = flow.notes.now
+
+-- the executed locations, in the order of discovery
+abbrev pub executed_in : Flow → List ℕ
+executed_in flow = places_of flow.executed
+
+-- the locations that are kept in an order of their own
+abbrev pub order_in : Flow → List ℕ
+order_in flow = map (λ location. location.number) flow.order.items
+
+-- These are the executed locations in the order of discovery, all of them loaded or listed, with operations in the
+-- profile alone.
+pub record AreExecuted (loads : ℕ → Option Word) (notes : Notes) (start : ℕ) (places : List ℕ) : Type 0 where
+  pub order : IsOrder loads notes start places
+  pub all : (place : ℕ) → IsExecuted loads notes start place → Contains places place
+  pub only : (place : ℕ) → Contains places place → IsExecuted loads notes start place
+  pub good : (place : ℕ) → Contains places place → IsGood loads notes place

@@ -1,0 +1,47 @@
+-- The edges free of marks, as rows of places in the order of discovery.
+use Rattle.std.specs.Prelude.{◌≡◌, ℕ, IsNone, List, slice_get, Option, Some, Contains, map}
+use Rattle.drum_core.specs.declared.word.Word.{Word}
+use Rattle.drum_times.specs.Allowed.{Notes}
+use Rattle.drum_times.specs.declared.notes.mark.Mark.{Mark}
+use Rattle.drum_machine.specs.Counts.{mark_on}
+use Rattle.drum_flow.specs.declared.refusal.Refusal.{Refusal}
+use Rattle.drum_flow.specs.declared.refusal.Refusal.TheVariants.{Memory, NotLoaded, NotInProfile, Alters, Unbounded, TooLarge}
+use Rattle.drum_flow.specs.Accepted.{IsFree, IsClosed, IsSmallestFirst}
+use Rattle.drum_flow.specs.Graph.{AreDifferent, GoOn}
+
+-- The row of a location has the places of those that edges free of marks lead to from it.
+pub record IsFreeRow (loads : ℕ → Option Word) (notes : Notes) (executed : List ℕ) (from : ℕ) (row : List ℕ) : Type 0 where
+  pub free : (place : ℕ) → Contains row place → (onto : ℕ) × (slice_get executed place ≡ Some onto) × IsFree loads notes from onto
+  pub all : (place onto : ℕ) → slice_get executed place ≡ Some onto → IsFree loads notes from onto → Contains row place
+
+-- The row has the places of those of the targets that no mark stands before.
+pub record IsUnmarkedRow (marks : List Mark) (executed targets : List ℕ) (from : ℕ) (row : List ℕ) : Type 0 where
+  pub free : (place : ℕ) → Contains row place → (onto : ℕ) × (slice_get executed place ≡ Some onto) × (Contains targets onto × IsNone (mark_on marks from onto))
+  pub all : (place onto : ℕ) → slice_get executed place ≡ Some onto → Contains targets onto → IsNone (mark_on marks from onto) → Contains row place
+
+-- An order of the executed locations in which every edge free of marks goes on.
+pub record IsFreeOrder (loads : ℕ → Option Word) (notes : Notes) (executed order : List ℕ) : Type 0 where
+  pub all : (place : ℕ) → Contains executed place → Contains order place
+  pub only : (place : ℕ) → Contains order place → Contains executed place
+  pub different : AreDifferent order
+  pub onward : GoOn (IsFree loads notes) order
+
+-- Each place's row is that of its location.
+abbrev pub AreFreeRows : (ℕ → Option Word) → Notes → List ℕ → (ℕ → List ℕ) → Type 0
+AreFreeRows loads notes executed row = (place from : ℕ) → slice_get executed place ≡ Some from → IsFreeRow loads notes executed from (row place)
+
+-- Executed locations without repeats, the smallest first, that edges free of marks lead round.
+pub record IsFreeCycle (loads : ℕ → Option Word) (notes : Notes) (executed cycle : List ℕ) : Type 0 where
+  pub within : (place : ℕ) → Contains cycle place → Contains executed place
+  pub closed : IsClosed loads notes cycle
+  pub different : AreDifferent cycle
+  pub smallest : IsSmallestFirst cycle
+
+-- the refusal has such a cycle, or memory is wanting
+abbrev pub IsCycleRefusal : (ℕ → Option Word) → Notes → List ℕ → Refusal → Type 0
+IsCycleRefusal loads notes executed (Unbounded cycle) = IsFreeCycle loads notes executed (map (λ location. location.number) cycle.locations.items)
+IsCycleRefusal loads notes executed Memory = Unit {0}
+IsCycleRefusal loads notes executed (NotLoaded location) = ⊥
+IsCycleRefusal loads notes executed (NotInProfile location op) = ⊥
+IsCycleRefusal loads notes executed (Alters writer word) = ⊥
+IsCycleRefusal loads notes executed (TooLarge product) = ⊥

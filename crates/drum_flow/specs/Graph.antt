@@ -1,0 +1,56 @@
+-- Graphs of numbered nodes: an order in which every edge goes on, and cycles. `row` says which nodes the edges of a
+-- node lead to.
+use Rattle.std.specs.Prelude.{ℕ, ◌<◌, List, [], ◌∷◌, length, Contains}
+use Rattle.drum_flow.specs.declared.graph.Graph.{Graph}
+use Rattle.drum_flow.specs.declared.graph.sorted.Sorted.{Sorted}
+use Rattle.drum_flow.specs.declared.graph.sorted.Sorted.TheVariants.{Ordered, Cyclic}
+use Rattle.drum_flow.specs.Rows.{row_in}
+
+-- the nodes that the edges of a node lead to
+abbrev pub row : Graph → ℕ → List ℕ
+row graph node = row_in graph.rows.items node
+
+-- how many nodes a graph has
+abbrev pub size : Graph → ℕ
+size graph = length graph.rows.items
+
+-- no member twice
+abbrev pub AreDifferent : List ℕ → Type 0
+AreDifferent [] = Unit {0}
+AreDifferent (node ∷ nodes) = ¬ Contains nodes node × AreDifferent nodes
+
+-- each edge of a member leads to a later member
+abbrev pub GoOn : (ℕ → ℕ → Type 0) → List ℕ → Type 0
+GoOn Edge [] = Unit {0}
+GoOn Edge (node ∷ nodes) = ((next : ℕ) → Edge node next → Contains nodes next) × GoOn Edge nodes
+
+-- an edge of rows leads from the one node to the other
+abbrev pub Leads : (ℕ → List ℕ) → ℕ → ℕ → Type 0
+Leads row node next = Contains (row node) next
+
+-- All nodes, none twice, and every edge goes on.
+pub record IsTopologicalOrder (row : ℕ → List ℕ) (size : ℕ) (order : List ℕ) : Type 0 where
+  pub all : (node : ℕ) → node < size → Contains order node
+  pub within : (node : ℕ) → Contains order node → node < size
+  pub distinct : AreDifferent order
+  pub onward : GoOn (Leads row) order
+
+-- edges lead from a node along these, and from the last to the first
+abbrev pub LeadRound : (ℕ → List ℕ) → ℕ → ℕ → List ℕ → Type 0
+LeadRound row first node [] = Contains (row node) first
+LeadRound row first node (next ∷ nexts) = Contains (row node) next × LeadRound row first next nexts
+
+abbrev pub IsClosed : (ℕ → List ℕ) → List ℕ → Type 0
+IsClosed row [] = ⊥
+IsClosed row (node ∷ nodes) = LeadRound row node node nodes
+
+-- Some nodes, none twice: edges lead from each to the next, and from the last to the first.
+pub record IsCycle (row : ℕ → List ℕ) (size : ℕ) (cycle : List ℕ) : Type 0 where
+  pub within : (node : ℕ) → Contains cycle node → node < size
+  pub distinct : AreDifferent cycle
+  pub closed : IsClosed row cycle
+
+-- an order in which every edge goes on, or a cycle
+abbrev pub IsSorted : (ℕ → List ℕ) → ℕ → Sorted → Type 0
+IsSorted row size (Ordered order) = IsTopologicalOrder row size order.items
+IsSorted row size (Cyclic cycle) = IsCycle row size cycle.items

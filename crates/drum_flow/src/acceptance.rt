@@ -1,0 +1,50 @@
+ghost use Rattle.std.specs.Prelude.{◌≡◌, IfOk, IfErr};
+ghost use Rattle.drum_core.specs.Loads.{loads_in, start_in};
+ghost use Rattle.drum_flow.specs.Acceptance.{IsRefusal};
+ghost use Rattle.drum_flow.specs.Accepted.{IsAccepted};
+ghost use Rattle.drum_flow.specs.Flow.{deck_of, notes_of, executed_in, order_in};
+ghost use Rattle.drum_flow.specs.Free.{IsFreeOrder};
+
+use crate::altering::check_unaltered;
+use crate::discovery::flow;
+use crate::fixed::Fixed;
+use crate::flow_graph::Flow;
+use crate::free_order::free_order;
+use crate::refusal::Refusal;
+use crate::size::check_small;
+use drum_core::Deck;
+use drum_times::Notes;
+use std::alloc::Global;
+
+/// The flow graph of a deck under its notes, where the deck with its notes is accepted.
+///
+/// # Errors
+///
+/// The first that applies: [`Refusal::NotLoaded`] or [`Refusal::NotInProfile`], as discovery meets them;
+/// [`Refusal::Alters`]; [`Refusal::TooLarge`]; [`Refusal::Unbounded`]. [`Refusal::Memory`] where memory is wanting.
+pub fn accept<'a>(alloc: Global, deck: &'a Deck, notes: &'a Notes) -> Result<Flow<'a>, Refusal>
+    ensures deck { IfOk result (λ flow. deck_of flow ≡ deck.now) }
+    ensures notes { IfOk result (λ flow. notes_of flow ≡ notes.now) }
+    ensures accepted { IfOk result (λ flow. IsAccepted (loads_in deck.now) notes.now (start_in deck.now) (executed_in flow)) }
+    ensures order { IfOk result (λ flow. IsFreeOrder (loads_in deck.now) notes.now (executed_in flow) (order_in flow)) }
+    ensures refused { IfErr result (IsRefusal (loads_in deck.now) notes.now (start_in deck.now)) }
+{
+    let mut flow = match flow(alloc, deck, notes) {
+        Ok(flow) => flow,
+        Err(refusal) => return Err(refusal),
+    };
+    let Ok(fixed) = Fixed::of(alloc, flow.executed(), notes) else {
+        return Err(Refusal::Memory);
+    };
+    if let Err(refusal) = check_unaltered(&flow, &fixed) {
+        return Err(refusal);
+    }
+    if let Err(refusal) = check_small(&flow) {
+        return Err(refusal);
+    }
+    match free_order(alloc, &flow) {
+        Ok(order) => flow.order = order,
+        Err(refusal) => return Err(refusal),
+    }
+    Ok(flow)
+}

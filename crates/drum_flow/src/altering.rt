@@ -1,0 +1,67 @@
+//! That no instruction of an executed location alters one without a list.
+
+ghost use Rattle.std.specs.Prelude.{◌≡◌, ℕ, Contains, IfSome, IfNone, IfErr, OnOk};
+ghost use Rattle.drum_core.specs.Loads.{loads_in, start_in};
+ghost use Rattle.drum_flow.specs.Accepted as said;
+ghost use Rattle.drum_flow.specs.Altering.{FlagsFixed, IsLowestAltered, IsFirstAltered, AltersNone, IsAlteredBy};
+ghost use Rattle.drum_flow.specs.Flow.{executed_in, AreExecuted};
+
+use crate::fixed::Fixed;
+use crate::flow_graph::Flow;
+use crate::instructions::Instructions;
+use crate::refusal::Refusal;
+use crate::writes::writes;
+use drum_core::{Instruction, Location};
+
+/// The lowest word that the instruction alters.
+fn lowest_altered(flow: &Flow<'_>, fixed: &Fixed, instruction: Instruction) -> Option<Location>
+    requires { FlagsFixed (loads_in flow.now.deck.now) flow.now.notes.now (start_in flow.now.deck.now) fixed.now }
+    ensures some { IfSome result (λ word. IsLowestAltered (loads_in flow.now.deck.now) flow.now.notes.now (start_in flow.now.deck.now) instruction word.number) }
+    ensures none { IfNone result (¬ said.Alters (loads_in flow.now.deck.now) flow.now.notes.now (start_in flow.now.deck.now) instruction) }
+{
+    let words = writes(instruction);
+    for number in words.start..words.end {
+        if fixed.has(number) {
+            return Location::new(number);
+        }
+    }
+    None
+}
+
+/// The lowest word that the first instruction of a location alters which alters any.
+fn first_altered(flow: &Flow<'_>, fixed: &Fixed, location: Location) -> Option<Location>
+    requires { FlagsFixed (loads_in flow.now.deck.now) flow.now.notes.now (start_in flow.now.deck.now) fixed.now }
+    ensures some { IfSome result (λ word. IsFirstAltered (loads_in flow.now.deck.now) flow.now.notes.now (start_in flow.now.deck.now) location.number word.number) }
+    ensures none { IfNone result (AltersNone (loads_in flow.now.deck.now) flow.now.notes.now (start_in flow.now.deck.now) location.number) }
+{
+    for instruction in Instructions::at(flow.deck, flow.notes, location) {
+        if let Some(word) = lowest_altered(flow, fixed, instruction) {
+            return Some(word);
+        }
+    }
+    None
+}
+
+/// That no instruction of an executed location alters one without a list.
+///
+/// # Errors
+///
+/// [`Refusal::Alters`] with the first location in the order of discovery that has an instruction that alters, and the
+/// lowest word that its first such instruction alters.
+pub fn check_unaltered(flow: &Flow<'_>, fixed: &Fixed) -> Result<(), Refusal>
+    requires flow { AreExecuted (loads_in flow.now.deck.now) flow.now.notes.now (start_in flow.now.deck.now) (executed_in flow.now) }
+    requires fixed { FlagsFixed (loads_in flow.now.deck.now) flow.now.notes.now (start_in flow.now.deck.now) fixed.now }
+    ensures unaltered { OnOk result ((place : ℕ) → Contains (executed_in flow.now) place
+        → AltersNone (loads_in flow.now.deck.now) flow.now.notes.now (start_in flow.now.deck.now) place) }
+    ensures altered { IfErr result (IsAlteredBy (loads_in flow.now.deck.now) flow.now.notes.now (start_in flow.now.deck.now)) }
+{
+    for writer in flow.executed() {
+        if let Some(word) = first_altered(flow, fixed, *writer) {
+            return Err(Refusal::Alters {
+                writer: *writer,
+                word,
+            });
+        }
+    }
+    Ok(())
+}

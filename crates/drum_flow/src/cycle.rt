@@ -1,0 +1,41 @@
+ghost use Rattle.std.specs.Prelude.{◌<◌, ◌≤◌, length, map, vec_len};
+ghost use Rattle.drum_flow.specs.Turned.{IsLeastAt, IsTurned};
+
+use drum_core::Location;
+
+/// Locations without repeats whose edges, the last one's back to the first among them, are free of marks. The
+/// smallest is the first.
+#[derive(Debug, Drop, PartialEq, Eq)]
+pub struct Cycle {
+    /// The locations, 2004 at most.
+    pub locations: Vec<Location>,
+    pub ghost few: { vec_len locations ≤ 2004 },
+}
+
+impl Cycle {
+    /// The cycle of these locations, turned so that the smallest is the first.
+    pub fn turned(mut locations: Vec<Location>) -> Cycle
+        requires some { 0 < vec_len locations }
+        requires few { vec_len locations ≤ 2004 }
+        ensures { IsTurned (map (λ location. location.number) locations.items) (map (λ location. location.number) result.locations.items) }
+    {
+        let smallest = place_of_smallest(&locations);
+        locations.rotate_left(smallest);
+        Cycle { locations }
+    }
+}
+
+/// Where the smallest of some locations stands.
+fn place_of_smallest(locations: &[Location]) -> usize
+    requires { 0 < length locations.now }
+    ensures within { result < length locations.now }
+    ensures least { IsLeastAt (map (λ location. location.number) locations.now) result }
+{
+    let mut smallest = 0;
+    for (place, location) in locations.iter().enumerate() {
+        if location.number < locations[smallest].number {
+            smallest = place;
+        }
+    }
+    smallest
+}

@@ -1,0 +1,85 @@
+ghost use Rattle.std.specs.Prelude.{◌≡◌, [], ◌∷◌, ◌<◌, ◌≤◌, map, option_map, slice_get, length, Some, Contains, IfOk, IfSome, IfNone, OnOk};
+ghost use Rattle.drum_flow.specs.Executed.{with_new};
+ghost use Rattle.drum_flow.specs.Found.{places_of, targets_of};
+ghost use Rattle.drum_flow.specs.Graph.{AreDifferent};
+ghost use Rattle.drum_flow.specs.HopsLeft.{hops_left};
+
+use crate::hops::Hops;
+use crate::way::Way;
+use drum_core::Location;
+use indexmap::IndexSet;
+use std::alloc::{AllocError, Global};
+
+/// Locations without repeats, in the order in which they are found: the executed ones, or the successors of one.
+#[derive(Debug, Drop)]
+pub struct Executed {
+    locations: IndexSet<Location>,
+}
+
+impl Executed {
+    /// No location.
+    pub fn none(alloc: Global) -> Executed
+        ensures { places_of result ≡ [] }
+    {
+        Executed {
+            locations: IndexSet::new(alloc),
+        }
+    }
+
+    /// The start alone.
+    pub fn new(alloc: Global, start: Location) -> Result<Executed, AllocError>
+        ensures { IfOk result (λ executed. places_of executed ≡ start.number ∷ []) }
+    {
+        let mut locations = IndexSet::new(alloc);
+        locations.insert(start)?;
+        Ok(Executed { locations })
+    }
+
+    /// Adds a location, unless it is there.
+    fn add(&mut self, location: Location) -> Result<(), AllocError>
+        ensures { OnOk result (places_of self.new ≡ with_new (places_of self.old) (location.number ∷ [])) }
+    {
+        self.locations.insert(location)?;
+        Ok(())
+    }
+
+    /// Adds the locations that hops go on at, in order, unless they are there.
+    pub fn add_successors(&mut self, hops: Hops<'_>) -> Result<(), AllocError>
+        ensures { OnOk result (places_of self.new ≡ with_new (places_of self.old) (targets_of (hops_left hops.entry))) }
+    {
+        for hop in hops {
+            let Way::To(location) = hop.way else {
+                continue;
+            };
+            if let Err(error) = self.add(location) {
+                return Err(error);
+            }
+        }
+        Ok(())
+    }
+
+    /// The location at a place of the order, from 0; `None` past its end.
+    pub fn get(&self, place: usize) -> Option<Location>
+        ensures value { option_map (λ location. location.number) result ≡ slice_get (places_of self.now) place }
+        ensures few { IfSome result (λ location. place < 2004) }
+    {
+        self.locations().get(place).copied()
+    }
+
+    /// The locations, in order.
+    pub fn locations(&self) -> &[Location]
+        ensures all { map (λ location. location.number) result.now ≡ places_of self.now }
+        ensures different { AreDifferent (places_of self.now) }
+        ensures few { length (places_of self.now) ≤ 2004 }
+    {
+        self.locations.as_slice()
+    }
+
+    /// The place of a location in the order; `None` for one that isn't executed.
+    pub fn place_of(&self, location: Location) -> Option<usize>
+        ensures found { IfSome result (λ place. slice_get (places_of self.now) place ≡ Some location.number) }
+        ensures none { IfNone result (¬ Contains (places_of self.now) location.number) }
+    {
+        self.locations.get_index_of(&location)
+    }
+}

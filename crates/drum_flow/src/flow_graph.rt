@@ -1,0 +1,61 @@
+ghost use Rattle.std.specs.Prelude.{◌≡◌, ◌≤◌, [], map, length, slice_get, Some, Contains, IfSome, IfNone};
+ghost use Rattle.drum_core.specs.Loads.{loads_in};
+ghost use Rattle.drum_flow.specs.Hops as said;
+ghost use Rattle.drum_flow.specs.HopsLeft.{hops_left};
+ghost use Rattle.drum_flow.specs.Flow.{deck_of, notes_of, executed_in, order_in};
+ghost use Rattle.drum_flow.specs.Graph.{AreDifferent};
+
+use crate::executed::Executed;
+use crate::hops::Hops;
+use drum_core::{Deck, Location};
+use drum_times::Notes;
+
+/// The flow graph of a deck under its notes: the executed locations, and the hops of each.
+#[derive(Debug, Drop)]
+pub struct Flow<'a> {
+    pub(crate) deck: &'a Deck,
+    pub(crate) notes: &'a Notes,
+    pub(crate) executed: Executed,
+    /// An order in which every edge free of marks goes on, once the deck is accepted; nothing before.
+    pub(crate) order: Vec<Location>,
+}
+
+impl<'a> Flow<'a> {
+    /// The executed locations, in the order of discovery.
+    pub fn executed(&self) -> &[Location]
+        ensures all { map (λ location. location.number) result.now ≡ executed_in self.now }
+        ensures different { AreDifferent (executed_in self.now) }
+        ensures few { length (executed_in self.now) ≤ 2004 }
+    {
+        self.executed.locations()
+    }
+
+    /// The place of a location in that order; `None` for one that isn't executed.
+    pub fn place_of(&self, location: Location) -> Option<usize>
+        ensures found { IfSome result (λ place. slice_get (executed_in self.now) place ≡ Some location.number) }
+        ensures none { IfNone result (¬ Contains (executed_in self.now) location.number) }
+        ensures different { AreDifferent (executed_in self.now) }
+    {
+        let _executed = self.executed.locations();
+        self.executed.place_of(location)
+    }
+
+    /// Of an accepted deck, the executed locations in an order in which every edge free of marks goes on.
+    pub fn order(&self) -> &[Location]
+        ensures { map (λ location. location.number) result.now ≡ order_in self.now }
+    {
+        &self.order
+    }
+
+    /// The hops of a location, in order; none of one that isn't executed.
+    pub fn hops(&self, location: Location) -> Hops<'a>
+        ensures executed { Contains (executed_in self.now) location.number
+            → hops_left result ≡ said.hops (loads_in (deck_of self.now)) (notes_of self.now) location.number }
+        ensures others { ¬ Contains (executed_in self.now) location.number → hops_left result ≡ [] }
+    {
+        match self.executed.place_of(location) {
+            Some(_) => Hops::at(self.deck, self.notes, location),
+            None => Hops::none(self.notes),
+        }
+    }
+}

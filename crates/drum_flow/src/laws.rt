@@ -1,0 +1,50 @@
+//! Laws of the definitions, each the contract of a function that does nothing.
+
+ghost use Rattle.std.specs.Prelude.{◌≡◌, ℕ, ◌<◌, List, Option, Some};
+ghost use Rattle.drum_core.specs.declared.op.Op.{Op};
+ghost use Rattle.drum_core.specs.declared.word.Word.{Word};
+ghost use Rattle.drum_times.specs.declared.notes.mark.Mark.{Mark};
+ghost use Rattle.drum_times.specs.Allowed.{Notes, StandInEarlier};
+ghost use Rattle.drum_machine.specs.Contents.{Contents};
+ghost use Rattle.drum_machine.specs.Counts.{after_pass, mark_on, AreWithin};
+ghost use Rattle.drum_machine.specs.Keeps.{IsKept};
+ghost use Rattle.drum_machine.specs.Run.{Turn, IsRun, IsFirstState, used_from};
+ghost use Rattle.drum_machine.specs.Step.{State};
+ghost use Rattle.drum_machine.specs.Timing.{units_of};
+ghost use Rattle.drum_flow.specs.declared.refusal.Refusal.{Refusal};
+ghost use Rattle.drum_flow.specs.declared.refusal.Refusal.TheVariants.{Memory};
+ghost use Rattle.drum_flow.specs.Acceptance.{IsRefusal};
+ghost use Rattle.drum_flow.specs.Accepted.{IsAccepted, IsFixed};
+ghost use Rattle.drum_flow.specs.Passes.{leading};
+ghost use Rattle.drum_flow.specs.Walk.{Setting, IsProper, Taken, MayHaveUnits, IsWalk, time_of};
+ghost use Rattle.drum_flow.specs.WalkTime.{AreAlike};
+
+/// A pass raises the counts, read as one number with the first mark's leading.
+pub fn passes_raise()
+    ensures { (marks : List Mark) (counts : List ℕ) (from onto k : ℕ) → StandInEarlier 0 marks → AreWithin marks counts
+        → mark_on marks from onto ≡ Some k → leading marks counts < leading marks (after_pass marks from onto counts) }
+{}
+
+/// The hops of a walk, its units and its waits determine its time.
+pub fn one_time()
+    ensures { (g : Setting) (angle : ℕ) (hops others : List Taken) → AreAlike hops others → IsWalk g angle hops → IsWalk g angle others
+        → time_of hops ≡ time_of others }
+{}
+
+/// A run that keeps to the notes of an accepted deck is a walk, from the same start angle and of the same time.
+pub fn kept_run_is_a_walk()
+    ensures { (g : Setting) (executed : List ℕ) (s : State) (turns : List Turn) → IsProper g → IsAccepted g.loads g.notes g.start executed
+        → IsFirstState g.loads (IsFixed g.loads g.notes g.start) g.start s → IsRun g.times s turns → IsKept g.loads g.notes s turns
+        → (hops : List Taken) × IsWalk g s.start hops × (time_of hops ≡ used_from 0 turns) }
+{}
+
+/// The units of an operation's work, whatever the contents, are units that a hop may have.
+pub fn units_in_range()
+    ensures { (op : Op) (d : ℕ) (c : Contents) → MayHaveUnits op d (units_of op d c) }
+{}
+
+/// A deck that is accepted with its notes isn't refused, but for want of memory.
+pub fn accepted_is_not_refused()
+    ensures { (loads : ℕ → Option Word) (notes : Notes) (start : ℕ) (executed : List ℕ) (refusal : Refusal)
+        → IsAccepted loads notes start executed → IsRefusal loads notes start refusal → refusal ≡ Memory }
+{}

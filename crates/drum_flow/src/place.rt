@@ -1,0 +1,61 @@
+//! Whether a location is loaded or listed, with operations in the profile alone.
+
+ghost use Rattle.std.specs.Prelude.{◌≡◌, ℕ, MatchBool, IfSome, IfNone, IfErr, OnOk};
+ghost use Rattle.drum_core.specs.Loads.{loads_in};
+ghost use Rattle.drum_times.specs.Allowed as listed;
+ghost use Rattle.drum_times.specs.Allowed.{allowed};
+ghost use Rattle.drum_flow.specs.Accepted.{IsThere, IsInProfile, IsGood, IsFirstIn};
+ghost use Rattle.drum_flow.specs.Refused.{IsOutside, IsWrong};
+
+use crate::instructions::Instructions;
+use crate::refusal::Refusal;
+use drum_core::{Deck, Instruction, Location, Op};
+use drum_times::Notes;
+
+/// That a location is loaded or listed, with operations in the profile alone.
+///
+/// # Errors
+///
+/// [`Refusal::NotLoaded`], or [`Refusal::NotInProfile`] with the first operation outside the profile.
+pub fn check_place(deck: &Deck, notes: &Notes, location: Location) -> Result<(), Refusal>
+    ensures good { OnOk result (IsGood (loads_in deck.now) notes.now location.number) }
+    ensures wrong { IfErr result (IsWrong (loads_in deck.now) notes.now location.number) }
+{
+    if !is_there(deck, notes, location) {
+        return Err(Refusal::NotLoaded(location));
+    }
+    match first_outside(deck, notes, location) {
+        Some(instruction) => Err(Refusal::NotInProfile(location, instruction.op)),
+        None => Ok(()),
+    }
+}
+
+/// Whether the location is loaded or listed.
+fn is_there(deck: &Deck, notes: &Notes, location: Location) -> bool
+    ensures { let there = IsThere (loads_in deck.now) notes.now location.number in MatchBool result there (¬ there) }
+{
+    if deck.word(location).is_some() {
+        return true;
+    }
+    is_listed(notes, location)
+}
+
+/// Whether the location has a list.
+pub fn is_listed(notes: &Notes, location: Location) -> bool
+    ensures { result ≡ listed.is_listed notes.now location.number }
+{
+    notes.patterns(location).is_some()
+}
+
+/// The first instruction that is allowed at the location with an operation outside the profile.
+fn first_outside(deck: &Deck, notes: &Notes, location: Location) -> Option<Instruction>
+    ensures first { IfSome result (IsFirstIn (allowed (loads_in deck.now) notes.now location.number) IsOutside) }
+    ensures none { IfNone result (IsInProfile (loads_in deck.now) notes.now location.number) }
+{
+    for instruction in Instructions::at(deck, notes, location) {
+        if Op::of(instruction.op).is_none() {
+            return Some(instruction);
+        }
+    }
+    None
+}
