@@ -30,7 +30,7 @@ use Rattle.drum_machine.specs.declared.why.Why.TheVariants as why
 use Rattle.drum_machine.specs.Writes.{writes}
 use Rattle.drum_flow.specs.Accepted.{IsAccepted, IsFixed, IsThere}
 use Rattle.drum_flow.specs.Hops.{Hop, hops_of, hops, IsEdge, Lead, IsExecuted}
-use Rattle.drum_flow.proofs.Lists.{contains_here, contains_there, contains_cases}
+use Rattle.drum_flow.specs.Lists.{contains_here, contains_there, contains_cases}
 use Rattle.drum_flow.specs.Walk.{Setting, IsProper, Taken, MayHaveUnits, end_by, IsTimed, IsHopAt, Follow, IsWalkFrom, IsWalk, time_from, time_of}
 
 -- the units of a step's operation, where the profile has it

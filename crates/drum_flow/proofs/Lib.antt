@@ -6,7 +6,6 @@ pub mod Founds
 pub mod FreeRows
 pub mod Instructed
 pub mod KeptWalk
-pub mod Lists
 pub mod Orders
 pub mod Products
 pub mod Searches
