@@ -1,0 +1,9 @@
+pub mod Begun
+mod Checks
+mod CountLoops
+mod Ends
+mod Finished
+pub mod KeysTaken
+pub mod Sites
+pub mod Taken
+mod Traces

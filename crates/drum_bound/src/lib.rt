@@ -1,6 +1,16 @@
 //! How many word times a deck can take at most: the analysis of a deck with its timing table and notes.
 #![tactic(auto)]
 
+mod counts;
+mod end;
+mod kept;
+mod keys;
+mod latest;
+mod longest;
+mod passed;
+mod scan;
+mod table;
+mod trace;
 pub mod visit;
 pub mod worst;
 

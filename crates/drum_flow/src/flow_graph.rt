@@ -30,6 +30,20 @@ impl<'a> Flow<'a> {
         self.executed.locations()
     }
 
+    /// The deck that it is of.
+    pub fn deck(&self) -> &'a Deck
+        ensures { result.now ≡ deck_of self.now }
+    {
+        self.deck
+    }
+
+    /// The notes that it is under.
+    pub fn notes(&self) -> &'a Notes
+        ensures { result.now ≡ notes_of self.now }
+    {
+        self.notes
+    }
+
     /// The place of a location in that order; `None` for one that isn't executed.
     pub fn place_of(&self, location: Location) -> Option<usize>
         ensures found { IfSome result (λ place. slice_get (executed_in self.now) place ≡ Some location.number) }

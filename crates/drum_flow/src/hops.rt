@@ -12,7 +12,7 @@ use drum_core::{Deck, Instruction, Location};
 use drum_times::Notes;
 
 /// The hops of a location, in order: each instruction that is allowed there, with each of its ways.
-#[derive(Clone, Debug, Drop)]
+#[derive(Clone, Copy, Debug)]
 pub struct Hops<'a> {
     notes: &'a Notes,
     /// The instructions that come after the one that it is at.

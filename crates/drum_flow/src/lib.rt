@@ -4,7 +4,7 @@
 
 mod acceptance;
 mod altering;
-mod counts;
+pub mod counts;
 pub mod cycle;
 mod discovery;
 mod executed;

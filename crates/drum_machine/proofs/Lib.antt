@@ -10,5 +10,4 @@ pub mod Passing
 mod Setting
 pub mod Watching
 pub mod Wholes
-pub mod Within
 pub mod Stepping

@@ -16,4 +16,5 @@ pub mod Setup
 pub mod Step
 pub mod Timing
 pub mod Ways
+pub mod Within
 pub mod Writes

@@ -1,0 +1,44 @@
+-- Definitions evaluated: the counts of three marks, which may be passed once, twice and twice.
+use Rattle.std.proofs.Common.{◌≡◌, ◌≤◌, List, [], ◌∷◌, refl, arith, None}
+use Rattle.drum_core.specs.declared.location.Location.{Location}
+use Rattle.drum_core.specs.Location.{IsLocation}
+use Rattle.drum_times.specs.declared.notes.mark.Mark.{Mark}
+use Rattle.drum_flow.specs.Accepted.{counts_of}
+use Rattle.drum_flow.specs.Passes.{leading}
+use Rattle.drum_bound.specs.Digits.{digits}
+use Rattle.drum_bound.specs.Table.{number_of}
+
+exists : IsLocation 100
+exists = (omega arith, λ past. omega arith)
+
+place : Location
+place = record { number = 100; exists = exists }
+
+once : 1 ≤ 9999
+once = omega arith
+
+twice : 2 ≤ 9999
+twice = omega arith
+
+abbrev marks : List Mark
+marks =
+    (record { from = place; onto = place; most = 1; inside = None; four_digits = once }) ∷ (record { from = place; onto = place; most = 2; inside = None; four_digits = twice })
+    ∷ (record { from = place; onto = place; most = 2; inside = None; four_digits = twice })
+    ∷ []
+
+eighteen : counts_of marks ≡ 18
+eighteen = refl
+
+eleventh : digits marks 10 ≡ 1 ∷ 0 ∷ 1 ∷ []
+eleventh = refl
+
+last : digits marks 17 ≡ 1 ∷ 2 ∷ 2 ∷ []
+last = refl
+
+-- the first mark's count leads
+with_first_leading : leading marks (1 ∷ 0 ∷ 1 ∷ []) ≡ 10
+with_first_leading = refl
+
+-- or comes last
+with_first_last : number_of marks (1 ∷ 0 ∷ 1 ∷ []) ≡ 7
+with_first_last = refl

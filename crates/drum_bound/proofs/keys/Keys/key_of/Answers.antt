@@ -1,0 +1,67 @@
+use Rattle.std.proofs.Common.{◌≡◌, ℕ, ◌+◌, ◌*◌, ◌<◌, ◌≤◌, List, length, Some, suc, sym, ap, ◌∙◌, subst, arith}
+use Rattle.std.specs.Prelude.{slice_get}
+use Rattle.std.proofs.Math.Nat.{mul-le-mul_left}
+use Rattle.std.proofs.lemmas.List.{length-map}
+use Rattle.std.proofs.lemmas.Option.{slice_get_within}
+use Rattle.drum_times.specs.declared.notes.mark.Mark.{Mark}
+use Rattle.drum_machine.specs.Counts.{AreWithin}
+use Rattle.drum_flow.specs.Accepted.{counts_of}
+use Rattle.drum_flow.specs.Flow.{notes_of, order_in}
+use Rattle.drum_flow.specs.Passes.{leading, leading-<}
+use Rattle.drum_bound.specs.declared.keys.Keys.{Keys}
+use Rattle.drum_bound.specs.declared.keys.Site.{Site}
+use Rattle.drum_bound.specs.CountsIn.{counts_in}
+use Rattle.drum_bound.specs.Keys.{keys_of, IsKey}
+use Rattle.drum_bound.specs.KeysOf.{AreKeys}
+use Rattle.drum_bound.proofs.Sites.{key_of_place}
+use Rattle.drum_bound.proofs.keys.Keys.key_of.Goals as goal
+
+-- a key has as many locations as its order
+same_length : (keys : Keys) → AreKeys keys → length keys.sites.items ≡ length (order_in keys.flow.now)
+same_length keys are = sym (length-map keys.sites.items (λ (site : Site). site.location.number)) ∙ ap (λ (ns : List ℕ). length ns) are.sites
+
+-- counts that are within what the marks allow have a small number
+small_number : (marks : List Mark) (order counts : List ℕ) (k place : ℕ) → AreWithin marks counts → keys_of marks order ≤ 4000000 → slice_get order k ≡ Some place
+    → leading marks counts * length order + k < 4000000
+small_number marks order counts k place within few at =
+    let up : length order * suc (leading marks counts) ≤ length order * counts_of marks = mul-le-mul_left (length order) (leading-< marks counts within) in
+    omega (arith, up, few, slice_get_within order k place at)
+
+small_product : (marks : List Mark) (order counts : List ℕ) → AreWithin marks counts → keys_of marks order ≤ 4000000 → leading marks counts * length order ≤ 4000000
+small_product marks order counts within few =
+    let up : length order * suc (leading marks counts) ≤ length order * counts_of marks = mul-le-mul_left (length order) (leading-< marks counts within) in
+    omega (arith, up, few)
+
+pub leading-requires-clause-within : goal.leading-requires-clause-within
+leading-requires-clause-within c = subst (λ (all : List Mark). AreWithin all (counts_in c.args.counts all)) (sym c.marks.ensures.all) c.requires.within
+
+pub overflow_mul-result : goal.overflow_mul-result
+overflow_mul-result c =
+    let marks = (notes_of c.args.self.now.flow.now).marks in
+    let order = order_in c.args.self.now.flow.now in
+    let counts = counts_in c.args.counts marks in
+    let lead : c.leading.result ≡ leading marks counts = c.leading.ensures ∙ ap (λ (all : List Mark). leading all (counts_in c.args.counts all)) c.marks.ensures.all in
+    let words : c.len.result ≡ length order = omega (arith, c.len.ensures, c.args.self.now.sites.ok.0, same_length c.args.self.now c.requires.keys) in
+    let product : c.leading.result * c.len.result ≡ leading marks counts * length order = ap (λ (n : ℕ). n * c.len.result) lead ∙ ap (λ (n : ℕ). leading marks counts * n) words in
+    omega (arith, product, small_product marks order counts c.requires.within c.requires.keys.ordered.0.few)
+
+pub overflow_add-result : goal.overflow_add-result
+overflow_add-result c =
+    let marks = (notes_of c.args.self.now.flow.now).marks in
+    let order = order_in c.args.self.now.flow.now in
+    let counts = counts_in c.args.counts marks in
+    let lead : c.leading.result ≡ leading marks counts = c.leading.ensures ∙ ap (λ (all : List Mark). leading all (counts_in c.args.counts all)) c.marks.ensures.all in
+    let words : c.len.result ≡ length order = omega (arith, c.len.ensures, c.args.self.now.sites.ok.0, same_length c.args.self.now c.requires.keys) in
+    let product : c.leading.result * c.len.result ≡ leading marks counts * length order = ap (λ (n : ℕ). n * c.len.result) lead ∙ ap (λ (n : ℕ). leading marks counts * n) words in
+    omega (arith, product, small_number marks order counts c.place_of.result c.args.location.number c.requires.within c.requires.keys.ordered.0.few c.place_of.ensures)
+
+pub returns : goal.returns
+returns c =
+    let marks = (notes_of c.args.self.now.flow.now).marks in
+    let order = order_in c.args.self.now.flow.now in
+    let counts = counts_in c.args.counts marks in
+    let lead : c.leading.result ≡ leading marks counts = c.leading.ensures ∙ ap (λ (all : List Mark). leading all (counts_in c.args.counts all)) c.marks.ensures.all in
+    let words : c.len.result ≡ length order = omega (arith, c.len.ensures, c.args.self.now.sites.ok.0, same_length c.args.self.now c.requires.keys) in
+    let product : c.leading.result * c.len.result ≡ leading marks counts * length order = ap (λ (n : ℕ). n * c.len.result) lead ∙ ap (λ (n : ℕ). leading marks counts * n) words in
+    subst (λ (key : ℕ). IsKey marks order key c.args.location.number counts) (ap (λ (n : ℕ). n + c.place_of.result) (sym product))
+    (key_of_place marks order counts c.place_of.result c.args.location.number c.requires.within c.place_of.ensures)

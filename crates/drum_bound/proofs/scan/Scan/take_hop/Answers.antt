@@ -1,0 +1,71 @@
+use Rattle.std.proofs.Common.{◌≡◌, ◌⊎◌, ℕ, ap, ◌∙◌, sym, subst, inl, inr, refl, arith}
+use Rattle.drum_machine.specs.Ways.{early, late}
+use Rattle.drum_flow.specs.declared.way.Way as code
+use Rattle.drum_flow.specs.declared.way.Way.TheVariants as way
+use Rattle.drum_flow.specs.Seen.{seen_hop, seen_way}
+use Rattle.drum_flow.specs.Walk.{Setting}
+use Rattle.drum_bound.specs.declared.latest.Latest.{Latest}
+use Rattle.drum_bound.specs.Keys.{place_at}
+use Rattle.drum_bound.specs.Longest.{longest}
+use Rattle.drum_bound.specs.Profile.{hop_may_end}
+use Rattle.drum_bound.specs.Scanned.{Taking}
+use Rattle.drum_bound.specs.ScanOf.{setting_in, places_in}
+use Rattle.drum_bound.specs.Scans.{Comes, take_stop}
+use Rattle.drum_bound.proofs.Taken.{next_there, goes_agreed, goes_taken}
+use Rattle.drum_bound.proofs.scan.Scan.take_hop.Goals as goal
+
+pub end-end-requires-clause-may_end : goal.end-end-requires-clause-may_end
+end-end-requires-clause-may_end c =
+    let g : Setting = setting_in c.args.self.now in
+    hop_may_end g.loads g.notes (place_at (places_in c.args.self.now) c.args.at.now.key) c.args.hop.instruction (seen_way c.args.hop.way) c.requires.hop
+
+pub go_on-requires-clause-next : goal.go_on-requires-clause-next
+go_on-requires-clause-next c =
+    next_there (setting_in c.args.self.now) (places_in c.args.self.now) c.requires.keys.ordered.0 c.args.at.now.key (omega (arith, c.requires.at.below, c.requires.keys.size))
+    (seen_hop c.args.hop) c.in-To.next.number c.requires.hop (ap seen_way c.in-To.is)
+
+pub returns-in-To-clause-agreed : goal.returns-in-To-clause-agreed
+returns-in-To-clause-agreed c =
+    goes_agreed (setting_in c.args.self.now) (places_in c.args.self.now) c.requires.keys.ordered.0 c.args.at.now.key (omega (arith, c.requires.at.below, c.requires.keys.size))
+    (seen_hop c.args.hop) c.in-To.next.number c.end-end.result.latest c.args.self.now.cells.items c.args.self.now.last c.go_on.new.self.cells.items c.go_on.new.self.last
+    c.requires.hop (ap seen_way c.in-To.is) c.go_on.ensures.goes
+
+pub returns-in-To-clause-taken : goal.returns-in-To-clause-taken
+returns-in-To-clause-taken c =
+    let g : Setting = setting_in c.args.self.now in
+    let order = places_in c.args.self.now in
+    let at = c.args.at.now in
+    let new = c.end-end.result.latest in
+    let comes : Comes g order at.key c.args.clock (record { key = at.key; hop = c.args.hop }) new = record {
+      from = refl;
+      by = c.end-end.ensures.origin;
+      ended = c.end-end.ensures.clock ∙ ap (λ (place : ℕ). longest g.times place c.args.hop.instruction (seen_way c.args.hop.way) c.args.clock) c.requires.at.place;
+      hop = c.requires.hop;
+    } in
+    goes_taken g order c.requires.keys.ordered.0 at.key (omega (arith, c.requires.at.below, c.requires.keys.size)) c.args.clock (record { key = at.key; hop = c.args.hop })
+    c.in-To.next.number new c.args.self.now.cells.items c.args.self.now.last c.go_on.new.self.cells.items c.go_on.new.self.last comes (ap seen_way c.in-To.is) c.go_on.ensures.goes
+
+pub returns-in-Early : goal.returns-in-Early
+returns-in-Early c =
+    let g : Setting = setting_in c.args.self.now in
+    let order = places_in c.args.self.now in
+    let at = c.args.at.now in
+    let new = c.end-end.result.latest in
+    let comes : Comes g order at.key c.args.clock (record { key = at.key; hop = c.args.hop }) new = record {
+      from = refl;
+      by = c.end-end.ensures.origin;
+      ended = c.end-end.ensures.clock ∙ ap (λ (place : ℕ). longest g.times place c.args.hop.instruction (seen_way c.args.hop.way) c.args.clock) c.requires.at.place;
+      hop = c.requires.hop;
+    } in
+    record {
+      times = refl;
+      keys = refl;
+      counted = c.end-end.ensures.counted;
+      agreed = λ other within. refl;
+      taken = λ left taking. subst (λ (l : Latest). Taking g order at.key c.args.clock left c.args.self.now.cells.items l) (sym c.raise.ensures)
+          (take_stop g order at.key c.args.clock (record { key = at.key; hop = c.args.hop }) new left c.args.self.now.cells.items c.args.self.now.last comes (stops c.args.hop.way c.in-Early.is) taking);
+    }
+  where
+    stops : (w : code.Way) → (w ≡ way.Early) ⊎ (w ≡ way.Late) → (seen_way w ≡ early) ⊎ (seen_way w ≡ late)
+    stops w (inl e) = inl (ap seen_way e)
+    stops w (inr e) = inr (ap seen_way e)

@@ -1,0 +1,57 @@
+-- What the keys of a flow graph are, as they are held.
+use Rattle.std.specs.Prelude.{◌≡◌, ℕ, ◌<◌, List, map, slice_get, Option, Some, Contains}
+use Rattle.drum_core.specs.declared.location.Location.{Location}
+use Rattle.drum_core.specs.declared.word.Word.{Word}
+use Rattle.drum_core.specs.Loads.{loads_in, start_in}
+use Rattle.drum_times.specs.Allowed.{Notes}
+use Rattle.drum_times.specs.Entries.{entry_in}
+use Rattle.drum_times.specs.declared.times.Times.{Times}
+use Rattle.drum_flow.specs.declared.flow_graph.Flow.{Flow}
+use Rattle.drum_flow.specs.Flow.{deck_of, notes_of, executed_in, order_in}
+use Rattle.drum_flow.specs.Hops.{hops}
+use Rattle.drum_flow.specs.HopsLeft.{hops_left}
+use Rattle.drum_flow.specs.Walk.{Setting}
+use Rattle.drum_bound.specs.declared.keys.At.{At}
+use Rattle.drum_bound.specs.declared.keys.Keys.{Keys}
+use Rattle.drum_bound.specs.declared.keys.Site.{Site}
+use Rattle.drum_bound.specs.CountsIn.{counts_in}
+use Rattle.drum_bound.specs.Keys.{keys_of, place_at, counts_at, IsOrdered}
+
+-- what the walks of a flow graph are in, with a timing table
+abbrev pub setting_of : Flow → Times → Setting
+setting_of flow times = record { loads = loads_in (deck_of flow); notes = notes_of flow; times = entry_in times; start = start_in (deck_of flow) }
+
+-- the order of the executed locations is one that keys can be made of
+abbrev pub CanHaveKeys : Flow → Type 0
+CanHaveKeys flow = IsOrdered (loads_in (deck_of flow)) (notes_of flow) (start_in (deck_of flow)) (order_in flow)
+    × ((place : ℕ) → Contains (order_in flow) place → Contains (executed_in flow) place)
+
+-- the numbers of locations
+abbrev pub numbers : List Location → List ℕ
+numbers locations = map (λ location. location.number) locations
+
+abbrev pub sites_in : List Site → List ℕ
+sites_in sites = map (λ site. site.location.number) sites
+
+-- each has the hops of its location
+abbrev pub HaveHops : Flow → List Site → Type 0
+HaveHops flow sites = (site : Site) → Contains sites site
+    → hops_left site.hops ≡ hops (loads_in (deck_of flow)) (notes_of flow) site.location.number
+
+-- each location's place stands at its number
+abbrev pub HavePlaces : List ℕ → List ℕ → Type 0
+HavePlaces order places = (k place : ℕ) → slice_get order k ≡ Some place → slice_get places place ≡ Some k
+
+-- The keys of a flow graph.
+pub record AreKeys (keys : Keys) : Type 0 where
+  pub ordered : CanHaveKeys keys.flow.now
+  pub sites : sites_in keys.sites.items ≡ order_in keys.flow.now
+  pub hops : HaveHops keys.flow.now keys.sites.items
+  pub places : HavePlaces (order_in keys.flow.now) keys.places.items
+  pub size : keys.size ≡ keys_of (notes_of keys.flow.now).marks (order_in keys.flow.now)
+
+-- A key with its location and its counts.
+pub record IsAt (keys : Keys) (at : At) : Type 0 where
+  pub below : at.key < keys.size
+  pub place : at.location.number ≡ place_at (order_in keys.flow.now) at.key
+  pub counts : counts_in at.counts (notes_of keys.flow.now).marks ≡ counts_at (notes_of keys.flow.now).marks (order_in keys.flow.now) at.key

@@ -1,0 +1,34 @@
+-- The latest clock at which a hop can end (this project's choice).
+use Rattle.std.specs.Prelude.{ℕ, Option, Some, None}
+use Rattle.drum_core.specs.declared.instruction.Instruction.{Instruction}
+use Rattle.drum_core.specs.declared.op.Op.{Op}
+use Rattle.drum_core.specs.declared.op.Op.TheVariants.{Divide, DivideReset, Multiply, Shift, Read, Punch}
+use Rattle.drum_core.specs.Op.{op_of}
+use Rattle.drum_times.specs.declared.entry.Entry.{Entry}
+use Rattle.drum_machine.specs.Effect.{places}
+use Rattle.drum_machine.specs.Ways.{Way}
+use Rattle.drum_flow.specs.Walk.{end_by}
+
+-- the most units that an operation may have, whatever the data
+abbrev pub most_units : Op → ℕ → ℕ
+most_units Divide d = 90
+most_units DivideReset d = 90
+most_units Multiply d = 90
+most_units (Shift s) d = places s d
+most_units _ d = 0
+
+-- the longest wait that an operation may have
+abbrev pub most_wait : Op → Entry → ℕ
+most_wait Read entry = entry.wait_max
+most_wait Punch entry = entry.wait_max
+most_wait _ entry = 0
+
+-- the clock at which a hop of this operation ends at the latest; of none, the clock itself
+abbrev pub longest_by : (Op → Entry) → ℕ → Instruction → Way → ℕ → Option Op → ℕ
+longest_by times place ins way clock None = clock
+longest_by times place ins way clock (Some op) =
+    end_by way (times op) op ins.d place (most_units op ins.d) (most_wait op (times op)) clock
+
+-- the latest clock at which a hop that begins its search at this clock can end
+unfoldable pub longest : (Op → Entry) → ℕ → Instruction → Way → ℕ → ℕ
+longest times place ins way clock = longest_by times place ins way clock (op_of ins.op)

@@ -1,0 +1,43 @@
+-- What a scan knows, as it is held.
+use Rattle.std.specs.Prelude.{◌≡◌, ℕ, suc, ◌<◌, List, Option, ◌⊎◌}
+use Rattle.drum_machine.specs.Counts.{after_pass, AreWithin}
+use Rattle.drum_flow.specs.Flow.{order_in}
+use Rattle.drum_flow.specs.Walk.{Setting}
+use Rattle.drum_bound.specs.declared.latest.Latest.{Latest}
+use Rattle.drum_bound.specs.declared.scan.Scan.{Scan}
+use Rattle.drum_bound.specs.Keys.{keys_of, place_at, counts_at, IsKey}
+use Rattle.drum_bound.specs.KeysOf.{AreKeys, setting_of}
+use Rattle.drum_bound.specs.Scanned.{cell_at, later, raised, Scanned, turns_below}
+
+-- what its walks are in
+abbrev pub setting_in : Scan → Setting
+setting_in scan = setting_of scan.keys.now.flow.now scan.times.now
+
+-- the order of its locations
+abbrev pub places_in : Scan → List ℕ
+places_in scan = order_in scan.keys.now.flow.now
+
+-- how many keys it has
+abbrev pub size_in : Scan → ℕ
+size_in scan = keys_of (setting_in scan).notes.marks (places_in scan)
+
+-- The keys below one have been taken.
+pub record IsScanned (scan : Scan) (taken : ℕ) : Type 0 where
+  pub keys : AreKeys scan.keys.now
+  pub scanned : Scanned (setting_in scan) (places_in scan) taken taken scan.cells.items scan.last
+  pub turns : scan.turns.count ≡ turns_below (setting_in scan) (places_in scan) scan.cells.items taken
+
+-- All have.
+abbrev pub IsDone : Scan → Type 0
+IsDone scan = IsScanned scan (size_in scan)
+
+-- the cells up to a key are the same
+abbrev pub IsAgreed : ℕ → List (Option Latest) → List (Option Latest) → Type 0
+IsAgreed key cells cells' = (other : ℕ) → other < suc key → cell_at cells' other ≡ cell_at cells other
+
+-- A hop from a key goes on to a location: what came is kept at the key that it leads to, and of all; or a full mark bars it, and nothing is.
+abbrev pub Goes : Setting → List ℕ → ℕ → ℕ → Latest → List (Option Latest) → Latest → List (Option Latest) → Latest → Type 0
+Goes g order from next new cells last cells' last' =
+    let passed = after_pass g.notes.marks (place_at order from) next (counts_at g.notes.marks order from) in
+    ((¬ AreWithin g.notes.marks passed) × (cells' ≡ cells) × (last' ≡ last))
+    ⊎ ((key : ℕ) × IsKey g.notes.marks order key next passed × AreWithin g.notes.marks passed × (cells' ≡ raised cells key new) × (last' ≡ later last new))

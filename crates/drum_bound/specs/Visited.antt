@@ -1,0 +1,41 @@
+-- The hops of a walk as they are handed out: without their units and their waits.
+use Rattle.std.specs.Prelude.{◌≡◌, ℕ, ◌+◌, List, [], ◌∷◌, map}
+use Rattle.std.proofs.Common.{refl, ap}
+use Rattle.drum_core.specs.declared.instruction.Instruction.{Instruction}
+use Rattle.drum_times.specs.declared.notes.mark.Mark.{Mark}
+use Rattle.drum_machine.specs.Ways.{Way}
+use Rattle.drum_flow.specs.Seen.{seen_way}
+use Rattle.drum_flow.specs.Walk.{Setting, Taken, IsWalk, time_of, passes_by, passes_of}
+use Rattle.drum_bound.specs.declared.visit.Visit.{Visit}
+
+-- a hop of a walk without its units and its wait
+pub record Visited : Type 0 where
+  pub place : ℕ
+  pub ins : Instruction
+  pub way : Way
+  pub begun : ℕ
+  pub ended : ℕ
+
+abbrev pub visited : Taken → Visited
+visited hop = record { place = hop.place; ins = hop.ins; way = hop.way; begun = hop.begun; ended = hop.ended }
+
+-- a visit as the code has it
+abbrev pub seen_visit : Visit → Visited
+seen_visit visit = record { place = visit.place.number; ins = visit.instruction; way = seen_way visit.way; begun = visit.begun; ended = visit.ended }
+
+-- These are the hops of a walk from this angle that takes so many word times.
+pub record IsWalkOf (g : Setting) (angle used : ℕ) (visits : List Visited) : Type 0 where
+  pub hops : List Taken
+  pub walk : IsWalk g angle hops
+  pub time : time_of hops ≡ used
+  pub same : map visited hops ≡ visits
+
+-- how often hops pass a mark, whatever it stands inside of
+abbrev pub passes_in : Mark → List Visited → ℕ
+passes_in mark [] = 0
+passes_in mark (visit ∷ visits) = passes_by mark visit.place visit.way + passes_in mark visits
+
+-- A walk passes a mark as often as its hops, however they are handed out.
+pub passes_of_visited : (mark : Mark) (hops : List Taken) → passes_of mark hops ≡ passes_in mark (map visited hops)
+passes_of_visited mark [] = refl
+passes_of_visited mark (hop ∷ hops) = ap (λ (passes : ℕ). passes_by mark hop.place hop.way + passes) (passes_of_visited mark hops)

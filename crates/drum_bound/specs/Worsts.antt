@@ -1,0 +1,36 @@
+-- The latest of all that a finished scan keeps is the bound.
+use Rattle.std.proofs.Common.{ℕ, ◌-◌, ◌<◌, ◌≤◌, List, [], ◌∷◌, Option, Some, None, arith}
+use Rattle.drum_flow.specs.Walk.{Setting, Taken, IsWalk, time_of}
+use Rattle.drum_bound.specs.declared.latest.Latest.{Latest}
+use Rattle.drum_bound.specs.declared.latest.Origin.{Origin}
+use Rattle.drum_bound.specs.Keys.{keys_of, IsOrdered}
+use Rattle.drum_bound.specs.Scanned.{start_angle, IsLastBy, Scanned}
+use Rattle.drum_bound.specs.Unpassed.{no_walk_passes}
+use Rattle.drum_bound.specs.Walked.{taken_of, hop_last, comes_from_start}
+use Rattle.drum_bound.specs.Worst.{IsWorst}
+
+module _ (g : Setting) (order : List ℕ) (cells : List (Option Latest)) (last : Latest)
+    (ordered : IsOrdered g.loads g.notes g.start order) (starts : g.start < 2000)
+    (s : Scanned g order (keys_of g.notes.marks order) (keys_of g.notes.marks order) cells last) where
+  -- The time from the start to the latest of all is the bound: the hop that it comes from ends a walk, and where it
+  -- comes from none the walk is empty.
+  pub is_worst : IsWorst g (last.clock - start_angle g.start)
+  is_worst = go last.origin s.ends
+    where
+      bounded : (angle : ℕ) (hops : List Taken) → IsWalk g angle hops → time_of hops ≤ last.clock - start_angle g.start
+      bounded angle hops walk = omega (arith, no_walk_passes g order cells last ordered starts s angle hops walk)
+
+      go : (origin : Option Origin) → IsLastBy g order (keys_of g.notes.marks order) cells last.clock origin → IsWorst g (last.clock - start_angle g.start)
+      go None is = record {
+        angle = start_angle g.start;
+        hops = [];
+        walk = record { on_drum = omega arith; from_start = tt };
+        time = omega (arith, is);
+        most = bounded;
+      }
+      go (Some origin) is =
+          let angle : ℕ = start_angle g.start in
+          let e = is.0 in
+          let comes = comes_from_start g order cells last ordered starts s origin.key e.kept e.there
+          (taken_of g order origin (e.kept.clock - angle) (last.clock - angle) ∷ []) (hop_last g order cells last ordered starts s origin last.clock e is.1) in
+          record { angle = angle; hops = comes.0; walk = record { on_drum = omega arith; from_start = comes.1 }; time = comes.2; most = bounded }

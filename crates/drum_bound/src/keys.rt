@@ -1,0 +1,188 @@
+//! The keys of the table of worst times.
+
+ghost use Rattle.std.specs.Prelude.{◌≡◌, ℕ, ◌<◌, ◌≤◌, length, slice_get, Some, Contains, IfOk, MatchOption};
+ghost use Rattle.drum_machine.specs.Counts.{after_pass, no_counts, AreWithin};
+ghost use Rattle.drum_core.specs.Loads.{loads_in, start_in};
+ghost use Rattle.drum_flow.specs.Accepted.{counts_of as counts_in_all};
+ghost use Rattle.drum_flow.specs.Flow.{deck_of, notes_of, executed_in, order_in};
+ghost use Rattle.drum_flow.specs.Graph.{AreDifferent};
+ghost use Rattle.drum_flow.specs.Hops as said;
+ghost use Rattle.drum_flow.specs.HopsLeft.{hops_left};
+ghost use Rattle.drum_bound.specs.CountsIn.{counts_in};
+ghost use Rattle.drum_bound.specs.Keys.{place_at, counts_at, IsKey};
+ghost use Rattle.drum_bound.specs.Scanned.{start_angle as start_angle_of};
+ghost use Rattle.drum_bound.specs.KeysOf.{AreKeys, CanHaveKeys, HaveHops, HavePlaces, IsAt, numbers, sites_in};
+
+use crate::counts::Counts;
+use drum_core::Location;
+use drum_flow::counts::counts_of;
+use drum_flow::{Flow, Hops};
+use drum_times::Mark;
+use std::alloc::{AllocError, Global};
+
+/// One more than the greatest number of a location.
+const NUMBERS: usize = 8004;
+
+/// An executed location, and its hops.
+#[derive(Clone, Copy, Debug)]
+pub struct Site<'a> {
+    pub location: Location,
+    pub hops: Hops<'a>,
+}
+
+/// The executed locations, in an order in which each edge free of marks goes on, with the counts that the marks can have.
+/// A key is a number: that of the counts, with the first mark's leading, times the locations, and the place of one.
+#[derive(Debug, Drop)]
+pub struct Keys<'a> {
+    pub flow: &'a Flow<'a>,
+    /// The locations, in order.
+    pub sites: Vec<Site<'a>>,
+    /// The place of each location in the order, by its number.
+    pub places: Vec<usize>,
+    /// How many keys there are.
+    pub size: usize,
+}
+
+/// A key with its location and its counts.
+#[derive(Clone, Copy, Debug)]
+pub struct At {
+    pub key: usize,
+    pub location: Location,
+    pub counts: Counts,
+}
+
+/// The executed locations of an accepted deck in their order, each with its hops.
+fn sites_of<'a>(alloc: Global, flow: &'a Flow<'a>) -> Result<Vec<Site<'a>>, AllocError>
+    requires { (place : ℕ) → Contains (order_in flow.now) place → Contains (executed_in flow.now) place }
+    ensures order { IfOk result (λ sites. sites_in sites.items ≡ order_in flow.now) }
+    ensures hops { IfOk result (λ sites. HaveHops flow.now sites.items) }
+{
+    let mut sites = Vec::new(alloc);
+    for location in flow.order() {
+        let hops = flow.hops(*location);
+        sites.push(Site {
+            location: *location,
+            hops,
+        })?;
+    }
+    Ok(sites)
+}
+
+/// The place of each of these locations among them, by its number.
+fn places_of(alloc: Global, order: &[Location]) -> Result<Vec<usize>, AllocError>
+    requires { AreDifferent (numbers order.now) }
+    ensures { IfOk result (λ places. HavePlaces (numbers order.now) places.items) }
+{
+    let mut places = vec![in alloc; 0; NUMBERS]?;
+    for place in 0..order.len() {
+        places[order[place].number as usize] = place;
+    }
+    Ok(places)
+}
+
+impl<'a> Keys<'a> {
+    /// The keys of the flow graph of an accepted deck.
+    pub fn of(alloc: Global, flow: &'a Flow<'a>) -> Result<Keys<'a>, AllocError>
+        requires { CanHaveKeys flow.now }
+        ensures keys { IfOk result (λ keys. AreKeys keys) }
+        ensures flow { IfOk result (λ keys. keys.flow.now ≡ flow.now) }
+    {
+        let Ok(sites) = sites_of(alloc, flow) else {
+            return Err(AllocError);
+        };
+        let Ok(places) = places_of(alloc, flow.order()) else {
+            return Err(AllocError);
+        };
+        let size = sites.len() * counts_of(flow.notes().marks()) as usize;
+        Ok(Keys {
+            flow,
+            sites,
+            places,
+            size,
+        })
+    }
+
+    /// The one start angle, that behind the start's: 0 to 49.
+    pub fn start_angle(&self) -> u64
+        ensures { result ≡ start_angle_of (start_in (deck_of self.now.flow.now)) }
+    {
+        (u64::from(self.flow.deck().start().number()) + 1) % 50
+    }
+
+    /// The start's key, with no mark passed.
+    pub fn start_key(&self) -> usize
+        requires { AreKeys self.now }
+        ensures { IsKey (notes_of self.now.flow.now).marks (order_in self.now.flow.now) result (start_in (deck_of self.now.flow.now)) (no_counts (notes_of self.now.flow.now).marks) }
+    {
+        self.key_of(Counts::none(), self.flow.deck().start())
+    }
+
+    /// The marks.
+    fn marks(&self) -> &'a [Mark]
+        requires { AreKeys self.now }
+        ensures all { result.now ≡ (notes_of self.now.flow.now).marks }
+        ensures few { length result.now ≤ 8 }
+        ensures small { counts_in_all result.now ≤ 4000000 }
+    {
+        self.flow.notes().marks()
+    }
+
+    /// A key with its location and its counts.
+    pub fn at(&self, key: usize) -> At
+        requires keys { AreKeys self.now }
+        requires below { key < self.now.size }
+        ensures key { result.key ≡ key }
+        ensures at { IsAt self.now result }
+    {
+        let words = self.sites.len();
+        At {
+            key,
+            location: self.sites[key % words].location,
+            counts: Counts::of(self.marks(), key / words),
+        }
+    }
+
+    /// The hops of a key's location.
+    pub fn hops(&self, key: usize) -> Hops<'a>
+        requires keys { AreKeys self.now }
+        requires below { key < self.now.size }
+        ensures { hops_left result ≡ said.hops (loads_in (deck_of self.now.flow.now)) (notes_of self.now.flow.now) (place_at (order_in self.now.flow.now) key) }
+    {
+        self.sites[key % self.sites.len()].hops
+    }
+
+    /// The place of a location in the order.
+    fn place_of(&self, location: Location) -> usize
+        requires keys { AreKeys self.now }
+        requires there { Contains (order_in self.now.flow.now) location.number }
+        ensures { slice_get (order_in self.now.flow.now) result ≡ Some location.number }
+    {
+        self.places[location.number as usize]
+    }
+
+    /// The key of counts and a location of the order.
+    fn key_of(&self, counts: Counts, location: Location) -> usize
+        requires keys { AreKeys self.now }
+        requires within { AreWithin (notes_of self.now.flow.now).marks (counts_in counts (notes_of self.now.flow.now).marks) }
+        requires there { Contains (order_in self.now.flow.now) location.number }
+        ensures { IsKey (notes_of self.now.flow.now).marks (order_in self.now.flow.now) result location.number (counts_in counts (notes_of self.now.flow.now).marks) }
+    {
+        counts.leading(self.marks()) * self.sites.len() + self.place_of(location)
+    }
+
+    /// The key that a hop from a key to a location of the order leads to; `None` where a full mark bars it.
+    pub fn after(&self, at: &At, next: Location) -> Option<usize>
+        requires keys { AreKeys self.now }
+        requires at { IsAt self.now at.now }
+        requires next { Contains (order_in self.now.flow.now) next.number }
+        ensures { let marks = (notes_of self.now.flow.now).marks in
+            let order = order_in self.now.flow.now in
+            let passed = after_pass marks (place_at order at.now.key) next.number (counts_at marks order at.now.key) in
+            MatchOption result (¬ AreWithin marks passed) (λ key. IsKey marks order key next.number passed × AreWithin marks passed) }
+    {
+        let Some(counts) = at.counts.passed(self.marks(), at.location, next) else {
+            return None;
+        };
+        Some(self.key_of(counts, next))
+    }
+}

@@ -1,0 +1,59 @@
+//! The latest clock at which a hop can end. A clock counts word times from a moment of angle 0 on.
+
+ghost use Rattle.std.specs.Prelude.{◌≡◌, ◌^◌, ◌≤◌, ◌+◌};
+ghost use Rattle.drum_times.specs.Entries.{entry_in};
+ghost use Rattle.drum_flow.specs.Seen.{seen_way};
+ghost use Rattle.drum_bound.specs.Longest as defined;
+ghost use Rattle.drum_bound.specs.Profile.{MayEnd};
+
+use drum_core::{Location, Op};
+use drum_flow::{Hop, Way};
+use drum_machine::moments::{ended, found};
+use drum_machine::places;
+use drum_times::{Entry, Times};
+
+/// The most units of work that the operation may have at this D, whatever the data; at most 90.
+fn most_units(op: Op, d: u16) -> u64
+    ensures value { result ≡ defined.most_units op d }
+    ensures few { result ≤ 90 }
+{
+    match op {
+        Op::Divide | Op::DivideReset | Op::Multiply => 90,
+        Op::Shift(shift) => u64::from(places(shift, d)),
+        _ => 0,
+    }
+}
+
+/// The longest wait for the card machine that the operation may have, in word times; at most 1,000,000.
+fn most_wait(op: Op, entry: Entry) -> u32
+    ensures value { result ≡ defined.most_wait op entry }
+    ensures short { result ≤ 1000000 }
+{
+    match op {
+        Op::Read | Op::Punch => entry.wait_max,
+        _ => 0,
+    }
+}
+
+/// The latest clock at which a hop of the place can end whose search begins at this clock, with the most units and the
+/// longest wait that its operation may have; at most 92,000,099 word times later. The profile has the operation.
+pub fn longest(times: &Times, place: Location, hop: Hop, clock: u64) -> u64
+    requires may_end { MayEnd hop.instruction (seen_way hop.way) }
+    requires soon { clock ≤ 2 ^ 61 }
+    ensures value { result ≡ defined.longest (entry_in times.now) place.number hop.instruction (seen_way hop.way) clock }
+    ensures later { clock ≤ result }
+    ensures near { result ≤ clock + 92000099 }
+{
+    let Some(op) = Op::of(hop.instruction.op()) else {
+        return clock;
+    };
+    let entry = times.entry(op);
+    let ready = found(place, clock) + u64::from(entry.before);
+    match hop.way {
+        Way::Early => ready,
+        Way::To(_) | Way::Late => {
+            let d = hop.instruction.d();
+            ended(entry, op, d, most_units(op, d), most_wait(op, entry), ready)
+        }
+    }
+}

@@ -1,0 +1,144 @@
+//! The scan: each key in turn, and each of its hops.
+
+ghost use Rattle.std.specs.Prelude.{◌≡◌, ◌+◌, ◌^◌, ◌<◌, ◌≤◌, ◌∷◌, length, ℕ, List, IfOk, Contains};
+ghost use Rattle.drum_flow.specs.Hops.{Hop as HopOf, hops};
+ghost use Rattle.drum_flow.specs.Seen.{seen_hop};
+ghost use Rattle.drum_bound.specs.Keys.{place_at};
+ghost use Rattle.drum_bound.specs.KeysOf.{AreKeys, IsAt};
+ghost use Rattle.drum_bound.specs.Scanned.{raised, Taking};
+ghost use Rattle.drum_bound.specs.ScanOf.{setting_in, places_in, size_in, IsScanned, IsDone, Goes, IsAgreed};
+
+use crate::end::{End, Turns};
+use crate::keys::{At, Keys};
+use crate::latest::{Latest, Origin};
+use drum_core::Location;
+use drum_flow::{Hop, Way};
+use drum_times::Times;
+use std::alloc::{AllocError, Global};
+
+/// What is known of the keys that have been taken: the latest end at each, and of all.
+#[derive(Debug, Drop)]
+pub struct Scan<'a> {
+    pub times: &'a Times,
+    pub keys: &'a Keys<'a>,
+    /// The latest end at each key, of the hops that lead there.
+    pub cells: Vec<Option<Latest>>,
+    /// The latest end of all.
+    pub last: Latest,
+    /// How many ends have been made.
+    pub turns: Turns,
+}
+
+impl<'a> Scan<'a> {
+    /// The latest ends at all keys, and of all: each key is taken once, after all that can raise what is kept there.
+    pub fn of(alloc: Global, times: &'a Times, keys: &'a Keys<'a>) -> Result<Scan<'a>, AllocError>
+        requires { AreKeys keys.now }
+        ensures done { IfOk result IsDone }
+        ensures times { IfOk result (λ scan. scan.times.now ≡ times.now) }
+        ensures keys { IfOk result (λ scan. scan.keys.now ≡ keys.now) }
+    {
+        let Ok(mut scan) = Scan::new(alloc, times, keys) else {
+            return Err(AllocError);
+        };
+        for key in 0..keys.size {
+            scan.take_key(key);
+        }
+        Ok(scan)
+    }
+
+    /// Nothing taken yet: the start's key alone keeps something, the moment of the start.
+    fn new(alloc: Global, times: &'a Times, keys: &'a Keys<'a>) -> Result<Scan<'a>, AllocError>
+        requires { AreKeys keys.now }
+        ensures scanned { IfOk result (λ scan. IsScanned scan 0) }
+        ensures times { IfOk result (λ scan. scan.times.now ≡ times.now) }
+        ensures keys { IfOk result (λ scan. scan.keys.now ≡ keys.now) }
+    {
+        let start = Latest {
+            clock: keys.start_angle(),
+            origin: None,
+        };
+        let mut cells = vec![in alloc; None; keys.size]?;
+        cells[keys.start_key()] = Some(start);
+        Ok(Scan {
+            times,
+            keys,
+            cells,
+            last: start,
+            turns: Turns::none(),
+        })
+    }
+
+    /// Keeps the end of a hop at a key, where it is later than what is kept there.
+    fn raise(&mut self, key: usize, end: &End)
+        requires { key < length self.old.cells.items }
+        ensures cells { self.new.cells.items ≡ raised self.old.cells.items key end.now.latest }
+        ensures same { self.new ≡ record self.old { cells = self.new.cells } }
+    {
+        let latest = match self.cells[key] {
+            Some(mut old) => {
+                old.raise(end);
+                old
+            }
+            None => end.latest(),
+        };
+        self.cells[key] = Some(latest);
+    }
+
+    /// Keeps the end of a hop that goes on, unless a full mark bars it.
+    fn go_on(&mut self, at: &At, next: Location, end: &End)
+        requires keys { AreKeys self.old.keys.now }
+        requires at { IsAt self.old.keys.now at.now }
+        requires next { Contains (places_in self.old) next.number }
+        requires size { length self.old.cells.items ≡ size_in self.old }
+        ensures goes { Goes (setting_in self.old) (places_in self.old) at.now.key next.number end.now.latest self.old.cells.items self.old.last self.new.cells.items self.new.last }
+        ensures times { self.new.times ≡ self.old.times }
+        ensures keys { self.new.keys ≡ self.old.keys }
+        ensures turns { self.new.turns ≡ self.old.turns }
+    {
+        let Some(key) = self.keys.after(at, next) else {
+            return;
+        };
+        self.raise(key, end);
+        self.last.raise(end);
+    }
+
+    /// Takes a hop of a key at which something is kept of this clock.
+    fn take_hop(&mut self, at: &At, clock: u64, hop: Hop)
+        requires keys { AreKeys self.old.keys.now }
+        requires at { IsAt self.old.keys.now at.now }
+        requires hop { Contains (hops (setting_in self.old).loads (setting_in self.old).notes (place_at (places_in self.old) at.now.key)) (seen_hop hop) }
+        requires soon { clock ≤ 2 ^ 61 }
+        requires few { self.old.turns.count < 2 ^ 62 }
+        requires size { length self.old.cells.items ≡ size_in self.old }
+        ensures times { self.new.times ≡ self.old.times }
+        ensures keys { self.new.keys ≡ self.old.keys }
+        ensures counted { self.new.turns.count ≡ self.old.turns.count + 1 }
+        ensures agreed { IsAgreed at.now.key self.old.cells.items self.new.cells.items }
+        ensures taken { (left : List HopOf) → Taking (setting_in self.old) (places_in self.old) at.now.key clock (seen_hop hop ∷ left) self.old.cells.items self.old.last
+            → Taking (setting_in self.old) (places_in self.old) at.now.key clock left self.new.cells.items self.new.last }
+    {
+        let origin = Origin { key: at.key, hop };
+        let end = self.turns.end(self.times, at.location, origin, clock);
+        match hop.way {
+            Way::To(next) => self.go_on(at, next, &end),
+            Way::Early | Way::Late => self.last.raise(&end),
+        }
+    }
+
+    /// Takes a key, if something is kept there: each of its hops, once.
+    fn take_key(&mut self, key: usize)
+        requires scanned { IsScanned self.old key }
+        requires below { key < self.old.keys.now.size }
+        ensures scanned { IsScanned self.new (key + 1) }
+        ensures times { self.new.times ≡ self.old.times }
+        ensures keys { self.new.keys ≡ self.old.keys }
+    {
+        let Some(latest) = self.kept_at(key) else {
+            return;
+        };
+        let at = self.keys.at(key);
+        for hop in self.keys.hops(key) {
+            self.take_hop(&at, latest.clock, hop);
+        }
+    }
+}
