@@ -1,13 +1,12 @@
 -- What is known of a scan that hasn't begun.
-use Rattle.std.proofs.Common.{◌≡◌, ◌≢◌, ℕ, zero, ◌+◌, ◌*◌, ◌<◌, ◌≤◌, List, length, set, replicate, refl, ap, sym, ◌∙◌, subst, inl, inr, Option, Some, None, arith}
+use Rattle.std.proofs.Common.{◌≡◌, ℕ, ◌<◌, List, set, replicate, ap, sym, ◌∙◌, subst, inl, inr, Option, Some, None, arith}
 use Rattle.std.proofs.lemmas.Bool.{cases_eq, cases_lt}
 use Rattle.std.proofs.lemmas.List.{get_or-set_other, get_or-set_same, get_or-replicate, get_or_past, length-set, length-replicate}
 use Rattle.drum_machine.specs.Counts.{no_counts}
 use Rattle.drum_flow.specs.Walk.{Setting}
 use Rattle.drum_bound.specs.declared.latest.Latest.{Latest}
-use Rattle.drum_bound.specs.declared.latest.Origin.{Origin}
 use Rattle.drum_bound.specs.Keys.{keys_of, IsKey}
-use Rattle.drum_bound.specs.Scanned.{start_angle, cell_at, longest_step, IsBackedBy, IsLastBy, Scanned}
+use Rattle.drum_bound.specs.Scanned.{start_angle, cell_at, IsBackedBy, IsLastBy, Scanned}
 
 -- the moment of the start is kept at one key alone
 only_start : (size first : ℕ) (start : Latest) (key : ℕ) (kept : Latest) → first < size → cell_at (set (replicate size None) first (Some start)) key ≡ Some kept

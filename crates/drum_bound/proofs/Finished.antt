@@ -1,5 +1,5 @@
 -- What a finished scan, as it is held, gives to the lemmas on its cells.
-use Rattle.std.proofs.Common.{◌≡◌, ℕ, suc, ◌+◌, ◌<◌, ◌≤◌, List, [], ◌∷◌, ◌++◌, map, Option, Some, None, ap, sym, ◌∙◌, subst, arith}
+use Rattle.std.proofs.Common.{◌≡◌, ℕ, suc, ◌<◌, ◌≤◌, List, [], ◌∷◌, ◌++◌, map, Option, Some, None, ap, sym, ◌∙◌, subst, arith}
 use Rattle.std.proofs.lemmas.List.{append-nil, map-append}
 use Rattle.drum_core.specs.declared.deck.Deck.{Deck}
 use Rattle.drum_core.specs.Loads.{start_in}
@@ -13,9 +13,9 @@ use Rattle.drum_bound.specs.declared.worst.Worst.{Worst}
 use Rattle.drum_bound.specs.CountsIn.{counts_in}
 use Rattle.drum_bound.specs.Keys.{IsOrdered}
 use Rattle.drum_bound.specs.KeysOf.{IsAt}
-use Rattle.drum_bound.specs.Raises.{kept_inside}
 use Rattle.drum_bound.specs.RowOf.{row_in}
-use Rattle.drum_bound.specs.Rows.{row_of, rows_at, rows_below, counts_within}
+use Rattle.drum_bound.specs.KeyLaws.{counts_within}
+use Rattle.drum_bound.specs.Rows.{row_of, rows_at, rows_below}
 use Rattle.drum_bound.specs.ScanOf.{IsDone, places_in, setting_in}
 use Rattle.drum_bound.specs.Scanned.{start_angle, cell_at}
 use Rattle.drum_bound.specs.Table.{Row}
@@ -25,6 +25,7 @@ use Rattle.drum_bound.specs.Walked.{not_before}
 starts_there : (deck : Deck) → start_in deck < 2000
 starts_there deck = deck.on_drum
 
+-- and so does what its walks are in
 pub starts_on_drum : (scan : Scan) → (setting_in scan).start < 2000
 starts_on_drum scan = starts_there (deck_of scan.keys.now.flow.now)
 
@@ -36,10 +37,6 @@ is_ordered scan done = done.keys.ordered.0
 pub kept_after : (scan : Scan) (key : ℕ) (kept : Latest) → IsDone scan → cell_at scan.cells.items key ≡ Some kept → start_angle (setting_in scan).start ≤ kept.clock
 kept_after scan key kept done there =
     not_before (setting_in scan) (places_in scan) scan.cells.items scan.last (is_ordered scan done) (starts_on_drum scan) done.scanned key kept there
-
--- at keys alone
-pub kept_below : (scan : Scan) (key : ℕ) (kept : Latest) → IsDone scan → cell_at scan.cells.items key ≡ Some kept → key < scan.keys.now.size
-kept_below scan key kept done there = omega (arith, kept_inside scan.cells.items key kept there, done.scanned.size, done.keys.size)
 
 -- the counts of a key are within the marks' limits
 pub counts_of_key : (scan : Scan) (at : At) (marks : List Mark) → IsDone scan → IsAt scan.keys.now at → marks ≡ (setting_in scan).notes.marks

@@ -1,6 +1,5 @@
 -- How a key is taken, as a scan holds it.
-use Rattle.std.proofs.Common.{◌≡◌, ℕ, zero, suc, ◌+◌, ◌*◌, ◌<◌, ◌≤◌, List, [], ◌∷◌, length, refl, ap, sym, ◌∙◌, subst, inl, inr, Option, Some, None, arith}
-use Rattle.std.specs.Prelude.{Contains}
+use Rattle.std.proofs.Common.{◌≡◌, ℕ, zero, suc, ◌+◌, ◌*◌, ◌<◌, ◌≤◌, List, [], length, refl, ap, sym, ◌∙◌, subst, Option, Some, None, arith}
 use denote.Bor.{Bor}
 use Rattle.drum_times.specs.Allowed.{AreSound}
 use Rattle.drum_times.specs.declared.times.Times.{Times}

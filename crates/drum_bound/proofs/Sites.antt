@@ -1,22 +1,23 @@
 -- The locations of keys, and their places.
-use Rattle.std.proofs.Common.{◌≡◌, ◌≢◌, ℕ, zero, suc, ◌+◌, ◌*◌, ◌/◌, ◌%◌, ◌<◌, ◌≤◌, List, [], ◌∷◌, ◌++◌, length, get_or, set, map, take, refl, ap, sym, ◌∙◌, subst, inl, inr, Option, Some, None, arith}
-use Rattle.std.specs.Prelude.{Contains, slice_get}
-use Rattle.std.proofs.lemmas.Bool.{cases_lt, cases_eq}
-use Rattle.std.proofs.lemmas.Option.{slice_get_within, slice_get-map, slice_get-get_or, get_or_from_slice_get}
+use Rattle.std.proofs.Common.{◌≡◌, ℕ, suc, ◌+◌, ◌*◌, ◌/◌, ◌%◌, ◌<◌, ◌≤◌, List, [], ◌∷◌, ◌++◌, length, get_or, set, ap, sym, ◌∙◌, subst, inl, inr, Some, arith}
+use Rattle.std.specs.Prelude.{slice_get}
+use Rattle.std.proofs.lemmas.Bool.{cases_eq}
+use Rattle.std.proofs.lemmas.Option.{slice_get_within, get_or_from_slice_get}
 use Rattle.drum_core.specs.declared.location.Location.{Location}
 use Rattle.drum_flow.specs.Graph.{AreDifferent}
-use Rattle.drum_flow.specs.Lists.{contains_from_get, get_written, get_other}
+use Rattle.drum_flow.specs.Lists.{get_written, get_other}
 use Rattle.drum_flow.specs.Accepted.{counts_of}
 use Rattle.drum_flow.specs.Passes.{leading, leading-<}
 use Rattle.drum_machine.specs.Counts.{AreWithin}
 use Rattle.drum_times.specs.declared.notes.mark.Mark.{Mark}
 use Rattle.std.proofs.Math.Nat.{mul-le-mul_left}
-use Rattle.std.proofs.lemmas.List.{map-append}
+use Rattle.std.proofs.lemmas.List.{length-map, map-append}
 use Rattle.std.proofs.lemmas.Nat.{mod-mul-add, div-mul-add}
 use Rattle.drum_bound.specs.declared.keys.Site.{Site}
 use Rattle.drum_bound.specs.Digits.{digits}
 use Rattle.drum_bound.specs.DigitsLaws.{digits_leading}
-use Rattle.drum_bound.specs.Keys.{keys_of, place_at, counts_at, IsKey}
+use Rattle.drum_bound.specs.KeyLaws.{one_index}
+use Rattle.drum_bound.specs.Keys.{IsKey}
 use Rattle.drum_bound.specs.KeysOf.{HavePlaces, numbers, sites_in}
 
 -- each of the first locations' place stands at its number
@@ -24,16 +25,9 @@ abbrev pub HavePlacesBelow : ℕ → List Location → List ℕ → Type 0
 HavePlacesBelow below order places = (k place : ℕ) → k < below → slice_get (numbers order) k ≡ Some place → slice_get places place ≡ Some k
 
 -- a member of a list without repeats stands in one place
-pub one_place : (order : List ℕ) (a b place : ℕ) → AreDifferent order → slice_get order a ≡ Some place → slice_get order b ≡ Some place → a ≡ b
-one_place [] a b place different p q = cc
-one_place (x ∷ order) zero zero place different p q = refl
-one_place (x ∷ order) zero (suc b) place different p q =
-    let same : x ≡ place = cc in
-    absurd (different.0 (subst (λ (n : ℕ). Contains order n) (sym same) (contains_from_get order b place q)))
-one_place (x ∷ order) (suc a) zero place different p q =
-    let same : x ≡ place = cc in
-    absurd (different.0 (subst (λ (n : ℕ). Contains order n) (sym same) (contains_from_get order a place p)))
-one_place (x ∷ order) (suc a) (suc b) place different p q = ap suc (one_place order a b place different.1 p q)
+one_place : (order : List ℕ) (a b place : ℕ) → AreDifferent order → slice_get order a ≡ Some place → slice_get order b ≡ Some place → a ≡ b
+one_place order a b place different p q =
+    one_index order a b different (slice_get_within order a place p) (slice_get_within order b place q) (get_or_from_slice_get order a place 0 p ∙ sym (get_or_from_slice_get order b place 0 q))
 
 -- one more location's place is written
 pub place_written : (order : List Location) (places : List ℕ) (k number : ℕ) → AreDifferent (numbers order) → number < length places
@@ -51,12 +45,8 @@ place_written order places k number different inside here before other place bel
     same_place e = cc
 
 pub all_places : (order : List Location) (places : List ℕ) (below : ℕ) → length order ≤ below → HavePlacesBelow below order places → HavePlaces (numbers order) places
-all_places order places below le have k place at = have k place (omega (arith, le, inside order k place at)) at
-  where
-    inside : (order : List Location) (k place : ℕ) → slice_get (numbers order) k ≡ Some place → k < length order
-    inside [] k place e = cc
-    inside (x ∷ order) zero place e = omega arith
-    inside (x ∷ order) (suc k) place e = omega (arith, inside order k place e)
+all_places order places below le have k place at =
+    have k place (omega (arith, le, slice_get_within (numbers order) k place at, length-map order (λ (one : Location). one.number))) at
 
 -- the locations of sites with one more
 pub sites_more : (sites : List Site) (site : Site) → sites_in (sites ++ site ∷ []) ≡ sites_in sites ++ site.location.number ∷ []

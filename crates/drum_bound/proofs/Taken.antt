@@ -1,19 +1,17 @@
 -- How a hop that goes on is taken.
-use Rattle.std.proofs.Common.{◌≡◌, ℕ, suc, ◌<◌, ◌≤◌, List, ◌∷◌, length, refl, ap, sym, ◌∙◌, subst, inl, inr, ◌⊎◌, Option, Some, arith}
+use Rattle.std.proofs.Common.{◌≡◌, ℕ, suc, ◌<◌, List, ◌∷◌, ap, sym, ◌∙◌, subst, inl, inr, Option, arith}
 use Rattle.std.specs.Prelude.{Contains}
-use Rattle.drum_machine.specs.Counts.{after_pass, AreWithin}
-use Rattle.drum_machine.specs.Ways.{Way, early, to, late}
-use Rattle.drum_flow.specs.declared.way.Way as code
-use Rattle.drum_flow.specs.declared.way.Way.TheVariants as way
+use Rattle.drum_machine.specs.Ways.{Way, to}
 use Rattle.drum_flow.specs.Hops.{Hop, hops, IsEdge}
 use Rattle.drum_flow.specs.Seen.{seen_hop, seen_way}
 use Rattle.drum_flow.specs.Walk.{Setting}
 use Rattle.drum_bound.specs.declared.latest.Latest.{Latest}
 use Rattle.drum_bound.specs.declared.latest.Origin.{Origin}
-use Rattle.drum_bound.specs.Keys.{keys_of, place_at, counts_at, IsKey, IsOrdered}
-use Rattle.drum_bound.specs.Onward.{place_there, leads_on}
+use Rattle.drum_bound.specs.Keys.{keys_of, place_at, IsOrdered}
+use Rattle.drum_bound.specs.KeyLaws.{place_there}
+use Rattle.drum_bound.specs.Onward.{leads_on}
 use Rattle.drum_bound.specs.Raises.{raised_agree}
-use Rattle.drum_bound.specs.Scanned.{cell_at, later, raised, Taking, LeadsOn}
+use Rattle.drum_bound.specs.Scanned.{cell_at, raised, Taking, LeadsOn}
 use Rattle.drum_bound.specs.ScanOf.{Goes, IsAgreed}
 use Rattle.drum_bound.specs.Scans.{Comes, take_barred, take_on}
 

@@ -1,9 +1,8 @@
 -- A location has few hops: a list has 64 patterns at most, each of which 10,000 instructions match at most, and an instruction ends in
 -- four ways at most.
-use Rattle.std.proofs.Common.{◌≡◌, ℕ, ◌+◌, ◌*◌, ◌^◌, ◌<◌, ◌≤◌, Bool, true, false, cond, List, [], ◌∷◌, ◌++◌, length, map, refl, ap, sym, ◌∙◌, subst, Option, Some, None, arith, length-append}
+use Rattle.std.proofs.Common.{ℕ, ◌+◌, ◌*◌, ◌^◌, ◌≤◌, Bool, true, false, cond, List, [], ◌∷◌, ◌++◌, length, map, Option, Some, None, arith, length-append}
 use Rattle.std.specs.Prelude.{flat_map, filter, ◌==◌, ◌||◌, not}
 use Rattle.std.specs.List.{AllByRecursion, list_any}
-use Rattle.std.proofs.Math.Nat.{mul-le-mul_left}
 use Rattle.std.proofs.lemmas.List.{length-map}
 use Rattle.drum_core.specs.declared.instruction.Instruction.{Instruction}
 use Rattle.drum_core.specs.declared.op.Op.{Op}
@@ -11,7 +10,6 @@ use Rattle.drum_core.specs.declared.op.Op.TheVariants.{NoOperation, Stop, Add, R
 use Rattle.drum_core.specs.declared.word.Word.{Word}
 use Rattle.drum_core.specs.Location.{is_location}
 use Rattle.drum_core.specs.Op.{op_of, operand_of}
-use Rattle.drum_times.specs.declared.notes.pattern.Pattern.{Pattern}
 use Rattle.drum_times.specs.declared.notes.programmed.Programmed as switches
 use Rattle.drum_times.specs.declared.notes.programmed.Programmed.TheVariants as switch
 use Rattle.drum_times.specs.Allowed.{Listed, Notes, AreSound, matching, patterns_in, patterns_of, loaded, listed, allowed}

@@ -1,7 +1,9 @@
+pub mod AnalysisOf
 pub mod CountsIn
 pub mod Digits
 pub mod DigitsLaws
 pub mod FewHops
+pub mod KeyLaws
 pub mod Keys
 pub mod KeysOf
 pub mod Longest

@@ -1,20 +1,17 @@
 -- Each hop that goes on leads to a later key.
-use Rattle.std.proofs.Common.{◌≡◌, ℕ, zero, suc, ◌+◌, ◌*◌, ◌/◌, ◌%◌, ◌<◌, ◌≤◌, List, [], ◌∷◌, length, get_or, refl, ap, sym, ◌∙◌, subst, inl, inr, ◌⊎◌, Option, Some, None, arith}
+use Rattle.std.proofs.Common.{◌≡◌, ℕ, zero, suc, ◌*◌, ◌/◌, ◌%◌, ◌<◌, ◌≤◌, List, [], ◌∷◌, length, get_or, refl, ap, sym, ◌∙◌, subst, Option, Some, None, arith}
 use Rattle.std.specs.Prelude.{IsNone, Contains}
-use Rattle.std.proofs.lemmas.List.Elements.{Contains-get_or}
-use Rattle.std.proofs.Math.Nat.{mul-le-mul_left, div-add-mod, mod-lt, div-lt_iff_lt-mul}
-use Rattle.drum_times.specs.declared.notes.mark.Mark.{Mark}
+use Rattle.std.proofs.Math.Nat.{mul-le-mul_left, div-add-mod, mod-lt}
 use Rattle.drum_machine.specs.Counts.{after_pass, AreWithin, mark_on}
 use Rattle.drum_machine.specs.Ways.{Way, to}
-use Rattle.drum_flow.specs.Accepted.{counts_of, IsFree}
+use Rattle.drum_flow.specs.Accepted.{IsFree}
 use Rattle.drum_flow.specs.Graph.{AreDifferent, GoOn}
 use Rattle.drum_flow.specs.Hops.{Hop, hops, IsEdge}
-use Rattle.drum_flow.specs.Lists.{contains_here, contains_there}
+use Rattle.drum_flow.specs.Lists.{contains_there}
 use Rattle.drum_flow.specs.Passes.{leading, pass_raises}
 use Rattle.drum_flow.specs.Walk.{Setting}
-use Rattle.drum_bound.specs.Digits.{digits}
-use Rattle.drum_bound.specs.DigitsLaws.{leading_digits, digits_within}
 use Rattle.drum_bound.specs.Keys.{keys_of, place_at, counts_at, IsKey, IsOrdered}
+use Rattle.drum_bound.specs.KeyLaws.{some_places, counts_within, leading_at}
 use Rattle.drum_bound.specs.Scanned.{LeadsOn}
 
 -- a list in which edges go on has what an edge of its leads to
@@ -44,32 +41,6 @@ rest_less : (a b w : ℕ) → a / w ≡ b / w → a % w < b % w → a < b
 rest_less a b w same less =
     let parts : w * (a / w) ≡ w * (b / w) = ap (λ (n : ℕ). w * n) same in
     omega (arith, div-add-mod a w, div-add-mod b w, less, parts)
-
--- where there is a key, there is a place
-pub some_places : (marks : List Mark) (order : List ℕ) (key : ℕ) → key < keys_of marks order → 0 < length order
-some_places marks order key below = go (length order) refl
-  where
-    go : (n : ℕ) → length order ≡ n → 0 < length order
-    go zero e =
-        let none : counts_of marks * length order ≡ counts_of marks * 0 = ap (λ (n : ℕ). counts_of marks * n) e in
-        absurd (omega (arith, below, none))
-    go (suc n) e = omega (arith, e)
-
--- the whole part of a key is one of the numbers of counts
-pub whole_below : (marks : List Mark) (order : List ℕ) (key : ℕ) → key < keys_of marks order → key / length order < counts_of marks
-whole_below marks order key below = (div-lt_iff_lt-mul (some_places marks order key below)).1 below
-
--- the counts of a key are within what the marks allow
-pub counts_within : (marks : List Mark) (order : List ℕ) (key : ℕ) → key < keys_of marks order → AreWithin marks (counts_at marks order key)
-counts_within marks order key below = digits_within marks (key / length order) (whole_below marks order key below)
-
--- the number of a key's counts is its whole part
-pub leading_at : (marks : List Mark) (order : List ℕ) (key : ℕ) → key < keys_of marks order → leading marks (counts_at marks order key) ≡ key / length order
-leading_at marks order key below = leading_digits marks (key / length order) (whole_below marks order key below)
-
--- a key's location is one of the order
-pub place_there : (marks : List Mark) (order : List ℕ) (key : ℕ) → key < keys_of marks order → Contains order (place_at order key)
-place_there marks order key below = Contains-get_or order (key % length order) 0 (mod-lt key (some_places marks order key below))
 
 module _ (g : Setting) (order : List ℕ) (ordered : IsOrdered g.loads g.notes g.start order) where
   -- A hop of a key, to a location and counts that are within what the marks allow, leads on to the key of these.

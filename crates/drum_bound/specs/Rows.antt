@@ -1,22 +1,19 @@
 -- The table that a finished scan holds: a row of each key that something is kept at.
-use Rattle.std.proofs.Common.{◌≡◌, ℕ, zero, suc, ◌+◌, ◌-◌, ◌*◌, ◌/◌, ◌%◌, ◌<◌, ◌≤◌, List, [], ◌∷◌, ◌++◌, length, map, get_or, refl, ap, sym, ◌∙◌, subst, inl, inr, Option, Some, None, arith}
+use Rattle.std.proofs.Common.{◌≡◌, ℕ, zero, suc, ◌-◌, ◌%◌, ◌<◌, ◌≤◌, List, [], ◌∷◌, ◌++◌, length, map, refl, ap, sym, ◌∙◌, subst, inl, inr, Option, Some, None, arith}
 use Rattle.std.specs.Prelude.{Contains, sum}
-use Rattle.std.proofs.Math.Nat.{div-lt_iff_lt-mul, div-add-mod, mod-lt}
 use Rattle.std.proofs.lemmas.Bool.{cases_lt}
 use Rattle.std.proofs.lemmas.List.{append-nil, length-append}
-use Rattle.std.proofs.lemmas.List.Elements.{Contains-append_left, Contains-append_right, Contains-append_cases, Contains-get_or}
+use Rattle.std.proofs.lemmas.List.Elements.{Contains-append_left, Contains-append_right, Contains-append_cases}
 use Rattle.std.proofs.lemmas.List.Sums.{sum-map, sum_by-append}
 use Rattle.drum_times.specs.declared.notes.mark.Mark.{Mark}
-use Rattle.drum_machine.specs.Counts.{AreWithin}
-use Rattle.drum_flow.specs.Accepted.{counts_of}
 use Rattle.drum_flow.specs.Graph.{AreDifferent}
 use Rattle.drum_flow.specs.Hops.{hops}
 use Rattle.drum_flow.specs.Lists.{contains_here, contains_there, contains_cases, contains_none}
-use Rattle.drum_flow.specs.Passes.{leading}
 use Rattle.drum_flow.specs.Walk.{Setting}
 use Rattle.drum_bound.specs.declared.latest.Latest.{Latest}
-use Rattle.drum_bound.specs.DigitsLaws.{digits_within, leading_digits, number_injective}
-use Rattle.drum_bound.specs.Keys.{keys_of, place_at, counts_at, IsKey, IsOrdered}
+use Rattle.drum_bound.specs.DigitsLaws.{number_injective}
+use Rattle.drum_bound.specs.Keys.{keys_of, place_at, counts_at, IsOrdered}
+use Rattle.drum_bound.specs.KeyLaws.{counts_within, one_key}
 use Rattle.drum_bound.specs.Raises.{kept_inside}
 use Rattle.drum_bound.specs.Scanned.{start_angle, cell_at, Scanned, turns_at, turns_below}
 use Rattle.drum_bound.specs.Table.{number_of, IsReached, Row, IsRow, AreApart, IsTable}
@@ -41,45 +38,6 @@ rows_at g order key (Some kept) = row_of g order key kept ∷ []
 abbrev pub rows_below : Setting → List ℕ → List (Option Latest) → ℕ → List Row
 rows_below g order cells zero = []
 rows_below g order cells (suc key) = rows_below g order cells key ++ rows_at g order key (cell_at cells key)
-
--- a list without repeats has a number at one index alone
-one_index : (xs : List ℕ) (i j : ℕ) → AreDifferent xs → i < length xs → j < length xs → get_or xs i 0 ≡ get_or xs j 0 → i ≡ j
-one_index [] i j different below before same = absurd (omega (arith, below))
-one_index (x ∷ xs) zero zero different below before same = refl
-one_index (x ∷ xs) zero (suc j) different below before same =
-    absurd (different.0 (subst (λ (y : ℕ). Contains xs y) (sym same) (Contains-get_or xs j 0 (omega (arith, before)))))
-one_index (x ∷ xs) (suc i) zero different below before same =
-    absurd (different.0 (subst (λ (y : ℕ). Contains xs y) same (Contains-get_or xs i 0 (omega (arith, below)))))
-one_index (x ∷ xs) (suc i) (suc j) different below before same =
-    ap suc (one_index xs i j different.1 (omega (arith, below)) (omega (arith, before)) same)
-
--- where there is a key there are places
-some_places : (counts places key : ℕ) → key < counts * places → 0 < places
-some_places counts zero key below = absurd (omega (arith, below))
-some_places counts (suc places) key below = omega arith
-
--- the counts of a key, as one number, are one of as many as there are
-pub counts_below : (marks : List Mark) (order : List ℕ) (key : ℕ) → key < keys_of marks order → key / length order < counts_of marks
-counts_below marks order key below = (div-lt_iff_lt-mul (some_places (counts_of marks) (length order) key below)).1 below
-
--- no mark is passed more often than it may be
-pub counts_within : (marks : List Mark) (order : List ℕ) (key : ℕ) → key < keys_of marks order → AreWithin marks (counts_at marks order key)
-counts_within marks order key below = digits_within marks (key / length order) (counts_below marks order key below)
-
--- A location and counts have one key at most.
-pub one_key : (marks : List Mark) (order : List ℕ) (place : ℕ) (counts : List ℕ) (a b : ℕ) → AreDifferent order
-    → IsKey marks order a place counts → IsKey marks order b place counts → a ≡ b
-one_key marks order place counts a b different p q =
-    let some : 0 < length order = some_places (counts_of marks) (length order) a p.below in
-    let places : a % length order ≡ b % length order = one_index order (a % length order) (b % length order) different (mod-lt a some) (mod-lt b some) (p.at ∙ sym q.at) in
-    let numbers : a / length order ≡ b / length order =
-    sym (leading_digits marks (a / length order) (counts_below marks order a p.below))
-    ∙ ap (leading marks) (p.passed ∙ sym q.passed)
-    ∙ leading_digits marks (b / length order) (counts_below marks order b q.below) in
-    sym (div-add-mod a (length order))
-    ∙ ap (λ (number : ℕ). length order * number + a % length order) numbers
-    ∙ ap (λ (rest : ℕ). length order * (b / length order) + rest) places
-    ∙ div-add-mod b (length order)
 
 -- rows without repeats, and one more that none of them is like
 apart_push : (rows : List Row) (row : Row) → AreApart rows → ((other : Row) → Contains rows other → other.place ≡ row.place → other.counts ≡ row.counts → ⊥)

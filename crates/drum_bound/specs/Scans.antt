@@ -1,8 +1,8 @@
 -- How taking a hop of a key, and going on to the next key, keep what is known of a scan.
-use Rattle.std.proofs.Common.{◌≡◌, ◌≢◌, ℕ, zero, suc, ◌+◌, ◌-◌, ◌*◌, ◌<◌, ◌≤◌, Bool, true, false, cond, List, [], ◌∷◌, length, refl, ap, sym, ◌∙◌, subst, inl, inr, ◌⊎◌, Option, Some, None, arith}
+use Rattle.std.proofs.Common.{◌≡◌, ℕ, suc, ◌+◌, ◌*◌, ◌<◌, ◌≤◌, List, [], ◌∷◌, length, refl, ap, sym, ◌∙◌, subst, inl, inr, ◌⊎◌, Option, Some, None, arith}
 use Rattle.std.specs.Prelude.{Contains}
-use Rattle.std.proofs.lemmas.Bool.{cases_lt, cases_eq}
-use Rattle.drum_machine.specs.Counts.{after_pass, no_counts, AreWithin}
+use Rattle.std.proofs.lemmas.Bool.{cases_lt}
+use Rattle.drum_machine.specs.Counts.{after_pass, AreWithin}
 use Rattle.drum_machine.specs.Ways.{Way, early, to, late}
 use Rattle.drum_flow.specs.Hops.{Hop, hops}
 use Rattle.drum_flow.specs.Lists.{contains_cases, contains_none}
@@ -10,10 +10,10 @@ use Rattle.drum_flow.specs.Seen.{seen_hop, seen_way}
 use Rattle.drum_flow.specs.Walk.{Setting}
 use Rattle.drum_bound.specs.declared.latest.Latest.{Latest}
 use Rattle.drum_bound.specs.declared.latest.Origin.{Origin}
-use Rattle.drum_bound.specs.Keys.{keys_of, place_at, counts_at, IsKey}
+use Rattle.drum_bound.specs.Keys.{place_at, counts_at}
 use Rattle.drum_bound.specs.LongestLaws.{longest_near}
-use Rattle.drum_bound.specs.Scanned.{longest_step, start_angle, cell_at, later, later_than, raised, Begins, end_from, LeadsOn, IsOpen, IsEndOf, IsBackedBy, IsLastBy, Arrives, IsTakenBy, IsTaken, Scanned, Taking}
-use Rattle.drum_bound.specs.Raises.{kept_inside, later_either, later_old, later_new, Grows, Agree, grows_same, raised_length, raised_agree, raised_grows, raised_new, raised_each, arrives_grows}
+use Rattle.drum_bound.specs.Scanned.{longest_step, cell_at, later, raised, Begins, end_from, LeadsOn, IsOpen, IsEndOf, IsBackedBy, IsLastBy, IsTakenBy, IsTaken, Scanned, Taking}
+use Rattle.drum_bound.specs.Raises.{later_either, later_old, later_new, Grows, Agree, grows_same, raised_length, raised_agree, raised_grows, raised_new, raised_each, arrives_grows}
 
 module _ (g : Setting) (order : List ℕ) where
   -- ends, where the cells of the first keys stay

@@ -13,7 +13,7 @@ use Rattle.drum_flow.specs.Walk.{Setting, Taken, IsTimed, IsHopAt, Follow, IsWal
 use Rattle.drum_bound.specs.declared.latest.Latest.{Latest}
 use Rattle.drum_bound.specs.declared.latest.Origin.{Origin}
 use Rattle.drum_bound.specs.Keys.{keys_of, place_at, counts_at, IsKey, IsOrdered}
-use Rattle.drum_bound.specs.Longest.{most_units, most_wait, longest}
+use Rattle.drum_bound.specs.Longest.{most_units, most_wait}
 use Rattle.drum_bound.specs.LongestLaws.{longest_later, longest_is_timed}
 use Rattle.drum_bound.specs.Profile.{hop_may_end}
 use Rattle.drum_bound.specs.Scanned.{start_angle, cell_at, end_from, LeadsOn, IsOpen, IsEndOf, IsBackedBy, Scanned}

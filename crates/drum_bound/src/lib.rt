@@ -1,6 +1,8 @@
 //! How many word times a deck can take at most: the analysis of a deck with its timing table and notes.
 #![tactic(auto)]
 
+mod analysing;
+pub mod analysis;
 mod counts;
 mod end;
 mod kept;
@@ -14,6 +16,8 @@ mod trace;
 pub mod visit;
 pub mod worst;
 
+pub use analysing::analyse;
+pub use analysis::Analysis;
 pub use drum_flow::{Cycle, Flow, Hop, Hops, Refusal, Way, accept, flow};
 pub use visit::Visit;
 pub use worst::Worst;

@@ -1,6 +1,5 @@
 use Rattle.std.proofs.Common.{rules, ◌≡◌, ℕ, List, Option, None, set, replicate, Some, ap, sym, ◌∙◌, refl, subst}
-use Rattle.drum_core.specs.Loads.{start_in}
-use Rattle.drum_flow.specs.Flow.{deck_of, order_in}
+use Rattle.drum_flow.specs.Flow.{order_in}
 use Rattle.drum_bound.specs.declared.latest.Latest.{Latest}
 use Rattle.drum_bound.specs.KeysOf.{setting_of}
 use Rattle.drum_bound.specs.Keys.{keys_of}

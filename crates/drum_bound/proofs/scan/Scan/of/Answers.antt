@@ -1,4 +1,4 @@
-use Rattle.std.proofs.Common.{ap, subst, arith, ◌≡◌, ℕ, ◌∙◌, sym}
+use Rattle.std.proofs.Common.{ap, subst, arith, ◌≡◌}
 use Rattle.drum_bound.specs.declared.keys.Keys.{Keys}
 use Rattle.drum_bound.specs.ScanOf.{IsScanned, size_in}
 use Rattle.drum_bound.proofs.scan.Scan.of.Goals as goal

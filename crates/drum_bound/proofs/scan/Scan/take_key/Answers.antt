@@ -1,7 +1,7 @@
-use Rattle.std.proofs.Common.{◌≡◌, ℕ, ◌+◌, ◌∷◌, [], List, length, ap, sym, ◌∙◌, refl, subst, inl, inr, arith}
+use Rattle.std.proofs.Common.{◌≡◌, ℕ, ◌+◌, ◌∷◌, [], List, length, ap, sym, ◌∙◌, refl, subst, arith}
 use Rattle.std.specs.Prelude.{Contains}
 use Rattle.drum_flow.specs.Hops.{Hop}
-use Rattle.drum_flow.specs.Lists.{contains_here, contains_there, contains_none}
+use Rattle.drum_flow.specs.Lists.{contains_there}
 use Rattle.drum_flow.specs.HopsLeft.{hops_left}
 use Rattle.drum_flow.specs.Seen.{seen_hop}
 use Rattle.drum_bound.specs.Scanned.{Taking}

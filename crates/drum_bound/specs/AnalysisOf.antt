@@ -1,0 +1,68 @@
+-- An analysis, as it is held, and when it is right.
+use Rattle.std.specs.Prelude.{◌≡◌, ℕ, ◌*◌, ◌^◌, ◌<◌, ◌≤◌, List, length, map, sum, slice_get, slice_index, Some}
+use Rattle.drum_core.specs.declared.deck.Deck.{Deck}
+use Rattle.drum_core.specs.Loads.{loads_in, start_in}
+use Rattle.drum_times.specs.declared.notes.mark.Mark.{Mark}
+use Rattle.drum_times.specs.declared.times.Times.{Times}
+use Rattle.drum_times.specs.Allowed.{Notes}
+use Rattle.drum_times.specs.Entries.{entry_in}
+use Rattle.drum_flow.specs.Accepted.{counts_of}
+use Rattle.drum_flow.specs.Hops.{hops}
+use Rattle.drum_flow.specs.Walk.{Setting}
+use Rattle.drum_bound.specs.declared.analysis.Analysis.{Analysis}
+use Rattle.drum_bound.specs.RowOf.{row_in}
+use Rattle.drum_bound.specs.Table.{Row, IsTable}
+use Rattle.drum_bound.specs.Visited.{Visited, IsWalkOf, passes_in, seen_visit}
+use Rattle.drum_bound.specs.Worst.{IsWorst}
+
+-- what the walks of a deck under its notes are in, with a timing table
+abbrev pub setting : Deck → Times → Notes → Setting
+setting deck times notes = record { loads = loads_in deck; notes = notes; times = entry_in times; start = start_in deck }
+
+-- the bound, in word times
+abbrev pub bound_of : Analysis → ℕ
+bound_of analysis = analysis.bound
+
+-- the table of worst times
+abbrev pub rows_of : Analysis → List Row
+rows_of analysis = map row_in analysis.table.items
+
+-- the start angle of the walk
+abbrev pub angle_of : Analysis → ℕ
+angle_of analysis = analysis.angle
+
+-- the hops of the walk
+abbrev pub visits_of : Analysis → List Visited
+visits_of analysis = map seen_visit analysis.walk.items
+
+-- how many counts the marks can have
+abbrev pub counts_in_all : Analysis → ℕ
+counts_in_all analysis = analysis.counts
+
+-- how many locations are executed
+abbrev pub words_of : Analysis → ℕ
+words_of analysis = analysis.words
+
+-- how many ends of hops were looked at
+abbrev pub turns_of : Analysis → ℕ
+turns_of analysis = analysis.turns
+
+-- how often the walk passes each mark, by its place in the notes
+abbrev pub passed_of : Analysis → List ℕ
+passed_of analysis = analysis.passed
+
+-- Each mark's number is how often these hops pass it.
+abbrev pub ArePasses : List Mark → List Visited → List ℕ → Type 0
+ArePasses marks visits passed = (k : ℕ) (mark : Mark) → slice_get marks k ≡ Some mark → slice_index passed k ≡ passes_in mark visits
+
+-- The analysis is that of the walks of a setting where so many locations are executed.
+pub record IsAnalysis (g : Setting) (words : ℕ) (analysis : Analysis) : Type 0 where
+  pub worst : IsWorst g (bound_of analysis)
+  pub walk : IsWalkOf g (angle_of analysis) (bound_of analysis) (visits_of analysis)
+  pub table : IsTable g (rows_of analysis)
+  pub few : length (rows_of analysis) ≤ words_of analysis * counts_in_all analysis
+  pub executed : words_of analysis ≡ words
+  pub counts : counts_in_all analysis ≡ counts_of g.notes.marks
+  pub turns : turns_of analysis ≡ sum (map (λ row. length (hops g.loads g.notes row.place)) (rows_of analysis))
+  pub passed : ArePasses g.notes.marks (visits_of analysis) (passed_of analysis)
+  pub below : bound_of analysis < 2 ^ 62

@@ -1,0 +1,131 @@
+ghost use Rattle.std.specs.Prelude.{◌≡◌, ℕ, ◌*◌, ◌^◌, ◌<◌, ◌≤◌, List, length, map, sum, slice_get, slice_index, Some, IfOk, IfErr};
+ghost use Rattle.drum_core.specs.Loads.{loads_in, start_in};
+ghost use Rattle.drum_times.specs.Entries.{entry_in};
+ghost use Rattle.drum_times.specs.declared.notes.mark.Mark.{Mark};
+ghost use Rattle.drum_machine.specs.Keeps.{IsKept};
+ghost use Rattle.drum_machine.specs.Run.{Turn, IsRun, IsFirstState, used_from};
+ghost use Rattle.drum_machine.specs.Step.{State};
+ghost use Rattle.drum_flow.specs.Acceptance.{IsRefusal};
+ghost use Rattle.drum_flow.specs.Accepted as said;
+ghost use Rattle.drum_flow.specs.Accepted.{IsAccepted, IsFixed};
+ghost use Rattle.drum_flow.specs.Flow.{order_in};
+ghost use Rattle.drum_flow.specs.Hops as flows;
+ghost use Rattle.drum_bound.specs.AnalysisOf.{IsAnalysis, ArePasses, setting, angle_of, bound_of, counts_in_all, passed_of, rows_of, turns_of, visits_of, words_of};
+ghost use Rattle.drum_bound.specs.KeysOf.{AreKeys, CanHaveKeys, setting_of};
+ghost use Rattle.drum_bound.specs.Table.{IsTable};
+ghost use Rattle.drum_bound.specs.Visited.{IsWalkOf, passes_in, seen_visit};
+ghost use Rattle.drum_bound.specs.Worst.{IsWorst};
+
+use crate::analysis::Analysis;
+use crate::keys::Keys;
+use crate::passed::passes;
+use crate::scan::Scan;
+use crate::visit::Visit;
+use drum_core::Deck;
+use drum_flow::counts::counts_of;
+use drum_flow::{Flow, Refusal, accept};
+use drum_machine::passes::MOST_MARKS;
+use drum_times::{Mark, Notes, Times};
+use std::alloc::{AllocError, Global};
+
+/// How often a walk passes each mark, by the marks' places.
+fn passes_of_marks(walk: &[Visit], marks: &[Mark]) -> [u64; MOST_MARKS]
+    requires { length marks.now ≤ 8 }
+    ensures passed { ArePasses marks.now (map seen_visit walk.now) result }
+    ensures places { length result ≡ 8 }
+{
+    let mut passed = [0; MOST_MARKS];
+    for place in 0..marks.len() {
+        passed[place] = passes(walk, &marks[place]);
+    }
+    passed
+}
+
+/// The analysis by the keys of an accepted deck.
+fn analysis_by<'a>(
+    alloc: Global,
+    times: &'a Times,
+    keys: &'a Keys<'a>,
+) -> Result<Analysis, AllocError>
+    requires { AreKeys keys.now }
+    ensures { IfOk result (IsAnalysis (setting_of keys.now.flow.now times.now) (length (order_in keys.now.flow.now))) }
+{
+    let Ok(scan) = Scan::of(alloc, times, keys) else {
+        return Err(AllocError);
+    };
+    let Ok(table) = scan.table(alloc) else {
+        return Err(AllocError);
+    };
+    let Ok(walk) = scan.walk(alloc) else {
+        return Err(AllocError);
+    };
+    let marks = keys.flow.notes().marks();
+    let angle = keys.start_angle();
+    Ok(Analysis {
+        bound: scan.last.clock - angle,
+        table,
+        angle: angle as u8,
+        passed: passes_of_marks(&walk, marks),
+        walk,
+        counts: counts_of(marks) as usize,
+        words: keys.flow.order().len(),
+        turns: scan.turns.count(),
+    })
+}
+
+/// The analysis of an accepted deck, of its flow graph.
+fn analysis_of<'a>(
+    alloc: Global,
+    flow: &'a Flow<'a>,
+    times: &'a Times,
+) -> Result<Analysis, AllocError>
+    requires { CanHaveKeys flow.now }
+    ensures { IfOk result (IsAnalysis (setting_of flow.now times.now) (length (order_in flow.now))) }
+{
+    let keys: Result<Keys<'a>, AllocError> = Keys::of(alloc, flow);
+    let Ok(keys) = keys else {
+        return Err(AllocError);
+    };
+    analysis_by(alloc, times, &keys)
+}
+
+/// The analysis of a deck with its timing table and notes: the bound, a walk that reaches it, and the table of worst
+/// times.
+///
+/// # Errors
+///
+/// Where the deck with its notes isn't accepted, why ([`accept`]); [`Refusal::Memory`] where memory is wanting.
+pub fn analyse(
+    alloc: Global,
+    deck: &Deck,
+    times: &Times,
+    notes: &Notes,
+) -> Result<Analysis, Refusal>
+    ensures accepted { IfOk result (λ analysis. (executed : List ℕ)
+        × IsAccepted (loads_in deck.now) notes.now (start_in deck.now) executed × (words_of analysis ≡ length executed)) }
+    ensures worst { IfOk result (λ analysis. IsWorst (setting deck.now times.now notes.now) (bound_of analysis)) }
+    ensures walk { IfOk result (λ analysis. IsWalkOf (setting deck.now times.now notes.now) (angle_of analysis) (bound_of analysis) (visits_of analysis)) }
+    ensures kept { IfOk result (λ analysis. (s : State) (turns : List Turn)
+        → IsFirstState (loads_in deck.now) (IsFixed (loads_in deck.now) notes.now (start_in deck.now)) (start_in deck.now) s
+        → IsRun (entry_in times.now) s turns → IsKept (loads_in deck.now) notes.now s turns → used_from 0 turns ≤ bound_of analysis) }
+    ensures table { IfOk result (λ analysis. IsTable (setting deck.now times.now notes.now) (rows_of analysis)) }
+    ensures few { IfOk result (λ analysis. length (rows_of analysis) ≤ words_of analysis * counts_in_all analysis) }
+    ensures counts { IfOk result (λ analysis. counts_in_all analysis ≡ said.counts_of notes.now.marks) }
+    ensures turns { IfOk result (λ analysis. turns_of analysis
+        ≡ sum (map (λ row. length (flows.hops (loads_in deck.now) notes.now row.place)) (rows_of analysis))) }
+    ensures passed { IfOk result (λ analysis. (k : ℕ) (mark : Mark) → slice_get notes.now.marks k ≡ Some mark
+        → slice_index (passed_of analysis) k ≡ passes_in mark (visits_of analysis)) }
+    ensures below { IfOk result (λ analysis. bound_of analysis < 2 ^ 62) }
+    ensures refused { IfErr result (IsRefusal (loads_in deck.now) notes.now (start_in deck.now)) }
+{
+    let _marks = notes.marks();
+    let flow = match accept(alloc, deck, notes) {
+        Ok(flow) => flow,
+        Err(refusal) => return Err(refusal),
+    };
+    let _executed = flow.executed();
+    let Ok(analysis) = analysis_of(alloc, &flow, times) else {
+        return Err(Refusal::Memory);
+    };
+    Ok(analysis)
+}

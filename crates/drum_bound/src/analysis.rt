@@ -1,0 +1,82 @@
+ghost use Rattle.std.specs.Prelude.{◌≡◌, ◌<◌, length, map, slice_index};
+ghost use Rattle.drum_bound.specs.AnalysisOf.{angle_of, bound_of, counts_in_all, passed_of, rows_of, turns_of, visits_of, words_of};
+ghost use Rattle.drum_bound.specs.RowOf.{row_in};
+ghost use Rattle.drum_bound.specs.Visited.{seen_visit};
+
+use crate::visit::Visit;
+use crate::worst::Worst;
+use drum_machine::passes::MOST_MARKS;
+
+/// What [`analyse`](crate::analyse) finds for a deck with its timing table and notes.
+#[derive(Debug, Drop)]
+pub struct Analysis {
+    pub(crate) bound: u64,
+    pub(crate) table: Vec<Worst>,
+    pub(crate) angle: u8,
+    pub(crate) walk: Vec<Visit>,
+    pub(crate) counts: usize,
+    pub(crate) words: usize,
+    pub(crate) turns: u64,
+    /// By the marks' places in the notes; what stands past the last mark means nothing.
+    pub(crate) passed: [u64; MOST_MARKS],
+}
+
+impl Analysis {
+    /// The bound, in word times: no run that keeps to the notes uses more, and some walk uses just as many. Below 2^62.
+    pub fn bound(&self) -> u64
+        ensures { result ≡ bound_of self.now }
+    {
+        self.bound
+    }
+
+    /// The table of worst times: one entry for each location and counts of the marks that some walk arrives at.
+    pub fn table(&self) -> &[Worst]
+        ensures { map row_in result.now ≡ rows_of self.now }
+    {
+        &self.table
+    }
+
+    /// The drum's angle when the walk of [`walk`](Analysis::walk) begins, 0 to 49: that behind the start's.
+    pub fn angle(&self) -> u8
+        ensures { result ≡ angle_of self.now }
+    {
+        self.angle
+    }
+
+    /// The hops of a walk that uses as many word times as the bound, in order; none where the bound is 0.
+    pub fn walk(&self) -> &[Visit]
+        ensures { map seen_visit result.now ≡ visits_of self.now }
+    {
+        &self.walk
+    }
+
+    /// How many counts the marks can have: the product of `most` and one over them, 1 to 4,000,000.
+    pub fn counts(&self) -> usize
+        ensures { result ≡ counts_in_all self.now }
+    {
+        self.counts
+    }
+
+    /// How many locations are executed, 1 to 2004.
+    pub fn words(&self) -> usize
+        ensures { result ≡ words_of self.now }
+    {
+        self.words
+    }
+
+    /// How many ends of hops the analysis has looked at: the hops of each entry's location, over the table.
+    pub fn turns(&self) -> u64
+        ensures { result ≡ turns_of self.now }
+    {
+        self.turns
+    }
+
+    /// How often the walk passes the mark at a place of the notes, from 0, whatever it stands inside of. What it says of a
+    /// place past the last mark means nothing.
+    pub fn passed(&self, mark: usize) -> u64
+        requires { mark < 8 }
+        ensures { result ≡ slice_index (passed_of self.now) mark }
+    {
+        self.passed[mark]
+    }
+}
