@@ -1,5 +1,5 @@
-use crate::chain::Refusal;
 use crate::status::Status;
+use drum_bound::Refusal;
 use drum_core::DeckFault;
 use drum_times::NoteFault;
 

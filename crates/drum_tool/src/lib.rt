@@ -2,7 +2,6 @@
 #![tactic(auto)]
 
 mod answer;
-mod chain;
 pub mod commands;
 mod fault;
 mod joined;

@@ -43,6 +43,17 @@ pub fn write_numbered<O: Output>(output: &mut O, text: &[u8], number: u64) -> Re
     write_whole(output, b"\n")
 }
 
+/// Writes a line of a text and a product.
+pub fn write_product<O: Output>(output: &mut O, text: &[u8], product: u128) -> Result<(), Unsent>
+    requires called { O.called output.old ≤ 2 ^ 62 + 2 ^ 20 }
+    requires short { length text.now ≤ 100 }
+{
+    write_whole(output, text)?;
+    let mut buffer = Buffer::new();
+    write_whole(output, buffer.format(product).as_bytes())?;
+    write_whole(output, b"\n")
+}
+
 /// Writes a line of a text and a location.
 pub fn write_located<O: Output>(
     output: &mut O,

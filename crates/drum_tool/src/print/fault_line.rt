@@ -1,8 +1,8 @@
 ghost use Rattle.std.specs.Prelude.{◌+◌, ◌^◌, ◌≤◌, length};
 
-use super::{write_located, write_location, write_number, write_numbered};
-use crate::chain::{Cycle, Refusal};
+use super::{write_located, write_location, write_numbered, write_product};
 use crate::fault::Fault;
+use drum_bound::{Cycle, Refusal};
 use drum_core::device::output::Output;
 use drum_core::device::pieces::{Unsent, write_whole};
 use drum_core::{DeckFault, Location};
@@ -116,7 +116,9 @@ fn write_refusal<O: Output>(output: &mut O, refusal: &Refusal) -> Result<(), Uns
         Refusal::Memory => write_whole(output, b"fault 31 memory\n"),
         Refusal::NotInProfile(location, op) => write_not_in_profile(output, *location, *op),
         Refusal::NotLoaded(location) => write_located(output, b"fault 33 notloaded ", *location),
+        Refusal::Alters { writer, word } => write_alters(output, *writer, *word),
         Refusal::Unbounded(cycle) => write_cycle(output, cycle),
+        Refusal::TooLarge(product) => write_product(output, b"fault 36 toolarge ", *product),
     }
 }
 
@@ -128,11 +130,19 @@ fn write_not_in_profile<O: Output>(output: &mut O, location: Location, op: u8) -
     write_numbered(output, if op < 10 { b" 0" } else { b" " }, u64::from(op))
 }
 
+fn write_alters<O: Output>(output: &mut O, writer: Location, word: Location) -> Result<(), Unsent>
+    requires { O.called output.old ≤ 2 ^ 62 }
+{
+    write_whole(output, b"fault 34 alters ")?;
+    write_location(output, writer)?;
+    write_located(output, b" ", word)
+}
+
 fn write_cycle<O: Output>(output: &mut O, cycle: &Cycle) -> Result<(), Unsent>
     requires { O.called output.old ≤ 2 ^ 62 }
 {
     write_whole(output, b"fault 35 unbounded")?;
-    for location in cycle.locations() {
+    for location in &cycle.locations {
         write_whole(output, b" ")?;
         write_location(output, *location)?;
     }
