@@ -20,13 +20,14 @@ use Rattle.drum_bound.specs.declared.scan.Scan.{Scan}
 use Rattle.drum_bound.specs.AnalysisOf.{IsAnalysis, ArePasses, setting, angle_of, bound_of, counts_in_all, passed_of, rows_of, turns_of, visits_of, words_of}
 use Rattle.drum_bound.specs.Keys.{keys_of, IsOrdered}
 use Rattle.drum_bound.specs.KeysOf.{setting_of}
-use Rattle.drum_bound.specs.Rows.{rows_below, is_table, few_rows, turns_of_rows}
+use Rattle.drum_bound.specs.RowOf.{rows_below}
+use Rattle.drum_bound.proofs.Rows.{is_table, few_rows, turns_of_rows}
 use Rattle.drum_bound.specs.ScanOf.{IsDone, setting_in, places_in, size_in}
 use Rattle.drum_bound.specs.Scanned.{start_angle, Scanned, turns_below}
 use Rattle.drum_bound.specs.Table.{Row, IsTable}
 use Rattle.drum_bound.specs.Visited.{Visited, IsWalkOf}
 use Rattle.drum_bound.specs.Worst.{IsWorst}
-use Rattle.drum_bound.specs.Worsts.{is_worst}
+use Rattle.drum_bound.proofs.Worsts.{is_worst}
 
 -- A deck loads drum words alone.
 pub loaded_on_drum : (deck : Deck) (place : ℕ) (w : Word) → loads_in deck place ≡ Some w → place < 2000

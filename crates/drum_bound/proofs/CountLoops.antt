@@ -12,7 +12,7 @@ use Rattle.drum_machine.specs.Counts.{no_counts, AreWithin}
 use Rattle.drum_flow.specs.Accepted.{counts_of}
 use Rattle.drum_flow.specs.Passes.{leading, leading-<}
 use Rattle.drum_bound.specs.Digits.{digits}
-use Rattle.drum_bound.specs.DigitsLaws.{counts_some, digits_leading, number_within}
+use Rattle.drum_bound.proofs.DigitsLaws.{counts_some, digits_leading, number_within}
 use Rattle.drum_bound.specs.Table.{number_of}
 
 -- A number is so many times the counts that these marks can have, and the number of these counts.

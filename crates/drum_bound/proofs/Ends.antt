@@ -10,7 +10,7 @@ use Rattle.drum_times.specs.declared.entry.Entry.{Entry}
 use Rattle.drum_machine.specs.Timing.{found, reached, ended}
 use Rattle.drum_machine.specs.Ways.{early, to, late}
 use Rattle.drum_bound.specs.Longest.{most_units, most_wait, longest}
-use Rattle.drum_bound.specs.LongestLaws.{longest_of}
+use Rattle.drum_bound.proofs.LongestLaws.{longest_of}
 
 -- from x on, the clock at which an operation ends with these units and this wait
 abbrev pub acted : Entry → Op → ℕ → ℕ → ℕ → ℕ → ℕ

@@ -14,12 +14,12 @@ use Rattle.drum_bound.specs.CountsIn.{counts_in}
 use Rattle.drum_bound.specs.Keys.{IsOrdered}
 use Rattle.drum_bound.specs.KeysOf.{IsAt}
 use Rattle.drum_bound.specs.RowOf.{row_in}
-use Rattle.drum_bound.specs.KeyLaws.{counts_within}
-use Rattle.drum_bound.specs.Rows.{row_of, rows_at, rows_below}
+use Rattle.drum_bound.proofs.KeyLaws.{counts_within}
+use Rattle.drum_bound.specs.RowOf.{row_of, rows_at, rows_below}
 use Rattle.drum_bound.specs.ScanOf.{IsDone, places_in, setting_in}
 use Rattle.drum_bound.specs.Scanned.{start_angle, cell_at}
 use Rattle.drum_bound.specs.Table.{Row}
-use Rattle.drum_bound.specs.Walked.{not_before}
+use Rattle.drum_bound.proofs.Walked.{not_before}
 
 -- a deck starts on the drum
 starts_there : (deck : Deck) → start_in deck < 2000

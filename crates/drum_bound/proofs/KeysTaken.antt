@@ -6,7 +6,7 @@ use Rattle.drum_times.specs.declared.times.Times.{Times}
 use Rattle.drum_flow.specs.Flow.{order_in}
 use Rattle.drum_flow.specs.Hops.{Hop, hops}
 use Rattle.drum_flow.specs.Walk.{Setting}
-use Rattle.drum_bound.specs.FewHops.{few_hops}
+use Rattle.drum_bound.proofs.FewHops.{few_hops}
 use Rattle.drum_bound.specs.declared.keys.Keys.{Keys}
 use Rattle.drum_bound.specs.declared.latest.Latest.{Latest}
 use Rattle.drum_bound.specs.declared.scan.Scan.{Scan}
@@ -14,7 +14,7 @@ use Rattle.drum_bound.specs.Keys.{place_at}
 use Rattle.drum_bound.specs.KeysOf.{AreKeys, setting_of}
 use Rattle.drum_bound.specs.Scanned.{cell_at, Scanned, Taking, turns_at, turns_below}
 use Rattle.drum_bound.specs.ScanOf.{setting_in, places_in, IsScanned, IsAgreed}
-use Rattle.drum_bound.specs.Scans.{skip, open_key, close_key}
+use Rattle.drum_bound.proofs.Scans.{skip, open_key, close_key}
 
 -- the hops of keys whose cells are the same are as many
 turns_agree : (g : Setting) (order : List ℕ) (cells cells' : List (Option Latest)) (first : ℕ) → ((key : ℕ) → key < first → cell_at cells' key ≡ cell_at cells key)

@@ -2,10 +2,22 @@ pub mod Analyses
 pub mod Begun
 mod Checks
 mod CountLoops
+pub mod DigitsLaws
 mod Ends
+pub mod FewHops
 mod Finished
+pub mod KeyLaws
 pub mod KeysTaken
+pub mod LongestLaws
+pub mod Onward
 pub mod Ordering
+pub mod Profiles
+pub mod Raises
+pub mod Rows
+pub mod Scans
 pub mod Sites
 pub mod Taken
 mod Traces
+pub mod Unpassed
+pub mod Walked
+pub mod Worsts

@@ -15,8 +15,8 @@ use Rattle.std.proofs.lemmas.List.{length-map, map-append}
 use Rattle.std.proofs.lemmas.Nat.{mod-mul-add, div-mul-add}
 use Rattle.drum_bound.specs.declared.keys.Site.{Site}
 use Rattle.drum_bound.specs.Digits.{digits}
-use Rattle.drum_bound.specs.DigitsLaws.{digits_leading}
-use Rattle.drum_bound.specs.KeyLaws.{one_index}
+use Rattle.drum_bound.proofs.DigitsLaws.{digits_leading}
+use Rattle.drum_bound.proofs.KeyLaws.{one_index}
 use Rattle.drum_bound.specs.Keys.{IsKey}
 use Rattle.drum_bound.specs.KeysOf.{HavePlaces, numbers, sites_in}
 

@@ -8,12 +8,12 @@ use Rattle.drum_flow.specs.Walk.{Setting}
 use Rattle.drum_bound.specs.declared.latest.Latest.{Latest}
 use Rattle.drum_bound.specs.declared.latest.Origin.{Origin}
 use Rattle.drum_bound.specs.Keys.{keys_of, place_at, IsOrdered}
-use Rattle.drum_bound.specs.KeyLaws.{place_there}
-use Rattle.drum_bound.specs.Onward.{leads_on}
-use Rattle.drum_bound.specs.Raises.{raised_agree}
+use Rattle.drum_bound.proofs.KeyLaws.{place_there}
+use Rattle.drum_bound.proofs.Onward.{leads_on}
+use Rattle.drum_bound.proofs.Raises.{raised_agree}
 use Rattle.drum_bound.specs.Scanned.{cell_at, raised, Taking, LeadsOn}
 use Rattle.drum_bound.specs.ScanOf.{Goes, IsAgreed}
-use Rattle.drum_bound.specs.Scans.{Comes, take_barred, take_on}
+use Rattle.drum_bound.proofs.Scans.{Comes, take_barred, take_on}
 
 module _ (g : Setting) (order : List ℕ) (ordered : IsOrdered g.loads g.notes g.start order) (key : ℕ) (below : key < keys_of g.notes.marks order) where
   -- a hop goes on at a location of the order

@@ -8,10 +8,11 @@ use Rattle.drum_bound.specs.declared.latest.Latest.{Latest}
 use Rattle.drum_bound.specs.declared.latest.Origin.{Origin}
 use Rattle.drum_bound.specs.declared.visit.Visit.{Visit}
 use Rattle.drum_bound.specs.Keys.{keys_of, place_at, counts_at, IsOrdered}
-use Rattle.drum_bound.specs.LongestLaws.{longest_later}
+use Rattle.drum_bound.proofs.LongestLaws.{longest_later}
 use Rattle.drum_bound.specs.Scanned.{start_angle, cell_at, IsEndOf, IsBackedBy, IsLastBy, Scanned}
 use Rattle.drum_bound.specs.Visited.{Visited, visited, seen_visit, IsWalkOf}
-use Rattle.drum_bound.specs.Walked.{taken_of, hop_before, hop_last}
+use Rattle.drum_bound.specs.TakenOf.{taken_of}
+use Rattle.drum_bound.proofs.Walked.{hop_before, hop_last}
 
 -- These hops are a walk from what is kept at a key on, up to the latest of all.
 pub record IsFollowed (g : Setting) (order : List ℕ) (cells : List (Option Latest)) (last end : Latest) (hops : List Taken) : Type 0 where

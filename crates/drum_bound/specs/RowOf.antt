@@ -1,6 +1,31 @@
--- An entry of the table of worst times, as the code has it.
+-- The rows of a table: of an entry as the code has it, and of the keys of a scan.
+use Rattle.std.specs.Prelude.{ℕ, zero, suc, ◌-◌, ◌%◌, List, [], ◌∷◌, ◌++◌, Option, Some, None}
+use Rattle.drum_flow.specs.Walk.{Setting}
+use Rattle.drum_bound.specs.declared.latest.Latest.{Latest}
 use Rattle.drum_bound.specs.declared.worst.Worst.{Worst}
-use Rattle.drum_bound.specs.Table.{Row}
+use Rattle.drum_bound.specs.Keys.{place_at, counts_at}
+use Rattle.drum_bound.specs.Scanned.{start_angle, cell_at}
+use Rattle.drum_bound.specs.Table.{number_of, Row}
 
+-- an entry as the code has it
 abbrev pub row_in : Worst → Row
 row_in worst = record { place = worst.place.number; angle = worst.angle; counts = worst.counts; time = worst.time }
+
+-- the row of a key
+abbrev pub row_of : Setting → List ℕ → ℕ → Latest → Row
+row_of g order key kept = record {
+  place = place_at order key;
+  angle = kept.clock % 50;
+  counts = number_of g.notes.marks (counts_at g.notes.marks order key);
+  time = kept.clock - start_angle g.start;
+}
+
+-- the rows of a key, one where something is kept at it
+abbrev pub rows_at : Setting → List ℕ → ℕ → Option Latest → List Row
+rows_at g order key None = []
+rows_at g order key (Some kept) = row_of g order key kept ∷ []
+
+-- the rows of the first keys
+abbrev pub rows_below : Setting → List ℕ → List (Option Latest) → ℕ → List Row
+rows_below g order cells zero = []
+rows_below g order cells (suc key) = rows_below g order cells key ++ rows_at g order key (cell_at cells key)

@@ -2,7 +2,7 @@
 
 ghost use Rattle.std.specs.Prelude.{◌≡◌, map, Some, IfOk};
 ghost use Rattle.drum_bound.specs.RowOf.{row_in};
-ghost use Rattle.drum_bound.specs.Rows.{row_of, rows_below};
+ghost use Rattle.drum_bound.specs.RowOf.{row_of, rows_below};
 ghost use Rattle.drum_bound.specs.ScanOf.{IsDone, places_in, setting_in, size_in};
 ghost use Rattle.drum_bound.specs.Scanned.{cell_at};
 

@@ -4,7 +4,7 @@ ghost use Rattle.std.specs.Prelude.{◌≡◌, ◌-◌, ◌≤◌, map, Some, If
 ghost use Rattle.drum_bound.specs.ScanOf.{IsDone, places_in, setting_in};
 ghost use Rattle.drum_bound.specs.Scanned.{cell_at, start_angle};
 ghost use Rattle.drum_bound.specs.Visited.{IsWalkOf, seen_visit, visited};
-ghost use Rattle.drum_bound.specs.Walked.{taken_of};
+ghost use Rattle.drum_bound.specs.TakenOf.{taken_of};
 
 use crate::latest::{Latest, Origin};
 use crate::scan::Scan;

@@ -56,6 +56,16 @@ fn faulted(
     Ok(())
 }
 
+/// That the notes are taken: the deck of two words has its bound.
+fn taken(rt: &(impl AllocGlobal + std::process::Abort), notes: &str) -> Result<(), Fail> {
+    let text = joined(rt.alloc(), TWO_WORDS, TIMES, notes)?;
+    let ran = run_text(rt.alloc(), text.as_bytes())?;
+    assert_eq!(rt; ran.err.as_str(), "", "for {notes}");
+    assert_eq!(rt; ran.out.as_str(), "bound 56\n", "for {notes}");
+    assert_eq!(rt; ran.status, Status::Done, "for {notes}");
+    Ok(())
+}
+
 /// The notes that allow the least, and more behind them.
 fn with(alloc: Global, more: &str) -> Result<String, AllocError> {
     format!(in alloc; "{NOTES}{more}")
@@ -222,14 +232,11 @@ fn marks(rt: HostRuntime) -> Result<(), Fail> {
             "[[mark]]\nfrom = 1\nto = 1\nmost = 1\n[[mark]]\nfrom = 1\nto = 1\nmost = 2\n",
             "fault 17 notes twomarks 0001 0001\n",
         ),
-        (
-            "[[mark]]\nfrom = 1\nto = 1\nmost = 1\n[[mark]]\nfrom = 1\nto = 2\nmost = 2\n",
-            "fault 14 notes unknown mark\n",
-        ),
     ] {
         faulted(&rt, with(rt.alloc(), more)?.as_str(), line)?;
     }
-    Ok(())
+    let two = "[[mark]]\nfrom = 1\nto = 1\nmost = 1\n[[mark]]\nfrom = 1\nto = 2\nmost = 2\n";
+    taken(&rt, with(rt.alloc(), two)?.as_str())
 }
 
 #[test]
@@ -238,11 +245,7 @@ fn many_marks(rt: HostRuntime) -> Result<(), Fail> {
     for number in 0..8u8 {
         write!(more, "[[mark]]\nfrom = {number}\nto = 0\nmost = 1\n")?;
     }
-    faulted(
-        &rt,
-        with(rt.alloc(), more.as_str())?.as_str(),
-        "fault 14 notes unknown mark\n",
-    )?;
+    taken(&rt, with(rt.alloc(), more.as_str())?.as_str())?;
     more.push_str("[[mark]]\nfrom = true\n")?;
     faulted(
         &rt,
@@ -296,7 +299,7 @@ fn lists(rt: HostRuntime) -> Result<(), Fail> {
         faulted(&rt, notes.as_str(), line)?;
     }
     let one = format!(in rt.alloc(); "{NOTES}[[list]]\nlocation = 106\n{good}")?;
-    faulted(&rt, one.as_str(), "fault 14 notes unknown list\n")?;
+    taken(&rt, one.as_str())?;
     let two = format!(in rt.alloc(); "{one}[[list]]\nlocation = 106\n{good}")?;
     faulted(&rt, two.as_str(), "fault 18 notes twolists 0106\n")?;
     let marks = "[[mark]]\nfrom = 1\nto = 1\nmost = 1\n";
@@ -311,7 +314,7 @@ fn many_patterns(rt: HostRuntime) -> Result<(), Fail> {
     for _ in 0..64 {
         list.push_str("[[list.pattern]]\nop = 1\nd_from = 0\nd_to = 9999\ni = 106\n")?;
     }
-    faulted(&rt, list.as_str(), "fault 14 notes unknown list\n")?;
+    taken(&rt, list.as_str())?;
     list.push_str("[[list.pattern]]\nop = true\n")?;
     faulted(&rt, list.as_str(), "fault 15 notes range list.1.pattern\n")
 }

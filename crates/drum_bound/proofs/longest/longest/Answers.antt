@@ -4,7 +4,7 @@ use Rattle.drum_flow.specs.declared.way.Way as ways
 use Rattle.drum_flow.specs.Seen.{seen_way}
 use Rattle.drum_times.specs.Entries.{entry_in}
 use Rattle.drum_bound.specs.Longest.{longest, most_units, most_wait}
-use Rattle.drum_bound.specs.LongestLaws.{longest_near}
+use Rattle.drum_bound.proofs.LongestLaws.{longest_near}
 use Rattle.drum_bound.proofs.Ends.{early_end, acted_is, to_end, late_end}
 use Rattle.drum_machine.specs.Timing.{ended}
 use Rattle.drum_bound.proofs.longest.longest.Goals as goal

@@ -4,7 +4,7 @@ use Rattle.drum_machine.specs.Counts.{after_pass, AreWithin}
 use Rattle.drum_flow.specs.Flow.{notes_of, order_in}
 use Rattle.drum_bound.specs.CountsIn.{counts_in}
 use Rattle.drum_bound.specs.Keys.{place_at, counts_at, IsKey}
-use Rattle.drum_bound.specs.KeyLaws.{counts_within}
+use Rattle.drum_bound.proofs.KeyLaws.{counts_within}
 use Rattle.drum_bound.proofs.keys.Keys.after.Goals as goal
 
 pub passed-requires-clause-within : goal.passed-requires-clause-within

@@ -1,7 +1,7 @@
 use Rattle.std.proofs.Common.{◌≡◌, ℕ, ◌+◌, suc, List, Some, None, Vec, Global, map, sym, ap, ◌∙◌, subst, arith}
 use Rattle.drum_bound.specs.declared.worst.Worst.{Worst}
 use Rattle.drum_bound.specs.RowOf.{row_in}
-use Rattle.drum_bound.specs.Rows.{rows_below}
+use Rattle.drum_bound.specs.RowOf.{rows_below}
 use Rattle.drum_bound.specs.ScanOf.{places_in, setting_in}
 use Rattle.drum_bound.specs.Scanned.{cell_at}
 use Rattle.drum_bound.proofs.Finished.{row_more, row_none}

@@ -1,6 +1,6 @@
 use Rattle.std.proofs.Common.{◌≡◌, map}
 use Rattle.drum_bound.specs.RowOf.{row_in}
-use Rattle.drum_bound.specs.Rows.{rows_below}
+use Rattle.drum_bound.specs.RowOf.{rows_below}
 use Rattle.drum_bound.specs.ScanOf.{places_in, setting_in}
 use Rattle.drum_bound.proofs.scan.Scan.table.Given as goal
 

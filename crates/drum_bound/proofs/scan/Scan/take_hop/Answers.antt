@@ -7,10 +7,10 @@ use Rattle.drum_flow.specs.Walk.{Setting}
 use Rattle.drum_bound.specs.declared.latest.Latest.{Latest}
 use Rattle.drum_bound.specs.Keys.{place_at}
 use Rattle.drum_bound.specs.Longest.{longest}
-use Rattle.drum_bound.specs.Profile.{hop_may_end}
+use Rattle.drum_bound.proofs.Profiles.{hop_may_end}
 use Rattle.drum_bound.specs.Scanned.{Taking}
 use Rattle.drum_bound.specs.ScanOf.{setting_in, places_in}
-use Rattle.drum_bound.specs.Scans.{Comes, take_stop}
+use Rattle.drum_bound.proofs.Scans.{Comes, take_stop}
 use Rattle.drum_bound.proofs.Taken.{next_there, goes_agreed, goes_taken}
 use Rattle.drum_bound.proofs.scan.Scan.take_hop.Goals as goal
 

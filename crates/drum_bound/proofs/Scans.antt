@@ -11,9 +11,9 @@ use Rattle.drum_flow.specs.Walk.{Setting}
 use Rattle.drum_bound.specs.declared.latest.Latest.{Latest}
 use Rattle.drum_bound.specs.declared.latest.Origin.{Origin}
 use Rattle.drum_bound.specs.Keys.{place_at, counts_at}
-use Rattle.drum_bound.specs.LongestLaws.{longest_near}
+use Rattle.drum_bound.proofs.LongestLaws.{longest_near}
 use Rattle.drum_bound.specs.Scanned.{longest_step, cell_at, later, raised, Begins, end_from, LeadsOn, IsOpen, IsEndOf, IsBackedBy, IsLastBy, IsTakenBy, IsTaken, Scanned, Taking}
-use Rattle.drum_bound.specs.Raises.{later_either, later_old, later_new, Grows, Agree, grows_same, raised_length, raised_agree, raised_grows, raised_new, raised_each, arrives_grows}
+use Rattle.drum_bound.proofs.Raises.{later_either, later_old, later_new, Grows, Agree, grows_same, raised_length, raised_agree, raised_grows, raised_new, raised_each, arrives_grows}
 
 module _ (g : Setting) (order : List ℕ) where
   -- ends, where the cells of the first keys stay

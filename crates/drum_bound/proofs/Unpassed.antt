@@ -13,8 +13,8 @@ use Rattle.drum_flow.specs.Walk.{Setting, Taken, IsHopAt, Follow, IsWalkFrom, Is
 use Rattle.drum_bound.specs.declared.latest.Latest.{Latest}
 use Rattle.drum_bound.specs.Keys.{keys_of, place_at, counts_at, IsKey, IsOrdered}
 use Rattle.drum_bound.specs.Longest.{longest}
-use Rattle.drum_bound.specs.LongestLaws.{longest_monotone, longest_periodic, no_later, longest_from_found, first_fetch, first_fetch_behind}
-use Rattle.drum_bound.specs.Profile.{hop_may_end}
+use Rattle.drum_bound.proofs.LongestLaws.{longest_monotone, longest_periodic, no_later, longest_from_found, first_fetch, first_fetch_behind}
+use Rattle.drum_bound.proofs.Profiles.{hop_may_end}
 use Rattle.drum_bound.specs.Scanned.{start_angle, cell_at, end_from, Arrives, IsTakenBy, Scanned}
 use Rattle.drum_bound.specs.Table.{GoesOn, Arrive}
 

@@ -11,7 +11,7 @@ use Rattle.drum_flow.specs.Lists.{contains_there}
 use Rattle.drum_flow.specs.Passes.{leading, pass_raises}
 use Rattle.drum_flow.specs.Walk.{Setting}
 use Rattle.drum_bound.specs.Keys.{keys_of, place_at, counts_at, IsKey, IsOrdered}
-use Rattle.drum_bound.specs.KeyLaws.{some_places, counts_within, leading_at}
+use Rattle.drum_bound.proofs.KeyLaws.{some_places, counts_within, leading_at}
 use Rattle.drum_bound.specs.Scanned.{LeadsOn}
 
 -- a list in which edges go on has what an edge of its leads to

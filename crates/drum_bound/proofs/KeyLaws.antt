@@ -8,7 +8,7 @@ use Rattle.drum_machine.specs.Counts.{AreWithin}
 use Rattle.drum_flow.specs.Accepted.{counts_of}
 use Rattle.drum_flow.specs.Graph.{AreDifferent}
 use Rattle.drum_flow.specs.Passes.{leading}
-use Rattle.drum_bound.specs.DigitsLaws.{leading_digits, digits_within}
+use Rattle.drum_bound.proofs.DigitsLaws.{leading_digits, digits_within}
 use Rattle.drum_bound.specs.Keys.{keys_of, place_at, counts_at, IsKey}
 
 -- where there is a key, there is a place

@@ -1,5 +1,5 @@
 -- The table that a finished scan holds: a row of each key that something is kept at.
-use Rattle.std.proofs.Common.{◌≡◌, ℕ, zero, suc, ◌-◌, ◌%◌, ◌<◌, ◌≤◌, List, [], ◌∷◌, ◌++◌, length, map, refl, ap, sym, ◌∙◌, subst, inl, inr, Option, Some, None, arith}
+use Rattle.std.proofs.Common.{◌≡◌, ℕ, zero, suc, ◌-◌, ◌<◌, ◌≤◌, List, [], ◌∷◌, ◌++◌, length, map, refl, ap, sym, ◌∙◌, subst, inl, inr, Option, Some, None, arith}
 use Rattle.std.specs.Prelude.{Contains, sum}
 use Rattle.std.proofs.lemmas.Bool.{cases_lt}
 use Rattle.std.proofs.lemmas.List.{append-nil, length-append}
@@ -11,33 +11,15 @@ use Rattle.drum_flow.specs.Hops.{hops}
 use Rattle.drum_flow.specs.Lists.{contains_here, contains_there, contains_cases, contains_none}
 use Rattle.drum_flow.specs.Walk.{Setting}
 use Rattle.drum_bound.specs.declared.latest.Latest.{Latest}
-use Rattle.drum_bound.specs.DigitsLaws.{number_injective}
+use Rattle.drum_bound.proofs.DigitsLaws.{number_injective}
 use Rattle.drum_bound.specs.Keys.{keys_of, place_at, counts_at, IsOrdered}
-use Rattle.drum_bound.specs.KeyLaws.{counts_within, one_key}
-use Rattle.drum_bound.specs.Raises.{kept_inside}
+use Rattle.drum_bound.proofs.KeyLaws.{counts_within, one_key}
+use Rattle.drum_bound.proofs.Raises.{kept_inside}
+use Rattle.drum_bound.specs.RowOf.{row_of, rows_at, rows_below}
 use Rattle.drum_bound.specs.Scanned.{start_angle, cell_at, Scanned, turns_at, turns_below}
 use Rattle.drum_bound.specs.Table.{number_of, IsReached, Row, IsRow, AreApart, IsTable}
-use Rattle.drum_bound.specs.Unpassed.{no_later_arrival}
-use Rattle.drum_bound.specs.Walked.{not_before, comes_from_start}
-
--- the row of a key
-abbrev pub row_of : Setting → List ℕ → ℕ → Latest → Row
-row_of g order key kept = record {
-  place = place_at order key;
-  angle = kept.clock % 50;
-  counts = number_of g.notes.marks (counts_at g.notes.marks order key);
-  time = kept.clock - start_angle g.start;
-}
-
--- the rows of a key, one where something is kept at it
-abbrev pub rows_at : Setting → List ℕ → ℕ → Option Latest → List Row
-rows_at g order key None = []
-rows_at g order key (Some kept) = row_of g order key kept ∷ []
-
--- the rows of the first keys
-abbrev pub rows_below : Setting → List ℕ → List (Option Latest) → ℕ → List Row
-rows_below g order cells zero = []
-rows_below g order cells (suc key) = rows_below g order cells key ++ rows_at g order key (cell_at cells key)
+use Rattle.drum_bound.proofs.Unpassed.{no_later_arrival}
+use Rattle.drum_bound.proofs.Walked.{not_before, comes_from_start}
 
 -- rows without repeats, and one more that none of them is like
 apart_push : (rows : List Row) (row : Row) → AreApart rows → ((other : Row) → Contains rows other → other.place ≡ row.place → other.counts ≡ row.counts → ⊥)

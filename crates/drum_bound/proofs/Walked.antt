@@ -1,10 +1,7 @@
 -- The walks of what a scan keeps: some walk from the start ends a hop, or goes on at a key's location, just then.
 use Rattle.std.proofs.Common.{◌≡◌, ℕ, zero, suc, ◌+◌, ◌-◌, ◌<◌, ◌≤◌, List, [], ◌∷◌, refl, ap, sym, ◌∙◌, subst, Option, Some, None, arith}
 use Rattle.std.specs.Prelude.{Contains}
-use Rattle.drum_core.specs.declared.instruction.Instruction.{Instruction}
-use Rattle.drum_core.specs.declared.op.Op.{Op}
 use Rattle.drum_core.specs.Op.{op_of}
-use Rattle.drum_times.specs.declared.entry.Entry.{Entry}
 use Rattle.drum_machine.specs.Counts.{after_pass, no_counts, AreWithin}
 use Rattle.drum_machine.specs.Ways.{Way, early, to, late}
 use Rattle.drum_flow.specs.Hops.{Hop, hops}
@@ -13,33 +10,12 @@ use Rattle.drum_flow.specs.Walk.{Setting, Taken, IsTimed, IsHopAt, Follow, IsWal
 use Rattle.drum_bound.specs.declared.latest.Latest.{Latest}
 use Rattle.drum_bound.specs.declared.latest.Origin.{Origin}
 use Rattle.drum_bound.specs.Keys.{keys_of, place_at, counts_at, IsKey, IsOrdered}
-use Rattle.drum_bound.specs.Longest.{most_units, most_wait}
-use Rattle.drum_bound.specs.LongestLaws.{longest_later, longest_is_timed}
-use Rattle.drum_bound.specs.Profile.{hop_may_end}
+use Rattle.drum_bound.specs.Longest.{most_wait}
+use Rattle.drum_bound.proofs.LongestLaws.{longest_later, longest_is_timed}
+use Rattle.drum_bound.proofs.Profiles.{hop_may_end}
 use Rattle.drum_bound.specs.Scanned.{start_angle, cell_at, end_from, LeadsOn, IsOpen, IsEndOf, IsBackedBy, Scanned}
 use Rattle.drum_bound.specs.Table.{GoesOn, Arrive}
-
--- the most units that an instruction's operation may have, none where it has no operation
-abbrev pub units_of : Instruction → Option Op → ℕ
-units_of ins None = 0
-units_of ins (Some op) = most_units op ins.d
-
--- the longest wait that an operation may have, none where there is none
-abbrev pub wait_of : (Op → Entry) → Option Op → ℕ
-wait_of times None = 0
-wait_of times (Some op) = most_wait op (times op)
-
--- the hop of an origin as it is taken for the longest, between these times
-abbrev pub taken_of : Setting → List ℕ → Origin → ℕ → ℕ → Taken
-taken_of g order origin begun ended = record {
-  place = place_at order origin.key;
-  ins = (seen_hop origin.hop).ins;
-  way = (seen_hop origin.hop).way;
-  units = units_of (seen_hop origin.hop).ins (op_of (seen_hop origin.hop).ins.op);
-  wait = wait_of g.times (op_of (seen_hop origin.hop).ins.op);
-  begun = begun;
-  ended = ended;
-}
+use Rattle.drum_bound.specs.TakenOf.{units_of, wait_of, taken_of}
 
 -- Some walk from the angle behind the start's, with nothing used and no mark passed, goes on at the key's location at
 -- this clock by these hops: it has their time, and arrives where they do.

@@ -5,8 +5,9 @@ use Rattle.drum_bound.specs.declared.latest.Latest.{Latest}
 use Rattle.drum_bound.specs.declared.latest.Origin.{Origin}
 use Rattle.drum_bound.specs.Keys.{keys_of, IsOrdered}
 use Rattle.drum_bound.specs.Scanned.{start_angle, IsLastBy, Scanned}
-use Rattle.drum_bound.specs.Unpassed.{no_walk_passes}
-use Rattle.drum_bound.specs.Walked.{taken_of, hop_last, comes_from_start}
+use Rattle.drum_bound.proofs.Unpassed.{no_walk_passes}
+use Rattle.drum_bound.specs.TakenOf.{taken_of}
+use Rattle.drum_bound.proofs.Walked.{hop_last, comes_from_start}
 use Rattle.drum_bound.specs.Worst.{IsWorst}
 
 module _ (g : Setting) (order : List ℕ) (cells : List (Option Latest)) (last : Latest)
