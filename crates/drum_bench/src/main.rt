@@ -6,6 +6,7 @@ mod acceptance;
 mod full_deck;
 mod machine_steps;
 mod table;
+mod tables;
 
 use std::env;
 use std::fmt::Debug;
@@ -25,6 +26,11 @@ fn main(rt: HostRuntime) -> Result<(), Stopped> {
         Some(name) if name.as_str() == "full-deck" => full_deck::run(&rt),
         Some(name) if name.as_str() == "machine-steps" => machine_steps::run(&rt),
         Some(name) if name.as_str() == "acceptance" => acceptance::run(&rt),
-        _ => println!(rt; "acceptance full-deck machine-steps").map_err(stop),
+        Some(name) if name.as_str() == "table-full" => tables::run_full(&rt),
+        Some(name) if name.as_str() == "table-sparse" => tables::run_sparse(&rt),
+        Some(name) if name.as_str() == "table-wide" => tables::run_wide(&rt),
+        _ => println!(rt;
+            "acceptance full-deck machine-steps table-full table-sparse table-wide"
+        ).map_err(stop),
     }
 }

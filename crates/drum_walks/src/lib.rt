@@ -1,0 +1,20 @@
+//! Tests of the bound: bounds, tables and walks that are known from outside, a slow search through all walks of small
+//! decks that shares nothing with the analysis, and the analysis when memory is wanting.
+#![tactic(auto)]
+
+#[cfg(test)]
+mod bounds;
+#[cfg(test)]
+mod exhaustive;
+#[cfg(test)]
+mod memory;
+#[cfg(test)]
+mod search;
+#[cfg(test)]
+mod support;
+#[cfg(test)]
+mod tables;
+#[cfg(test)]
+mod texts;
+#[cfg(test)]
+mod times;
