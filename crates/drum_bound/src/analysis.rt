@@ -36,7 +36,7 @@ impl Analysis {
         &self.table
     }
 
-    /// The drum's angle when the walk of [`walk`](Analysis::walk) begins, 0 to 49: that behind the start's.
+    /// The drum's angle when the walk of [`walk`](Analysis::walk) begins, 0 to 49.
     pub fn angle(&self) -> u8
         ensures { result ≡ angle_of self.now }
     {
@@ -64,7 +64,7 @@ impl Analysis {
         self.words
     }
 
-    /// How many ends of hops the analysis has looked at: the hops of each entry's location, over the table.
+    /// How many ends of hops the analysis has made: as many as the locations of the entries have hops, summed over the table.
     pub fn turns(&self) -> u64
         ensures { result ≡ turns_of self.now }
     {

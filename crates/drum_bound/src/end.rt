@@ -47,7 +47,7 @@ impl Turns {
         self.count
     }
 
-    /// The latest end of a hop that begins its search at a clock, from the key of this number at this location.
+    /// The latest end of the origin's hop, whose key is at this location and begins its search at this clock.
     pub fn end(&mut self, times: &Times, location: Location, origin: Origin, clock: u64) -> End
         requires few { self.old.count < 2 ^ 62 }
         requires soon { clock ≤ 2 ^ 61 }

@@ -8,7 +8,7 @@ use crate::latest::Latest;
 use crate::scan::Scan;
 
 impl Scan<'_> {
-    /// The latest end at a key; `None` where no hop leads there.
+    /// What is kept at a key; `None` where nothing is.
     pub(crate) fn kept_at(&self, key: usize) -> Option<Latest>
         ensures { result ≡ said.cell_at self.now.cells.items key }
     {

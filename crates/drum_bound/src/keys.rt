@@ -31,7 +31,8 @@ pub struct Site<'a> {
 }
 
 /// The executed locations, in an order in which each edge free of marks goes on, with the counts that the marks can have.
-/// A key is a number: that of the counts, with the first mark's leading, times the locations, and the place of one.
+/// A key is a number: that of the counts, with the first mark's leading, times the number of the locations, and the place of
+/// one among them.
 #[derive(Debug, Drop)]
 pub struct Keys<'a> {
     pub flow: &'a Flow<'a>,

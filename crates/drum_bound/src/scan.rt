@@ -21,7 +21,7 @@ use std::alloc::{AllocError, Global};
 pub struct Scan<'a> {
     pub times: &'a Times,
     pub keys: &'a Keys<'a>,
-    /// The latest end at each key, of the hops that lead there.
+    /// The latest end at each key, of the hops that lead there, or the moment of the start.
     pub cells: Vec<Option<Latest>>,
     /// The latest end of all.
     pub last: Latest,

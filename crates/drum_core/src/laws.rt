@@ -1,11 +1,14 @@
 //! Laws of the definitions, each the contract of a function that does nothing.
 
 ghost use Rattle.std.specs.Prelude.{◌≡◌, ℕ, ◌<◌, List, [], ◌∷◌, Some, Contains};
+ghost use Rattle.drum_core.specs.Available.{is_angle, has_parity, is_available};
 ghost use Rattle.drum_core.specs.DeckText.{Given, Line, given_at, loads_of, starts, AreDistinct, IsDeck, IsRefused};
 ghost use Rattle.drum_core.specs.Holds.{IsDeckOf};
 ghost use Rattle.drum_core.specs.Loads.{loads_in, start_in};
+ghost use Rattle.drum_core.specs.Moment.{IsFirst, first};
 ghost use Rattle.drum_core.specs.declared.deck.Deck.{Deck};
 ghost use Rattle.drum_core.specs.declared.deck.fault.DeckFault.{DeckFault};
+ghost use Rattle.drum_core.specs.declared.rotation.parity.Parity.{Parity};
 ghost use Rattle.drum_core.specs.declared.word.Word.{Word};
 
 /// A text that is no deck has one fault.
@@ -28,4 +31,12 @@ pub fn loads_what_is_said()
     ensures loads { (deck : Deck) (lines : List Line) (location : ℕ) → IsDeckOf deck lines → loads_in deck location ≡ loads_of lines location }
     ensures on_drum { (deck : Deck) (location : ℕ) (word : Word) → loads_in deck location ≡ Some word → location < 2000 }
     ensures starts { (deck : Deck) (lines : List Line) → IsDeckOf deck lines → starts lines ≡ start_in deck ∷ [] }
+{}
+
+/// A moment that is found by looking at one after the other is the least at or after the clock whose angle serves: for an
+/// angle, for a parity, and for each location.
+pub fn first_is_least()
+    ensures angles { (angle clock : ℕ) → angle < 50 → IsFirst (is_angle angle) clock (first (is_angle angle) clock) }
+    ensures parities { (parity : Parity) (clock : ℕ) → IsFirst (has_parity parity) clock (first (has_parity parity) clock) }
+    ensures locations { (location clock : ℕ) → IsFirst (is_available location) clock (first (is_available location) clock) }
 {}

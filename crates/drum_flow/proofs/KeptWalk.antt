@@ -31,27 +31,8 @@ use Rattle.drum_machine.specs.Writes.{writes}
 use Rattle.drum_flow.specs.Accepted.{IsAccepted, IsFixed, IsThere}
 use Rattle.drum_flow.specs.Hops.{Hop, hops_of, hops, IsEdge, Lead, IsExecuted}
 use Rattle.drum_flow.specs.Lists.{contains_here, contains_there, contains_cases}
+use Rattle.drum_flow.specs.RunHops.{units_with, hop_of, hops_taken}
 use Rattle.drum_flow.specs.Walk.{Setting, IsProper, Taken, MayHaveUnits, end_by, IsTimed, IsHopAt, Follow, IsWalkFrom, IsWalk, time_from, time_of}
-
--- the units of a step's operation, where the profile has it
-abbrev pub units_with : Option Op → ℕ → Contents → ℕ
-units_with None d c = 0
-units_with (Some op) d c = units_of op d c
-
--- the hop that a turn takes
-abbrev pub hop_of : Turn → Taken
-hop_of turn = record {
-  place = turn.origin.sought;
-  ins = instruction_in turn.origin;
-  way = ended_by turn.outcome;
-  units = units_with (op_of (instruction_in turn.origin).op) (instruction_in turn.origin).d turn.origin.contents;
-  wait = turn.wait;
-  begun = turn.origin.time;
-  ended = run.time_of turn.outcome;
-}
-
-abbrev pub hops_taken : List Turn → List Taken
-hops_taken turns = map hop_of turns
 
 -- their time is what the run uses
 pub same_time : (time : ℕ) (turns : List Turn) → time_from time (hops_taken turns) ≡ used_from time turns
@@ -261,7 +242,7 @@ module _ (g : Setting) (executed : List ℕ) (angle : ℕ) (proper : IsProper g)
 -- A kept run of an accepted deck is a walk, from the same angle and of the same time.
 pub kept_walk : (g : Setting) (executed : List ℕ) (s : State) (turns : List Turn) → IsProper g → IsAccepted g.loads g.notes g.start executed
     → IsFirstState g.loads (IsFixed g.loads g.notes g.start) g.start s → IsRun g.times s turns → IsKept g.loads g.notes s turns
-    → (hops : List Taken) × IsWalk g s.start hops × (time_of hops ≡ used_from 0 turns)
+    → IsWalk g s.start (hops_taken turns) × (time_of (hops_taken turns) ≡ used_from 0 turns)
 kept_walk g executed s turns proper accepted first is_run kept =
     let stays : Stays g s.start s =
     record { start = refl; executed = ([], sym first.seeks); as_declared = kept.declared; agrees = first.agrees } in
@@ -271,4 +252,4 @@ kept_walk g executed s turns proper accepted first is_run kept =
     subst (λ (place : ℕ). IsWalkFrom g s.start place s.time (no_counts g.notes.marks) (hops_taken turns)) first.seeks walks in
     let at_once : IsWalkFrom g s.start g.start 0 (no_counts g.notes.marks) (hops_taken turns) =
     subst (λ (time : ℕ). IsWalkFrom g s.start g.start time (no_counts g.notes.marks) (hops_taken turns)) first.at_once seeking in
-    (hops_taken turns, record { on_drum = first.angle; from_start = at_once }, same_time 0 turns)
+    (record { on_drum = first.angle; from_start = at_once }, same_time 0 turns)

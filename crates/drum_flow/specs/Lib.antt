@@ -14,6 +14,7 @@ pub mod Lists
 pub mod Passes
 pub mod Refused
 pub mod Rows
+pub mod RunHops
 pub mod Search
 pub mod Seen
 pub mod Size

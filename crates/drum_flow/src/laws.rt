@@ -16,6 +16,7 @@ ghost use Rattle.drum_flow.specs.declared.refusal.Refusal.TheVariants.{Memory};
 ghost use Rattle.drum_flow.specs.Acceptance.{IsRefusal};
 ghost use Rattle.drum_flow.specs.Accepted.{IsAccepted, IsFixed};
 ghost use Rattle.drum_flow.specs.Passes.{leading};
+ghost use Rattle.drum_flow.specs.RunHops.{hops_taken};
 ghost use Rattle.drum_flow.specs.Walk.{Setting, IsProper, Taken, MayHaveUnits, IsWalk, time_of};
 ghost use Rattle.drum_flow.specs.WalkTime.{AreAlike};
 
@@ -31,11 +32,12 @@ pub fn one_time()
         → time_of hops ≡ time_of others }
 {}
 
-/// A run that keeps to the notes of an accepted deck is a walk, from the same start angle and of the same time.
+/// The hops that a run takes, where it keeps to the notes of an accepted deck, are a walk from the same start angle, and its
+/// time is what the run has used. (So the empty run is the empty walk.)
 pub fn kept_run_is_a_walk()
     ensures { (g : Setting) (executed : List ℕ) (s : State) (turns : List Turn) → IsProper g → IsAccepted g.loads g.notes g.start executed
         → IsFirstState g.loads (IsFixed g.loads g.notes g.start) g.start s → IsRun g.times s turns → IsKept g.loads g.notes s turns
-        → (hops : List Taken) × IsWalk g s.start hops × (time_of hops ≡ used_from 0 turns) }
+        → IsWalk g s.start (hops_taken turns) × (time_of (hops_taken turns) ≡ used_from 0 turns) }
 {}
 
 /// The units of an operation's work, whatever the contents, are units that a hop may have.

@@ -6,6 +6,7 @@ use Rattle.drum_flow.specs.Accepted.{IsAccepted}
 use Rattle.drum_flow.specs.Flow.{deck_of, notes_of, executed_in, order_in}
 use Rattle.drum_flow.specs.Free.{IsFreeOrder}
 use Rattle.drum_flow.proofs.KeptWalk.{kept_walk}
+use Rattle.drum_flow.specs.RunHops.{hops_taken}
 use Rattle.drum_bound.specs.AnalysisOf.{IsAnalysis, setting}
 use Rattle.drum_bound.proofs.Analyses.{is_proper}
 use Rattle.drum_bound.proofs.Ordering.{as_many, can_have_keys}
@@ -50,4 +51,4 @@ returns-clause-kept c = λ s turns first is_run kept.
     let analysed : IsAnalysis (setting deck times notes) (length (order_in flow)) analysis =
     moved (λ d n. IsAnalysis (setting d times n) (length (order_in flow)) analysis) (deck_of flow) deck (notes_of flow) notes ensures.deck ensures.notes c.in-Ok-analysis_of.ensures in
     let walked = kept_walk (setting deck times notes) (executed_in flow) s turns (is_proper deck times notes c.marks-marks.ensures.sound) ensures.accepted first is_run kept in
-    omega (arith, analysed.worst.most s.start walked.0 walked.1, walked.2)
+    omega (arith, analysed.worst.most s.start (hops_taken turns) walked.0, walked.1)
