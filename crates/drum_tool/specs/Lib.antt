@@ -1,1 +1,2 @@
+pub mod FaultStatus
 pub mod Status

@@ -1,3 +1,6 @@
+ghost use Rattle.std.specs.Prelude.{◌≡◌};
+ghost use Rattle.drum_tool.specs.FaultStatus.{status_after};
+
 use crate::status::Status;
 use drum_bound::Refusal;
 use drum_core::DeckFault;
@@ -26,7 +29,9 @@ pub enum Fault {
 
 impl Fault {
     /// How the program ends after it.
-    pub fn status(&self) -> Status {
+    pub fn status(&self) -> Status
+        ensures { result ≡ status_after self.now }
+    {
         match self {
             Fault::InputRead | Fault::InputTooLong | Fault::Memory => Status::Failed,
             Fault::Deck(DeckFault::Read | DeckFault::Memory) => Status::Failed,
