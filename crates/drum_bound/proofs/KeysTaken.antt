@@ -3,6 +3,7 @@ use Rattle.std.proofs.Common.{◌≡◌, ℕ, zero, suc, ◌+◌, ◌*◌, ◌<�
 use denote.Bor.{Bor}
 use Rattle.drum_times.specs.Allowed.{AreSound}
 use Rattle.drum_times.specs.declared.times.Times.{Times}
+use Rattle.drum_flow.specs.Accepted.{counts_of}
 use Rattle.drum_flow.specs.Flow.{order_in}
 use Rattle.drum_flow.specs.Hops.{Hop, hops}
 use Rattle.drum_flow.specs.Walk.{Setting}
@@ -37,24 +38,26 @@ abbrev pub hops_at : Scan → ℕ → List Hop
 hops_at scan key = hops (setting_in scan).loads (setting_in scan).notes (place_at (places_in scan) key)
 
 -- a key at which nothing is kept needs no taking
-pub skipped : (scan : Scan) (key : ℕ) → IsScanned scan key → cell_at scan.cells.items key ≡ None → IsScanned scan (key + 1)
+pub skipped : (scan : Scan) (key : ℕ) → IsScanned scan key → cell_at scan.cells.kept.items key ≡ None → IsScanned scan (key + 1)
 skipped scan key is none =
     let next : suc key ≡ key + 1 = omega arith in
     subst (IsScanned scan) next (record {
       keys = is.keys;
-      scanned = skip (setting_in scan) (places_in scan) key scan.cells.items scan.last none is.scanned;
+      words = is.words;
+      counts = is.counts;
+      scanned = skip (setting_in scan) (places_in scan) key scan.cells.kept.items scan.last none is.scanned;
       turns = omega (arith, is.turns, ap (turns_at (setting_in scan) (places_in scan) key) none);
     })
 
 -- all hops of a key at which something is kept are left
-pub opened : (scan : Scan) (key : ℕ) (kept : Latest) (left : List Hop) → IsScanned scan key → cell_at scan.cells.items key ≡ Some kept → left ≡ hops_at scan key
-    → Taking (setting_in scan) (places_in scan) key kept.clock left scan.cells.items scan.last
+pub opened : (scan : Scan) (key : ℕ) (kept : Latest) (left : List Hop) → IsScanned scan key → cell_at scan.cells.kept.items key ≡ Some kept → left ≡ hops_at scan key
+    → Taking (setting_in scan) (places_in scan) key kept.clock left scan.cells.kept.items scan.last
 opened scan key kept left is there all =
-    subst (λ (hops : List Hop). Taking (setting_in scan) (places_in scan) key kept.clock hops scan.cells.items scan.last) (sym all)
-    (open_key (setting_in scan) (places_in scan) key kept scan.cells.items scan.last there is.scanned)
+    subst (λ (hops : List Hop). Taking (setting_in scan) (places_in scan) key kept.clock hops scan.cells.kept.items scan.last) (sym all)
+    (open_key (setting_in scan) (places_in scan) key kept scan.cells.kept.items scan.last there is.scanned)
 
 -- clocks and turns are far from their limits
-pub early_clock : (scan : Scan) (key : ℕ) (kept : Latest) → IsScanned scan key → key < scan.keys.now.size → cell_at scan.cells.items key ≡ Some kept → kept.clock ≤ 2305843009213693952
+pub early_clock : (scan : Scan) (key : ℕ) (kept : Latest) → IsScanned scan key → key < scan.keys.now.size → cell_at scan.cells.kept.items key ≡ Some kept → kept.clock ≤ 2305843009213693952
 early_clock scan key kept is below there = omega (arith, is.scanned.near key kept there, below, is.keys.size, is.keys.ordered.0.few)
 
 pub few_turns : (scan : Scan) (key count left : ℕ) → IsScanned scan key → key < scan.keys.now.size → count + left ≡ scan.turns.count + length (hops_at scan key) → count < 4611686018427387904
@@ -63,7 +66,7 @@ few_turns scan key count left is below so_far =
       arith,
       so_far,
       is.turns,
-      turns_few (setting_in scan) (places_in scan) scan.cells.items key is.keys.ordered.0.sound,
+      turns_few (setting_in scan) (places_in scan) scan.cells.kept.items key is.keys.ordered.0.sound,
       few_hops (setting_in scan).loads (setting_in scan).notes (place_at (places_in scan) key) is.keys.ordered.0.sound,
       below,
       is.keys.size,
@@ -80,24 +83,26 @@ taking_as a b key clock left cells last times keys taking =
     subst (λ (k : Bor Keys). TakingOf key clock left cells last b.times k) keys (subst (λ (t : Bor Times). TakingOf key clock left cells last t a.keys) times taking)
 
 -- no hop of the key is left
-pub closed : (a b : Scan) (key : ℕ) (kept : Latest) → a.times ≡ b.times → a.keys ≡ b.keys → IsScanned b key → cell_at b.cells.items key ≡ Some kept
-    → Taking (setting_in b) (places_in b) key kept.clock [] a.cells.items a.last → a.turns.count ≡ b.turns.count + length (hops_at b key) → IsAgreed key b.cells.items a.cells.items
+pub closed : (a b : Scan) (key : ℕ) (kept : Latest) → a.times ≡ b.times → a.keys ≡ b.keys → IsScanned b key → cell_at b.cells.kept.items key ≡ Some kept
+    → a.cells.words ≡ b.cells.words → a.cells.counts ≡ b.cells.counts
+    → Taking (setting_in b) (places_in b) key kept.clock [] a.cells.kept.items a.last → a.turns.count ≡ b.turns.count + length (hops_at b key) → IsAgreed key b.cells.kept.items a.cells.kept.items
     → IsScanned a (key + 1)
-closed a b key kept times keys is there taking count agreed =
+closed a b key kept times keys is there words counts taking count agreed =
     let next : suc key ≡ key + 1 = omega arith in
     let g = setting_in b in
     let order = places_in b in
-    let turns : a.turns.count ≡ turns_below g order a.cells.items (suc key) =
+    let turns : a.turns.count ≡ turns_below g order a.cells.kept.items (suc key) =
     omega (
       arith,
       count,
       is.turns,
-      turns_agree g order b.cells.items a.cells.items key (λ other below. agreed other (omega (arith, below))),
+      turns_agree g order b.cells.kept.items a.cells.kept.items key (λ other below. agreed other (omega (arith, below))),
       ap (turns_at g order key) (agreed key (omega arith) ∙ there),
     ) in
     let Right : Bor Times → Bor Keys → Type 0 = λ t k.
-    AreKeys k.now × Scanned (setting_of k.now.flow.now t.now) (order_in k.now.flow.now) (suc key) (suc key) a.cells.items a.last
-    × (a.turns.count ≡ turns_below (setting_of k.now.flow.now t.now) (order_in k.now.flow.now) a.cells.items (suc key)) in
-    let right : Right b.times b.keys = (is.keys, close_key g order key kept.clock a.cells.items a.last taking, turns) in
+    AreKeys k.now × Scanned (setting_of k.now.flow.now t.now) (order_in k.now.flow.now) (suc key) (suc key) a.cells.kept.items a.last
+    × (a.turns.count ≡ turns_below (setting_of k.now.flow.now t.now) (order_in k.now.flow.now) a.cells.kept.items (suc key))
+    × (a.cells.words ≡ length (order_in k.now.flow.now)) × (a.cells.counts ≡ counts_of (setting_of k.now.flow.now t.now).notes.marks) in
+    let right : Right b.times b.keys = (is.keys, close_key g order key kept.clock a.cells.kept.items a.last taking, turns, words ∙ is.words, counts ∙ is.counts) in
     let as_a : Right a.times a.keys = subst (λ (k : Bor Keys). Right a.times k) (sym keys) (subst (λ (t : Bor Times). Right t b.keys) (sym times) right) in
-    subst (IsScanned a) next (record { keys = as_a.0; scanned = as_a.1; turns = as_a.2 })
+    subst (IsScanned a) next (record { keys = as_a.0; words = as_a.3; counts = as_a.4; scanned = as_a.1; turns = as_a.2 })

@@ -1,10 +1,12 @@
 -- What the keys of a flow graph are, as they are held.
-use Rattle.std.specs.Prelude.{◌≡◌, ℕ, ◌<◌, List, map, slice_get, Some, Contains}
+use Rattle.std.specs.Prelude.{◌≡◌, ℕ, ◌%◌, ◌<◌, List, length, map, slice_get, Option, Some, Contains, MatchOption}
 use Rattle.drum_core.specs.declared.location.Location.{Location}
 use Rattle.drum_core.specs.Loads.{loads_in, start_in}
 use Rattle.drum_times.specs.Entries.{entry_in}
 use Rattle.drum_times.specs.declared.times.Times.{Times}
+use Rattle.drum_machine.specs.Counts.{after_pass, AreWithin}
 use Rattle.drum_flow.specs.declared.flow_graph.Flow.{Flow}
+use Rattle.drum_flow.specs.Accepted.{counts_of}
 use Rattle.drum_flow.specs.Flow.{deck_of, notes_of, executed_in, order_in}
 use Rattle.drum_flow.specs.Hops.{hops}
 use Rattle.drum_flow.specs.HopsLeft.{hops_left}
@@ -12,8 +14,7 @@ use Rattle.drum_flow.specs.Walk.{Setting}
 use Rattle.drum_bound.specs.declared.keys.At.{At}
 use Rattle.drum_bound.specs.declared.keys.Keys.{Keys}
 use Rattle.drum_bound.specs.declared.keys.Site.{Site}
-use Rattle.drum_bound.specs.CountsIn.{counts_in}
-use Rattle.drum_bound.specs.Keys.{keys_of, place_at, counts_at, IsOrdered}
+use Rattle.drum_bound.specs.Keys.{keys_of, place_at, counts_at, IsKey, IsOrdered}
 
 -- what the walks of a flow graph are in, with a timing table
 abbrev pub setting_of : Flow → Times → Setting
@@ -46,10 +47,19 @@ pub record AreKeys (keys : Keys) : Type 0 where
   pub sites : sites_in keys.sites.items ≡ order_in keys.flow.now
   pub hops : HaveHops keys.flow.now keys.sites.items
   pub places : HavePlaces (order_in keys.flow.now) keys.places.items
+  pub counts : keys.counts ≡ counts_of (notes_of keys.flow.now).marks
   pub size : keys.size ≡ keys_of (notes_of keys.flow.now).marks (order_in keys.flow.now)
 
--- A key with its location and its counts.
+-- A key with the place of its location in the order, and the location.
 pub record IsAt (keys : Keys) (at : At) : Type 0 where
   pub below : at.key < keys.size
-  pub place : at.location.number ≡ place_at (order_in keys.flow.now) at.key
-  pub counts : counts_in at.counts (notes_of keys.flow.now).marks ≡ counts_at (notes_of keys.flow.now).marks (order_in keys.flow.now) at.key
+  pub whole : at.place ≡ at.key % length (order_in keys.flow.now)
+  pub there : at.location.number ≡ place_at (order_in keys.flow.now) at.key
+
+-- the key that a hop from a key to a location leads to; none where a full mark bars it
+abbrev pub IsAfter : Keys → At → ℕ → Option ℕ → Type 0
+IsAfter keys at next result =
+    let marks = (notes_of keys.flow.now).marks in
+    let order = order_in keys.flow.now in
+    let passed = after_pass marks (place_at order at.key) next (counts_at marks order at.key) in
+    MatchOption result (¬ AreWithin marks passed) (λ key. IsKey marks order key next passed × AreWithin marks passed)

@@ -1,6 +1,7 @@
 -- What a scan knows, as it is held.
-use Rattle.std.specs.Prelude.{◌≡◌, ℕ, suc, ◌<◌, List, Option, ◌⊎◌}
+use Rattle.std.specs.Prelude.{◌≡◌, ℕ, suc, ◌<◌, List, length, Option, ◌⊎◌}
 use Rattle.drum_machine.specs.Counts.{after_pass, AreWithin}
+use Rattle.drum_flow.specs.Accepted.{counts_of}
 use Rattle.drum_flow.specs.Flow.{order_in}
 use Rattle.drum_flow.specs.Walk.{Setting}
 use Rattle.drum_bound.specs.declared.latest.Latest.{Latest}
@@ -24,8 +25,10 @@ size_in scan = keys_of (setting_in scan).notes.marks (places_in scan)
 -- The keys below one have been taken.
 pub record IsScanned (scan : Scan) (taken : ℕ) : Type 0 where
   pub keys : AreKeys scan.keys.now
-  pub scanned : Scanned (setting_in scan) (places_in scan) taken taken scan.cells.items scan.last
-  pub turns : scan.turns.count ≡ turns_below (setting_in scan) (places_in scan) scan.cells.items taken
+  pub words : scan.cells.words ≡ length (places_in scan)
+  pub counts : scan.cells.counts ≡ counts_of (setting_in scan).notes.marks
+  pub scanned : Scanned (setting_in scan) (places_in scan) taken taken scan.cells.kept.items scan.last
+  pub turns : scan.turns.count ≡ turns_below (setting_in scan) (places_in scan) scan.cells.kept.items taken
 
 -- All have.
 abbrev pub IsDone : Scan → Type 0

@@ -1,7 +1,7 @@
 //! The keys of the table of worst times.
 
-ghost use Rattle.std.specs.Prelude.{◌≡◌, ℕ, ◌<◌, ◌≤◌, length, slice_get, Some, Contains, IfOk, MatchOption};
-ghost use Rattle.drum_machine.specs.Counts.{after_pass, no_counts, AreWithin};
+ghost use Rattle.std.specs.Prelude.{◌≡◌, ℕ, ◌<◌, ◌≤◌, length, slice_get, Some, Contains, IfOk};
+ghost use Rattle.drum_machine.specs.Counts.{no_counts, AreWithin};
 ghost use Rattle.drum_core.specs.Loads.{loads_in, start_in};
 ghost use Rattle.drum_flow.specs.Accepted.{counts_of as counts_in_all};
 ghost use Rattle.drum_flow.specs.Flow.{deck_of, notes_of, executed_in, order_in};
@@ -9,14 +9,16 @@ ghost use Rattle.drum_flow.specs.Graph.{AreDifferent};
 ghost use Rattle.drum_flow.specs.Hops as said;
 ghost use Rattle.drum_flow.specs.HopsLeft.{hops_left};
 ghost use Rattle.drum_bound.specs.CountsIn.{counts_in};
-ghost use Rattle.drum_bound.specs.Keys.{place_at, counts_at, IsKey};
+ghost use Rattle.drum_bound.specs.Keys as numbered;
+ghost use Rattle.drum_bound.specs.Keys.{place_at, IsKey};
 ghost use Rattle.drum_bound.specs.Scanned.{start_angle as start_angle_of};
-ghost use Rattle.drum_bound.specs.KeysOf.{AreKeys, CanHaveKeys, HaveHops, HavePlaces, IsAt, numbers, sites_in};
+ghost use Rattle.drum_bound.specs.KeysOf.{AreKeys, CanHaveKeys, HaveHops, HavePlaces, IsAfter, IsAt, numbers, sites_in};
 
 use crate::counts::Counts;
 use drum_core::Location;
 use drum_flow::counts::counts_of;
 use drum_flow::{Flow, Hops};
+use drum_machine::passes::mark_on;
 use drum_times::Mark;
 use std::alloc::{AllocError, Global};
 
@@ -40,16 +42,18 @@ pub struct Keys<'a> {
     pub sites: Vec<Site<'a>>,
     /// The place of each location in the order, by its number.
     pub places: Vec<usize>,
+    /// How many counts the marks can have.
+    pub counts: usize,
     /// How many keys there are.
     pub size: usize,
 }
 
-/// A key with its location and its counts.
+/// A key, the place of its location in the order, and the location.
 #[derive(Clone, Copy, Debug)]
 pub struct At {
     pub key: usize,
+    pub place: usize,
     pub location: Location,
-    pub counts: Counts,
 }
 
 /// The executed locations of an accepted deck in their order, each with its hops.
@@ -94,11 +98,13 @@ impl<'a> Keys<'a> {
         let Ok(places) = places_of(alloc, flow.order()) else {
             return Err(AllocError);
         };
-        let size = sites.len() * counts_of(flow.notes().marks()) as usize;
+        let counts = counts_of(flow.notes().marks()) as usize;
+        let size = counts * sites.len();
         Ok(Keys {
             flow,
             sites,
             places,
+            counts,
             size,
         })
     }
@@ -128,28 +134,37 @@ impl<'a> Keys<'a> {
         self.flow.notes().marks()
     }
 
-    /// A key with its location and its counts.
+    /// A key with its location.
     pub fn at(&self, key: usize) -> At
         requires keys { AreKeys self.now }
         requires below { key < self.now.size }
         ensures key { result.key ≡ key }
         ensures at { IsAt self.now result }
     {
-        let words = self.sites.len();
+        let place = key % self.sites.len();
         At {
             key,
-            location: self.sites[key % words].location,
-            counts: Counts::of(self.marks(), key / words),
+            place,
+            location: self.sites[place].location,
         }
     }
 
     /// The hops of a key's location.
-    pub fn hops(&self, key: usize) -> Hops<'a>
+    pub fn hops(&self, at: &At) -> Hops<'a>
+        requires keys { AreKeys self.now }
+        requires at { IsAt self.now at.now }
+        ensures { hops_left result ≡ said.hops (loads_in (deck_of self.now.flow.now)) (notes_of self.now.flow.now) (place_at (order_in self.now.flow.now) at.now.key) }
+    {
+        self.sites[at.place].hops
+    }
+
+    /// The counts of a key.
+    pub fn counts_at(&self, key: usize) -> Counts
         requires keys { AreKeys self.now }
         requires below { key < self.now.size }
-        ensures { hops_left result ≡ said.hops (loads_in (deck_of self.now.flow.now)) (notes_of self.now.flow.now) (place_at (order_in self.now.flow.now) key) }
+        ensures { counts_in result (notes_of self.now.flow.now).marks ≡ numbered.counts_at (notes_of self.now.flow.now).marks (order_in self.now.flow.now) key }
     {
-        self.sites[key % self.sites.len()].hops
+        Counts::of(self.marks(), key / self.sites.len())
     }
 
     /// The place of a location in the order.
@@ -171,19 +186,40 @@ impl<'a> Keys<'a> {
         counts.leading(self.marks()) * self.sites.len() + self.place_of(location)
     }
 
+    /// The key of a location of the order, with the counts of another key.
+    fn beside(&self, at: &At, location: Location) -> usize
+        requires keys { AreKeys self.now }
+        requires at { IsAt self.now at.now }
+        requires there { Contains (order_in self.now.flow.now) location.number }
+        ensures { IsKey (notes_of self.now.flow.now).marks (order_in self.now.flow.now) result location.number (numbered.counts_at (notes_of self.now.flow.now).marks (order_in self.now.flow.now) at.now.key) }
+    {
+        at.key - at.place + self.place_of(location)
+    }
+
+    /// The key that a hop which passes a mark leads to; `None` where a full mark bars it.
+    fn passed(&self, at: &At, next: Location) -> Option<usize>
+        requires keys { AreKeys self.now }
+        requires at { IsAt self.now at.now }
+        requires next { Contains (order_in self.now.flow.now) next.number }
+        ensures { IsAfter self.now at.now next.number result }
+    {
+        let counts = self.counts_at(at.key);
+        let Some(passed) = counts.passed(self.marks(), at.location, next) else {
+            return None;
+        };
+        Some(self.key_of(passed, next))
+    }
+
     /// The key that a hop from a key to a location of the order leads to; `None` where a full mark bars it.
     pub fn after(&self, at: &At, next: Location) -> Option<usize>
         requires keys { AreKeys self.now }
         requires at { IsAt self.now at.now }
         requires next { Contains (order_in self.now.flow.now) next.number }
-        ensures { let marks = (notes_of self.now.flow.now).marks in
-            let order = order_in self.now.flow.now in
-            let passed = after_pass marks (place_at order at.now.key) next.number (counts_at marks order at.now.key) in
-            MatchOption result (¬ AreWithin marks passed) (λ key. IsKey marks order key next.number passed × AreWithin marks passed) }
+        ensures { IsAfter self.now at.now next.number result }
     {
-        let Some(counts) = at.counts.passed(self.marks(), at.location, next) else {
-            return None;
-        };
-        Some(self.key_of(counts, next))
+        if mark_on(self.marks(), at.location, next).is_some() {
+            return self.passed(at, next);
+        }
+        Some(self.beside(at, next))
     }
 }

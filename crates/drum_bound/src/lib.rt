@@ -3,9 +3,9 @@
 
 mod analysing;
 pub mod analysis;
+mod cells;
 mod counts;
 mod end;
-mod kept;
 mod keys;
 mod latest;
 mod longest;

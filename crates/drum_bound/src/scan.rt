@@ -1,13 +1,8 @@
 //! The scan: each key in turn, and each of its hops.
 
 ghost use Rattle.std.specs.Prelude.{◌≡◌, ◌+◌, ◌^◌, ◌<◌, ◌≤◌, ◌∷◌, length, ℕ, List, IfOk, Contains};
-ghost use Rattle.drum_flow.specs.Hops.{Hop as HopOf, hops};
-ghost use Rattle.drum_flow.specs.Seen.{seen_hop};
-ghost use Rattle.drum_bound.specs.Keys.{place_at};
-ghost use Rattle.drum_bound.specs.KeysOf.{AreKeys, IsAt};
-ghost use Rattle.drum_bound.specs.Scanned.{raised, Taking};
-ghost use Rattle.drum_bound.specs.ScanOf.{setting_in, places_in, size_in, IsScanned, IsDone, Goes, IsAgreed};
 
+use crate::cells::Cells;
 use crate::end::{End, Turns};
 use crate::keys::{At, Keys};
 use crate::latest::{Latest, Origin};
@@ -21,8 +16,8 @@ use std::alloc::{AllocError, Global};
 pub struct Scan<'a> {
     pub times: &'a Times,
     pub keys: &'a Keys<'a>,
-    /// The latest end at each key, of the hops that lead there, or the moment of the start.
-    pub cells: Vec<Option<Latest>>,
+    /// What is kept at each key.
+    pub cells: Cells,
     /// The latest end of all.
     pub last: Latest,
     /// How many ends have been made.
@@ -30,6 +25,13 @@ pub struct Scan<'a> {
 }
 
 impl<'a> Scan<'a> {
+    ghost use Rattle.drum_flow.specs.Hops.{Hop as HopOf, hops};
+    ghost use Rattle.drum_flow.specs.Seen.{seen_hop};
+    ghost use Rattle.drum_bound.specs.Keys.{place_at};
+    ghost use Rattle.drum_bound.specs.KeysOf.{AreKeys, IsAt};
+    ghost use Rattle.drum_bound.specs.Scanned.{start_angle, Taking};
+    ghost use Rattle.drum_bound.specs.ScanOf.{setting_in, places_in, size_in, IsScanned, IsDone, Goes, IsAgreed};
+
     /// The latest ends at all keys, and of all: each key is taken once, after all that can raise what is kept there.
     pub fn of(alloc: Global, times: &'a Times, keys: &'a Keys<'a>) -> Result<Scan<'a>, AllocError>
         requires { AreKeys keys.now }
@@ -46,6 +48,13 @@ impl<'a> Scan<'a> {
         Ok(scan)
     }
 
+    /// The one start angle, that behind the start's: 0 to 49.
+    pub fn start_angle(&self) -> u64
+        ensures { result ≡ start_angle (setting_in self.now).start }
+    {
+        self.keys.start_angle()
+    }
+
     /// Nothing taken yet: the start's key alone keeps something, the moment of the start.
     fn new(alloc: Global, times: &'a Times, keys: &'a Keys<'a>) -> Result<Scan<'a>, AllocError>
         requires { AreKeys keys.now }
@@ -57,8 +66,10 @@ impl<'a> Scan<'a> {
             clock: keys.start_angle(),
             origin: None,
         };
-        let mut cells = vec![in alloc; None; keys.size]?;
-        cells[keys.start_key()] = Some(start);
+        let first = keys.start_key();
+        let Ok(cells) = Cells::new(alloc, keys.sites.len(), keys.counts, first, start) else {
+            return Err(AllocError);
+        };
         Ok(Scan {
             times,
             keys,
@@ -68,37 +79,23 @@ impl<'a> Scan<'a> {
         })
     }
 
-    /// Keeps the end of a hop at a key, where it is later than what is kept there.
-    fn raise(&mut self, key: usize, end: &End)
-        requires { key < length self.old.cells.items }
-        ensures cells { self.new.cells.items ≡ raised self.old.cells.items key end.now.latest }
-        ensures same { self.new ≡ record self.old { cells = self.new.cells } }
-    {
-        let latest = match self.cells[key] {
-            Some(mut old) => {
-                old.raise(end);
-                old
-            }
-            None => end.latest(),
-        };
-        self.cells[key] = Some(latest);
-    }
-
     /// Keeps the end of a hop that goes on, unless a full mark bars it.
     fn go_on(&mut self, at: &At, next: Location, end: &End)
         requires keys { AreKeys self.old.keys.now }
         requires at { IsAt self.old.keys.now at.now }
         requires next { Contains (places_in self.old) next.number }
-        requires size { length self.old.cells.items ≡ size_in self.old }
-        ensures goes { Goes (setting_in self.old) (places_in self.old) at.now.key next.number end.now.latest self.old.cells.items self.old.last self.new.cells.items self.new.last }
+        requires size { length self.old.cells.kept.items ≡ size_in self.old }
+        ensures goes { Goes (setting_in self.old) (places_in self.old) at.now.key next.number end.now.latest self.old.cells.kept.items self.old.last self.new.cells.kept.items self.new.last }
         ensures times { self.new.times ≡ self.old.times }
         ensures keys { self.new.keys ≡ self.old.keys }
         ensures turns { self.new.turns ≡ self.old.turns }
+        ensures words { self.new.cells.words ≡ self.old.cells.words }
+        ensures counts { self.new.cells.counts ≡ self.old.cells.counts }
     {
         let Some(key) = self.keys.after(at, next) else {
             return;
         };
-        self.raise(key, end);
+        self.cells.raise(key, end);
         self.last.raise(end);
     }
 
@@ -109,13 +106,15 @@ impl<'a> Scan<'a> {
         requires hop { Contains (hops (setting_in self.old).loads (setting_in self.old).notes (place_at (places_in self.old) at.now.key)) (seen_hop hop) }
         requires soon { clock ≤ 2 ^ 61 }
         requires few { self.old.turns.count < 2 ^ 62 }
-        requires size { length self.old.cells.items ≡ size_in self.old }
+        requires size { length self.old.cells.kept.items ≡ size_in self.old }
         ensures times { self.new.times ≡ self.old.times }
         ensures keys { self.new.keys ≡ self.old.keys }
         ensures counted { self.new.turns.count ≡ self.old.turns.count + 1 }
-        ensures agreed { IsAgreed at.now.key self.old.cells.items self.new.cells.items }
-        ensures taken { (left : List HopOf) → Taking (setting_in self.old) (places_in self.old) at.now.key clock (seen_hop hop ∷ left) self.old.cells.items self.old.last
-            → Taking (setting_in self.old) (places_in self.old) at.now.key clock left self.new.cells.items self.new.last }
+        ensures words { self.new.cells.words ≡ self.old.cells.words }
+        ensures counts { self.new.cells.counts ≡ self.old.cells.counts }
+        ensures agreed { IsAgreed at.now.key self.old.cells.kept.items self.new.cells.kept.items }
+        ensures taken { (left : List HopOf) → Taking (setting_in self.old) (places_in self.old) at.now.key clock (seen_hop hop ∷ left) self.old.cells.kept.items self.old.last
+            → Taking (setting_in self.old) (places_in self.old) at.now.key clock left self.new.cells.kept.items self.new.last }
     {
         let origin = Origin { key: at.key, hop };
         let end = self.turns.end(self.times, at.location, origin, clock);
@@ -133,11 +132,11 @@ impl<'a> Scan<'a> {
         ensures times { self.new.times ≡ self.old.times }
         ensures keys { self.new.keys ≡ self.old.keys }
     {
-        let Some(latest) = self.kept_at(key) else {
+        let Some(latest) = self.cells.kept_at(key) else {
             return;
         };
         let at = self.keys.at(key);
-        for hop in self.keys.hops(key) {
+        for hop in self.keys.hops(&at) {
             self.take_hop(&at, latest.clock, hop);
         }
     }

@@ -15,14 +15,14 @@ impl Scan<'_> {
     /// The entry of a key, of what is kept there.
     fn worst_at(&self, key: usize, kept: Latest) -> Worst
         requires done { IsDone self.now }
-        requires kept { cell_at self.now.cells.items key ≡ Some kept }
+        requires kept { cell_at self.now.cells.kept.items key ≡ Some kept }
         ensures { row_in result ≡ row_of (setting_in self.now) (places_in self.now) key kept }
     {
-        let at = self.keys.at(key);
+        let counts = self.keys.counts_at(key);
         Worst {
-            place: at.location,
+            place: self.keys.at(key).location,
             angle: (kept.clock % 50) as u8,
-            counts: at.counts.number(self.keys.flow.notes().marks()),
+            counts: counts.number(self.keys.flow.notes().marks()),
             time: kept.clock - self.start_angle(),
         }
     }
@@ -30,11 +30,11 @@ impl Scan<'_> {
     /// The table of worst times: an entry for each key at which something is kept.
     pub fn table(&self, alloc: Global) -> Result<Vec<Worst>, AllocError>
         requires { IsDone self.now }
-        ensures { IfOk result (λ rows. map row_in rows.items ≡ rows_below (setting_in self.now) (places_in self.now) self.now.cells.items (size_in self.now)) }
+        ensures { IfOk result (λ rows. map row_in rows.items ≡ rows_below (setting_in self.now) (places_in self.now) self.now.cells.kept.items (size_in self.now)) }
     {
         let mut rows = Vec::new(alloc);
         for key in 0..self.keys.size {
-            if let Some(kept) = self.kept_at(key) {
+            if let Some(kept) = self.cells.kept_at(key) {
                 rows.push(self.worst_at(key, kept))?;
             }
         }

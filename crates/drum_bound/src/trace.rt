@@ -15,7 +15,7 @@ impl Scan<'_> {
     /// The hop of an origin, between the word times used when it begins and when it ends.
     fn visit(&self, origin: Origin, begin: Latest, end: Latest) -> Visit
         requires done { IsDone self.now }
-        requires begun { cell_at self.now.cells.items origin.key ≡ Some begin }
+        requires begun { cell_at self.now.cells.kept.items origin.key ≡ Some begin }
         requires later { begin.clock ≤ end.clock }
         ensures { let angle = start_angle (setting_in self.now).start in
             seen_visit result ≡ visited (taken_of (setting_in self.now) (places_in self.now) origin (begin.clock - angle) (end.clock - angle)) }
@@ -39,7 +39,7 @@ impl Scan<'_> {
         let mut visits = Vec::new(alloc);
         let mut end = self.last;
         while let Some(origin) = end.origin {
-            let Some(begin) = self.kept_at(origin.key) else {
+            let Some(begin) = self.cells.kept_at(origin.key) else {
                 unreachable!()
             };
             visits.push(self.visit(origin, begin, end))?;

@@ -23,7 +23,7 @@ returns c =
     let marks : c.marks-marks.result.now ≡ (notes_of keys.flow.now).marks = c.marks-marks.ensures.all ∙ ap (λ notes. notes.marks) c.notes.ensures in
     let passed : ArePasses c.marks-marks.result.now visits c.passes_of_marks.result =
     subst (λ (walk : List Visit). ArePasses c.marks-marks.result.now (map seen_visit walk) c.passes_of_marks.result) c.deref.ensures.value c.passes_of_marks.ensures.passed in
-    is_analysis (setting_of keys.flow.now times) (order_in keys.flow.now) scan.cells.items scan.last _ c.requires.ordered.0 (deck_of keys.flow.now).on_drum found.scanned
+    is_analysis (setting_of keys.flow.now times) (order_in keys.flow.now) scan.cells.kept.items scan.last _ c.requires.ordered.0 (deck_of keys.flow.now).on_drum found.scanned
     (record {
       bound = ap (λ (n : ℕ). scan.last.clock - n) c.start_angle-angle.ensures;
       angle = c.start_angle-angle.ensures;

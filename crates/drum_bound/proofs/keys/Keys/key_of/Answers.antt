@@ -1,24 +1,16 @@
 use Rattle.std.proofs.Common.{◌≡◌, ℕ, ◌+◌, ◌*◌, ◌<◌, ◌≤◌, List, length, Some, suc, sym, ap, ◌∙◌, subst, arith}
 use Rattle.std.specs.Prelude.{slice_get}
 use Rattle.std.proofs.Math.Nat.{mul-le-mul_left}
-use Rattle.std.proofs.lemmas.List.{length-map}
 use Rattle.std.proofs.lemmas.Option.{slice_get_within}
 use Rattle.drum_times.specs.declared.notes.mark.Mark.{Mark}
 use Rattle.drum_machine.specs.Counts.{AreWithin}
 use Rattle.drum_flow.specs.Accepted.{counts_of}
 use Rattle.drum_flow.specs.Flow.{notes_of, order_in}
 use Rattle.drum_flow.specs.Passes.{leading, leading-<}
-use Rattle.drum_bound.specs.declared.keys.Keys.{Keys}
-use Rattle.drum_bound.specs.declared.keys.Site.{Site}
 use Rattle.drum_bound.specs.CountsIn.{counts_in}
 use Rattle.drum_bound.specs.Keys.{keys_of, IsKey}
-use Rattle.drum_bound.specs.KeysOf.{AreKeys}
-use Rattle.drum_bound.proofs.Sites.{key_of_place}
+use Rattle.drum_bound.proofs.Sites.{key_of_place, same_length}
 use Rattle.drum_bound.proofs.keys.Keys.key_of.Goals as goal
-
--- a key has as many locations as its order
-same_length : (keys : Keys) → AreKeys keys → length keys.sites.items ≡ length (order_in keys.flow.now)
-same_length keys are = sym (length-map keys.sites.items (λ (site : Site). site.location.number)) ∙ ap (λ (ns : List ℕ). length ns) are.sites
 
 -- counts that are within what the marks allow have a small number
 small_number : (marks : List Mark) (order counts : List ℕ) (k place : ℕ) → AreWithin marks counts → keys_of marks order ≤ 4000000 → slice_get order k ≡ Some place

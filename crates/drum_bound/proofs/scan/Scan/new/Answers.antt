@@ -1,10 +1,11 @@
-use Rattle.std.proofs.Common.{rules, ◌≡◌, ℕ, List, Option, None, set, replicate, Some, ap, sym, ◌∙◌, refl, subst}
+use Rattle.std.proofs.Common.{◌≡◌, ℕ, ◌*◌, List, length, Option, None, set, replicate, Some, ap, sym, ◌∙◌, refl, subst, arith}
 use Rattle.drum_flow.specs.Flow.{order_in}
 use Rattle.drum_bound.specs.declared.latest.Latest.{Latest}
 use Rattle.drum_bound.specs.KeysOf.{setting_of}
 use Rattle.drum_bound.specs.Keys.{keys_of}
 use Rattle.drum_bound.specs.Scanned.{Scanned}
 use Rattle.drum_bound.proofs.Begun.{begun}
+use Rattle.drum_bound.proofs.Sites.{same_length}
 use Rattle.drum_bound.proofs.scan.Scan.new.Goals as goal
 
 pub returns-clause-scanned : goal.returns-clause-scanned
@@ -13,11 +14,15 @@ returns-clause-scanned c =
     let g = setting_of keys.flow.now c.args.times.now in
     let order = order_in keys.flow.now in
     let start : Latest = record { clock = c.start_angle.result; origin = None } in
-    let cells : c.in_ok-cells.cells.items ≡ replicate (keys_of g.notes.marks order) None =
-    c.in_ok-cells.ensures.items_if_clones_equal (λ y h. search rules) ∙ ap (λ (n : ℕ). replicate n None) c.requires.size in
+    let words : c.len.result ≡ length order = omega (arith, c.len.ensures, keys.sites.ok.0, same_length keys c.requires) in
+    let size : keys.counts * c.len.result ≡ keys_of g.notes.marks order = ap (λ (n : ℕ). keys.counts * n) words ∙ ap (λ (n : ℕ). n * length order) c.requires.counts in
+    let cells : c.in-Ok.cells.kept.items ≡ set (replicate (keys_of g.notes.marks order) None) c.start_key-first.result (Some start) =
+    c.in-Ok.ensures.kept ∙ ap (λ (n : ℕ). set (replicate n None) c.start_key-first.result (Some start)) size in
     record {
       keys = c.requires;
-      scanned = subst (λ (all : List (Option Latest)). Scanned g order 0 0 (set all c.start_key.result (Some start)) start) (sym cells)
-          (begun g order c.start_key.result start c.start_key.ensures c.start_angle.ensures refl);
+      words = c.in-Ok.ensures.words ∙ words;
+      counts = c.in-Ok.ensures.counts ∙ c.requires.counts;
+      scanned = subst (λ (all : List (Option Latest)). Scanned g order 0 0 all start) (sym cells)
+          (begun g order c.start_key-first.result start c.start_key-first.ensures c.start_angle.ensures refl);
       turns = c.none.ensures;
     }

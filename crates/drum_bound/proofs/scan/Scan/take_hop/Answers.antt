@@ -27,7 +27,7 @@ go_on-requires-clause-next c =
 pub returns-in-To-clause-agreed : goal.returns-in-To-clause-agreed
 returns-in-To-clause-agreed c =
     goes_agreed (setting_in c.args.self.now) (places_in c.args.self.now) c.requires.keys.ordered.0 c.args.at.now.key (omega (arith, c.requires.at.below, c.requires.keys.size))
-    (seen_hop c.args.hop) c.in-To.next.number c.end-end.result.latest c.args.self.now.cells.items c.args.self.now.last c.go_on.new.self.cells.items c.go_on.new.self.last
+    (seen_hop c.args.hop) c.in-To.next.number c.end-end.result.latest c.args.self.now.cells.kept.items c.args.self.now.last c.go_on.new.self.cells.kept.items c.go_on.new.self.last
     c.requires.hop (ap seen_way c.in-To.is) c.go_on.ensures.goes
 
 pub returns-in-To-clause-taken : goal.returns-in-To-clause-taken
@@ -39,11 +39,11 @@ returns-in-To-clause-taken c =
     let comes : Comes g order at.key c.args.clock (record { key = at.key; hop = c.args.hop }) new = record {
       from = refl;
       by = c.end-end.ensures.origin;
-      ended = c.end-end.ensures.clock ∙ ap (λ (place : ℕ). longest g.times place c.args.hop.instruction (seen_way c.args.hop.way) c.args.clock) c.requires.at.place;
+      ended = c.end-end.ensures.clock ∙ ap (λ (place : ℕ). longest g.times place c.args.hop.instruction (seen_way c.args.hop.way) c.args.clock) c.requires.at.there;
       hop = c.requires.hop;
     } in
     goes_taken g order c.requires.keys.ordered.0 at.key (omega (arith, c.requires.at.below, c.requires.keys.size)) c.args.clock (record { key = at.key; hop = c.args.hop })
-    c.in-To.next.number new c.args.self.now.cells.items c.args.self.now.last c.go_on.new.self.cells.items c.go_on.new.self.last comes (ap seen_way c.in-To.is) c.go_on.ensures.goes
+    c.in-To.next.number new c.args.self.now.cells.kept.items c.args.self.now.last c.go_on.new.self.cells.kept.items c.go_on.new.self.last comes (ap seen_way c.in-To.is) c.go_on.ensures.goes
 
 pub returns-in-Early : goal.returns-in-Early
 returns-in-Early c =
@@ -54,16 +54,18 @@ returns-in-Early c =
     let comes : Comes g order at.key c.args.clock (record { key = at.key; hop = c.args.hop }) new = record {
       from = refl;
       by = c.end-end.ensures.origin;
-      ended = c.end-end.ensures.clock ∙ ap (λ (place : ℕ). longest g.times place c.args.hop.instruction (seen_way c.args.hop.way) c.args.clock) c.requires.at.place;
+      ended = c.end-end.ensures.clock ∙ ap (λ (place : ℕ). longest g.times place c.args.hop.instruction (seen_way c.args.hop.way) c.args.clock) c.requires.at.there;
       hop = c.requires.hop;
     } in
     record {
       times = refl;
       keys = refl;
       counted = c.end-end.ensures.counted;
+      words = refl;
+      counts = refl;
       agreed = λ other within. refl;
-      taken = λ left taking. subst (λ (l : Latest). Taking g order at.key c.args.clock left c.args.self.now.cells.items l) (sym c.raise.ensures)
-          (take_stop g order at.key c.args.clock (record { key = at.key; hop = c.args.hop }) new left c.args.self.now.cells.items c.args.self.now.last comes (stops c.args.hop.way c.in-Early.is) taking);
+      taken = λ left taking. subst (λ (l : Latest). Taking g order at.key c.args.clock left c.args.self.now.cells.kept.items l) (sym c.raise.ensures)
+          (take_stop g order at.key c.args.clock (record { key = at.key; hop = c.args.hop }) new left c.args.self.now.cells.kept.items c.args.self.now.last comes (stops c.args.hop.way c.in-Early.is) taking);
     }
   where
     stops : (w : code.Way) → (w ≡ way.Early) ⊎ (w ≡ way.Late) → (seen_way w ≡ early) ⊎ (seen_way w ≡ late)

@@ -15,10 +15,12 @@ returns-in_default-clause-scanned c = skipped c.args.self.now c.args.key c.requi
 pub loop-hop-init : goal.loop-hop-init
 loop-hop-init c =
     let scan = c.args.self.now in
-    let left : hops_left c.into_iter-hop-iterator.result ≡ hops_at scan c.args.key = ap hops_left c.into_iter-hop-iterator.ensures.into_iter_gives ∙ c.hops-hop-items.ensures in
+    let left : hops_left c.into_iter-hop-iterator.result ≡ hops_at scan c.args.key = ap hops_left c.into_iter-hop-iterator.ensures.into_iter_gives ∙ c.hops-hop-items.ensures ∙ ap (hops_at scan) c.at-at.ensures.key in
     record {
       times = refl;
       keys = refl;
+      words = refl;
+      counts = refl;
       taking = opened scan c.args.key c.in-Some.latest (hops_left c.into_iter-hop-iterator.result) c.requires.scanned (sym c.kept_at.ensures ∙ c.in-Some.is) left;
       turns = ap (λ (hops : List Hop). scan.turns.count + length hops) left;
       agreed = λ other below. refl;
@@ -42,17 +44,19 @@ loop-hop-preserved c =
     let rest = hops_left c.next.new.self in
     let known = c.loop-hop.invariant in
     let step : hops_left c.loop-hop.hop-iterator ≡ hop ∷ rest = c.in-Some-hop.ensures.steps in
-    let taking : Taking (setting_in scan) (places_in scan) c.args.key clock (hop ∷ rest) before.cells.items before.last =
-    subst (λ (left : List Hop). Taking (setting_in scan) (places_in scan) c.args.key clock left before.cells.items before.last) step known.taking in
-    let here : Taking (setting_in before) (places_in before) c.at-at.result.key clock (hop ∷ rest) before.cells.items before.last =
-    subst (λ (key : ℕ). Taking (setting_in before) (places_in before) key clock (hop ∷ rest) before.cells.items before.last) (sym c.at-at.ensures.key)
-    (taking_as scan before c.args.key clock (hop ∷ rest) before.cells.items before.last (sym known.times) (sym known.keys) taking) in
-    let next : Taking (setting_in before) (places_in before) c.args.key clock rest after.cells.items after.last =
-    subst (λ (key : ℕ). Taking (setting_in before) (places_in before) key clock rest after.cells.items after.last) c.at-at.ensures.key (c.take_hop.ensures.taken rest here) in
+    let taking : Taking (setting_in scan) (places_in scan) c.args.key clock (hop ∷ rest) before.cells.kept.items before.last =
+    subst (λ (left : List Hop). Taking (setting_in scan) (places_in scan) c.args.key clock left before.cells.kept.items before.last) step known.taking in
+    let here : Taking (setting_in before) (places_in before) c.at-at.result.key clock (hop ∷ rest) before.cells.kept.items before.last =
+    subst (λ (key : ℕ). Taking (setting_in before) (places_in before) key clock (hop ∷ rest) before.cells.kept.items before.last) (sym c.at-at.ensures.key)
+    (taking_as scan before c.args.key clock (hop ∷ rest) before.cells.kept.items before.last (sym known.times) (sym known.keys) taking) in
+    let next : Taking (setting_in before) (places_in before) c.args.key clock rest after.cells.kept.items after.last =
+    subst (λ (key : ℕ). Taking (setting_in before) (places_in before) key clock rest after.cells.kept.items after.last) c.at-at.ensures.key (c.take_hop.ensures.taken rest here) in
     record {
       times = c.take_hop.ensures.times ∙ known.times;
       keys = c.take_hop.ensures.keys ∙ known.keys;
-      taking = taking_as before scan c.args.key clock rest after.cells.items after.last known.times known.keys next;
+      words = c.take_hop.ensures.words ∙ known.words;
+      counts = c.take_hop.ensures.counts ∙ known.counts;
+      taking = taking_as before scan c.args.key clock rest after.cells.kept.items after.last known.times known.keys next;
       turns = omega (arith, known.turns, c.take_hop.ensures.counted, ap (λ (hops : List Hop). length hops) step);
       agreed = λ other below. c.take_hop.ensures.agreed other (omega (arith, below, c.at-at.ensures.key)) ∙ known.agreed other below;
       among = λ one there. known.among one (subst (λ (hops : List Hop). Contains hops one) (sym step) (contains_there hop one rest there));
@@ -64,6 +68,6 @@ returns-clause-scanned c =
     let after = c.loop-hop.self in
     let known = c.loop-hop.invariant in
     let none : hops_left c.loop-hop.hop-iterator ≡ [] = c.in-None.ensures.steps.0 in
-    closed after scan c.args.key c.in-Some.latest known.times known.keys c.requires.scanned (sym c.kept_at.ensures ∙ c.in-Some.is)
-    (subst (λ (left : List Hop). Taking (setting_in scan) (places_in scan) c.args.key c.in-Some.latest.clock left after.cells.items after.last) none known.taking)
+    closed after scan c.args.key c.in-Some.latest known.times known.keys c.requires.scanned (sym c.kept_at.ensures ∙ c.in-Some.is) known.words known.counts
+    (subst (λ (left : List Hop). Taking (setting_in scan) (places_in scan) c.args.key c.in-Some.latest.clock left after.cells.kept.items after.last) none known.taking)
     (omega (arith, known.turns, ap (λ (hops : List Hop). length hops) none)) known.agreed

@@ -12,9 +12,11 @@ abbrev pub invariant-loop-hop : goal.invariant-loop-hop
 invariant-loop-hop l = record {
   times : l.self.times ≡ l.fn.self.times;
   keys : l.self.keys ≡ l.fn.self.keys;
-  taking : Taking (setting_in l.fn.self) (places_in l.fn.self) l.key l.latest.clock (hops_left l.hop-iterator) l.self.cells.items l.self.last;
+  words : l.self.cells.words ≡ l.fn.self.cells.words;
+  counts : l.self.cells.counts ≡ l.fn.self.cells.counts;
+  taking : Taking (setting_in l.fn.self) (places_in l.fn.self) l.key l.latest.clock (hops_left l.hop-iterator) l.self.cells.kept.items l.self.last;
   turns : l.self.turns.count + length (hops_left l.hop-iterator)
       ≡ l.fn.self.turns.count + length (hops (setting_in l.fn.self).loads (setting_in l.fn.self).notes (place_at (places_in l.fn.self) l.key));
-  agreed : IsAgreed l.key l.fn.self.cells.items l.self.cells.items;
+  agreed : IsAgreed l.key l.fn.self.cells.kept.items l.self.cells.kept.items;
   among : (hop : Hop) → Contains (hops_left l.hop-iterator) hop → Contains (hops (setting_in l.fn.self).loads (setting_in l.fn.self).notes (place_at (places_in l.fn.self) l.key)) hop;
 }
