@@ -4,6 +4,8 @@ mod Checks
 mod CountLoops
 pub mod DigitsLaws
 mod Ends
+pub mod EntriesRaised
+pub mod EntryEnds
 pub mod FewHops
 mod Finished
 pub mod KeyLaws

@@ -37,16 +37,16 @@ apart_push (first ∷ rows) row apart unlike = (
 )
 
 -- a row is that of one of the first keys
-record IsRowOf (g : Setting) (order : List ℕ) (cells : List (Option Latest)) (first : ℕ) (row : Row) : Type 0 where
-  key : ℕ
-  below : key < first
-  kept : Latest
-  there : cell_at cells key ≡ Some kept
-  is : row_of g order key kept ≡ row
+pub record IsRowOf (g : Setting) (order : List ℕ) (cells : List (Option Latest)) (first : ℕ) (row : Row) : Type 0 where
+  pub key : ℕ
+  pub below : key < first
+  pub kept : Latest
+  pub there : cell_at cells key ≡ Some kept
+  pub is : row_of g order key kept ≡ row
 
 module _ (g : Setting) (order : List ℕ) (cells : List (Option Latest)) where
   -- each of the rows is that of one of the first keys
-  row_from : (n : ℕ) (row : Row) → Contains (rows_below g order cells n) row → IsRowOf g order cells n row
+  pub row_from : (n : ℕ) (row : Row) → Contains (rows_below g order cells n) row → IsRowOf g order cells n row
   row_from zero row has = absurd (contains_none row has)
   row_from (suc key) row has = elim (Contains-append_cases (rows_below g order cells key) (rows_at g order key (cell_at cells key)) row has) [
     | inl before ↦ (let is = row_from key row before in record { key = is.key; below = omega (arith, is.below); kept = is.kept; there = is.there; is = is.is })
@@ -61,7 +61,7 @@ module _ (g : Setting) (order : List ℕ) (cells : List (Option Latest)) where
       ]
 
   -- and each of the first keys that something is kept at has its row
-  has_row : (n key : ℕ) (kept : Latest) → key < n → cell_at cells key ≡ Some kept → Contains (rows_below g order cells n) (row_of g order key kept)
+  pub has_row : (n key : ℕ) (kept : Latest) → key < n → cell_at cells key ≡ Some kept → Contains (rows_below g order cells n) (row_of g order key kept)
   has_row zero key kept below there = absurd (omega (arith, below))
   has_row (suc n) key kept below there = elim (cases_lt key n) [
     | inl before ↦ Contains-append_left (rows_below g order cells n) (rows_at g order n (cell_at cells n)) (row_of g order key kept) (has_row n key kept before there)
@@ -108,7 +108,7 @@ module _ (g : Setting) (order : List ℕ) (cells : List (Option Latest)) where
       go (Some kept) = omega arith
 
   -- Keys of one location and one number of counts are one.
-  one_row : (a b : ℕ) → AreDifferent order → a < keys_of g.notes.marks order → b < keys_of g.notes.marks order → place_at order a ≡ place_at order b
+  pub one_row : (a b : ℕ) → AreDifferent order → a < keys_of g.notes.marks order → b < keys_of g.notes.marks order → place_at order a ≡ place_at order b
       → number_of g.notes.marks (counts_at g.notes.marks order a) ≡ number_of g.notes.marks (counts_at g.notes.marks order b) → a ≡ b
   one_row a b different below before places numbers =
       let marks : List Mark = g.notes.marks in
@@ -137,7 +137,7 @@ module _ (g : Setting) (order : List ℕ) (cells : List (Option Latest)) (last :
     (ordered : IsOrdered g.loads g.notes g.start order) (starts : g.start < 2000)
     (s : Scanned g order (keys_of g.notes.marks order) (keys_of g.notes.marks order) cells last) where
   -- what is kept at one key is one
-  one_kept : (a b : ℕ) (p q : Latest) → a ≡ b → cell_at cells a ≡ Some p → cell_at cells b ≡ Some q → p.clock ≡ q.clock
+  pub one_kept : (a b : ℕ) (p q : Latest) → a ≡ b → cell_at cells a ≡ Some p → cell_at cells b ≡ Some q → p.clock ≡ q.clock
   one_kept a b p q same there here =
       let at : cell_at cells b ≡ Some p = subst (λ (k : ℕ). cell_at cells k ≡ Some p) same there in
       go (sym at ∙ here)
@@ -148,7 +148,7 @@ module _ (g : Setting) (order : List ℕ) (cells : List (Option Latest)) (last :
           ap (λ (kept : Latest). kept.clock) eq
 
   -- something is kept at keys alone
-  is_inside : (key : ℕ) (kept : Latest) → cell_at cells key ≡ Some kept → key < keys_of g.notes.marks order
+  pub is_inside : (key : ℕ) (kept : Latest) → cell_at cells key ≡ Some kept → key < keys_of g.notes.marks order
   is_inside key kept there = omega (arith, kept_inside cells key kept there, s.size)
 
   -- the row of a key is reached, by a walk from the angle behind the start's

@@ -1,6 +1,7 @@
 pub mod AnalysisOf
 pub mod CountsIn
 pub mod Digits
+pub mod Ends
 pub mod Keys
 pub mod KeysOf
 pub mod Longest
@@ -10,5 +11,6 @@ pub mod ScanOf
 pub mod Scanned
 pub mod Table
 pub mod TakenOf
+pub mod Under
 pub mod Visited
 pub mod Worst

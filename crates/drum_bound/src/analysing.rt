@@ -11,6 +11,7 @@ ghost use Rattle.drum_flow.specs.Accepted.{IsAccepted, IsFixed};
 ghost use Rattle.drum_flow.specs.Flow.{order_in};
 ghost use Rattle.drum_flow.specs.Hops as flows;
 ghost use Rattle.drum_bound.specs.AnalysisOf.{IsAnalysis, ArePasses, setting, angle_of, bound_of, counts_in_all, passed_of, rows_of, turns_of, visits_of, words_of};
+ghost use Rattle.drum_bound.specs.Ends.{End, AreEnds, AreRaised};
 ghost use Rattle.drum_bound.specs.KeysOf.{AreKeys, CanHaveKeys, setting_of};
 ghost use Rattle.drum_bound.specs.Table.{IsTable};
 ghost use Rattle.drum_bound.specs.Visited.{IsWalkOf, passes_in, seen_visit};
@@ -113,6 +114,9 @@ pub fn analyse(
     ensures counts { IfOk result (λ analysis. counts_in_all analysis ≡ said.counts_of notes.now.marks) }
     ensures turns { IfOk result (λ analysis. turns_of analysis
         ≡ sum (map (λ row. length (flows.hops (loads_in deck.now) notes.now row.place)) (rows_of analysis))) }
+    ensures ends { IfOk result (λ analysis. (ends : List End)
+        × AreEnds (setting deck.now times.now notes.now) (rows_of analysis) ends × (turns_of analysis ≡ length ends)) }
+    ensures raised { IfOk result (λ analysis. AreRaised (setting deck.now times.now notes.now) (rows_of analysis)) }
     ensures passed { IfOk result (λ analysis. (k : ℕ) (mark : Mark) → slice_get notes.now.marks k ≡ Some mark
         → slice_index (passed_of analysis) k ≡ passes_in mark (visits_of analysis)) }
     ensures below { IfOk result (λ analysis. bound_of analysis < 2 ^ 62) }

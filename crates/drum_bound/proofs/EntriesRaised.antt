@@ -1,0 +1,165 @@
+-- The entries of the table that a finished scan holds are raised by the ends of hops alone.
+use Rattle.std.proofs.Common.{◌≡◌, ℕ, zero, suc, ◌+◌, ◌-◌, ◌*◌, ◌%◌, ◌<◌, ◌≤◌, ◌⊎◌, List, [], ◌∷◌, refl, ap, sym, ◌∙◌, subst, inl, inr, Option, Some, None, arith}
+use Rattle.std.specs.Prelude.{Contains}
+use Rattle.drum_times.specs.declared.notes.mark.Mark.{Mark}
+use Rattle.drum_machine.specs.Counts.{after_pass, no_counts, AreWithin}
+use Rattle.drum_machine.specs.Ways.{Way, to}
+use Rattle.drum_flow.specs.Hops.{Hop, hops}
+use Rattle.drum_flow.specs.Seen.{seen_hop}
+use Rattle.drum_flow.specs.Walk.{Setting}
+use Rattle.drum_bound.specs.declared.latest.Latest.{Latest}
+use Rattle.drum_bound.specs.declared.latest.Origin.{Origin}
+use Rattle.drum_bound.proofs.DigitsLaws.{number_injective}
+use Rattle.drum_bound.specs.Ends.{latest_end, Leads, LeadsAt, AreRaised}
+use Rattle.drum_bound.specs.Keys.{keys_of, place_at, counts_at, IsKey, IsOrdered}
+use Rattle.drum_bound.proofs.KeyLaws.{counts_within, one_key}
+use Rattle.drum_bound.specs.Longest.{longest}
+use Rattle.drum_bound.specs.RowOf.{row_of, rows_below}
+use Rattle.drum_bound.proofs.Rows.{IsRowOf, row_from, has_row, one_row, one_kept, is_inside}
+use Rattle.drum_bound.specs.Scanned.{start_angle, cell_at, end_from, IsBackedBy, Arrives, IsTakenBy, Scanned}
+use Rattle.drum_bound.specs.Table.{number_of, Row}
+use Rattle.drum_bound.proofs.Walked.{not_before}
+
+-- no pass has the number 0
+number_none : (marks : List Mark) → number_of marks (no_counts marks) ≡ 0
+number_none [] = refl
+number_none (mark ∷ marks) =
+    let others : (mark.most + 1) * number_of marks (no_counts marks) ≡ (mark.most + 1) * 0 = ap (λ (n : ℕ). (mark.most + 1) * n) (number_none marks) in
+    omega (arith, others)
+
+-- an end of a hop of one entry that leads to another is no later than that
+abbrev IsNoLater : Setting → Row → Row → Type 0
+IsNoLater g row next =
+    (hop : Hop) → Contains (hops g.loads g.notes row.place) hop → Leads g row hop next → latest_end g row.place hop row.time ≤ next.time
+
+module _ (g : Setting) (order : List ℕ) (cells : List (Option Latest)) (last : Latest)
+    (ordered : IsOrdered g.loads g.notes g.start order) (starts : g.start < 2000)
+    (s : Scanned g order (keys_of g.notes.marks order) (keys_of g.notes.marks order) cells last) where
+  -- a key of the start with no mark passed is the one that the scan begins at
+  is_start : (key : ℕ) → IsKey g.notes.marks order key g.start (no_counts g.notes.marks) → key ≡ s.begins.key
+  is_start key is = one_key g.notes.marks order g.start (no_counts g.notes.marks) key s.begins.key ordered.different is s.begins.is
+
+  -- none of the first keys that something is kept at is before it
+  not_first_below : (bound key : ℕ) (kept : Latest) → key < bound → cell_at cells key ≡ Some kept → s.begins.key ≤ key
+  not_first_below zero key kept below there = absurd (omega (arith, below))
+  not_first_below (suc bound) key kept below there =
+      go kept.origin (s.backed key kept there) (λ earlier one before at. not_first_below bound earlier one (omega (arith, before, below)) at)
+    where
+      go : (origin : Option Origin) → IsBackedBy g order (keys_of g.notes.marks order) cells key kept.clock origin
+          → ((earlier : ℕ) (one : Latest) → earlier < key → cell_at cells earlier ≡ Some one → s.begins.key ≤ earlier)
+          → s.begins.key ≤ key
+      go None is further = omega (arith, is_start key is.0)
+      go (Some origin) is further = omega (arith, is.1.later, further origin.key is.0.kept is.1.later is.0.there)
+
+  -- what is kept for the start is the moment of the start
+  start_now : s.begins.kept.clock ≡ start_angle g.start
+  start_now = go s.begins.kept.origin (s.backed s.begins.key s.begins.kept s.begins.there)
+    where
+      go : (origin : Option Origin) → IsBackedBy g order (keys_of g.notes.marks order) cells s.begins.key s.begins.kept.clock origin
+          → s.begins.kept.clock ≡ start_angle g.start
+      go None is = is.1
+      go (Some origin) is = absurd (omega (arith, is.1.later, not_first_below (origin.key + 1) origin.key is.0.kept (omega arith) is.0.there))
+
+  -- the row of the start
+  start_row : Contains (rows_below g order cells (keys_of g.notes.marks order)) (record { place = g.start; angle = (g.start + 1) % 50; counts = 0; time = 0 })
+  start_row =
+      let row : ℕ → ℕ → ℕ → ℕ → Row = λ place angle counts time. record { place = place; angle = angle; counts = counts; time = time } in
+      let Has : Row → Type 0 = Contains (rows_below g order cells (keys_of g.notes.marks order)) in
+      let key : ℕ = s.begins.key in
+      let clock : ℕ = s.begins.kept.clock in
+      let number : ℕ = number_of g.notes.marks (counts_at g.notes.marks order key) in
+      let angle : clock % 50 ≡ (g.start + 1) % 50 = omega (arith, start_now) in
+      let none : number ≡ 0 = ap (number_of g.notes.marks) s.begins.is.passed ∙ number_none g.notes.marks in
+      let time : clock - start_angle g.start ≡ 0 = omega (arith, start_now) in
+      let own : Has (row (place_at order key) (clock % 50) number (clock - start_angle g.start)) =
+      has_row g order cells (keys_of g.notes.marks order) key s.begins.kept s.begins.is.below s.begins.there in
+      let placed : Has (row g.start (clock % 50) number (clock - start_angle g.start)) =
+      subst (λ (n : ℕ). Has (row n (clock % 50) number (clock - start_angle g.start))) s.begins.is.at own in
+      let angled : Has (row g.start ((g.start + 1) % 50) number (clock - start_angle g.start)) =
+      subst (λ (n : ℕ). Has (row g.start n number (clock - start_angle g.start))) angle placed in
+      let counted : Has (row g.start ((g.start + 1) % 50) 0 (clock - start_angle g.start)) =
+      subst (λ (n : ℕ). Has (row g.start ((g.start + 1) % 50) n (clock - start_angle g.start))) none angled in
+      subst (λ (n : ℕ). Has (row g.start ((g.start + 1) % 50) 0 n)) time counted
+
+  -- the latest end of a hop from what is kept at a key, as word times used
+  ends_from : (key : ℕ) (kept : Latest) (hop : Hop) → cell_at cells key ≡ Some kept
+      → end_from g order key hop kept.clock - start_angle g.start ≡ latest_end g (place_at order key) hop (kept.clock - start_angle g.start)
+  ends_from key kept hop there =
+      let angle : ℕ = start_angle g.start in
+      let same : kept.clock ≡ angle + (kept.clock - angle) = omega (arith, not_before g order cells last ordered starts s key kept there) in
+      ap (λ (clock : ℕ). longest g.times (place_at order key) hop.ins hop.way clock - angle) same
+
+  -- a key's row is the start's, or raised by an end that leads to it
+  row_raised : (key : ℕ) (kept : Latest) → cell_at cells key ≡ Some kept
+      → ((place_at order key ≡ g.start) × (number_of g.notes.marks (counts_at g.notes.marks order key) ≡ 0))
+      ⊎ LeadsAt g (rows_below g order cells (keys_of g.notes.marks order)) (row_of g order key kept) (kept.clock - start_angle g.start)
+  row_raised key kept there = go kept.origin (s.backed key kept there)
+    where
+      go : (origin : Option Origin) → IsBackedBy g order (keys_of g.notes.marks order) cells key kept.clock origin
+          → ((place_at order key ≡ g.start) × (number_of g.notes.marks (counts_at g.notes.marks order key) ≡ 0))
+          ⊎ LeadsAt g (rows_below g order cells (keys_of g.notes.marks order)) (row_of g order key kept) (kept.clock - start_angle g.start)
+      go None is = inl (is.0.at, ap (number_of g.notes.marks) is.0.passed ∙ number_none g.notes.marks)
+      go (Some origin) is =
+          let hop : Hop = seen_hop origin.hop in
+          let from : ℕ = origin.key in
+          inr (record {
+            row = row_of g order from is.0.kept;
+            there = has_row g order cells (keys_of g.notes.marks order) from is.0.kept is.0.below is.0.there;
+            hop = hop;
+            of = is.0.hop;
+            leads = record {
+              onto = is.1.onto;
+              passes = counts_at g.notes.marks order from;
+              within = counts_within g.notes.marks order from is.0.below;
+              from = refl;
+              open_still = subst (AreWithin g.notes.marks) is.1.passed is.1.within;
+              onto_counts = ap (number_of g.notes.marks) (sym is.1.passed);
+            };
+            ends = ap (λ (clock : ℕ). clock - start_angle g.start) is.0.end ∙ ends_from from is.0.kept hop is.0.there;
+          })
+
+  -- and by none is it passed
+  row_no_later : (from : ℕ) (one : Latest) (key : ℕ) (kept : Latest) → cell_at cells from ≡ Some one → cell_at cells key ≡ Some kept
+      → IsNoLater g (row_of g order from one) (row_of g order key kept)
+  row_no_later from one key kept at there hop has leads =
+      let marks : List Mark = g.notes.marks in
+      let inside : from < keys_of marks order = is_inside g order cells last ordered starts s from one at in
+      let passed : List ℕ → List ℕ = λ counts. after_pass marks (place_at order from) (place_at order key) counts in
+      let end : ℕ = end_from g order from hop one.clock in
+      let passes : leads.passes ≡ counts_at marks order from =
+      number_injective marks leads.passes (counts_at marks order from) leads.within (counts_within marks order from inside) leads.from in
+      let within : AreWithin marks (passed (counts_at marks order from)) =
+      subst (λ (counts : List ℕ). AreWithin marks (passed counts)) passes leads.open_still in
+      let number : number_of marks (passed (counts_at marks order from)) ≡ number_of marks (counts_at marks order key) =
+      subst (λ (counts : List ℕ). number_of marks (passed counts) ≡ number_of marks (counts_at marks order key)) passes leads.onto_counts in
+      let took : IsTakenBy g order cells last.clock from end (to (place_at order key)) =
+      subst (λ (way : Way). IsTakenBy g order cells last.clock from end way) leads.onto (s.took from one hop inside at has) in
+      let came : Arrives marks order cells (place_at order key) (passed (counts_at marks order from)) end = (took within).1 in
+      let same : came.key ≡ key =
+      one_row g order cells came.key key ordered.different came.is.below (is_inside g order cells last ordered starts s key kept there)
+      came.is.at (ap (number_of marks) came.is.passed ∙ number) in
+      omega (arith, came.after, one_kept g order cells last ordered starts s came.key key came.kept kept same came.there there, ends_from from one hop at)
+
+  -- so with all rows
+  raised_row : (row : Row) → IsRowOf g order cells (keys_of g.notes.marks order) row
+      → ((row.place ≡ g.start) × (row.counts ≡ 0)) ⊎ LeadsAt g (rows_below g order cells (keys_of g.notes.marks order)) row row.time
+  raised_row row of =
+      subst (λ (one : Row). ((one.place ≡ g.start) × (one.counts ≡ 0)) ⊎ LeadsAt g (rows_below g order cells (keys_of g.notes.marks order)) one one.time)
+      of.is (row_raised of.key of.kept of.there)
+
+  no_later_row : (row next : Row) → IsRowOf g order cells (keys_of g.notes.marks order) row → IsRowOf g order cells (keys_of g.notes.marks order) next
+      → IsNoLater g row next
+  no_later_row row next from of =
+      subst (λ (one : Row). IsNoLater g one next) from.is
+      (subst (λ (one : Row). IsNoLater g (row_of g order from.key from.kept) one) of.is (row_no_later from.key from.kept of.key of.kept from.there of.there))
+
+  -- The rows of the keys are raised by ends alone.
+  pub are_raised : AreRaised g (rows_below g order cells (keys_of g.notes.marks order))
+  are_raised = record {
+    start = start_row;
+    raised = λ row has. raised_row row (row_from g order cells (keys_of g.notes.marks order) row has);
+    most = λ row time has leads.
+        let size : ℕ = keys_of g.notes.marks order in
+        let none_later = no_later_row leads.row row (row_from g order cells size leads.row leads.there) (row_from g order cells size row has) in
+        omega (arith, leads.ends, none_later leads.hop leads.of leads.leads);
+  }
