@@ -20,6 +20,7 @@ pub mod Scans
 pub mod Sites
 pub mod Taken
 mod Traces
+pub mod Unders
 pub mod Unpassed
 pub mod Walked
 pub mod Worsts

@@ -2,6 +2,7 @@ ghost use Rattle.std.specs.Prelude.{◌≡◌, ℕ, ◌*◌, ◌^◌, ◌<◌, �
 ghost use Rattle.drum_core.specs.Loads.{loads_in, start_in};
 ghost use Rattle.drum_times.specs.Entries.{entry_in};
 ghost use Rattle.drum_times.specs.declared.notes.mark.Mark.{Mark};
+ghost use Rattle.drum_machine.specs.Counts.{no_counts};
 ghost use Rattle.drum_machine.specs.Keeps.{IsKept};
 ghost use Rattle.drum_machine.specs.Run.{Turn, IsRun, IsFirstState, used_from};
 ghost use Rattle.drum_machine.specs.Step.{State};
@@ -14,6 +15,7 @@ ghost use Rattle.drum_bound.specs.AnalysisOf.{IsAnalysis, ArePasses, setting, an
 ghost use Rattle.drum_bound.specs.Ends.{End, AreEnds, AreRaised};
 ghost use Rattle.drum_bound.specs.KeysOf.{AreKeys, CanHaveKeys, setting_of};
 ghost use Rattle.drum_bound.specs.Table.{IsTable};
+ghost use Rattle.drum_bound.specs.Under.{ArriveUnder};
 ghost use Rattle.drum_bound.specs.Visited.{IsWalkOf, passes_in, seen_visit};
 ghost use Rattle.drum_bound.specs.Worst.{IsWorst};
 
@@ -109,6 +111,10 @@ pub fn analyse(
     ensures kept { IfOk result (λ analysis. (s : State) (turns : List Turn)
         → IsFirstState (loads_in deck.now) (IsFixed (loads_in deck.now) notes.now (start_in deck.now)) (start_in deck.now) s
         → IsRun (entry_in times.now) s turns → IsKept (loads_in deck.now) notes.now s turns → used_from 0 turns ≤ bound_of analysis) }
+    ensures under { IfOk result (λ analysis. (s : State) (turns : List Turn)
+        → IsFirstState (loads_in deck.now) (IsFixed (loads_in deck.now) notes.now (start_in deck.now)) (start_in deck.now) s
+        → IsRun (entry_in times.now) s turns → IsKept (loads_in deck.now) notes.now s turns
+        → ArriveUnder notes.now (rows_of analysis) (no_counts notes.now.marks) turns) }
     ensures table { IfOk result (λ analysis. IsTable (setting deck.now times.now notes.now) (rows_of analysis)) }
     ensures few { IfOk result (λ analysis. length (rows_of analysis) ≤ words_of analysis * counts_in_all analysis) }
     ensures counts { IfOk result (λ analysis. counts_in_all analysis ≡ said.counts_of notes.now.marks) }

@@ -7,9 +7,10 @@ use Rattle.drum_flow.specs.Flow.{deck_of, notes_of, executed_in, order_in}
 use Rattle.drum_flow.specs.Free.{IsFreeOrder}
 use Rattle.drum_flow.proofs.KeptWalk.{kept_walk}
 use Rattle.drum_flow.specs.RunHops.{hops_taken}
-use Rattle.drum_bound.specs.AnalysisOf.{IsAnalysis, setting}
+use Rattle.drum_bound.specs.AnalysisOf.{IsAnalysis, rows_of, setting}
 use Rattle.drum_bound.proofs.Analyses.{is_proper}
 use Rattle.drum_bound.proofs.Ordering.{as_many, can_have_keys}
+use Rattle.drum_bound.proofs.Unders.{arrive_under}
 use Rattle.drum_bound.proofs.analysing.analyse.Goals as goal
 
 -- what is so of one deck and its notes is so of those that are the same
@@ -52,3 +53,16 @@ returns-clause-kept c = λ s turns first is_run kept.
     moved (λ d n. IsAnalysis (setting d times n) (length (order_in flow)) analysis) (deck_of flow) deck (notes_of flow) notes ensures.deck ensures.notes c.in-Ok-analysis_of.ensures in
     let walked = kept_walk (setting deck times notes) (executed_in flow) s turns (is_proper deck times notes c.marks-marks.ensures.sound) ensures.accepted first is_run kept in
     omega (arith, analysed.worst.most s.start (hops_taken turns) walked.0, walked.1)
+
+pub returns-clause-under : goal.returns-clause-under
+returns-clause-under c = λ s turns first is_run kept.
+    let flow = c.in-Ok.flow in
+    let deck = c.args.deck.now in
+    let notes = c.args.notes.now in
+    let times = c.args.times.now in
+    let analysis = c.in-Ok-analysis_of.analysis in
+    let ensures = c.in-Ok.ensures in
+    let analysed : IsAnalysis (setting deck times notes) (length (order_in flow)) analysis =
+    moved (λ d n. IsAnalysis (setting d times n) (length (order_in flow)) analysis) (deck_of flow) deck (notes_of flow) notes ensures.deck ensures.notes c.in-Ok-analysis_of.ensures in
+    arrive_under (setting deck times notes) (rows_of analysis) (executed_in flow) s turns analysed.table
+    (is_proper deck times notes c.marks-marks.ensures.sound) ensures.accepted first is_run kept

@@ -1,0 +1,173 @@
+-- Why each step of a kept run that goes on arrives under an entry of the table.
+use Rattle.std.specs.Prelude.{◌≡◌, ℕ, ◌<◌, List, [], ◌∷◌, ◌++◌}
+use Rattle.std.proofs.Common.{refl, sym, subst}
+use Rattle.drum_machine.specs.declared.why.Why as whys
+use Rattle.drum_machine.specs.declared.why.Why.TheVariants as why
+use Rattle.drum_machine.specs.Counts.{after_pass, no_counts, AreWithin}
+use Rattle.drum_machine.specs.Ending.{stops_by}
+use Rattle.drum_machine.specs.Keeps.{IsKept}
+use Rattle.drum_machine.specs.Run.{Turn, IsRun, IsFirstState}
+use Rattle.drum_machine.specs.Step.{State, Stepped, on, stopped}
+use Rattle.drum_machine.specs.Ways.{Way, early, to, late}
+use Rattle.drum_flow.specs.Accepted.{IsAccepted, IsFixed}
+use Rattle.drum_flow.specs.RunHops.{hop_of, hops_taken}
+use Rattle.drum_flow.specs.Walk.{Setting, Taken, IsProper, Follow, IsWalkFrom, IsWalk}
+use Rattle.drum_flow.proofs.KeptWalk.{kept_walk}
+use Rattle.drum_bound.specs.Table.{number_of, GoesOn, Arrive, IsReached, Row, IsTable}
+use Rattle.drum_bound.specs.Under.{IsUnder, ArriveUnder}
+
+-- nothing is taken after a stop
+stop_follows : (because : whys.Why) (Right : ℕ → Type 0) (hops : List Taken) → Follow (stops_by because) Right hops → hops ≡ []
+stop_follows why.Operation Right hops none = none
+stop_follows why.Operand Right hops none = none
+stop_follows why.Card Right hops none = none
+stop_follows why.Quotient Right hops none = none
+stop_follows why.Overflow Right hops none = none
+stop_follows why.Digit Right hops none = none
+stop_follows why.Programmed Right hops none = none
+stop_follows why.Next Right hops none = none
+
+module _ (g : Setting) where
+  -- the counts after a step from one location to another
+  abbrev after : ℕ → ℕ → List ℕ → List ℕ
+  after place next counts = after_pass g.notes.marks place next counts
+
+  -- a walk from the deck's start, and where it arrives
+  abbrev Walks : ℕ → List Taken → Type 0
+  Walks angle front = IsWalkFrom g angle g.start 0 (no_counts g.notes.marks) front
+
+  abbrev Arrives : List Taken → ℕ → ℕ → List ℕ → Type 0
+  Arrives front from used passes = Arrive g g.start 0 (no_counts g.notes.marks) front from used passes
+
+  -- one hop that goes on arrives where it goes on to
+  arrive_one : (place time : ℕ) (counts : List ℕ) (next : ℕ) (hop : Taken) → hop.way ≡ to next
+      → Arrive g place time counts (hop ∷ []) next hop.ended (after place next counts)
+  arrive_one place time counts next hop onto =
+      subst (λ (way : Way). GoesOn way (λ target. (target ≡ next) × (hop.ended ≡ hop.ended) × (after place target counts ≡ after place next counts)))
+      (sym onto) (refl, refl, refl)
+
+  -- hops that arrive somewhere, and one more that goes on from there, arrive where it goes on to
+  arrive_more : (front : List Taken) (place time : ℕ) (counts : List ℕ) (from used next : ℕ) (passes : List ℕ) (hop : Taken)
+      → Arrive g place time counts front from used passes → hop.way ≡ to next
+      → Arrive g place time counts (front ++ hop ∷ []) next hop.ended (after from next passes)
+  arrive_more [] place time counts from used next passes hop arrives onto =
+      let Right : ℕ → List ℕ → Type 0 = λ at passed. Arrive g place time counts (hop ∷ []) next hop.ended (after at next passed) in
+      subst (Right from) arrives.2 (subst (λ (at : ℕ). Right at counts) arrives.0 (arrive_one place time counts next hop onto))
+  arrive_more (first ∷ front) place time counts from used next passes hop arrives onto =
+      go first.way arrives
+      (λ target goes. arrive_more front target first.ended (after place target counts) from used next passes hop goes onto)
+    where
+      Goes : ℕ → Type 0
+      Goes target = Arrive g target first.ended (after place target counts) front from used passes
+
+      GoesFurther : ℕ → Type 0
+      GoesFurther target = Arrive g target first.ended (after place target counts) (front ++ hop ∷ []) next hop.ended (after from next passes)
+
+      go : (way : Way) → GoesOn way Goes → ((target : ℕ) → Goes target → GoesFurther target) → GoesOn way GoesFurther
+      go early goes further = absurd goes
+      go (to target) goes further = further target goes
+      go late goes further = absurd goes
+
+  -- a walk that arrives somewhere, and one hop from there, are a walk
+  walk_more : (angle : ℕ) (front : List Taken) (place time : ℕ) (counts : List ℕ) (from used : ℕ) (passes : List ℕ) (hop : Taken)
+      → IsWalkFrom g angle place time counts front → Arrive g place time counts front from used passes
+      → IsWalkFrom g angle from used passes (hop ∷ []) → IsWalkFrom g angle place time counts (front ++ hop ∷ [])
+  walk_more angle [] place time counts from used passes hop walk arrives last =
+      subst (λ (at : ℕ). IsWalkFrom g angle at time counts (hop ∷ [])) (sym arrives.0)
+      (subst (λ (moment : ℕ). IsWalkFrom g angle from moment counts (hop ∷ [])) (sym arrives.1)
+      (subst (λ (passed : List ℕ). IsWalkFrom g angle from used passed (hop ∷ [])) (sym arrives.2) last))
+  walk_more angle (first ∷ front) place time counts from used passes hop walk arrives last =
+      (walk.0, go first.way walk.1 arrives (λ target walks goes.
+      walk_more angle front target first.ended (after place target counts) from used passes hop walks goes last))
+    where
+      Goes : ℕ → Type 0
+      Goes target = Arrive g target first.ended (after place target counts) front from used passes
+
+      WalksOn : List Taken → ℕ → Type 0
+      WalksOn hops target = IsWalkFrom g angle target first.ended (after place target counts) hops
+
+      Right : List Taken → ℕ → Type 0
+      Right hops target = AreWithin g.notes.marks (after place target counts) × WalksOn hops target
+
+      go : (way : Way) → Follow way (Right front) front → GoesOn way Goes
+          → ((target : ℕ) → WalksOn front target → Goes target → WalksOn (front ++ hop ∷ []) target)
+          → Follow way (Right (front ++ hop ∷ [])) (front ++ hop ∷ [])
+      go early walks goes further = absurd goes
+      go (to target) walks goes further = (walks.0, further target walks.1 goes)
+      go late walks goes further = absurd goes
+
+  module _ (rows : List Row) (table : IsTable g rows) (angle : ℕ) (on_drum : angle < 50) where
+    -- what is reached has an entry, of no smaller time
+    reached_under : (place time : ℕ) (passes : List ℕ) → IsReached g angle place (number_of g.notes.marks passes) time
+        → IsUnder g.notes.marks rows place passes time
+    reached_under place time passes reached =
+        let counts : ℕ = number_of g.notes.marks passes in
+        let entry = table.all angle place counts time reached in
+        let row : Row = entry.0 in
+        let at_place : IsReached g angle row.place counts time = subst (λ (at : ℕ). IsReached g angle at counts time) (sym entry.2) reached in
+        let at_entry : IsReached g angle row.place row.counts time =
+        subst (λ (number : ℕ). IsReached g angle row.place number time) (sym entry.3) at_place in
+        (row, entry.1, entry.2, entry.3, (table.right row entry.1).most angle time at_entry)
+
+    -- a hop that goes on, behind a walk that arrives where it begins, arrives under an entry
+    hop_under : (front : List Taken) (from used next : ℕ) (passes : List ℕ) (hop : Taken) → Walks angle front → Arrives front from used passes
+        → IsWalkFrom g angle from used passes (hop ∷ []) → hop.way ≡ to next → IsUnder g.notes.marks rows next (after from next passes) hop.ended
+    hop_under front from used next passes hop walk arrives last onto =
+        let none : List ℕ = no_counts g.notes.marks in
+        reached_under next hop.ended (after from next passes)
+        (record {
+          hops = front ++ hop ∷ [];
+          walk = record { on_drum = on_drum; from_start = walk_more angle front g.start 0 none from used passes hop walk arrives last };
+          passes = after from next passes;
+          number = refl;
+          arrives = arrive_more front g.start 0 none from used next passes hop arrives onto;
+        })
+
+    -- of these turns, behind a walk that arrives where they begin, each that goes on arrives under an entry
+    abbrev UnderBehind : List Turn → Type 0
+    UnderBehind turns = (front : List Taken) (from used : ℕ) (passes : List ℕ) → Walks angle front → Arrives front from used passes
+        → IsWalkFrom g angle from used passes (hops_taken turns) → ArriveUnder g.notes rows passes turns
+
+    -- turns without hops are none
+    none_under : (turns : List Turn) (passes : List ℕ) → hops_taken turns ≡ [] → ArriveUnder g.notes rows passes turns
+    none_under [] passes none = tt
+    none_under (turn ∷ turns) passes none = absurd (cc)
+
+    -- a turn by its parts
+    abbrev turn_of : State → ℕ → Stepped → Turn
+    turn_of s wait outcome = record { origin = s; wait = wait; outcome = outcome }
+
+    -- a turn from where a walk arrives, and what follows it
+    turn_under : (s : State) (wait : ℕ) (outcome : Stepped) (turns : List Turn) → UnderBehind turns
+        → (front : List Taken) (used : ℕ) (passes : List ℕ) → Walks angle front → Arrives front s.sought used passes
+        → IsWalkFrom g angle s.sought used passes (hops_taken (turn_of s wait outcome ∷ turns))
+        → ArriveUnder g.notes rows passes (turn_of s wait outcome ∷ turns)
+    turn_under s wait (on next) turns behind front used passes walk arrives left =
+        let none : List ℕ = no_counts g.notes.marks in
+        let hop : Taken = hop_of (turn_of s wait (on next)) in
+        let last : IsWalkFrom g angle s.sought used passes (hop ∷ []) = (left.0, (left.1.0, tt)) in (
+          hop_under front s.sought used next.sought passes hop walk arrives last refl,
+          behind (front ++ hop ∷ []) next.sought next.time (after s.sought next.sought passes)
+          (walk_more angle front g.start 0 none s.sought used passes hop walk arrives last)
+          (arrive_more front g.start 0 none s.sought used next.sought passes hop arrives refl)
+          left.1.1,
+        )
+    turn_under s wait (stopped because moment) turns behind front used passes walk arrives left =
+        (tt, none_under turns passes (stop_follows because _ (hops_taken turns) left.1))
+
+    -- turns from where a walk arrives, one after the other
+    turns_under : (turns : List Turn) → UnderBehind turns
+    turns_under [] front from used passes walk arrives left = tt
+    turns_under (turn ∷ turns) front from used passes walk arrives left =
+        let here : from ≡ turn.origin.sought = sym left.0.here in
+        turn_under turn.origin turn.wait turn.outcome turns (turns_under turns) front used passes walk
+        (subst (λ (at : ℕ). Arrives front at used passes) here arrives)
+        (subst (λ (at : ℕ). IsWalkFrom g angle at used passes (hops_taken (turn ∷ turns))) here left)
+
+-- Each step of a kept run that goes on arrives under an entry of the table.
+pub arrive_under : (g : Setting) (rows : List Row) (executed : List ℕ) (s : State) (turns : List Turn) → IsTable g rows → IsProper g
+    → IsAccepted g.loads g.notes g.start executed → IsFirstState g.loads (IsFixed g.loads g.notes g.start) g.start s → IsRun g.times s turns
+    → IsKept g.loads g.notes s turns → ArriveUnder g.notes rows (no_counts g.notes.marks) turns
+arrive_under g rows executed s turns table proper accepted first is_run kept =
+    let walk : IsWalk g s.start (hops_taken turns) = (kept_walk g executed s turns proper accepted first is_run kept).0 in
+    turns_under g rows table s.start walk.on_drum turns [] g.start 0 (no_counts g.notes.marks) tt (refl, refl, refl) walk.from_start
