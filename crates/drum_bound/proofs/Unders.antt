@@ -76,9 +76,11 @@ module _ (g : Setting) where
       subst (λ (at : ℕ). IsWalkFrom g angle at time counts (hop ∷ [])) (sym arrives.0)
       (subst (λ (moment : ℕ). IsWalkFrom g angle from moment counts (hop ∷ [])) (sym arrives.1)
       (subst (λ (passed : List ℕ). IsWalkFrom g angle from used passed (hop ∷ [])) (sym arrives.2) last))
-  walk_more angle (first ∷ front) place time counts from used passes hop walk arrives last =
-      (walk.0, go first.way walk.1 arrives (λ target walks goes.
-      walk_more angle front target first.ended (after place target counts) from used passes hop walks goes last))
+  walk_more angle (first ∷ front) place time counts from used passes hop walk arrives last = (
+    walk.0,
+    go first.way walk.1 arrives (λ target walks goes.
+        walk_more angle front target first.ended (after place target counts) from used passes hop walks goes last),
+  )
     where
       Goes : ℕ → Type 0
       Goes target = Arrive g target first.ended (after place target counts) front from used passes
@@ -148,9 +150,9 @@ module _ (g : Setting) where
         let last : IsWalkFrom g angle s.sought used passes (hop ∷ []) = (left.0, (left.1.0, tt)) in (
           hop_under front s.sought used next.sought passes hop walk arrives last refl,
           behind (front ++ hop ∷ []) next.sought next.time (after s.sought next.sought passes)
-          (walk_more angle front g.start 0 none s.sought used passes hop walk arrives last)
-          (arrive_more front g.start 0 none s.sought used next.sought passes hop arrives refl)
-          left.1.1,
+              (walk_more angle front g.start 0 none s.sought used passes hop walk arrives last)
+              (arrive_more front g.start 0 none s.sought used next.sought passes hop arrives refl)
+              left.1.1,
         )
     turn_under s wait (stopped because moment) turns behind front used passes walk arrives left =
         (tt, none_under turns passes (stop_follows because _ (hops_taken turns) left.1))
