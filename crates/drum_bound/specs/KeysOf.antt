@@ -2,7 +2,6 @@
 use Rattle.std.specs.Prelude.{◌≡◌, ℕ, ◌%◌, ◌<◌, List, length, map, slice_get, Option, Some, Contains, MatchOption}
 use Rattle.drum_core.specs.declared.location.Location.{Location}
 use Rattle.drum_core.specs.Loads.{loads_in, start_in}
-use Rattle.drum_times.specs.Entries.{entry_in}
 use Rattle.drum_times.specs.declared.times.Times.{Times}
 use Rattle.drum_machine.specs.Counts.{after_pass, AreWithin}
 use Rattle.drum_flow.specs.declared.flow_graph.Flow.{Flow}
@@ -14,11 +13,12 @@ use Rattle.drum_flow.specs.Walk.{Setting}
 use Rattle.drum_bound.specs.declared.keys.At.{At}
 use Rattle.drum_bound.specs.declared.keys.Keys.{Keys}
 use Rattle.drum_bound.specs.declared.keys.Site.{Site}
+use Rattle.drum_bound.specs.AnalysisOf.{setting}
 use Rattle.drum_bound.specs.Keys.{keys_of, place_at, counts_at, IsKey, IsOrdered}
 
 -- what the walks of a flow graph are in, with a timing table
 abbrev pub setting_of : Flow → Times → Setting
-setting_of flow times = record { loads = loads_in (deck_of flow); notes = notes_of flow; times = entry_in times; start = start_in (deck_of flow) }
+setting_of flow times = setting (deck_of flow) times (notes_of flow)
 
 -- the order of the executed locations is one that keys can be made of
 abbrev pub CanHaveKeys : Flow → Type 0

@@ -22,9 +22,6 @@ use drum_machine::passes::mark_on;
 use drum_times::Mark;
 use std::alloc::{AllocError, Global};
 
-/// One more than the greatest number of a location.
-const NUMBERS: usize = 8004;
-
 /// An executed location, and its hops.
 #[derive(Clone, Copy, Debug)]
 pub struct Site<'a> {
@@ -78,7 +75,7 @@ fn places_of(alloc: Global, order: &[Location]) -> Result<Vec<usize>, AllocError
     requires { AreDifferent (numbers order.now) }
     ensures { IfOk result (λ places. HavePlaces (numbers order.now) places.items) }
 {
-    let mut places = vec![in alloc; 0; NUMBERS]?;
+    let mut places = vec![in alloc; 0; Location::NUMBERS]?;
     for place in 0..order.len() {
         places[order[place].number as usize] = place;
     }

@@ -31,6 +31,9 @@ pub enum Kind {
 impl Location {
     ghost use Rattle.drum_core.specs.Kind.{kind_of};
 
+    /// One more than the greatest number of a location.
+    pub const NUMBERS: usize = 8004;
+
     /// The location of this number; `None` where the machine has none.
     pub fn new(number: u16) -> Option<Location>
         ensures valid { IsSome result ↔ IsLocation number }

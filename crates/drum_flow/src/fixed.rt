@@ -6,9 +6,6 @@ use drum_core::Location;
 use drum_times::Notes;
 use std::alloc::{AllocError, Global};
 
-/// One more than the greatest number of a location.
-const NUMBERS: usize = 8004;
-
 /// The executed locations without a list, by their numbers: no instruction may write into these.
 #[derive(Debug, Drop)]
 pub struct Fixed {
@@ -20,7 +17,7 @@ impl Fixed {
     pub fn of(alloc: Global, executed: &[Location], notes: &Notes) -> Result<Fixed, AllocError>
         ensures { IfOk result (λ fixed. AreFlagged (map (λ location. location.number) executed.now) notes.now fixed.flags.items) }
     {
-        let mut flags = vec![in alloc; false; NUMBERS]?;
+        let mut flags = vec![in alloc; false; Location::NUMBERS]?;
         for location in executed {
             if is_listed(notes, *location) {
                 continue;

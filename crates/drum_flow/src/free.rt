@@ -11,8 +11,8 @@ use crate::executed::Executed;
 use crate::flow_graph::Flow;
 use crate::graph::Graph;
 use crate::hops::Hops;
-use crate::marked::mark_on;
 use drum_core::Location;
+use drum_machine::passes::mark_on;
 use std::alloc::{AllocError, Global};
 
 /// The places of the executed locations that edges free of marks lead to from a location.

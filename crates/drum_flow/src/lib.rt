@@ -17,7 +17,6 @@ pub mod hop;
 mod hops;
 mod instructions;
 pub mod laws;
-mod marked;
 mod place;
 pub mod refusal;
 mod size;

@@ -2,12 +2,12 @@
 
 ghost use Rattle.std.specs.Prelude.{◌≡◌, ◌++◌, [], false, None, IfNone, option_to_list};
 ghost use Rattle.std.specs.Iterator.{YieldsFirstBy, item_count};
-ghost use Rattle.drum_machine.specs.Step as machine;
 ghost use Rattle.drum_machine.specs.Ways as said;
 ghost use Rattle.drum_flow.specs.Seen.{seen_way, addresses_left, ways_left};
 
 use crate::way::Way;
-use drum_core::{Instruction, Location, Op, Operand};
+use drum_core::{Instruction, Location, Op};
+use drum_machine::is_operand;
 use drum_times::notes::Notes;
 use drum_times::notes::programmed::Programmed;
 
@@ -119,17 +119,6 @@ impl Ways {
             Some(address) => Some(address),
             None => self.next.take(),
         }
-    }
-}
-
-/// Whether D is what the operation wants.
-fn is_operand(operand: Operand, d: u16) -> bool
-    ensures { result ≡ machine.is_operand operand d }
-{
-    match operand {
-        Operand::Any => Location::new(d).is_some(),
-        Operand::Drum => d < 2000,
-        Operand::Unused => true,
     }
 }
 

@@ -23,6 +23,7 @@ pub mod why;
 pub use arithmetic::places;
 pub use card::Card;
 pub use feed::Feed;
+pub use fetch::is_operand;
 pub use left::Left;
 pub use machine::Machine;
 pub use memory::Memory;

@@ -17,7 +17,7 @@ loop-onto-preserved-then-is_some c =
     let k = c.loop-onto.onto-index in
     let onto = c.onto-item.result in
     let marked : is_some (mark_on flow.notes.now.marks c.args.from.number onto.number) ≡ true =
-    sym (ap (λ (found : Option ℕ). is_some found) (c.mark_on.ensures ∙ ap (λ (marks : List Mark). mark_on marks c.args.from.number onto.number) c.marks.ensures.all)) ∙ sym c.is_some.ensures ∙ c.if-is_some.true in
+    sym (ap (λ (found : Option ℕ). is_some found) (c.mark_on.ensures.value ∙ ap (λ (marks : List Mark). mark_on marks c.args.from.number onto.number) c.marks.ensures.all)) ∙ sym c.is_some.ensures ∙ c.if-is_some.true in
     subst (λ (all : List ℕ). IsUnmarkedRow flow.notes.now.marks (executed_in flow) all c.args.from.number c.loop-onto.row.items) (sym (numbers_more targets k onto c.loop-onto-test.true c.onto-item.is))
     (row_marked flow.notes.now.marks (executed_in flow) (numbers (take k targets)) c.args.from.number c.loop-onto.row.items onto.number c.loop-onto.invariant marked)
 
@@ -37,7 +37,7 @@ loop-onto-preserved c =
     let k = c.loop-onto.onto-index in
     let onto = c.onto-item.result in
     let unmarked : is_some (mark_on flow.notes.now.marks c.args.from.number onto.number) ≡ false =
-    sym (ap (λ (found : Option ℕ). is_some found) (c.mark_on.ensures ∙ ap (λ (marks : List Mark). mark_on marks c.args.from.number onto.number) c.marks.ensures.all)) ∙ sym c.is_some.ensures ∙ c.if-is_some.false in
+    sym (ap (λ (found : Option ℕ). is_some found) (c.mark_on.ensures.value ∙ ap (λ (marks : List Mark). mark_on marks c.args.from.number onto.number) c.marks.ensures.all)) ∙ sym c.is_some.ensures ∙ c.if-is_some.false in
     subst (λ (row : List ℕ). IsUnmarkedRow flow.notes.now.marks (executed_in flow) (numbers (take (k + 1) targets)) c.args.from.number row) (sym c.in_ok-push.ensures.items)
     (subst (λ (all : List ℕ). IsUnmarkedRow flow.notes.now.marks (executed_in flow) all c.args.from.number (c.loop-onto.row.items ++ c.in-Some.place ∷ [])) (sym (numbers_more targets k onto c.loop-onto-test.true c.onto-item.is))
     (row_more flow.notes.now.marks (executed_in flow) (numbers (take k targets)) c.args.from.number c.loop-onto.row.items onto.number c.loop-onto.invariant
