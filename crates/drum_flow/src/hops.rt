@@ -1,8 +1,10 @@
-ghost use Rattle.std.specs.Prelude.{◌≡◌, []};
+ghost use Rattle.std.specs.Prelude.{◌≡◌, [], flat_map};
 ghost use Rattle.std.specs.Iterator.{YieldsFirstBy, item_count};
 ghost use Rattle.drum_core.specs.Loads.{loads_in};
 ghost use Rattle.drum_flow.specs.Hops as said;
+ghost use Rattle.drum_flow.specs.Hops.{hops_of};
 ghost use Rattle.drum_flow.specs.HopsLeft.{hops_here, hops_left};
+ghost use Rattle.drum_flow.specs.Instructions.{instructions_left};
 ghost use Rattle.drum_flow.specs.Seen.{seen_hop};
 
 use crate::hop::Hop;
@@ -28,11 +30,22 @@ impl<'a> Hops<'a> {
     pub fn at(deck: &Deck, notes: &'a Notes, location: Location) -> Hops<'a>
         ensures { hops_left result ≡ said.hops (loads_in deck.now) notes.now location.number }
     {
-        Hops {
-            notes,
-            instructions: Instructions::at(deck, notes, location),
-            instruction: None,
-            ways: Ways::none(),
+        Hops::of(notes, Instructions::at(deck, notes, location))
+    }
+
+    /// The hops of these instructions, with the ways of the first at hand: a copy needn't find them again.
+    fn of(notes: &'a Notes, instructions: Instructions<'a>) -> Hops<'a>
+        ensures { hops_left result ≡ flat_map (hops_of notes.now) (instructions_left instructions.entry) }
+    {
+        let mut rest = instructions;
+        match rest.next() {
+            Some(instruction) => Hops {
+                notes,
+                instructions: rest,
+                instruction: Some(instruction),
+                ways: Ways::of(notes, instruction),
+            },
+            None => Hops::none(notes),
         }
     }
 
