@@ -1,11 +1,13 @@
 -- How a key is taken, as a scan holds it.
 use Rattle.std.proofs.Common.{◌≡◌, ℕ, zero, suc, ◌+◌, ◌*◌, ◌<◌, ◌≤◌, List, [], length, refl, ap, sym, ◌∙◌, subst, Option, Some, None, arith}
+use Rattle.std.specs.Prelude.{slice_get, Contains}
 use denote.Bor.{Bor}
 use Rattle.drum_times.specs.Allowed.{AreSound}
 use Rattle.drum_times.specs.declared.times.Times.{Times}
 use Rattle.drum_flow.specs.Accepted.{counts_of}
 use Rattle.drum_flow.specs.Flow.{order_in}
 use Rattle.drum_flow.specs.Hops.{Hop, hops}
+use Rattle.drum_flow.specs.Lists.{contains_from_get}
 use Rattle.drum_flow.specs.Walk.{Setting}
 use Rattle.drum_bound.proofs.FewHops.{few_hops}
 use Rattle.drum_bound.specs.declared.keys.Keys.{Keys}
@@ -15,6 +17,8 @@ use Rattle.drum_bound.specs.Keys.{place_at}
 use Rattle.drum_bound.specs.KeysOf.{AreKeys, setting_of}
 use Rattle.drum_bound.specs.Scanned.{cell_at, Scanned, Taking, turns_at, turns_below}
 use Rattle.drum_bound.specs.ScanOf.{setting_in, places_in, IsScanned, IsAgreed}
+use Rattle.drum_bound.specs.Turns.{IsLater}
+use Rattle.drum_bound.proofs.LaterTurns.{before_end, before_next}
 use Rattle.drum_bound.proofs.Scans.{skip, open_key, close_key}
 
 -- the hops of keys whose cells are the same are as many
@@ -33,9 +37,19 @@ turns_few : (g : Setting) (order : List ℕ) (cells : List (Option Latest)) (fir
 turns_few g order cells zero sound = omega arith
 turns_few g order cells (suc key) sound = omega (arith, turns_few g order cells key sound, turns_few_at g order key (cell_at cells key) sound)
 
--- how many hops a key has
+-- the hops of a key
 abbrev pub hops_at : Scan → ℕ → List Hop
 hops_at scan key = hops (setting_in scan).loads (setting_in scan).notes (place_at (places_in scan) key)
+
+-- a hop that has a number among them is one of them
+pub hop_among : (scan : Scan) (key number : ℕ) (hop : Hop) → slice_get (hops_at scan key) number ≡ Some hop → Contains (hops_at scan key) hop
+hop_among scan key number hop at = contains_from_get (hops_at scan key) number hop at
+
+-- they are the same where the keys are
+pub hops_as : (a b : Scan) (key : ℕ) → a.keys ≡ b.keys → hops_at a key ≡ hops_at b key
+hops_as a b key keys =
+    let hops_of : Keys → List Hop = λ k. hops (setting_of k.flow.now a.times.now).loads (setting_of k.flow.now a.times.now).notes (place_at (order_in k.flow.now) key) in
+    ap (λ (k : Bor Keys). hops_of k.now) keys
 
 -- a key at which nothing is kept needs no taking
 pub skipped : (scan : Scan) (key : ℕ) → IsScanned scan key → cell_at scan.cells.kept.items key ≡ None → IsScanned scan (key + 1)
@@ -47,6 +61,7 @@ skipped scan key is none =
       counts = is.counts;
       scanned = skip (setting_in scan) (places_in scan) key scan.cells.kept.items scan.last none is.scanned;
       turns = omega (arith, is.turns, ap (turns_at (setting_in scan) (places_in scan) key) none);
+      before = before_next scan.turns.last key is.before;
     })
 
 -- all hops of a key at which something is kept are left
@@ -83,11 +98,11 @@ taking_as a b key clock left cells last times keys taking =
     subst (λ (k : Bor Keys). TakingOf key clock left cells last b.times k) keys (subst (λ (t : Bor Times). TakingOf key clock left cells last t a.keys) times taking)
 
 -- no hop of the key is left
-pub closed : (a b : Scan) (key : ℕ) (kept : Latest) → a.times ≡ b.times → a.keys ≡ b.keys → IsScanned b key → cell_at b.cells.kept.items key ≡ Some kept
+pub closed : (a b : Scan) (key number : ℕ) (kept : Latest) → a.times ≡ b.times → a.keys ≡ b.keys → IsScanned b key → cell_at b.cells.kept.items key ≡ Some kept
     → a.cells.words ≡ b.cells.words → a.cells.counts ≡ b.cells.counts
     → Taking (setting_in b) (places_in b) key kept.clock [] a.cells.kept.items a.last → a.turns.count ≡ b.turns.count + length (hops_at b key) → IsAgreed key b.cells.kept.items a.cells.kept.items
-    → IsScanned a (key + 1)
-closed a b key kept times keys is there words counts taking count agreed =
+    → IsLater a.turns.last (record { key = key; hop = number }) → IsScanned a (key + 1)
+closed a b key number kept times keys is there words counts taking count agreed later =
     let next : suc key ≡ key + 1 = omega arith in
     let g = setting_in b in
     let order = places_in b in
@@ -105,4 +120,4 @@ closed a b key kept times keys is there words counts taking count agreed =
     × (a.cells.words ≡ length (order_in k.now.flow.now)) × (a.cells.counts ≡ counts_of (setting_of k.now.flow.now t.now).notes.marks) in
     let right : Right b.times b.keys = (is.keys, close_key g order key kept.clock a.cells.kept.items a.last taking, turns, words ∙ is.words, counts ∙ is.counts) in
     let as_a : Right a.times a.keys = subst (λ (k : Bor Keys). Right a.times k) (sym keys) (subst (λ (t : Bor Times). Right t b.keys) (sym times) right) in
-    subst (IsScanned a) next (record { keys = as_a.0; words = as_a.3; counts = as_a.4; scanned = as_a.1; turns = as_a.2 })
+    subst (IsScanned a) next (record { keys = as_a.0; words = as_a.3; counts = as_a.4; scanned = as_a.1; turns = as_a.2; before = before_end a.turns.last key number later })

@@ -11,6 +11,7 @@ pub mod ScanOf
 pub mod Scanned
 pub mod Table
 pub mod TakenOf
+pub mod Turns
 pub mod Under
 pub mod Visited
 pub mod Worst

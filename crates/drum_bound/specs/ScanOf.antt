@@ -9,6 +9,7 @@ use Rattle.drum_bound.specs.declared.scan.Scan.{Scan}
 use Rattle.drum_bound.specs.Keys.{keys_of, place_at, counts_at, IsKey}
 use Rattle.drum_bound.specs.KeysOf.{AreKeys, setting_of}
 use Rattle.drum_bound.specs.Scanned.{cell_at, later, raised, Scanned, turns_below}
+use Rattle.drum_bound.specs.Turns.{IsBefore}
 
 -- what its walks are in
 abbrev pub setting_in : Scan → Setting
@@ -29,6 +30,7 @@ pub record IsScanned (scan : Scan) (taken : ℕ) : Type 0 where
   pub counts : scan.cells.counts ≡ counts_of (setting_in scan).notes.marks
   pub scanned : Scanned (setting_in scan) (places_in scan) taken taken scan.cells.kept.items scan.last
   pub turns : scan.turns.count ≡ turns_below (setting_in scan) (places_in scan) scan.cells.kept.items taken
+  pub before : IsBefore scan.turns.last taken
 
 -- All have.
 abbrev pub IsDone : Scan → Type 0

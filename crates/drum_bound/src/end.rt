@@ -1,4 +1,4 @@
-ghost use Rattle.std.specs.Prelude.{◌≡◌, ◌+◌, ◌<◌, ◌≤◌, ◌^◌, Some};
+ghost use Rattle.std.specs.Prelude.{◌≡◌, ◌+◌, ◌<◌, ◌≤◌, ◌^◌, None, Some};
 
 use crate::latest::{Latest, Origin};
 use crate::longest::longest;
@@ -21,10 +21,19 @@ impl End {
     }
 }
 
-/// How many ends of hops have been made.
+/// A hop of a key, by its number among those of the key's location, from 0.
+#[derive(Clone, Copy, Debug, PartialEq, Eq)]
+pub struct Turn {
+    pub key: usize,
+    pub hop: usize,
+}
+
+/// The ends of hops that have been made: how many, and which was the last. Each is of a later hop than the one before it, so
+/// that none is made twice.
 #[derive(Debug, Drop)]
 pub struct Turns {
     count: u64,
+    last: Option<Turn>,
 }
 
 impl Turns {
@@ -32,12 +41,17 @@ impl Turns {
     ghost use Rattle.drum_flow.specs.Seen.{seen_way};
     ghost use Rattle.drum_bound.specs.Longest as said;
     ghost use Rattle.drum_bound.specs.Profile.{MayEnd};
+    ghost use Rattle.drum_bound.specs.Turns.{IsLater};
 
     /// No end yet.
     pub fn none() -> Turns
-        ensures { result.count ≡ 0 }
+        ensures count { result.count ≡ 0 }
+        ensures last { result.last ≡ None }
     {
-        Turns { count: 0 }
+        Turns {
+            count: 0,
+            last: None,
+        }
     }
 
     /// How many there are.
@@ -47,22 +61,33 @@ impl Turns {
         self.count
     }
 
-    /// The latest end of the origin's hop, whose key is at this location and begins its search at this clock.
-    pub fn end(&mut self, times: &Times, location: Location, origin: Origin, clock: u64) -> End
+    /// The latest end of a hop of a key, which is at this location and begins its search at this clock; a later hop than the
+    /// last one.
+    pub fn end(
+        &mut self,
+        times: &Times,
+        turn: Turn,
+        location: Location,
+        hop: Hop,
+        clock: u64,
+    ) -> End
         requires few { self.old.count < 2 ^ 62 }
+        requires later { IsLater self.old.last turn }
         requires soon { clock ≤ 2 ^ 61 }
-        requires may_end { MayEnd origin.hop.instruction (seen_way origin.hop.way) }
+        requires may_end { MayEnd hop.instruction (seen_way hop.way) }
         ensures counted { self.new.count ≡ self.old.count + 1 }
-        ensures origin { result.latest.origin ≡ Some origin }
-        ensures clock { result.latest.clock ≡ said.longest (entry_in times.now) location.number origin.hop.instruction (seen_way origin.hop.way) clock }
+        ensures last { self.new.last ≡ Some turn }
+        ensures origin { result.latest.origin ≡ Some (record { key = turn.key; hop = hop }) }
+        ensures clock { result.latest.clock ≡ said.longest (entry_in times.now) location.number hop.instruction (seen_way hop.way) clock }
         ensures later { clock ≤ result.latest.clock }
         ensures near { result.latest.clock ≤ clock + 92000099 }
     {
         self.count += 1;
+        self.last = Some(turn);
         End {
             latest: Latest {
-                clock: longest(times, location, origin.hop, clock),
-                origin: Some(origin),
+                clock: longest(times, location, hop, clock),
+                origin: Some(Origin { key: turn.key, hop }),
             },
         }
     }

@@ -1,11 +1,11 @@
 //! The scan: each key in turn, and each of its hops.
 
-ghost use Rattle.std.specs.Prelude.{◌≡◌, ◌+◌, ◌^◌, ◌<◌, ◌≤◌, ◌∷◌, length, ℕ, List, IfOk, Contains};
+ghost use Rattle.std.specs.Prelude.{◌≡◌, ◌+◌, ◌^◌, ◌<◌, ◌≤◌, ◌∷◌, length, ℕ, List, slice_get, IfOk, Contains, Some};
 
 use crate::cells::Cells;
-use crate::end::{End, Turns};
+use crate::end::{End, Turn, Turns};
 use crate::keys::{At, Keys};
-use crate::latest::{Latest, Origin};
+use crate::latest::Latest;
 use drum_core::Location;
 use drum_flow::{Hop, Way};
 use drum_times::Times;
@@ -31,6 +31,7 @@ impl<'a> Scan<'a> {
     ghost use Rattle.drum_bound.specs.KeysOf.{AreKeys, IsAt};
     ghost use Rattle.drum_bound.specs.Scanned.{start_angle, Taking};
     ghost use Rattle.drum_bound.specs.ScanOf.{setting_in, places_in, size_in, IsScanned, IsDone, Goes, IsAgreed};
+    ghost use Rattle.drum_bound.specs.Turns.{IsLater};
 
     /// The latest ends at all keys, and of all: each key is taken once, after all that can raise what is kept there.
     pub fn of(alloc: Global, times: &'a Times, keys: &'a Keys<'a>) -> Result<Scan<'a>, AllocError>
@@ -99,25 +100,30 @@ impl<'a> Scan<'a> {
         self.last.raise(end);
     }
 
-    /// Takes a hop of a key at which something is kept of this clock.
-    fn take_hop(&mut self, at: &At, clock: u64, hop: Hop)
+    /// Takes a hop of a key at which something is kept of this clock: that of this number among the key's.
+    fn take_hop(&mut self, at: &At, clock: u64, number: usize, hop: Hop)
         requires keys { AreKeys self.old.keys.now }
         requires at { IsAt self.old.keys.now at.now }
-        requires hop { Contains (hops (setting_in self.old).loads (setting_in self.old).notes (place_at (places_in self.old) at.now.key)) (seen_hop hop) }
+        requires hop { slice_get (hops (setting_in self.old).loads (setting_in self.old).notes (place_at (places_in self.old) at.now.key)) number ≡ Some (seen_hop hop) }
+        requires later { IsLater self.old.turns.last (record { key = at.now.key; hop = number }) }
         requires soon { clock ≤ 2 ^ 61 }
         requires few { self.old.turns.count < 2 ^ 62 }
         requires size { length self.old.cells.kept.items ≡ size_in self.old }
         ensures times { self.new.times ≡ self.old.times }
         ensures keys { self.new.keys ≡ self.old.keys }
         ensures counted { self.new.turns.count ≡ self.old.turns.count + 1 }
+        ensures last { self.new.turns.last ≡ Some (record { key = at.now.key; hop = number }) }
         ensures words { self.new.cells.words ≡ self.old.cells.words }
         ensures counts { self.new.cells.counts ≡ self.old.cells.counts }
         ensures agreed { IsAgreed at.now.key self.old.cells.kept.items self.new.cells.kept.items }
         ensures taken { (left : List HopOf) → Taking (setting_in self.old) (places_in self.old) at.now.key clock (seen_hop hop ∷ left) self.old.cells.kept.items self.old.last
             → Taking (setting_in self.old) (places_in self.old) at.now.key clock left self.new.cells.kept.items self.new.last }
     {
-        let origin = Origin { key: at.key, hop };
-        let end = self.turns.end(self.times, at.location, origin, clock);
+        let turn = Turn {
+            key: at.key,
+            hop: number,
+        };
+        let end = self.turns.end(self.times, turn, at.location, hop, clock);
         match hop.way {
             Way::To(next) => self.go_on(at, next, &end),
             Way::Early | Way::Late => self.last.raise(&end),
@@ -136,8 +142,8 @@ impl<'a> Scan<'a> {
             return;
         };
         let at = self.keys.at(key);
-        for hop in self.keys.hops(&at) {
-            self.take_hop(&at, latest.clock, hop);
+        for (number, hop) in self.keys.hops(&at).enumerate() {
+            self.take_hop(&at, latest.clock, number, hop);
         }
     }
 }

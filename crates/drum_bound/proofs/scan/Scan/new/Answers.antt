@@ -1,9 +1,11 @@
 use Rattle.std.proofs.Common.{◌≡◌, ℕ, ◌*◌, List, length, Option, None, set, replicate, Some, ap, sym, ◌∙◌, refl, subst, arith}
 use Rattle.drum_flow.specs.Flow.{order_in}
+use Rattle.drum_bound.specs.declared.end.Turn.{Turn}
 use Rattle.drum_bound.specs.declared.latest.Latest.{Latest}
 use Rattle.drum_bound.specs.KeysOf.{setting_of}
 use Rattle.drum_bound.specs.Keys.{keys_of}
 use Rattle.drum_bound.specs.Scanned.{Scanned}
+use Rattle.drum_bound.specs.Turns.{IsBefore}
 use Rattle.drum_bound.proofs.Begun.{begun}
 use Rattle.drum_bound.proofs.Sites.{same_length}
 use Rattle.drum_bound.proofs.scan.Scan.new.Goals as goal
@@ -24,5 +26,6 @@ returns-clause-scanned c =
       counts = c.in-Ok.ensures.counts ∙ c.requires.counts;
       scanned = subst (λ (all : List (Option Latest)). Scanned g order 0 0 all start) (sym cells)
           (begun g order c.start_key-first.result start c.start_key-first.ensures c.start_angle.ensures refl);
-      turns = c.none.ensures;
+      turns = c.none.ensures.count;
+      before = subst (λ (last : Option Turn). IsBefore last 0) (sym c.none.ensures.last) tt;
     }

@@ -7,6 +7,7 @@ use Rattle.drum_flow.specs.Walk.{Setting}
 use Rattle.drum_bound.specs.declared.latest.Latest.{Latest}
 use Rattle.drum_bound.specs.Keys.{place_at}
 use Rattle.drum_bound.specs.Longest.{longest}
+use Rattle.drum_bound.proofs.KeysTaken.{hop_among}
 use Rattle.drum_bound.proofs.Profiles.{hop_may_end}
 use Rattle.drum_bound.specs.Scanned.{Taking}
 use Rattle.drum_bound.specs.ScanOf.{setting_in, places_in}
@@ -17,18 +18,19 @@ use Rattle.drum_bound.proofs.scan.Scan.take_hop.Goals as goal
 pub end-end-requires-clause-may_end : goal.end-end-requires-clause-may_end
 end-end-requires-clause-may_end c =
     let g : Setting = setting_in c.args.self.now in
-    hop_may_end g.loads g.notes (place_at (places_in c.args.self.now) c.args.at.now.key) c.args.hop.instruction (seen_way c.args.hop.way) c.requires.hop
+    hop_may_end g.loads g.notes (place_at (places_in c.args.self.now) c.args.at.now.key) c.args.hop.instruction (seen_way c.args.hop.way)
+    (hop_among c.args.self.now c.args.at.now.key c.args.number (seen_hop c.args.hop) c.requires.hop)
 
 pub go_on-requires-clause-next : goal.go_on-requires-clause-next
 go_on-requires-clause-next c =
     next_there (setting_in c.args.self.now) (places_in c.args.self.now) c.requires.keys.ordered.0 c.args.at.now.key (omega (arith, c.requires.at.below, c.requires.keys.size))
-    (seen_hop c.args.hop) c.in-To.next.number c.requires.hop (ap seen_way c.in-To.is)
+    (seen_hop c.args.hop) c.in-To.next.number (hop_among c.args.self.now c.args.at.now.key c.args.number (seen_hop c.args.hop) c.requires.hop) (ap seen_way c.in-To.is)
 
 pub returns-in-To-clause-agreed : goal.returns-in-To-clause-agreed
 returns-in-To-clause-agreed c =
     goes_agreed (setting_in c.args.self.now) (places_in c.args.self.now) c.requires.keys.ordered.0 c.args.at.now.key (omega (arith, c.requires.at.below, c.requires.keys.size))
     (seen_hop c.args.hop) c.in-To.next.number c.end-end.result.latest c.args.self.now.cells.kept.items c.args.self.now.last c.go_on.new.self.cells.kept.items c.go_on.new.self.last
-    c.requires.hop (ap seen_way c.in-To.is) c.go_on.ensures.goes
+    (hop_among c.args.self.now c.args.at.now.key c.args.number (seen_hop c.args.hop) c.requires.hop) (ap seen_way c.in-To.is) c.go_on.ensures.goes
 
 pub returns-in-To-clause-taken : goal.returns-in-To-clause-taken
 returns-in-To-clause-taken c =
@@ -40,7 +42,7 @@ returns-in-To-clause-taken c =
       from = refl;
       by = c.end-end.ensures.origin;
       ended = c.end-end.ensures.clock ∙ ap (λ (place : ℕ). longest g.times place c.args.hop.instruction (seen_way c.args.hop.way) c.args.clock) c.requires.at.there;
-      hop = c.requires.hop;
+      hop = hop_among c.args.self.now at.key c.args.number (seen_hop c.args.hop) c.requires.hop;
     } in
     goes_taken g order c.requires.keys.ordered.0 at.key (omega (arith, c.requires.at.below, c.requires.keys.size)) c.args.clock (record { key = at.key; hop = c.args.hop })
     c.in-To.next.number new c.args.self.now.cells.kept.items c.args.self.now.last c.go_on.new.self.cells.kept.items c.go_on.new.self.last comes (ap seen_way c.in-To.is) c.go_on.ensures.goes
@@ -55,12 +57,13 @@ returns-in-Early c =
       from = refl;
       by = c.end-end.ensures.origin;
       ended = c.end-end.ensures.clock ∙ ap (λ (place : ℕ). longest g.times place c.args.hop.instruction (seen_way c.args.hop.way) c.args.clock) c.requires.at.there;
-      hop = c.requires.hop;
+      hop = hop_among c.args.self.now at.key c.args.number (seen_hop c.args.hop) c.requires.hop;
     } in
     record {
       times = refl;
       keys = refl;
       counted = c.end-end.ensures.counted;
+      last = c.end-end.ensures.last;
       words = refl;
       counts = refl;
       agreed = λ other within. refl;

@@ -1,22 +1,25 @@
-use Rattle.std.proofs.Common.{◌≡◌, ◌+◌, length}
-use Rattle.std.specs.Prelude.{Contains}
-use Rattle.drum_flow.specs.Hops.{Hop, hops}
+use Rattle.std.proofs.Common.{◌≡◌, ◌+◌, drop, length}
+use Rattle.std.specs.Iterator.Adapters.{enumerate_count, enumerate_source}
+use Rattle.drum_flow.specs.Hops.{hops}
 use Rattle.drum_flow.specs.HopsLeft.{hops_left}
 use Rattle.drum_bound.specs.Keys.{place_at}
 use Rattle.drum_bound.specs.Scanned.{Taking}
 use Rattle.drum_bound.specs.ScanOf.{setting_in, places_in, IsAgreed}
+use Rattle.drum_bound.specs.Turns.{IsLater}
 use Rattle.drum_bound.proofs.scan.Scan.take_key.Given as goal
 
--- the hops of the key that are left, and what is known of the others
-abbrev pub invariant-loop-hop : goal.invariant-loop-hop
-invariant-loop-hop l = record {
+-- the hops of the key that are left, from a number on, each later than the last one, and what is known of the others
+abbrev pub invariant-loop-number : goal.invariant-loop-number
+invariant-loop-number l = record {
   times : l.self.times ≡ l.fn.self.times;
   keys : l.self.keys ≡ l.fn.self.keys;
   words : l.self.cells.words ≡ l.fn.self.cells.words;
   counts : l.self.cells.counts ≡ l.fn.self.cells.counts;
-  taking : Taking (setting_in l.fn.self) (places_in l.fn.self) l.key l.latest.clock (hops_left l.hop-iterator) l.self.cells.kept.items l.self.last;
-  turns : l.self.turns.count + length (hops_left l.hop-iterator)
+  taking : Taking (setting_in l.fn.self) (places_in l.fn.self) l.key l.latest.clock (hops_left (enumerate_source l.number-iterator)) l.self.cells.kept.items l.self.last;
+  turns : l.self.turns.count + length (hops_left (enumerate_source l.number-iterator))
       ≡ l.fn.self.turns.count + length (hops (setting_in l.fn.self).loads (setting_in l.fn.self).notes (place_at (places_in l.fn.self) l.key));
   agreed : IsAgreed l.key l.fn.self.cells.kept.items l.self.cells.kept.items;
-  among : (hop : Hop) → Contains (hops_left l.hop-iterator) hop → Contains (hops (setting_in l.fn.self).loads (setting_in l.fn.self).notes (place_at (places_in l.fn.self) l.key)) hop;
+  left : drop (enumerate_count l.number-iterator) (hops (setting_in l.fn.self).loads (setting_in l.fn.self).notes (place_at (places_in l.fn.self) l.key))
+      ≡ hops_left (enumerate_source l.number-iterator);
+  later : IsLater l.self.turns.last (record { key = l.key; hop = enumerate_count l.number-iterator });
 }

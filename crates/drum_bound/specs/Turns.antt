@@ -1,0 +1,13 @@
+-- Which hops of keys come after which.
+use Rattle.std.specs.Prelude.{◌≡◌, ℕ, ◌<◌, Option, Some, None, ◌⊎◌}
+use Rattle.drum_bound.specs.declared.end.Turn.{Turn}
+
+-- a hop of a key comes after the last one: of a later key, or of the same key with a greater number; after none, each does
+abbrev pub IsLater : Option Turn → Turn → Type 0
+IsLater None turn = Unit {0}
+IsLater (Some last) turn = (last.key < turn.key) ⊎ ((last.key ≡ turn.key) × (last.hop < turn.hop))
+
+-- none is of this key or a later one
+abbrev pub IsBefore : Option Turn → ℕ → Type 0
+IsBefore None key = Unit {0}
+IsBefore (Some last) key = last.key < key
