@@ -48,18 +48,18 @@ is_proper deck times notes sound = record { on_drum = loaded_on_drum deck; start
 pub record IsFound (keys : Keys) (times : Times) (scan : Scan) (rows : List Row) (visits : List Visited) : Type 0 where
   pub scanned : Scanned (setting_of keys.flow.now times) (order_in keys.flow.now)
       (keys_of (setting_of keys.flow.now times).notes.marks (order_in keys.flow.now))
-      (keys_of (setting_of keys.flow.now times).notes.marks (order_in keys.flow.now)) scan.cells.kept.items scan.last
-  pub turns : scan.turns.count ≡ turns_below (setting_of keys.flow.now times) (order_in keys.flow.now) scan.cells.kept.items
+      (keys_of (setting_of keys.flow.now times).notes.marks (order_in keys.flow.now)) scan.cells.kept.items scan.cells.last
+  pub turns : scan.cells.turns.count ≡ turns_below (setting_of keys.flow.now times) (order_in keys.flow.now) scan.cells.kept.items
       (keys_of (setting_of keys.flow.now times).notes.marks (order_in keys.flow.now))
   pub table : rows ≡ rows_below (setting_of keys.flow.now times) (order_in keys.flow.now) scan.cells.kept.items
       (keys_of (setting_of keys.flow.now times).notes.marks (order_in keys.flow.now))
   pub walk : IsWalkOf (setting_of keys.flow.now times) (start_angle (setting_of keys.flow.now times).start)
-      (scan.last.clock - start_angle (setting_of keys.flow.now times).start) visits
+      (scan.cells.last.clock - start_angle (setting_of keys.flow.now times).start) visits
 
 -- They are of the keys and the timing table that the scan was given.
 pub is_found : (keys : Keys) (times : Times) (scan : Scan) (rows : List Row) (visits : List Visited) → scan.keys.now ≡ keys → scan.times.now ≡ times → IsDone scan
     → rows ≡ rows_below (setting_in scan) (places_in scan) scan.cells.kept.items (size_in scan)
-    → IsWalkOf (setting_in scan) (start_angle (setting_in scan).start) (scan.last.clock - start_angle (setting_in scan).start) visits
+    → IsWalkOf (setting_in scan) (start_angle (setting_in scan).start) (scan.cells.last.clock - start_angle (setting_in scan).start) visits
     → IsFound keys times scan rows visits
 is_found keys times scan rows visits same_keys same_times done table walk =
     let own : IsFound scan.keys.now scan.times.now scan rows visits = record { scanned = done.scanned; turns = done.turns; table = table; walk = walk } in

@@ -36,7 +36,7 @@ is_ordered scan done = done.keys.ordered.0
 -- what it keeps is no earlier than the start
 pub kept_after : (scan : Scan) (key : ℕ) (kept : Latest) → IsDone scan → cell_at scan.cells.kept.items key ≡ Some kept → start_angle (setting_in scan).start ≤ kept.clock
 kept_after scan key kept done there =
-    not_before (setting_in scan) (places_in scan) scan.cells.kept.items scan.last (is_ordered scan done) (starts_on_drum scan) done.scanned key kept there
+    not_before (setting_in scan) (places_in scan) scan.cells.kept.items scan.cells.last (is_ordered scan done) (starts_on_drum scan) done.scanned key kept there
 
 -- something is kept at its keys alone
 pub key_below : (scan : Scan) (key : ℕ) (kept : Latest) → IsDone scan → cell_at scan.cells.kept.items key ≡ Some kept → key < scan.keys.now.size

@@ -59,23 +59,23 @@ skipped scan key is none =
       keys = is.keys;
       words = is.words;
       counts = is.counts;
-      scanned = skip (setting_in scan) (places_in scan) key scan.cells.kept.items scan.last none is.scanned;
+      scanned = skip (setting_in scan) (places_in scan) key scan.cells.kept.items scan.cells.last none is.scanned;
       turns = omega (arith, is.turns, ap (turns_at (setting_in scan) (places_in scan) key) none);
-      before = before_next scan.turns.last key is.before;
+      before = before_next scan.cells.turns.last key is.before;
     })
 
 -- all hops of a key at which something is kept are left
 pub opened : (scan : Scan) (key : ℕ) (kept : Latest) (left : List Hop) → IsScanned scan key → cell_at scan.cells.kept.items key ≡ Some kept → left ≡ hops_at scan key
-    → Taking (setting_in scan) (places_in scan) key kept.clock left scan.cells.kept.items scan.last
+    → Taking (setting_in scan) (places_in scan) key kept.clock left scan.cells.kept.items scan.cells.last
 opened scan key kept left is there all =
-    subst (λ (hops : List Hop). Taking (setting_in scan) (places_in scan) key kept.clock hops scan.cells.kept.items scan.last) (sym all)
-    (open_key (setting_in scan) (places_in scan) key kept scan.cells.kept.items scan.last there is.scanned)
+    subst (λ (hops : List Hop). Taking (setting_in scan) (places_in scan) key kept.clock hops scan.cells.kept.items scan.cells.last) (sym all)
+    (open_key (setting_in scan) (places_in scan) key kept scan.cells.kept.items scan.cells.last there is.scanned)
 
 -- clocks and turns are far from their limits
 pub early_clock : (scan : Scan) (key : ℕ) (kept : Latest) → IsScanned scan key → key < scan.keys.now.size → cell_at scan.cells.kept.items key ≡ Some kept → kept.clock ≤ 2305843009213693952
 early_clock scan key kept is below there = omega (arith, is.scanned.near key kept there, below, is.keys.size, is.keys.ordered.0.few)
 
-pub few_turns : (scan : Scan) (key count left : ℕ) → IsScanned scan key → key < scan.keys.now.size → count + left ≡ scan.turns.count + length (hops_at scan key) → count < 4611686018427387904
+pub few_turns : (scan : Scan) (key count left : ℕ) → IsScanned scan key → key < scan.keys.now.size → count + left ≡ scan.cells.turns.count + length (hops_at scan key) → count < 4611686018427387904
 few_turns scan key count left is below so_far =
     omega (
       arith,
@@ -100,13 +100,13 @@ taking_as a b key clock left cells last times keys taking =
 -- no hop of the key is left
 pub closed : (a b : Scan) (key number : ℕ) (kept : Latest) → a.times ≡ b.times → a.keys ≡ b.keys → IsScanned b key → cell_at b.cells.kept.items key ≡ Some kept
     → a.cells.words ≡ b.cells.words → a.cells.counts ≡ b.cells.counts
-    → Taking (setting_in b) (places_in b) key kept.clock [] a.cells.kept.items a.last → a.turns.count ≡ b.turns.count + length (hops_at b key) → IsAgreed key b.cells.kept.items a.cells.kept.items
-    → IsLater a.turns.last (record { key = key; hop = number }) → IsScanned a (key + 1)
+    → Taking (setting_in b) (places_in b) key kept.clock [] a.cells.kept.items a.cells.last → a.cells.turns.count ≡ b.cells.turns.count + length (hops_at b key) → IsAgreed key b.cells.kept.items a.cells.kept.items
+    → IsLater a.cells.turns.last (record { key = key; hop = number }) → IsScanned a (key + 1)
 closed a b key number kept times keys is there words counts taking count agreed later =
     let next : suc key ≡ key + 1 = omega arith in
     let g = setting_in b in
     let order = places_in b in
-    let turns : a.turns.count ≡ turns_below g order a.cells.kept.items (suc key) =
+    let turns : a.cells.turns.count ≡ turns_below g order a.cells.kept.items (suc key) =
     omega (
       arith,
       count,
@@ -115,9 +115,9 @@ closed a b key number kept times keys is there words counts taking count agreed 
       ap (turns_at g order key) (agreed key (omega arith) ∙ there),
     ) in
     let Right : Bor Times → Bor Keys → Type 0 = λ t k.
-    AreKeys k.now × Scanned (setting_of k.now.flow.now t.now) (order_in k.now.flow.now) (suc key) (suc key) a.cells.kept.items a.last
-    × (a.turns.count ≡ turns_below (setting_of k.now.flow.now t.now) (order_in k.now.flow.now) a.cells.kept.items (suc key))
+    AreKeys k.now × Scanned (setting_of k.now.flow.now t.now) (order_in k.now.flow.now) (suc key) (suc key) a.cells.kept.items a.cells.last
+    × (a.cells.turns.count ≡ turns_below (setting_of k.now.flow.now t.now) (order_in k.now.flow.now) a.cells.kept.items (suc key))
     × (a.cells.words ≡ length (order_in k.now.flow.now)) × (a.cells.counts ≡ counts_of (setting_of k.now.flow.now t.now).notes.marks) in
-    let right : Right b.times b.keys = (is.keys, close_key g order key kept.clock a.cells.kept.items a.last taking, turns, words ∙ is.words, counts ∙ is.counts) in
+    let right : Right b.times b.keys = (is.keys, close_key g order key kept.clock a.cells.kept.items a.cells.last taking, turns, words ∙ is.words, counts ∙ is.counts) in
     let as_a : Right a.times a.keys = subst (λ (k : Bor Keys). Right a.times k) (sym keys) (subst (λ (t : Bor Times). Right t b.keys) (sym times) right) in
-    subst (IsScanned a) next (record { keys = as_a.0; words = as_a.3; counts = as_a.4; scanned = as_a.1; turns = as_a.2; before = before_end a.turns.last key number later })
+    subst (IsScanned a) next (record { keys = as_a.0; words = as_a.3; counts = as_a.4; scanned = as_a.1; turns = as_a.2; before = before_end a.cells.turns.last key number later })

@@ -1,5 +1,5 @@
 -- Which hops of keys come after which, while a key is taken.
-use Rattle.std.proofs.Common.{◌≡◌, ℕ, zero, suc, ◌+◌, List, [], ◌∷◌, drop, refl, ap, subst, sym, ◌∙◌, Option, Some, None, inl, inr, arith}
+use Rattle.std.proofs.Common.{◌≡◌, ℕ, zero, suc, ◌+◌, ◌<◌, List, [], ◌∷◌, drop, refl, ap, subst, sym, ◌∙◌, Option, Some, None, inl, inr, arith}
 use Rattle.std.specs.Prelude.{slice_get}
 use Rattle.std.proofs.lemmas.List.{drop-drop}
 use Rattle.drum_bound.specs.declared.end.Turn.{Turn}
@@ -37,3 +37,12 @@ pub before_end : (last : Option Turn) (key hop : ℕ) → IsLater last (record {
 before_end None key hop later = tt
 before_end (Some last) key hop (inl less) = omega (arith, less)
 before_end (Some last) key hop (inr same) = omega (arith, same.0)
+
+-- where none is of a later key than one, none is of a key after that
+pub before_later : (last : Option Turn) (key next : ℕ) → IsBefore last (key + 1) → key < next → IsBefore last next
+before_later None key next before less = tt
+before_later (Some last) key next before less = omega (arith, before, less)
+
+-- where the last is of a key, none is of a later one
+pub before_own : (last : Option Turn) (key hop : ℕ) → last ≡ Some (record { key = key; hop = hop }) → IsBefore last (key + 1)
+before_own last key hop is = subst (λ (turn : Option Turn). IsBefore turn (key + 1)) (sym is) (omega arith)

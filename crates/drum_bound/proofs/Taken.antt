@@ -8,7 +8,6 @@ use Rattle.drum_flow.specs.Walk.{Setting}
 use Rattle.drum_bound.specs.declared.latest.Latest.{Latest}
 use Rattle.drum_bound.specs.declared.latest.Origin.{Origin}
 use Rattle.drum_bound.specs.Keys.{keys_of, place_at, IsOrdered}
-use Rattle.drum_bound.proofs.KeyLaws.{place_there}
 use Rattle.drum_bound.proofs.Onward.{leads_on}
 use Rattle.drum_bound.proofs.Raises.{raised_agree}
 use Rattle.drum_bound.specs.Scanned.{cell_at, raised, Taking, LeadsOn}
@@ -16,12 +15,9 @@ use Rattle.drum_bound.specs.ScanOf.{Goes, IsAgreed}
 use Rattle.drum_bound.proofs.Scans.{Comes, take_barred, take_on}
 
 module _ (g : Setting) (order : List ℕ) (ordered : IsOrdered g.loads g.notes g.start order) (key : ℕ) (below : key < keys_of g.notes.marks order) where
-  -- a hop goes on at a location of the order
-  pub next_there : (hop : Hop) (next : ℕ) → Contains (hops g.loads g.notes (place_at order key)) hop → hop.way ≡ to next → Contains order next
-  next_there hop next has goes =
-      let edge : IsEdge g.loads g.notes (place_at order key) next =
-      (hop.ins, subst (λ (w : Way). Contains (hops g.loads g.notes (place_at order key)) (record { ins = hop.ins; way = w })) goes has) in
-      ordered.closed (place_at order key) next (place_there g.notes.marks order key below) edge
+  -- a hop that goes on is along an edge
+  pub edge_of : (hop : Hop) (next : ℕ) → Contains (hops g.loads g.notes (place_at order key)) hop → hop.way ≡ to next → IsEdge g.loads g.notes (place_at order key) next
+  edge_of hop next has goes = (hop.ins, subst (λ (w : Way). Contains (hops g.loads g.notes (place_at order key)) (record { ins = hop.ins; way = w })) goes has)
 
   pub goes_agreed : (hop : Hop) (next : ℕ) (new : Latest) (cells : List (Option Latest)) (last : Latest) (cells' : List (Option Latest)) (last' : Latest)
       → Contains (hops g.loads g.notes (place_at order key)) hop → hop.way ≡ to next → Goes g order key next new cells last cells' last' → IsAgreed key cells cells'
@@ -42,3 +38,9 @@ module _ (g : Setting) (order : List ℕ) (ordered : IsOrdered g.loads g.notes g
       subst (λ (all : List (Option Latest)). Taking g order key clock left all last') (sym onto.3)
       (subst (λ (l : Latest). Taking g order key clock left (raised cells onto.0 new) l) (sym onto.4)
       (take_on g order key clock origin new onto.0 left cells last comes leads taking))
+
+-- what goes on from cells goes on from those that are the same
+pub goes_as : (g : Setting) (order : List ℕ) (from next : ℕ) (new : Latest) (a b : List (Option Latest)) (x y : Latest) (cells' : List (Option Latest)) (last' : Latest)
+    → a ≡ b → x ≡ y → Goes g order from next new a x cells' last' → Goes g order from next new b y cells' last'
+goes_as g order from next new a b x y cells' last' cells last goes =
+    subst (λ (l : Latest). Goes g order from next new b l cells' last') last (subst (λ (all : List (Option Latest)). Goes g order from next new all x cells' last') cells goes)

@@ -28,9 +28,9 @@ pub record IsScanned (scan : Scan) (taken : ℕ) : Type 0 where
   pub keys : AreKeys scan.keys.now
   pub words : scan.cells.words ≡ length (places_in scan)
   pub counts : scan.cells.counts ≡ counts_of (setting_in scan).notes.marks
-  pub scanned : Scanned (setting_in scan) (places_in scan) taken taken scan.cells.kept.items scan.last
-  pub turns : scan.turns.count ≡ turns_below (setting_in scan) (places_in scan) scan.cells.kept.items taken
-  pub before : IsBefore scan.turns.last taken
+  pub scanned : Scanned (setting_in scan) (places_in scan) taken taken scan.cells.kept.items scan.cells.last
+  pub turns : scan.cells.turns.count ≡ turns_below (setting_in scan) (places_in scan) scan.cells.kept.items taken
+  pub before : IsBefore scan.cells.turns.last taken
 
 -- All have.
 abbrev pub IsDone : Scan → Type 0

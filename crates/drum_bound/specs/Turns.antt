@@ -1,6 +1,8 @@
 -- Which hops of keys come after which.
-use Rattle.std.specs.Prelude.{◌≡◌, ℕ, ◌<◌, Option, Some, None, ◌⊎◌}
+use Rattle.std.specs.Prelude.{◌≡◌, ℕ, ◌<◌, List, Option, Some, None, ◌⊎◌}
 use Rattle.drum_bound.specs.declared.end.Turn.{Turn}
+use Rattle.drum_bound.specs.declared.latest.Latest.{Latest}
+use Rattle.drum_bound.specs.Scanned.{cell_at}
 
 -- a hop of a key comes after the last one: of a later key, or of the same key with a greater number; after none, each does
 abbrev pub IsLater : Option Turn → Turn → Type 0
@@ -11,3 +13,7 @@ IsLater (Some last) turn = (last.key < turn.key) ⊎ ((last.key ≡ turn.key) ×
 abbrev pub IsBefore : Option Turn → ℕ → Type 0
 IsBefore None key = Unit {0}
 IsBefore (Some last) key = last.key < key
+
+-- this clock is kept at a key
+abbrev pub KeepsAt : List (Option Latest) → ℕ → ℕ → Type 0
+KeepsAt cells key clock = (kept : Latest) × (cell_at cells key ≡ Some kept) × (kept.clock ≡ clock)

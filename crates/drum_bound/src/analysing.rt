@@ -65,14 +65,14 @@ fn analysis_by<'a>(
     let marks = keys.flow.notes().marks();
     let angle = keys.start_angle();
     Ok(Analysis {
-        bound: scan.last.clock - angle,
+        bound: scan.cells.last().clock - angle,
         table,
         angle: angle as u8,
         passed: passes_of_marks(&walk, marks),
         walk,
         counts: counts_of(marks) as usize,
         words: keys.flow.order().len(),
-        turns: scan.turns.count(),
+        turns: scan.cells.turns(),
     })
 }
 

@@ -3,9 +3,8 @@
 ghost use Rattle.std.specs.Prelude.{◌≡◌, ◌+◌, ◌^◌, ◌<◌, ◌≤◌, ◌∷◌, length, ℕ, List, slice_get, IfOk, Contains, Some};
 
 use crate::cells::Cells;
-use crate::end::{End, Turn, Turns};
+use crate::end::{End, Turn};
 use crate::keys::{At, Keys};
-use crate::latest::Latest;
 use drum_core::Location;
 use drum_flow::{Hop, Way};
 use drum_times::Times;
@@ -16,22 +15,17 @@ use std::alloc::{AllocError, Global};
 pub struct Scan<'a> {
     pub times: &'a Times,
     pub keys: &'a Keys<'a>,
-    /// What is kept at each key.
     pub cells: Cells,
-    /// The latest end of all.
-    pub last: Latest,
-    /// How many ends have been made.
-    pub turns: Turns,
 }
 
 impl<'a> Scan<'a> {
-    ghost use Rattle.drum_flow.specs.Hops.{Hop as HopOf, hops};
+    ghost use Rattle.drum_flow.specs.Hops.{Hop as HopOf, IsEdge, hops};
     ghost use Rattle.drum_flow.specs.Seen.{seen_hop};
     ghost use Rattle.drum_bound.specs.Keys.{place_at};
     ghost use Rattle.drum_bound.specs.KeysOf.{AreKeys, IsAt};
     ghost use Rattle.drum_bound.specs.Scanned.{start_angle, Taking};
     ghost use Rattle.drum_bound.specs.ScanOf.{setting_in, places_in, size_in, IsScanned, IsDone, Goes, IsAgreed};
-    ghost use Rattle.drum_bound.specs.Turns.{IsLater};
+    ghost use Rattle.drum_bound.specs.Turns.{IsBefore, IsLater, KeepsAt};
 
     /// The latest ends at all keys, and of all: each key is taken once, after all that can raise what is kept there.
     pub fn of(alloc: Global, times: &'a Times, keys: &'a Keys<'a>) -> Result<Scan<'a>, AllocError>
@@ -63,33 +57,25 @@ impl<'a> Scan<'a> {
         ensures times { IfOk result (λ scan. scan.times.now ≡ times.now) }
         ensures keys { IfOk result (λ scan. scan.keys.now ≡ keys.now) }
     {
-        let start = Latest {
-            clock: keys.start_angle(),
-            origin: None,
-        };
-        let first = keys.start_key();
-        let Ok(cells) = Cells::new(alloc, keys.sites.len(), keys.counts, first, start) else {
+        let words = keys.sites.len();
+        let (start, clock) = (keys.start_key(), keys.start_angle());
+        let Ok(cells) = Cells::new(alloc, words, keys.counts, start, clock) else {
             return Err(AllocError);
         };
-        Ok(Scan {
-            times,
-            keys,
-            cells,
-            last: start,
-            turns: Turns::none(),
-        })
+        Ok(Scan { times, keys, cells })
     }
 
     /// Keeps the end of a hop that goes on, unless a full mark bars it.
     fn go_on(&mut self, at: &At, next: Location, end: &End)
         requires keys { AreKeys self.old.keys.now }
         requires at { IsAt self.old.keys.now at.now }
-        requires next { Contains (places_in self.old) next.number }
+        requires edge { IsEdge (setting_in self.old).loads (setting_in self.old).notes (place_at (places_in self.old) at.now.key) next.number }
+        requires before { IsBefore self.old.cells.turns.last (at.now.key + 1) }
         requires size { length self.old.cells.kept.items ≡ size_in self.old }
-        ensures goes { Goes (setting_in self.old) (places_in self.old) at.now.key next.number end.now.latest self.old.cells.kept.items self.old.last self.new.cells.kept.items self.new.last }
+        ensures goes { Goes (setting_in self.old) (places_in self.old) at.now.key next.number end.now.latest self.old.cells.kept.items self.old.cells.last self.new.cells.kept.items self.new.cells.last }
         ensures times { self.new.times ≡ self.old.times }
         ensures keys { self.new.keys ≡ self.old.keys }
-        ensures turns { self.new.turns ≡ self.old.turns }
+        ensures turns { self.new.cells.turns ≡ self.old.cells.turns }
         ensures words { self.new.cells.words ≡ self.old.cells.words }
         ensures counts { self.new.cells.counts ≡ self.old.cells.counts }
     {
@@ -97,7 +83,6 @@ impl<'a> Scan<'a> {
             return;
         };
         self.cells.raise(key, end);
-        self.last.raise(end);
     }
 
     /// Takes a hop of a key at which something is kept of this clock: that of this number among the key's.
@@ -105,28 +90,29 @@ impl<'a> Scan<'a> {
         requires keys { AreKeys self.old.keys.now }
         requires at { IsAt self.old.keys.now at.now }
         requires hop { slice_get (hops (setting_in self.old).loads (setting_in self.old).notes (place_at (places_in self.old) at.now.key)) number ≡ Some (seen_hop hop) }
-        requires later { IsLater self.old.turns.last (record { key = at.now.key; hop = number }) }
+        requires kept { KeepsAt self.old.cells.kept.items at.now.key clock }
+        requires later { IsLater self.old.cells.turns.last (record { key = at.now.key; hop = number }) }
         requires soon { clock ≤ 2 ^ 61 }
-        requires few { self.old.turns.count < 2 ^ 62 }
+        requires few { self.old.cells.turns.count < 2 ^ 62 }
         requires size { length self.old.cells.kept.items ≡ size_in self.old }
         ensures times { self.new.times ≡ self.old.times }
         ensures keys { self.new.keys ≡ self.old.keys }
-        ensures counted { self.new.turns.count ≡ self.old.turns.count + 1 }
-        ensures last { self.new.turns.last ≡ Some (record { key = at.now.key; hop = number }) }
+        ensures counted { self.new.cells.turns.count ≡ self.old.cells.turns.count + 1 }
+        ensures last { self.new.cells.turns.last ≡ Some (record { key = at.now.key; hop = number }) }
         ensures words { self.new.cells.words ≡ self.old.cells.words }
         ensures counts { self.new.cells.counts ≡ self.old.cells.counts }
         ensures agreed { IsAgreed at.now.key self.old.cells.kept.items self.new.cells.kept.items }
-        ensures taken { (left : List HopOf) → Taking (setting_in self.old) (places_in self.old) at.now.key clock (seen_hop hop ∷ left) self.old.cells.kept.items self.old.last
-            → Taking (setting_in self.old) (places_in self.old) at.now.key clock left self.new.cells.kept.items self.new.last }
+        ensures taken { (left : List HopOf) → Taking (setting_in self.old) (places_in self.old) at.now.key clock (seen_hop hop ∷ left) self.old.cells.kept.items self.old.cells.last
+            → Taking (setting_in self.old) (places_in self.old) at.now.key clock left self.new.cells.kept.items self.new.cells.last }
     {
         let turn = Turn {
             key: at.key,
             hop: number,
         };
-        let end = self.turns.end(self.times, turn, at.location, hop, clock);
+        let end = self.cells.end(self.times, turn, at.location, hop, clock);
         match hop.way {
             Way::To(next) => self.go_on(at, next, &end),
-            Way::Early | Way::Late => self.last.raise(&end),
+            Way::Early | Way::Late => self.cells.stop(&end),
         }
     }
 

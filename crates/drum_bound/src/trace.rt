@@ -34,10 +34,10 @@ impl Scan<'_> {
     pub fn walk(&self, alloc: Global) -> Result<Vec<Visit>, AllocError>
         requires { IsDone self.now }
         ensures { let angle = start_angle (setting_in self.now).start in
-            IfOk result (λ visits. IsWalkOf (setting_in self.now) angle (self.now.last.clock - angle) (map seen_visit visits.items)) }
+            IfOk result (λ visits. IsWalkOf (setting_in self.now) angle (self.now.cells.last.clock - angle) (map seen_visit visits.items)) }
     {
         let mut visits = Vec::new(alloc);
-        let mut end = self.last;
+        let mut end = self.cells.last();
         while let Some(origin) = end.origin {
             let Some(begin) = self.cells.kept_at(origin.key) else {
                 unreachable!()

@@ -3,6 +3,7 @@ use Rattle.std.proofs.lemmas.List.{length-map}
 use Rattle.drum_times.specs.declared.notes.mark.Mark.{Mark}
 use Rattle.drum_flow.specs.Accepted.{counts_of}
 use Rattle.drum_flow.specs.Flow.{deck_of, notes_of, order_in}
+use Rattle.drum_bound.specs.declared.latest.Latest.{Latest}
 use Rattle.drum_bound.specs.declared.visit.Visit.{Visit}
 use Rattle.drum_bound.specs.AnalysisOf.{ArePasses}
 use Rattle.drum_bound.specs.KeysOf.{setting_of}
@@ -23,14 +24,14 @@ returns c =
     let marks : c.marks-marks.result.now ≡ (notes_of keys.flow.now).marks = c.marks-marks.ensures.all ∙ ap (λ notes. notes.marks) c.notes.ensures in
     let passed : ArePasses c.marks-marks.result.now visits c.passes_of_marks.result =
     subst (λ (walk : List Visit). ArePasses c.marks-marks.result.now (map seen_visit walk) c.passes_of_marks.result) c.deref.ensures.value c.passes_of_marks.ensures.passed in
-    is_analysis (setting_of keys.flow.now times) (order_in keys.flow.now) scan.cells.kept.items scan.last _ c.requires.ordered.0 (deck_of keys.flow.now).on_drum found.scanned
+    is_analysis (setting_of keys.flow.now times) (order_in keys.flow.now) scan.cells.kept.items scan.cells.last _ c.requires.ordered.0 (deck_of keys.flow.now).on_drum found.scanned
     (record {
-      bound = ap (λ (n : ℕ). scan.last.clock - n) c.start_angle-angle.ensures;
+      bound = ap (λ (l : Latest). l.clock - c.start_angle-angle.result) c.last.ensures ∙ ap (λ (n : ℕ). scan.cells.last.clock - n) c.start_angle-angle.ensures;
       angle = c.start_angle-angle.ensures;
       rows = found.table;
       walk = found.walk;
       words = sym (length-map c.order.result.now (λ location. location.number)) ∙ ap length c.order.ensures;
       counts = c.counts_of.ensures.value ∙ ap counts_of marks;
-      turns = c.count.ensures ∙ found.turns;
+      turns = c.turns.ensures ∙ found.turns;
       passed = subst (λ (all : List Mark). ArePasses all visits c.passes_of_marks.result) marks passed;
     })

@@ -15,17 +15,18 @@ returns-clause-scanned c =
     let keys = c.args.keys.now in
     let g = setting_of keys.flow.now c.args.times.now in
     let order = order_in keys.flow.now in
-    let start : Latest = record { clock = c.start_angle.result; origin = None } in
-    let words : c.len.result ≡ length order = omega (arith, c.len.ensures, keys.sites.ok.0, same_length keys c.requires) in
-    let size : keys.counts * c.len.result ≡ keys_of g.notes.marks order = ap (λ (n : ℕ). keys.counts * n) words ∙ ap (λ (n : ℕ). n * length order) c.requires.counts in
-    let cells : c.in-Ok.cells.kept.items ≡ set (replicate (keys_of g.notes.marks order) None) c.start_key-first.result (Some start) =
-    c.in-Ok.ensures.kept ∙ ap (λ (n : ℕ). set (replicate n None) c.start_key-first.result (Some start)) size in
+    let start : Latest = record { clock = c.start_angle-clock.result; origin = None } in
+    let words : c.len-words.result ≡ length order = omega (arith, c.len-words.ensures, keys.sites.ok.0, same_length keys c.requires) in
+    let size : keys.counts * c.len-words.result ≡ keys_of g.notes.marks order = ap (λ (n : ℕ). keys.counts * n) words ∙ ap (λ (n : ℕ). n * length order) c.requires.counts in
+    let cells : c.in-Ok.cells.kept.items ≡ set (replicate (keys_of g.notes.marks order) None) c.start_key-start.result (Some start) =
+    c.in-Ok.ensures.kept ∙ ap (λ (n : ℕ). set (replicate n None) c.start_key-start.result (Some start)) size in
     record {
       keys = c.requires;
       words = c.in-Ok.ensures.words ∙ words;
       counts = c.in-Ok.ensures.counts ∙ c.requires.counts;
-      scanned = subst (λ (all : List (Option Latest)). Scanned g order 0 0 all start) (sym cells)
-          (begun g order c.start_key-first.result start c.start_key-first.ensures c.start_angle.ensures refl);
-      turns = c.none.ensures.count;
-      before = subst (λ (last : Option Turn). IsBefore last 0) (sym c.none.ensures.last) tt;
+      scanned = subst (λ (last : Latest). Scanned g order 0 0 c.in-Ok.cells.kept.items last) (sym c.in-Ok.ensures.last)
+          (subst (λ (all : List (Option Latest)). Scanned g order 0 0 all start) (sym cells)
+          (begun g order c.start_key-start.result start c.start_key-start.ensures c.start_angle-clock.ensures refl));
+      turns = c.in-Ok.ensures.turns;
+      before = subst (λ (last : Option Turn). IsBefore last 0) (sym c.in-Ok.ensures.unturned) tt;
     }

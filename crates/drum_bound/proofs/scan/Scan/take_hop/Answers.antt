@@ -1,18 +1,20 @@
-use Rattle.std.proofs.Common.{◌≡◌, ◌⊎◌, ℕ, ap, ◌∙◌, sym, subst, inl, inr, refl, arith}
+use Rattle.std.proofs.Common.{◌≡◌, ◌⊎◌, ℕ, List, Option, ap, ◌∙◌, sym, subst, inl, inr, refl, arith}
 use Rattle.drum_machine.specs.Ways.{early, late}
 use Rattle.drum_flow.specs.declared.way.Way as code
 use Rattle.drum_flow.specs.declared.way.Way.TheVariants as way
 use Rattle.drum_flow.specs.Seen.{seen_hop, seen_way}
 use Rattle.drum_flow.specs.Walk.{Setting}
+use Rattle.drum_bound.specs.declared.end.Turns.{Turns}
 use Rattle.drum_bound.specs.declared.latest.Latest.{Latest}
 use Rattle.drum_bound.specs.Keys.{place_at}
 use Rattle.drum_bound.specs.Longest.{longest}
 use Rattle.drum_bound.proofs.KeysTaken.{hop_among}
 use Rattle.drum_bound.proofs.Profiles.{hop_may_end}
-use Rattle.drum_bound.specs.Scanned.{Taking}
+use Rattle.drum_bound.specs.Scanned.{cell_at, later, Taking}
 use Rattle.drum_bound.specs.ScanOf.{setting_in, places_in}
 use Rattle.drum_bound.proofs.Scans.{Comes, take_stop}
-use Rattle.drum_bound.proofs.Taken.{next_there, goes_agreed, goes_taken}
+use Rattle.drum_bound.proofs.LaterTurns.{before_own}
+use Rattle.drum_bound.proofs.Taken.{edge_of, goes_agreed, goes_as, goes_taken}
 use Rattle.drum_bound.proofs.scan.Scan.take_hop.Goals as goal
 
 pub end-end-requires-clause-may_end : goal.end-end-requires-clause-may_end
@@ -21,16 +23,21 @@ end-end-requires-clause-may_end c =
     hop_may_end g.loads g.notes (place_at (places_in c.args.self.now) c.args.at.now.key) c.args.hop.instruction (seen_way c.args.hop.way)
     (hop_among c.args.self.now c.args.at.now.key c.args.number (seen_hop c.args.hop) c.requires.hop)
 
-pub go_on-requires-clause-next : goal.go_on-requires-clause-next
-go_on-requires-clause-next c =
-    next_there (setting_in c.args.self.now) (places_in c.args.self.now) c.requires.keys.ordered.0 c.args.at.now.key (omega (arith, c.requires.at.below, c.requires.keys.size))
+pub go_on-requires-clause-edge : goal.go_on-requires-clause-edge
+go_on-requires-clause-edge c =
+    edge_of (setting_in c.args.self.now) (places_in c.args.self.now) c.requires.keys.ordered.0 c.args.at.now.key (omega (arith, c.requires.at.below, c.requires.keys.size))
     (seen_hop c.args.hop) c.in-To.next.number (hop_among c.args.self.now c.args.at.now.key c.args.number (seen_hop c.args.hop) c.requires.hop) (ap seen_way c.in-To.is)
+
+pub go_on-requires-clause-before : goal.go_on-requires-clause-before
+go_on-requires-clause-before c = before_own c.end-end.new.self.turns.last c.args.at.now.key c.args.number c.end-end.ensures.turn
 
 pub returns-in-To-clause-agreed : goal.returns-in-To-clause-agreed
 returns-in-To-clause-agreed c =
     goes_agreed (setting_in c.args.self.now) (places_in c.args.self.now) c.requires.keys.ordered.0 c.args.at.now.key (omega (arith, c.requires.at.below, c.requires.keys.size))
-    (seen_hop c.args.hop) c.in-To.next.number c.end-end.result.latest c.args.self.now.cells.kept.items c.args.self.now.last c.go_on.new.self.cells.kept.items c.go_on.new.self.last
-    (hop_among c.args.self.now c.args.at.now.key c.args.number (seen_hop c.args.hop) c.requires.hop) (ap seen_way c.in-To.is) c.go_on.ensures.goes
+    (seen_hop c.args.hop) c.in-To.next.number c.end-end.result.latest c.args.self.now.cells.kept.items c.args.self.now.cells.last c.go_on.new.self.cells.kept.items c.go_on.new.self.cells.last
+    (hop_among c.args.self.now c.args.at.now.key c.args.number (seen_hop c.args.hop) c.requires.hop) (ap seen_way c.in-To.is)
+    (goes_as (setting_in c.args.self.now) (places_in c.args.self.now) c.args.at.now.key c.in-To.next.number c.end-end.result.latest c.end-end.new.self.kept.items c.args.self.now.cells.kept.items
+    c.end-end.new.self.last c.args.self.now.cells.last c.go_on.new.self.cells.kept.items c.go_on.new.self.cells.last c.end-end.ensures.kept c.end-end.ensures.last c.go_on.ensures.goes)
 
 pub returns-in-To-clause-taken : goal.returns-in-To-clause-taken
 returns-in-To-clause-taken c =
@@ -45,7 +52,9 @@ returns-in-To-clause-taken c =
       hop = hop_among c.args.self.now at.key c.args.number (seen_hop c.args.hop) c.requires.hop;
     } in
     goes_taken g order c.requires.keys.ordered.0 at.key (omega (arith, c.requires.at.below, c.requires.keys.size)) c.args.clock (record { key = at.key; hop = c.args.hop })
-    c.in-To.next.number new c.args.self.now.cells.kept.items c.args.self.now.last c.go_on.new.self.cells.kept.items c.go_on.new.self.last comes (ap seen_way c.in-To.is) c.go_on.ensures.goes
+    c.in-To.next.number new c.args.self.now.cells.kept.items c.args.self.now.cells.last c.go_on.new.self.cells.kept.items c.go_on.new.self.cells.last comes (ap seen_way c.in-To.is)
+    (goes_as (setting_in c.args.self.now) (places_in c.args.self.now) c.args.at.now.key c.in-To.next.number c.end-end.result.latest c.end-end.new.self.kept.items c.args.self.now.cells.kept.items
+    c.end-end.new.self.last c.args.self.now.cells.last c.go_on.new.self.cells.kept.items c.go_on.new.self.cells.last c.end-end.ensures.kept c.end-end.ensures.last c.go_on.ensures.goes)
 
 pub returns-in-Early : goal.returns-in-Early
 returns-in-Early c =
@@ -59,16 +68,19 @@ returns-in-Early c =
       ended = c.end-end.ensures.clock ∙ ap (λ (place : ℕ). longest g.times place c.args.hop.instruction (seen_way c.args.hop.way) c.args.clock) c.requires.at.there;
       hop = hop_among c.args.self.now at.key c.args.number (seen_hop c.args.hop) c.requires.hop;
     } in
+    let kept : c.stop.new.self.kept.items ≡ c.args.self.now.cells.kept.items = c.stop.ensures.kept ∙ c.end-end.ensures.kept in
+    let last : c.stop.new.self.last ≡ later c.args.self.now.cells.last new = c.stop.ensures.last ∙ ap (λ (l : Latest). later l new) c.end-end.ensures.last in
     record {
       times = refl;
       keys = refl;
-      counted = c.end-end.ensures.counted;
-      last = c.end-end.ensures.last;
-      words = refl;
-      counts = refl;
-      agreed = λ other within. refl;
-      taken = λ left taking. subst (λ (l : Latest). Taking g order at.key c.args.clock left c.args.self.now.cells.kept.items l) (sym c.raise.ensures)
-          (take_stop g order at.key c.args.clock (record { key = at.key; hop = c.args.hop }) new left c.args.self.now.cells.kept.items c.args.self.now.last comes (stops c.args.hop.way c.in-Early.is) taking);
+      counted = ap (λ (turns : Turns). turns.count) c.stop.ensures.turns ∙ c.end-end.ensures.counted;
+      last = ap (λ (turns : Turns). turns.last) c.stop.ensures.turns ∙ c.end-end.ensures.turn;
+      words = c.stop.ensures.words ∙ c.end-end.ensures.words;
+      counts = c.stop.ensures.counts ∙ c.end-end.ensures.counts;
+      agreed = λ other within. ap (λ (all : List (Option Latest)). cell_at all other) kept;
+      taken = λ left taking. subst (λ (all : List (Option Latest)). Taking g order at.key c.args.clock left all c.stop.new.self.last) (sym kept)
+          (subst (λ (l : Latest). Taking g order at.key c.args.clock left c.args.self.now.cells.kept.items l) (sym last)
+          (take_stop g order at.key c.args.clock (record { key = at.key; hop = c.args.hop }) new left c.args.self.now.cells.kept.items c.args.self.now.cells.last comes (stops c.args.hop.way c.in-Early.is) taking));
     }
   where
     stops : (w : code.Way) → (w ≡ way.Early) ⊎ (w ≡ way.Late) → (seen_way w ≡ early) ⊎ (seen_way w ≡ late)

@@ -15,11 +15,11 @@ invariant-loop-number l = record {
   keys : l.self.keys ≡ l.fn.self.keys;
   words : l.self.cells.words ≡ l.fn.self.cells.words;
   counts : l.self.cells.counts ≡ l.fn.self.cells.counts;
-  taking : Taking (setting_in l.fn.self) (places_in l.fn.self) l.key l.latest.clock (hops_left (enumerate_source l.number-iterator)) l.self.cells.kept.items l.self.last;
-  turns : l.self.turns.count + length (hops_left (enumerate_source l.number-iterator))
-      ≡ l.fn.self.turns.count + length (hops (setting_in l.fn.self).loads (setting_in l.fn.self).notes (place_at (places_in l.fn.self) l.key));
+  taking : Taking (setting_in l.fn.self) (places_in l.fn.self) l.key l.latest.clock (hops_left (enumerate_source l.number-iterator)) l.self.cells.kept.items l.self.cells.last;
+  turns : l.self.cells.turns.count + length (hops_left (enumerate_source l.number-iterator))
+      ≡ l.fn.self.cells.turns.count + length (hops (setting_in l.fn.self).loads (setting_in l.fn.self).notes (place_at (places_in l.fn.self) l.key));
   agreed : IsAgreed l.key l.fn.self.cells.kept.items l.self.cells.kept.items;
   left : drop (enumerate_count l.number-iterator) (hops (setting_in l.fn.self).loads (setting_in l.fn.self).notes (place_at (places_in l.fn.self) l.key))
       ≡ hops_left (enumerate_source l.number-iterator);
-  later : IsLater l.self.turns.last (record { key = l.key; hop = enumerate_count l.number-iterator });
+  later : IsLater l.self.cells.turns.last (record { key = l.key; hop = enumerate_count l.number-iterator });
 }
