@@ -18,7 +18,7 @@ use Rattle.drum_bound.specs.declared.keys.Keys.{Keys}
 use Rattle.drum_bound.specs.declared.latest.Latest.{Latest}
 use Rattle.drum_bound.specs.declared.scan.Scan.{Scan}
 use Rattle.drum_bound.specs.AnalysisOf.{IsAnalysis, ArePasses, setting, angle_of, bound_of, counts_in_all, passed_of, rows_of, turns_of, visits_of, words_of}
-use Rattle.drum_bound.specs.Ends.{End, AreEnds, AreRaised}
+use Rattle.drum_bound.specs.Ends.{HopEnd, AreEnds, AreRaised}
 use Rattle.drum_bound.proofs.EntriesRaised.{are_raised}
 use Rattle.drum_bound.proofs.EntryEnds.{ends_of, are_ends, as_many_ends}
 use Rattle.drum_bound.specs.Keys.{keys_of, IsOrdered}
@@ -88,8 +88,8 @@ is_analysis g order cells last analysis ordered starts s told =
     ap (λ (words : ℕ). words * counts_in_all analysis) told.words ∙ ap (λ (counts : ℕ). length order * counts) told.counts in
     let table : IsTable g rows = is_table g order cells last ordered starts s in
     let turns : turns_of analysis ≡ turns_in rows = told.turns ∙ sym (turns_of_rows g order cells size) in
-    let ends : (ends : List End) × AreEnds g rows ends × (turns_of analysis ≡ length ends) =
-    (ends_of g rows, are_ends g rows table.apart, turns ∙ sym (as_many_ends g rows)) in
+    let ends : (ends : List HopEnd) × AreEnds g rows ends × AreRaised g rows ends × (turns_of analysis ≡ length ends) =
+    (ends_of g rows, are_ends g rows table.apart, are_raised g order cells last ordered starts s, turns ∙ sym (as_many_ends g rows)) in
     record {
       worst = subst (IsWorst g) (sym told.bound) (is_worst g order cells last ordered starts s);
       walk = subst (λ (angle : ℕ). IsWalkOf g angle (bound_of analysis) (visits_of analysis)) (sym told.angle)
@@ -99,8 +99,8 @@ is_analysis g order cells last analysis ordered starts s told =
       executed = told.words;
       counts = told.counts;
       turns = subst (λ (some : List Row). turns_of analysis ≡ turns_in some) (sym told.rows) turns;
-      ends = subst (λ (some : List Row). (ends : List End) × AreEnds g some ends × (turns_of analysis ≡ length ends)) (sym told.rows) ends;
-      raised = subst (AreRaised g) (sym told.rows) (are_raised g order cells last ordered starts s);
+      ends = subst (λ (some : List Row). (ends : List HopEnd) × AreEnds g some ends × AreRaised g some ends × (turns_of analysis ≡ length ends))
+          (sym told.rows) ends;
       passed = told.passed;
       below = omega (arith, told.bound, s.last_near, ordered.few);
     }

@@ -1,16 +1,18 @@
--- The entries of the table that a finished scan holds are raised by the ends of hops alone.
+-- The entries of the table that a finished scan holds are raised by the ends of their hops.
 use Rattle.std.proofs.Common.{◌≡◌, ℕ, zero, suc, ◌+◌, ◌-◌, ◌*◌, ◌%◌, ◌<◌, ◌≤◌, ◌⊎◌, List, [], ◌∷◌, refl, ap, sym, ◌∙◌, subst, inl, inr, Option, Some, None, arith}
 use Rattle.std.specs.Prelude.{Contains}
 use Rattle.drum_times.specs.declared.notes.mark.Mark.{Mark}
 use Rattle.drum_machine.specs.Counts.{after_pass, no_counts, AreWithin}
 use Rattle.drum_machine.specs.Ways.{Way, to}
 use Rattle.drum_flow.specs.Hops.{Hop, hops}
+use Rattle.drum_flow.specs.Lists.{contains_at, contains_from_get}
 use Rattle.drum_flow.specs.Seen.{seen_hop}
 use Rattle.drum_flow.specs.Walk.{Setting}
 use Rattle.drum_bound.specs.declared.latest.Latest.{Latest}
 use Rattle.drum_bound.specs.declared.latest.Origin.{Origin}
 use Rattle.drum_bound.proofs.DigitsLaws.{number_injective}
-use Rattle.drum_bound.specs.Ends.{latest_end, Leads, LeadsAt, AreRaised}
+use Rattle.drum_bound.specs.Ends.{HopEnd, IsHop, LeadsTo, start_row, AreRaised}
+use Rattle.drum_bound.proofs.EntryEnds.{latest_end, end_of, ends_of, IsEndIn, end_in, has_in}
 use Rattle.drum_bound.specs.Keys.{keys_of, place_at, counts_at, IsKey, IsOrdered}
 use Rattle.drum_bound.proofs.KeyLaws.{counts_within, one_key}
 use Rattle.drum_bound.specs.Longest.{longest}
@@ -27,10 +29,14 @@ number_none (mark ∷ marks) =
     let others : (mark.most + 1) * number_of marks (no_counts marks) ≡ (mark.most + 1) * 0 = ap (λ (n : ℕ). (mark.most + 1) * n) (number_none marks) in
     omega (arith, others)
 
--- an end of a hop of one entry that leads to another is no later than that
+-- an entry is the start's, or has the time of an end of these entries' that leads to it
+abbrev IsRaised : Setting → List Row → Row → Type 0
+IsRaised g rows row = (row ≡ start_row g) ⊎ ((end : HopEnd) × Contains (ends_of g rows) end × LeadsTo g end row × (row.time ≡ end.ended))
+
+-- no end of a hop of one entry that leads to another is later than that
 abbrev IsNoLater : Setting → Row → Row → Type 0
 IsNoLater g row next =
-    (hop : Hop) → Contains (hops g.loads g.notes row.place) hop → Leads g row hop next → latest_end g row.place hop row.time ≤ next.time
+    (number : ℕ) (hop : Hop) → IsHop g row.place number hop → LeadsTo g (end_of g row number hop) next → latest_end g row.place hop row.time ≤ next.time
 
 module _ (g : Setting) (order : List ℕ) (cells : List (Option Latest)) (last : Latest)
     (ordered : IsOrdered g.loads g.notes g.start order) (starts : g.start < 2000)
@@ -60,26 +66,26 @@ module _ (g : Setting) (order : List ℕ) (cells : List (Option Latest)) (last :
       go None is = is.1
       go (Some origin) is = absurd (omega (arith, is.1.later, not_first_below (origin.key + 1) origin.key is.0.kept (omega arith) is.0.there))
 
-  -- the row of the start
-  start_row : Contains (rows_below g order cells (keys_of g.notes.marks order)) (record { place = g.start; angle = (g.start + 1) % 50; counts = 0; time = 0 })
-  start_row =
+  -- a key of the start with no mark passed has the start's row, where the moment of the start is kept
+  as_start : (key : ℕ) (kept : Latest) → IsKey g.notes.marks order key g.start (no_counts g.notes.marks) → kept.clock ≡ start_angle g.start
+      → row_of g order key kept ≡ start_row g
+  as_start key kept is now =
       let row : ℕ → ℕ → ℕ → ℕ → Row = λ place angle counts time. record { place = place; angle = angle; counts = counts; time = time } in
-      let Has : Row → Type 0 = Contains (rows_below g order cells (keys_of g.notes.marks order)) in
-      let key : ℕ = s.begins.key in
-      let clock : ℕ = s.begins.kept.clock in
+      let clock : ℕ = kept.clock in
       let number : ℕ = number_of g.notes.marks (counts_at g.notes.marks order key) in
-      let angle : clock % 50 ≡ (g.start + 1) % 50 = omega (arith, start_now) in
-      let none : number ≡ 0 = ap (number_of g.notes.marks) s.begins.is.passed ∙ number_none g.notes.marks in
-      let time : clock - start_angle g.start ≡ 0 = omega (arith, start_now) in
-      let own : Has (row (place_at order key) (clock % 50) number (clock - start_angle g.start)) =
-      has_row g order cells (keys_of g.notes.marks order) key s.begins.kept s.begins.is.below s.begins.there in
-      let placed : Has (row g.start (clock % 50) number (clock - start_angle g.start)) =
-      subst (λ (n : ℕ). Has (row n (clock % 50) number (clock - start_angle g.start))) s.begins.is.at own in
-      let angled : Has (row g.start ((g.start + 1) % 50) number (clock - start_angle g.start)) =
-      subst (λ (n : ℕ). Has (row g.start n number (clock - start_angle g.start))) angle placed in
-      let counted : Has (row g.start ((g.start + 1) % 50) 0 (clock - start_angle g.start)) =
-      subst (λ (n : ℕ). Has (row g.start ((g.start + 1) % 50) n (clock - start_angle g.start))) none angled in
-      subst (λ (n : ℕ). Has (row g.start ((g.start + 1) % 50) 0 n)) time counted
+      let none : number ≡ 0 = ap (number_of g.notes.marks) is.passed ∙ number_none g.notes.marks in
+      let angle : clock % 50 ≡ (g.start + 1) % 50 = omega (arith, now) in
+      let time : clock - start_angle g.start ≡ 0 = omega (arith, now) in
+      ap (λ (n : ℕ). row n (clock % 50) number (clock - start_angle g.start)) is.at
+      ∙ ap (λ (n : ℕ). row g.start n number (clock - start_angle g.start)) angle
+      ∙ ap (λ (n : ℕ). row g.start ((g.start + 1) % 50) n (clock - start_angle g.start)) none
+      ∙ ap (λ (n : ℕ). row g.start ((g.start + 1) % 50) 0 n) time
+
+  -- so the start's row is there
+  has_start : Contains (rows_below g order cells (keys_of g.notes.marks order)) (start_row g)
+  has_start =
+      subst (Contains (rows_below g order cells (keys_of g.notes.marks order))) (as_start s.begins.key s.begins.kept s.begins.is start_now)
+      (has_row g order cells (keys_of g.notes.marks order) s.begins.key s.begins.kept s.begins.is.below s.begins.there)
 
   -- the latest end of a hop from what is kept at a key, as word times used
   ends_from : (key : ℕ) (kept : Latest) (hop : Hop) → cell_at cells key ≡ Some kept
@@ -91,61 +97,71 @@ module _ (g : Setting) (order : List ℕ) (cells : List (Option Latest)) (last :
 
   -- a key's row is the start's, or raised by an end that leads to it
   row_raised : (key : ℕ) (kept : Latest) → cell_at cells key ≡ Some kept
-      → ((place_at order key ≡ g.start) × (number_of g.notes.marks (counts_at g.notes.marks order key) ≡ 0))
-      ⊎ LeadsAt g (rows_below g order cells (keys_of g.notes.marks order)) (row_of g order key kept) (kept.clock - start_angle g.start)
+      → IsRaised g (rows_below g order cells (keys_of g.notes.marks order)) (row_of g order key kept)
   row_raised key kept there = go kept.origin (s.backed key kept there)
     where
       go : (origin : Option Origin) → IsBackedBy g order (keys_of g.notes.marks order) cells key kept.clock origin
-          → ((place_at order key ≡ g.start) × (number_of g.notes.marks (counts_at g.notes.marks order key) ≡ 0))
-          ⊎ LeadsAt g (rows_below g order cells (keys_of g.notes.marks order)) (row_of g order key kept) (kept.clock - start_angle g.start)
-      go None is = inl (is.0.at, ap (number_of g.notes.marks) is.0.passed ∙ number_none g.notes.marks)
+          → IsRaised g (rows_below g order cells (keys_of g.notes.marks order)) (row_of g order key kept)
+      go None is = inl (as_start key kept is.0 is.1)
       go (Some origin) is =
+          let marks : List Mark = g.notes.marks in
           let hop : Hop = seen_hop origin.hop in
           let from : ℕ = origin.key in
-          inr (record {
-            row = row_of g order from is.0.kept;
-            there = has_row g order cells (keys_of g.notes.marks order) from is.0.kept is.0.below is.0.there;
+          let row : Row = row_of g order from is.0.kept in
+          let at : (number : ℕ) × IsHop g (place_at order from) number hop = contains_at (hops g.loads g.notes (place_at order from)) hop is.0.hop in
+          let leads : LeadsTo g (end_of g row at.0 hop) (row_of g order key kept) = record {
             hop = hop;
-            of = is.0.hop;
-            leads = record {
-              onto = is.1.onto;
-              passes = counts_at g.notes.marks order from;
-              within = counts_within g.notes.marks order from is.0.below;
-              from = refl;
-              open_still = subst (AreWithin g.notes.marks) is.1.passed is.1.within;
-              onto_counts = ap (number_of g.notes.marks) (sym is.1.passed);
-            };
-            ends = ap (λ (clock : ℕ). clock - start_angle g.start) is.0.end ∙ ends_from from is.0.kept hop is.0.there;
-          })
+            of = at.1;
+            onto = is.1.onto;
+            passes = counts_at marks order from;
+            within = counts_within marks order from is.0.below;
+            before = refl;
+            unbarred = subst (AreWithin marks) is.1.passed is.1.within;
+            after = ap (number_of marks) (sym is.1.passed);
+          } in
+          inr (
+            end_of g row at.0 hop,
+            has_in g (rows_below g order cells (keys_of marks order)) row at.0 hop
+                (has_row g order cells (keys_of marks order) from is.0.kept is.0.below is.0.there) at.1,
+            leads,
+            ap (λ (clock : ℕ). clock - start_angle g.start) is.0.end ∙ ends_from from is.0.kept hop is.0.there,
+          )
+
+  -- two hops of one number of a location are one
+  one_hop : (place number : ℕ) (hop other : Hop) → IsHop g place number hop → IsHop g place number other → hop ≡ other
+  one_hop place number hop other is same = go (sym is ∙ same)
+    where
+      go : Some hop ≡ Some other → hop ≡ other
+      go e = cc
 
   -- and by none is it passed
   row_no_later : (from : ℕ) (one : Latest) (key : ℕ) (kept : Latest) → cell_at cells from ≡ Some one → cell_at cells key ≡ Some kept
       → IsNoLater g (row_of g order from one) (row_of g order key kept)
-  row_no_later from one key kept at there hop has leads =
+  row_no_later from one key kept at there number hop is leads =
       let marks : List Mark = g.notes.marks in
       let inside : from < keys_of marks order = is_inside g order cells last ordered starts s from one at in
       let passed : List ℕ → List ℕ = λ counts. after_pass marks (place_at order from) (place_at order key) counts in
       let end : ℕ = end_from g order from hop one.clock in
       let passes : leads.passes ≡ counts_at marks order from =
-      number_injective marks leads.passes (counts_at marks order from) leads.within (counts_within marks order from inside) leads.from in
+      number_injective marks leads.passes (counts_at marks order from) leads.within (counts_within marks order from inside) leads.before in
       let within : AreWithin marks (passed (counts_at marks order from)) =
-      subst (λ (counts : List ℕ). AreWithin marks (passed counts)) passes leads.open_still in
-      let number : number_of marks (passed (counts_at marks order from)) ≡ number_of marks (counts_at marks order key) =
-      subst (λ (counts : List ℕ). number_of marks (passed counts) ≡ number_of marks (counts_at marks order key)) passes leads.onto_counts in
+      subst (λ (counts : List ℕ). AreWithin marks (passed counts)) passes leads.unbarred in
+      let counts : number_of marks (passed (counts_at marks order from)) ≡ number_of marks (counts_at marks order key) =
+      subst (λ (counts : List ℕ). number_of marks (passed counts) ≡ number_of marks (counts_at marks order key)) passes leads.after in
+      let onto : hop.way ≡ to (place_at order key) =
+      ap (λ (h : Hop). h.way) (one_hop (place_at order from) number hop leads.hop is leads.of) ∙ leads.onto in
+      let has : Contains (hops g.loads g.notes (place_at order from)) hop = contains_from_get (hops g.loads g.notes (place_at order from)) number hop is in
       let took : IsTakenBy g order cells last.clock from end (to (place_at order key)) =
-      subst (λ (way : Way). IsTakenBy g order cells last.clock from end way) leads.onto (s.took from one hop inside at has) in
+      subst (λ (way : Way). IsTakenBy g order cells last.clock from end way) onto (s.took from one hop inside at has) in
       let came : Arrives marks order cells (place_at order key) (passed (counts_at marks order from)) end = (took within).1 in
       let same : came.key ≡ key =
       one_row g order cells came.key key ordered.different came.is.below (is_inside g order cells last ordered starts s key kept there)
-      came.is.at (ap (number_of marks) came.is.passed ∙ number) in
+      came.is.at (ap (number_of marks) came.is.passed ∙ counts) in
       omega (arith, came.after, one_kept g order cells last ordered starts s came.key key came.kept kept same came.there there, ends_from from one hop at)
 
   -- so with all rows
-  raised_row : (row : Row) → IsRowOf g order cells (keys_of g.notes.marks order) row
-      → ((row.place ≡ g.start) × (row.counts ≡ 0)) ⊎ LeadsAt g (rows_below g order cells (keys_of g.notes.marks order)) row row.time
-  raised_row row of =
-      subst (λ (one : Row). ((one.place ≡ g.start) × (one.counts ≡ 0)) ⊎ LeadsAt g (rows_below g order cells (keys_of g.notes.marks order)) one one.time)
-      of.is (row_raised of.key of.kept of.there)
+  raised_row : (row : Row) → IsRowOf g order cells (keys_of g.notes.marks order) row → IsRaised g (rows_below g order cells (keys_of g.notes.marks order)) row
+  raised_row row of = subst (IsRaised g (rows_below g order cells (keys_of g.notes.marks order))) of.is (row_raised of.key of.kept of.there)
 
   no_later_row : (row next : Row) → IsRowOf g order cells (keys_of g.notes.marks order) row → IsRowOf g order cells (keys_of g.notes.marks order) next
       → IsNoLater g row next
@@ -153,13 +169,17 @@ module _ (g : Setting) (order : List ℕ) (cells : List (Option Latest)) (last :
       subst (λ (one : Row). IsNoLater g one next) from.is
       (subst (λ (one : Row). IsNoLater g (row_of g order from.key from.kept) one) of.is (row_no_later from.key from.kept of.key of.kept from.there of.there))
 
-  -- The rows of the keys are raised by ends alone.
-  pub are_raised : AreRaised g (rows_below g order cells (keys_of g.notes.marks order))
-  are_raised = record {
-    start = start_row;
-    raised = λ row has. raised_row row (row_from g order cells (keys_of g.notes.marks order) row has);
-    most = λ row time has leads.
-        let size : ℕ = keys_of g.notes.marks order in
-        let none_later = no_later_row leads.row row (row_from g order cells size leads.row leads.there) (row_from g order cells size row has) in
-        omega (arith, leads.ends, none_later leads.hop leads.of leads.leads);
-  }
+  -- The rows of the keys are raised by the ends of their hops.
+  pub are_raised : AreRaised g (rows_below g order cells (keys_of g.notes.marks order)) (ends_of g (rows_below g order cells (keys_of g.notes.marks order)))
+  are_raised =
+      let size : ℕ = keys_of g.notes.marks order in
+      let rows : List Row = rows_below g order cells size in
+      record {
+        start = has_start;
+        raised = λ row has. raised_row row (row_from g order cells size row has);
+        most = λ row end has made leads.
+            let one : IsEndIn g rows end = end_in g rows end made in
+            let none_later : IsNoLater g one.row row =
+            no_later_row one.row row (row_from g order cells size one.row one.there) (row_from g order cells size row has) in
+            subst (λ (e : HopEnd). LeadsTo g e row → e.ended ≤ row.time) one.same (none_later one.number one.hop one.of) leads;
+      }

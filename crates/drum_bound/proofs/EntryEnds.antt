@@ -1,5 +1,5 @@
 -- The ends of the hops of a table's entries: of each entry in order, those of its location's hops by their numbers.
-use Rattle.std.proofs.Common.{◌≡◌, ℕ, zero, suc, ◌+◌, List, [], ◌∷◌, ◌++◌, length, map, Some, refl, ap, sym, ◌∙◌, subst, inl, inr, arith}
+use Rattle.std.proofs.Common.{◌≡◌, ℕ, zero, suc, ◌+◌, ◌-◌, ◌%◌, List, [], ◌∷◌, ◌++◌, length, map, Some, refl, ap, sym, ◌∙◌, subst, inl, inr, arith}
 use Rattle.std.specs.Prelude.{slice_get, Contains, sum}
 use Rattle.std.proofs.lemmas.List.{length-append}
 use Rattle.std.proofs.lemmas.List.Elements.{Contains-append_left, Contains-append_right, Contains-append_cases}
@@ -7,32 +7,40 @@ use Rattle.std.proofs.lemmas.List.Sums.{sum-map, sum_by-cons}
 use Rattle.drum_flow.specs.Hops.{Hop, hops}
 use Rattle.drum_flow.specs.Lists.{contains_here, contains_there, contains_cases, contains_none}
 use Rattle.drum_flow.specs.Walk.{Setting}
-use Rattle.drum_bound.specs.Ends.{End, latest_end, IsEndOf, IsHop, AreUnlike, AreEnds}
+use Rattle.drum_bound.specs.Ends.{HopEnd, IsHop, IsHopEnd, AreUnlike, AreEnds}
+use Rattle.drum_bound.specs.Longest.{longest}
+use Rattle.drum_bound.proofs.LongestLaws.{longest_later}
 use Rattle.drum_bound.specs.Table.{Row, AreApart}
 
+-- the word times used at the latest at the end of a hop that begins when so many are, from the angle behind the start's
+abbrev pub latest_end : Setting → ℕ → Hop → ℕ → ℕ
+latest_end g place hop begun =
+    let angle = (g.start + 1) % 50 in
+    longest g.times place hop.ins hop.way (angle + begun) - angle
+
 -- the end of an entry's hop of this number
-abbrev pub end_of : Setting → Row → ℕ → Hop → End
+abbrev pub end_of : Setting → Row → ℕ → Hop → HopEnd
 end_of g row number hop = record { place = row.place; counts = row.counts; hop = number; begun = row.time; ended = latest_end g row.place hop row.time }
 
 -- the ends of some of an entry's hops, numbered from this number on
-abbrev pub ends_at : Setting → Row → ℕ → List Hop → List End
+abbrev pub ends_at : Setting → Row → ℕ → List Hop → List HopEnd
 ends_at g row number [] = []
 ends_at g row number (hop ∷ left) = end_of g row number hop ∷ ends_at g row (number + 1) left
 
 -- the ends of all hops of these entries
-abbrev pub ends_of : Setting → List Row → List End
+abbrev pub ends_of : Setting → List Row → List HopEnd
 ends_of g [] = []
 ends_of g (row ∷ rows) = ends_at g row 0 (hops g.loads g.notes row.place) ++ ends_of g rows
 
 -- an end is that of one of some hops of an entry, numbered from this number on
-record IsOneOf (g : Setting) (row : Row) (number : ℕ) (left : List Hop) (end : End) : Type 0 where
+record IsOneOf (g : Setting) (row : Row) (number : ℕ) (left : List Hop) (end : HopEnd) : Type 0 where
   more : ℕ
   hop : Hop
   at : slice_get left more ≡ Some hop
   same : end_of g row (number + more) hop ≡ end
 
 -- each end of some hops is that of one of them
-one_at : (g : Setting) (row : Row) (number : ℕ) (left : List Hop) (end : End) → Contains (ends_at g row number left) end → IsOneOf g row number left end
+one_at : (g : Setting) (row : Row) (number : ℕ) (left : List Hop) (end : HopEnd) → Contains (ends_at g row number left) end → IsOneOf g row number left end
 one_at g row number [] end has = absurd (contains_none end has)
 one_at g row number (hop ∷ left) end has =
     elim (contains_cases (end_of g row number hop) end (ends_at g row (number + 1) left) has) [
@@ -65,14 +73,14 @@ unlike_at g row number [] = tt
 unlike_at g row number (hop ∷ left) = (
   λ other there places counts same.
       let of : IsOneOf g row (number + 1) left other = one_at g row (number + 1) left other there in
-      let numbers : number + 1 + of.more ≡ other.hop = ap (λ (end : End). end.hop) of.same in
+      let numbers : number + 1 + of.more ≡ other.hop = ap (λ (end : HopEnd). end.hop) of.same in
       omega (arith, same, numbers),
   unlike_at g row (number + 1) left,
 )
 
 -- ends of which no two are alike, and others that none of them is like
-unlike_append : (ends others : List End) → AreUnlike ends → AreUnlike others
-    → ((end other : End) → Contains ends end → Contains others other → end.place ≡ other.place → end.counts ≡ other.counts → ⊥) → AreUnlike (ends ++ others)
+unlike_append : (ends others : List HopEnd) → AreUnlike ends → AreUnlike others
+    → ((end other : HopEnd) → Contains ends end → Contains others other → end.place ≡ other.place → end.counts ≡ other.counts → ⊥) → AreUnlike (ends ++ others)
 unlike_append [] others unlike rest apart = rest
 unlike_append (end ∷ ends) others unlike rest apart = (
   λ other there places counts same. elim (Contains-append_cases ends others other there) [
@@ -83,24 +91,37 @@ unlike_append (end ∷ ends) others unlike rest apart = (
 )
 
 -- an end is that of a hop of one of these entries
-record IsOneOfAll (g : Setting) (rows : List Row) (end : End) : Type 0 where
-  row : Row
-  there : Contains rows row
-  of : IsOneOf g row 0 (hops g.loads g.notes row.place) end
+pub record IsEndIn (g : Setting) (rows : List Row) (end : HopEnd) : Type 0 where
+  pub row : Row
+  pub number : ℕ
+  pub hop : Hop
+  pub there : Contains rows row
+  pub of : IsHop g row.place number hop
+  pub same : end_of g row number hop ≡ end
 
 -- each of the ends is that of a hop of an entry
-one_in : (g : Setting) (rows : List Row) (end : End) → Contains (ends_of g rows) end → IsOneOfAll g rows end
-one_in g [] end has = absurd (contains_none end has)
-one_in g (row ∷ rows) end has =
+pub end_in : (g : Setting) (rows : List Row) (end : HopEnd) → Contains (ends_of g rows) end → IsEndIn g rows end
+end_in g [] end has = absurd (contains_none end has)
+end_in g (row ∷ rows) end has =
     elim (Contains-append_cases (ends_at g row 0 (hops g.loads g.notes row.place)) (ends_of g rows) end has) [
-      | inl here ↦ record { row = row; there = contains_here row rows; of = one_at g row 0 (hops g.loads g.notes row.place) end here }
+      | inl here ↦ (
+          let one : IsOneOf g row 0 (hops g.loads g.notes row.place) end = one_at g row 0 (hops g.loads g.notes row.place) end here in
+          let number : one.more ≡ 0 + one.more = omega arith in
+          record {
+            row = row;
+            number = one.more;
+            hop = one.hop;
+            there = contains_here row rows;
+            of = one.at;
+            same = ap (λ (n : ℕ). end_of g row n one.hop) number ∙ one.same;
+          })
       | inr behind ↦ (
-          let one : IsOneOfAll g rows end = one_in g rows end behind in
-          record { row = one.row; there = contains_there row one.row rows one.there; of = one.of })
+          let one : IsEndIn g rows end = end_in g rows end behind in
+          record { row = one.row; number = one.number; hop = one.hop; there = contains_there row one.row rows one.there; of = one.of; same = one.same })
     ]
 
 -- and each hop of each entry has its end
-has_in : (g : Setting) (rows : List Row) (row : Row) (number : ℕ) (hop : Hop) → Contains rows row → IsHop g row.place number hop
+pub has_in : (g : Setting) (rows : List Row) (row : Row) (number : ℕ) (hop : Hop) → Contains rows row → IsHop g row.place number hop
     → Contains (ends_of g rows) (end_of g row number hop)
 has_in g [] row number hop has is = absurd (contains_none row has)
 has_in g (first ∷ rows) row number hop has is =
@@ -125,37 +146,39 @@ unlike_in g (row ∷ rows) apart =
     (unlike_at g row 0 (hops g.loads g.notes row.place)) (unlike_in g rows apart.1)
     (λ end other here behind places counts.
     let of : IsOneOf g row 0 (hops g.loads g.notes row.place) end = one_at g row 0 (hops g.loads g.notes row.place) end here in
-    let one : IsOneOfAll g rows other = one_in g rows other behind in
+    let one : IsEndIn g rows other = end_in g rows other behind in
     apart.0 one.row one.there
-    (ap (λ (e : End). e.place) of.same ∙ places ∙ ap (λ (e : End). e.place) (sym one.of.same))
-    (ap (λ (e : End). e.counts) of.same ∙ counts ∙ ap (λ (e : End). e.counts) (sym one.of.same)))
+    (ap (λ (e : HopEnd). e.place) of.same ∙ places ∙ ap (λ (e : HopEnd). e.place) (sym one.same))
+    (ap (λ (e : HopEnd). e.counts) of.same ∙ counts ∙ ap (λ (e : HopEnd). e.counts) (sym one.same)))
 
--- an end that one of the entries has
-is_end : (g : Setting) (row : Row) (number : ℕ) (hop : Hop) (end : End) → end_of g row number hop ≡ end → IsEndOf g row number hop end
-is_end g row number hop end same =
-    let own : IsEndOf g row number hop (end_of g row number hop) = record { place = refl; counts = refl; hop_of = refl; begun = refl; ended = refl } in
-    subst (IsEndOf g row number hop) same own
+-- the end of an entry's hop is as it should be
+is_end : (g : Setting) (row : Row) (number : ℕ) (hop : Hop) → IsHopEnd g row number hop (end_of g row number hop)
+is_end g row number hop = record {
+  place = refl;
+  counts = refl;
+  of = refl;
+  begun = refl;
+  ended = omega (arith, longest_later g.times row.place hop.ins hop.way ((g.start + 1) % 50 + row.time));
+}
 
 -- where an end of all is from
-whose : (g : Setting) (rows : List Row) (end : End) → IsOneOfAll g rows end
-    → (row : Row) × (hop : Hop) × Contains rows row × IsHop g row.place end.hop hop × IsEndOf g row end.hop hop end
+whose : (g : Setting) (rows : List Row) (end : HopEnd) → IsEndIn g rows end
+    → (row : Row) × (hop : Hop) × Contains rows row × IsHop g row.place end.hop hop × IsHopEnd g row end.hop hop end
 whose g rows end one =
-    let more : ℕ = one.of.more in
-    let hop : Hop = one.of.hop in
-    let numbers : 0 + more ≡ end.hop = ap (λ (e : End). e.hop) one.of.same in
-    let number : more ≡ end.hop = omega (arith, numbers) in (
+    let number : one.number ≡ end.hop = ap (λ (e : HopEnd). e.hop) one.same in (
       one.row,
-      hop,
+      one.hop,
       one.there,
-      subst (λ (n : ℕ). IsHop g one.row.place n hop) number one.of.at,
-      is_end g one.row end.hop hop end (ap (λ (n : ℕ). end_of g one.row n hop) (sym numbers) ∙ one.of.same),
+      subst (λ (n : ℕ). IsHop g one.row.place n one.hop) number one.of,
+      subst (λ (n : ℕ). IsHopEnd g one.row n one.hop end) number
+          (subst (IsHopEnd g one.row one.number one.hop) one.same (is_end g one.row one.number one.hop)),
     )
 
 -- These are the ends of the hops of a table's entries.
 pub are_ends : (g : Setting) (rows : List Row) → AreApart rows → AreEnds g rows (ends_of g rows)
 are_ends g rows apart = record {
-  each = λ end has. whose g rows end (one_in g rows end has);
-  all = λ row number hop has is. (end_of g row number hop, has_in g rows row number hop has is, is_end g row number hop (end_of g row number hop) refl);
+  each = λ end has. whose g rows end (end_in g rows end has);
+  all = λ row number hop has is. (end_of g row number hop, has_in g rows row number hop has is, is_end g row number hop);
   once = unlike_in g rows apart;
 }
 
@@ -169,7 +192,7 @@ pub as_many_ends : (g : Setting) (rows : List Row) → length (ends_of g rows) �
 as_many_ends g [] = refl
 as_many_ends g (row ∷ rows) =
     let hops_at : Row → ℕ = λ one. length (hops g.loads g.notes one.place) in
-    let here : List End = ends_at g row 0 (hops g.loads g.notes row.place) in
+    let here : List HopEnd = ends_at g row 0 (hops g.loads g.notes row.place) in
     omega (
       arith,
       length-append here (ends_of g rows),

@@ -10,7 +10,7 @@ use Rattle.drum_flow.specs.Accepted.{counts_of}
 use Rattle.drum_flow.specs.Hops.{hops}
 use Rattle.drum_flow.specs.Walk.{Setting}
 use Rattle.drum_bound.specs.declared.analysis.Analysis.{Analysis}
-use Rattle.drum_bound.specs.Ends.{End, AreEnds, AreRaised}
+use Rattle.drum_bound.specs.Ends.{HopEnd, AreEnds, AreRaised}
 use Rattle.drum_bound.specs.RowOf.{row_in}
 use Rattle.drum_bound.specs.Table.{Row, IsTable}
 use Rattle.drum_bound.specs.Visited.{Visited, IsWalkOf, passes_in, seen_visit}
@@ -44,7 +44,7 @@ counts_in_all analysis = analysis.counts
 abbrev pub words_of : Analysis → ℕ
 words_of analysis = analysis.words
 
--- how many ends of hops were looked at
+-- how many ends of hops were made
 abbrev pub turns_of : Analysis → ℕ
 turns_of analysis = analysis.turns
 
@@ -65,7 +65,6 @@ pub record IsAnalysis (g : Setting) (words : ℕ) (analysis : Analysis) : Type 0
   pub executed : words_of analysis ≡ words
   pub counts : counts_in_all analysis ≡ counts_of g.notes.marks
   pub turns : turns_of analysis ≡ sum (map (λ row. length (hops g.loads g.notes row.place)) (rows_of analysis))
-  pub ends : (ends : List End) × AreEnds g (rows_of analysis) ends × (turns_of analysis ≡ length ends)
-  pub raised : AreRaised g (rows_of analysis)
+  pub ends : (ends : List HopEnd) × AreEnds g (rows_of analysis) ends × AreRaised g (rows_of analysis) ends × (turns_of analysis ≡ length ends)
   pub passed : ArePasses g.notes.marks (visits_of analysis) (passed_of analysis)
   pub below : bound_of analysis < 2 ^ 62

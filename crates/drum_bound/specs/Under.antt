@@ -21,6 +21,6 @@ IfOn (stopped because moment) Right = Unit {0}
 -- location that it goes on to, with the passes and the word times used then.
 abbrev pub ArriveUnder : Notes → List Row → List ℕ → List Turn → Type 0
 ArriveUnder notes rows counts [] = Unit {0}
-ArriveUnder notes rows counts (turn ∷ turns) =
+ArriveUnder notes rows counts (turn ∷ steps) =
     IfOn turn.outcome (λ s. IsUnder notes.marks rows s.sought (counts_after notes counts turn) s.time)
-    × ArriveUnder notes rows (counts_after notes counts turn) turns
+    × ArriveUnder notes rows (counts_after notes counts turn) steps

@@ -12,7 +12,7 @@ ghost use Rattle.drum_flow.specs.Accepted.{IsAccepted, IsFixed};
 ghost use Rattle.drum_flow.specs.Flow.{order_in};
 ghost use Rattle.drum_flow.specs.Hops as flows;
 ghost use Rattle.drum_bound.specs.AnalysisOf.{IsAnalysis, ArePasses, setting, angle_of, bound_of, counts_in_all, passed_of, rows_of, turns_of, visits_of, words_of};
-ghost use Rattle.drum_bound.specs.Ends.{End, AreEnds, AreRaised};
+ghost use Rattle.drum_bound.specs.Ends.{HopEnd, AreEnds, AreRaised};
 ghost use Rattle.drum_bound.specs.KeysOf.{AreKeys, CanHaveKeys, setting_of};
 ghost use Rattle.drum_bound.specs.Table.{IsTable};
 ghost use Rattle.drum_bound.specs.Under.{ArriveUnder};
@@ -108,21 +108,21 @@ pub fn analyse(
         × IsAccepted (loads_in deck.now) notes.now (start_in deck.now) executed × (words_of analysis ≡ length executed)) }
     ensures worst { IfOk result (λ analysis. IsWorst (setting deck.now times.now notes.now) (bound_of analysis)) }
     ensures walk { IfOk result (λ analysis. IsWalkOf (setting deck.now times.now notes.now) (angle_of analysis) (bound_of analysis) (visits_of analysis)) }
-    ensures kept { IfOk result (λ analysis. (s : State) (turns : List Turn)
+    ensures kept { IfOk result (λ analysis. (s : State) (steps : List Turn)
         → IsFirstState (loads_in deck.now) (IsFixed (loads_in deck.now) notes.now (start_in deck.now)) (start_in deck.now) s
-        → IsRun (entry_in times.now) s turns → IsKept (loads_in deck.now) notes.now s turns → used_from 0 turns ≤ bound_of analysis) }
-    ensures under { IfOk result (λ analysis. (s : State) (turns : List Turn)
+        → IsRun (entry_in times.now) s steps → IsKept (loads_in deck.now) notes.now s steps → used_from 0 steps ≤ bound_of analysis) }
+    ensures under { IfOk result (λ analysis. (s : State) (steps : List Turn)
         → IsFirstState (loads_in deck.now) (IsFixed (loads_in deck.now) notes.now (start_in deck.now)) (start_in deck.now) s
-        → IsRun (entry_in times.now) s turns → IsKept (loads_in deck.now) notes.now s turns
-        → ArriveUnder notes.now (rows_of analysis) (no_counts notes.now.marks) turns) }
+        → IsRun (entry_in times.now) s steps → IsKept (loads_in deck.now) notes.now s steps
+        → ArriveUnder notes.now (rows_of analysis) (no_counts notes.now.marks) steps) }
     ensures table { IfOk result (λ analysis. IsTable (setting deck.now times.now notes.now) (rows_of analysis)) }
     ensures few { IfOk result (λ analysis. length (rows_of analysis) ≤ words_of analysis * counts_in_all analysis) }
     ensures counts { IfOk result (λ analysis. counts_in_all analysis ≡ said.counts_of notes.now.marks) }
     ensures turns { IfOk result (λ analysis. turns_of analysis
         ≡ sum (map (λ row. length (flows.hops (loads_in deck.now) notes.now row.place)) (rows_of analysis))) }
-    ensures ends { IfOk result (λ analysis. (ends : List End)
-        × AreEnds (setting deck.now times.now notes.now) (rows_of analysis) ends × (turns_of analysis ≡ length ends)) }
-    ensures raised { IfOk result (λ analysis. AreRaised (setting deck.now times.now notes.now) (rows_of analysis)) }
+    ensures ends { IfOk result (λ analysis. (ends : List HopEnd)
+        × AreEnds (setting deck.now times.now notes.now) (rows_of analysis) ends
+        × AreRaised (setting deck.now times.now notes.now) (rows_of analysis) ends × (turns_of analysis ≡ length ends)) }
     ensures passed { IfOk result (λ analysis. (k : ℕ) (mark : Mark) → slice_get notes.now.marks k ≡ Some mark
         → slice_index (passed_of analysis) k ≡ passes_in mark (visits_of analysis)) }
     ensures below { IfOk result (λ analysis. bound_of analysis < 2 ^ 62) }

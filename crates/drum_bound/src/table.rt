@@ -1,8 +1,7 @@
 //! The table of worst times that a finished scan holds.
 
 ghost use Rattle.std.specs.Prelude.{◌≡◌, map, Some, IfOk};
-ghost use Rattle.drum_bound.specs.RowOf.{row_in};
-ghost use Rattle.drum_bound.specs.RowOf.{row_of, rows_below};
+ghost use Rattle.drum_bound.specs.RowOf.{row_in, row_of, rows_below};
 ghost use Rattle.drum_bound.specs.ScanOf.{IsDone, places_in, setting_in, size_in};
 ghost use Rattle.drum_bound.specs.Scanned.{cell_at};
 
