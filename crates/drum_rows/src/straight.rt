@@ -102,6 +102,37 @@ fn refusals(rt: HostRuntime) -> Result<(), Fail> {
 }
 
 #[test]
+fn refusals_by_notes(rt: HostRuntime) -> Result<(), Fail> {
+    let most = "[[mark]]\nfrom = 100\nto = 100\nmost = 9999\n[[mark]]\nfrom = 100\nto = 110\nmost = 200\n";
+    let list = "[[list]]\nlocation = 100\n[[list.pattern]]\nop = 24\nd_from = 0\nd_to = 9999\ni = 106\n";
+    for (deck, more, line) in [
+        (
+            "0100 +2401060106\n0106 +0100000106\nSTART 0100\n",
+            "",
+            "fault 34 alters 0100 0106\n",
+        ),
+        (
+            "0100 +0000000106\n0106 +0100000106\nSTART 0100\n",
+            list,
+            "fault 34 alters 0100 0106\n",
+        ),
+        (
+            "0100 +4501000110\n0110 +0100000110\nSTART 0100\n",
+            most,
+            "fault 36 toolarge 4020000\n",
+        ),
+    ] {
+        let notes = format!(in rt.alloc(); "{NOTES}{more}")?;
+        let text = joined(rt.alloc(), deck, TIMES, notes.as_str())?;
+        let ran = run_text(rt.alloc(), text.as_bytes())?;
+        assert_eq!(rt; ran.err.as_str(), line, "for {deck}");
+        assert_eq!(rt; ran.out.as_str(), "", "for {deck}");
+        assert_eq!(rt; ran.status, Status::Refused, "for {deck}");
+    }
+    Ok(())
+}
+
+#[test]
 fn deck_faults(rt: HostRuntime) -> Result<(), Fail> {
     for (deck, line) in [
         ("", "fault 5 deck nostart\n"),

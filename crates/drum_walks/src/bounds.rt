@@ -1,4 +1,4 @@
-//! Bounds that are known from outside, with the entries of their tables and the ends of hops that were looked at.
+//! Bounds that are known from outside, with the entries of their tables and how many ends of hops were made.
 
 use crate::support::{Edge, Subject, analysis_of, listed, marked};
 use crate::texts::{BRANCH_BACK, EITHER, LOOPS, NOTES, ROADS, TIMES, TWO_ROADS, TWO_WORDS};
@@ -25,7 +25,7 @@ fn bounded(
     Ok(())
 }
 
-/// That a deck with these notes has this bound, so many entries and so many ends of hops that were looked at.
+/// That a deck with these notes has this bound, so many entries and so many ends of hops made.
 fn counted(
     rt: &(impl AllocGlobal + Abort),
     deck: &str,

@@ -1,7 +1,7 @@
 //! What the tests share.
 
 use crate::texts::TIMES;
-use drum_bound::{Analysis, Way, analyse};
+use drum_bound::{Analysis, Flow, Way, analyse, flow};
 use drum_core::{Deck, Reading, read_deck};
 use drum_times::{Notes, Times, read_notes, read_times};
 use std::alloc::{AllocError, Global};
@@ -58,11 +58,13 @@ impl Subject {
         })
     }
 
-    /// Its analysis, whose walk holds together.
+    /// Its analysis, whose walk and whose count of ends hold together.
     pub fn analysed(&self, rt: &(impl AllocGlobal + Abort)) -> Result<Analysis, Fail> {
         let analysis = analyse(rt.alloc(), &self.deck, &self.times, &self.notes)?;
         holds_together(rt, self, &analysis);
         counts_passes(rt, &self.notes, &analysis);
+        let flow = flow(rt.alloc(), &self.deck, &self.notes)?;
+        assert_eq!(rt; analysis.turns(), hops_of_entries(&flow, &analysis));
         Ok(analysis)
     }
 }
@@ -91,6 +93,17 @@ fn holds_together(rt: &impl Abort, subject: &Subject, analysis: &Analysis) {
         };
     }
     assert_eq!(rt; used, analysis.bound());
+}
+
+/// How many hops the locations of the entries have, over all entries.
+fn hops_of_entries(flow: &Flow, analysis: &Analysis) -> u64 {
+    let mut hops = 0u64;
+    for entry in analysis.table() {
+        for _ in flow.hops(entry.place) {
+            hops = hops.saturating_add(1);
+        }
+    }
+    hops
 }
 
 /// How often the walk goes along an edge.
