@@ -2,7 +2,7 @@
 use Rattle.std.proofs.Common.{◌≡◌, ℕ, zero, suc, ◌+◌, ◌<◌, List, [], ◌∷◌, drop, refl, ap, subst, sym, ◌∙◌, Option, Some, None, inl, inr, arith}
 use Rattle.std.specs.Prelude.{slice_get}
 use Rattle.std.proofs.lemmas.List.{drop-drop}
-use Rattle.drum_bound.specs.declared.end.Turn.{Turn}
+use Rattle.drum_bound.specs.declared.cells.end.Turn.{Turn}
 use Rattle.drum_bound.specs.Turns.{IsLater, IsBefore}
 
 -- the first of what is left of a list stands at the number of those that came before it

@@ -1,6 +1,6 @@
 -- Which hops of keys come after which.
 use Rattle.std.specs.Prelude.{◌≡◌, ℕ, ◌<◌, List, Option, Some, None, ◌⊎◌}
-use Rattle.drum_bound.specs.declared.end.Turn.{Turn}
+use Rattle.drum_bound.specs.declared.cells.end.Turn.{Turn}
 use Rattle.drum_bound.specs.declared.latest.Latest.{Latest}
 use Rattle.drum_bound.specs.Scanned.{cell_at}
 

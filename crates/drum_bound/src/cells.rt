@@ -8,11 +8,14 @@ ghost use Rattle.drum_bound.specs.Profile.{MayEnd};
 ghost use Rattle.drum_bound.specs.Scanned.{cell_at, later, raised};
 ghost use Rattle.drum_bound.specs.Turns.{IsBefore, IsLater, KeepsAt};
 
-use crate::end::{End, Turn, Turns};
+mod end;
+
 use crate::latest::Latest;
 use drum_core::Location;
 use drum_flow::Hop;
 use drum_times::Times;
+use end::Turns;
+pub use end::{End, Turn};
 use std::alloc::{AllocError, Global};
 
 /// The latest end at each key, of the hops that lead there, or the moment of the start; and the latest of all.

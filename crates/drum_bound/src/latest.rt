@@ -1,7 +1,7 @@
 ghost use Rattle.std.specs.Prelude.{◌≡◌};
 ghost use Rattle.drum_bound.specs.Scanned.{later};
 
-use crate::end::End;
+use crate::cells::End;
 use drum_flow::Hop;
 
 /// Where an end comes from: the key that a hop began at, and the hop.

@@ -5,7 +5,6 @@ mod analysing;
 pub mod analysis;
 mod cells;
 mod counts;
-mod end;
 mod keys;
 mod latest;
 mod longest;

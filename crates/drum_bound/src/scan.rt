@@ -2,8 +2,7 @@
 
 ghost use Rattle.std.specs.Prelude.{◌≡◌, ◌+◌, ◌^◌, ◌<◌, ◌≤◌, ◌∷◌, length, ℕ, List, slice_get, IfOk, Contains, Some};
 
-use crate::cells::Cells;
-use crate::end::{End, Turn};
+use crate::cells::{Cells, End, Turn};
 use crate::keys::{At, Keys};
 use drum_core::Location;
 use drum_flow::{Hop, Way};

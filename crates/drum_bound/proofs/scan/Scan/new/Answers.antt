@@ -1,6 +1,6 @@
 use Rattle.std.proofs.Common.{◌≡◌, ℕ, ◌*◌, List, length, Option, None, set, replicate, Some, ap, sym, ◌∙◌, refl, subst, arith}
 use Rattle.drum_flow.specs.Flow.{order_in}
-use Rattle.drum_bound.specs.declared.end.Turn.{Turn}
+use Rattle.drum_bound.specs.declared.cells.end.Turn.{Turn}
 use Rattle.drum_bound.specs.declared.latest.Latest.{Latest}
 use Rattle.drum_bound.specs.KeysOf.{setting_of}
 use Rattle.drum_bound.specs.Keys.{keys_of}

@@ -4,7 +4,7 @@ use Rattle.drum_flow.specs.declared.way.Way as code
 use Rattle.drum_flow.specs.declared.way.Way.TheVariants as way
 use Rattle.drum_flow.specs.Seen.{seen_hop, seen_way}
 use Rattle.drum_flow.specs.Walk.{Setting}
-use Rattle.drum_bound.specs.declared.end.Turns.{Turns}
+use Rattle.drum_bound.specs.declared.cells.end.Turns.{Turns}
 use Rattle.drum_bound.specs.declared.latest.Latest.{Latest}
 use Rattle.drum_bound.specs.Keys.{place_at}
 use Rattle.drum_bound.specs.Longest.{longest}

@@ -1,3 +1,5 @@
+//! Ends of hops, and their one maker.
+
 ghost use Rattle.std.specs.Prelude.{◌≡◌, ◌+◌, ◌<◌, ◌≤◌, ◌^◌, None, Some};
 
 use crate::latest::{Latest, Origin};
