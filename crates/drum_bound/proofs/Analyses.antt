@@ -1,5 +1,5 @@
 -- What a finished scan shows.
-use Rattle.std.proofs.Common.{◌≡◌, ℕ, ◌-◌, ◌*◌, ◌<◌, List, length, map, Option, Some, None, refl, ap, sym, ◌∙◌, subst, arith}
+use Rattle.std.proofs.Common.{◌≡◌, ℕ, ◌-◌, ◌*◌, ◌<◌, List, length, map, Option, Some, None, refl, ap, sym, ◌∙◌, subst, arith, mul_comm}
 use Rattle.std.specs.Prelude.{slice_get, sum}
 use Rattle.std.proofs.lemmas.Option.{slice_get_within}
 use Rattle.drum_core.specs.declared.deck.Deck.{Deck}
@@ -25,6 +25,7 @@ use Rattle.drum_bound.specs.Keys.{keys_of, IsOrdered}
 use Rattle.drum_bound.specs.KeysOf.{setting_of}
 use Rattle.drum_bound.specs.RowOf.{rows_below}
 use Rattle.drum_bound.proofs.Rows.{is_table, few_rows, turns_of_rows}
+use Rattle.drum_bound.proofs.ShortWalks.{short_walk}
 use Rattle.drum_bound.specs.ScanOf.{IsDone, setting_in, places_in, size_in}
 use Rattle.drum_bound.specs.Scanned.{start_angle, Scanned, turns_below}
 use Rattle.drum_bound.specs.Table.{Row, IsTable}
@@ -96,6 +97,7 @@ is_analysis g order cells last analysis ordered starts s told =
           (subst (λ (bound : ℕ). IsWalkOf g (start_angle g.start) bound (visits_of analysis)) (sym told.bound) told.walk);
       table = subst (IsTable g) (sym told.rows) table;
       few = omega (arith, product, ap length told.rows, few_rows g order cells size);
+      short = λ angle hops walk. omega (arith, product, mul_comm (length order) (counts_of g.notes.marks), short_walk g order ordered angle hops walk);
       executed = told.words;
       counts = told.counts;
       turns = subst (λ (some : List Row). turns_of analysis ≡ turns_in some) (sym told.rows) turns;

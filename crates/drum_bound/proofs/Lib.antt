@@ -18,6 +18,7 @@ pub mod Profiles
 pub mod Raises
 pub mod Rows
 pub mod Scans
+mod ShortWalks
 pub mod Sites
 pub mod Taken
 mod Traces

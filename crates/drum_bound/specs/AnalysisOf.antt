@@ -8,7 +8,7 @@ use Rattle.drum_times.specs.Allowed.{Notes}
 use Rattle.drum_times.specs.Entries.{entry_in}
 use Rattle.drum_flow.specs.Accepted.{counts_of}
 use Rattle.drum_flow.specs.Hops.{hops}
-use Rattle.drum_flow.specs.Walk.{Setting}
+use Rattle.drum_flow.specs.Walk.{Setting, Taken, IsWalk}
 use Rattle.drum_bound.specs.declared.analysis.Analysis.{Analysis}
 use Rattle.drum_bound.specs.Ends.{HopEnd, AreEnds, AreRaised}
 use Rattle.drum_bound.specs.RowOf.{row_in}
@@ -62,6 +62,7 @@ pub record IsAnalysis (g : Setting) (words : ℕ) (analysis : Analysis) : Type 0
   pub walk : IsWalkOf g (angle_of analysis) (bound_of analysis) (visits_of analysis)
   pub table : IsTable g (rows_of analysis)
   pub few : length (rows_of analysis) ≤ words_of analysis * counts_in_all analysis
+  pub short : (angle : ℕ) (hops : List Taken) → IsWalk g angle hops → length hops ≤ words_of analysis * counts_in_all analysis
   pub executed : words_of analysis ≡ words
   pub counts : counts_in_all analysis ≡ counts_of g.notes.marks
   pub turns : turns_of analysis ≡ sum (map (λ row. length (hops g.loads g.notes row.place)) (rows_of analysis))

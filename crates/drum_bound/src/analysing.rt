@@ -11,6 +11,7 @@ ghost use Rattle.drum_flow.specs.Accepted as said;
 ghost use Rattle.drum_flow.specs.Accepted.{IsAccepted, IsFixed};
 ghost use Rattle.drum_flow.specs.Flow.{order_in};
 ghost use Rattle.drum_flow.specs.Hops as flows;
+ghost use Rattle.drum_flow.specs.Walk.{Taken, IsWalk};
 ghost use Rattle.drum_bound.specs.AnalysisOf.{IsAnalysis, ArePasses, setting, angle_of, bound_of, counts_in_all, passed_of, rows_of, turns_of, visits_of, words_of};
 ghost use Rattle.drum_bound.specs.Ends.{HopEnd, AreEnds, AreRaised};
 ghost use Rattle.drum_bound.specs.KeysOf.{AreKeys, CanHaveKeys, setting_of};
@@ -117,6 +118,8 @@ pub fn analyse(
         → ArriveUnder notes.now (rows_of analysis) (no_counts notes.now.marks) steps) }
     ensures table { IfOk result (λ analysis. IsTable (setting deck.now times.now notes.now) (rows_of analysis)) }
     ensures few { IfOk result (λ analysis. length (rows_of analysis) ≤ words_of analysis * counts_in_all analysis) }
+    ensures short { IfOk result (λ analysis. (angle : ℕ) (hops : List Taken)
+        → IsWalk (setting deck.now times.now notes.now) angle hops → length hops ≤ words_of analysis * counts_in_all analysis) }
     ensures counts { IfOk result (λ analysis. counts_in_all analysis ≡ said.counts_of notes.now.marks) }
     ensures turns { IfOk result (λ analysis. turns_of analysis
         ≡ sum (map (λ row. length (flows.hops (loads_in deck.now) notes.now row.place)) (rows_of analysis))) }
