@@ -10,4 +10,5 @@ pub mod Passing
 mod Setting
 pub mod Watching
 pub mod Wholes
+pub mod StepLaws
 pub mod Stepping

@@ -1,5 +1,5 @@
 -- What a machine is at the beginning of a step, and what its calls answer.
-use Rattle.std.specs.Prelude.{◌≡◌, ℕ, Bool, not, ◌&&◌, if◌then◌else◌, List, Option, Some, None}
+use Rattle.std.specs.Prelude.{◌≡◌, ℕ, Bool, not, ◌&&◌, if◌then◌else◌, List, slice_get, Option, Some, None, Contains}
 use Rattle.drum_core.specs.declared.location.Location.{Location}
 use Rattle.drum_core.specs.declared.op.Op.{Op}
 use Rattle.drum_core.specs.declared.op.Op.TheVariants.{Punch}
@@ -13,10 +13,13 @@ use Rattle.drum_machine.specs.declared.step.Step.{Step}
 use Rattle.drum_machine.specs.declared.step.Step.TheVariants.{Went, Stopped}
 use Rattle.drum_machine.specs.declared.why.Why as whys
 use Rattle.drum_machine.specs.Effect.{punched}
+use Rattle.drum_machine.specs.Ending.{own_notes, stops_by}
 use Rattle.drum_machine.specs.Feed.{cards_left, waits_left, wait_for, cards_after, waits_after}
 use Rattle.drum_machine.specs.Keeps.{reads_load}
 use Rattle.drum_machine.specs.Registers.{contents_with}
 use Rattle.drum_machine.specs.Step.{State, Stepped, on, stopped, step, fetched, instruction_in, is_operand, lacks_card, MayWait}
+use Rattle.drum_machine.specs.Ways.{Way, to, ways}
+use Rattle.drum_machine.specs.Writes.{writes}
 
 -- the machine goes on
 abbrev pub GoesOn : Machine → Type 0
@@ -97,3 +100,17 @@ pub record TakesStep (times : Op → Entry) (before : Machine) (fed : Feed) (ans
       Becomes (step times s (wait_with times (op_in s) (waits_left fed))) before.sought (fetched s) after (cards_left left)
   pub cards : let s = state_in before (cards_left fed) in cards_left left ≡ cards_with (op_in s) s (cards_left fed)
   pub waits : let s = state_in before (cards_left fed) in waits_left left ≡ waits_with (op_in s) s (waits_left fed)
+
+-- the way by which the step of an answer ended
+abbrev pub way_told : Step → Way
+way_told (Went from fetch onto used read punch) = to onto.number
+way_told (Stopped from fetch why used) = stops_by why
+
+-- A step alters no drum word but those that its instruction writes: what the machine, with these cards in the reader, has
+-- at another location it had before.
+abbrev pub WritesAlone : State → State → Type 0
+WritesAlone s next = (place : ℕ) → ¬ Contains (writes (instruction_in s)) place → slice_get next.contents.drum place ≡ slice_get s.contents.drum place
+
+-- A step of an operation in the profile ends by one of its instruction's ways, under notes that are true of this step.
+abbrev pub EndsByAWay : State → Step → Type 0
+EndsByAWay s answer = (op : Op) → op_in s ≡ Some op → Contains (ways (own_notes s) (instruction_in s)) (way_told answer)

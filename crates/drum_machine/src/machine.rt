@@ -40,7 +40,7 @@ impl Machine {
     ghost use Rattle.drum_machine.specs.declared.step.Step.TheVariants as Step;
     ghost use Rattle.drum_machine.specs.Step.{State, leaves, fetched, instruction_in, is_operand as is_operand_of};
     ghost use Rattle.drum_machine.specs.Registers.{contents_with, outcome_of};
-    ghost use Rattle.drum_machine.specs.Machine.{GoesOn, HasStopped, sought_by, used_by, Tells, Becomes, TakesStep, state_in, op_in, punched_by};
+    ghost use Rattle.drum_machine.specs.Machine.{GoesOn, HasStopped, sought_by, used_by, Tells, Becomes, TakesStep, WritesAlone, EndsByAWay, state_in, op_in, punched_by};
 
     /// A machine at time 0: it seeks the deck's start; it has the setup's angle, registers, latch and switches, and no
     /// remainder's sign; its drum has the deck's words, elsewhere the setup's, else +0.
@@ -185,6 +185,8 @@ impl Machine {
     pub fn step(&mut self, times: &Times, feed: &mut Feed) -> Step
         requires { used_by self.old ≤ 2 ^ 62 }
         ensures goes { GoesOn self.old → TakesStep (entry_in times.now) self.old feed.old result self.new feed.new }
+        ensures writes { GoesOn self.old → GoesOn self.new → WritesAlone (state_in self.old (cards_left feed.old)) (state_in self.new (cards_left feed.new)) }
+        ensures ends { GoesOn self.old → EndsByAWay (state_in self.old (cards_left feed.old)) result }
         ensures advances { GoesOn self.new → used_by self.old < used_by self.new }
         ensures near { used_by self.new ≤ used_by self.old + 92000099 }
         ensures rests { (word : WordType) (why : WhyType) → HasStopped self.old word why

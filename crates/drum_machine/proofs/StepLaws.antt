@@ -1,0 +1,56 @@
+-- What a step of a machine writes, and by which way it ends.
+use Rattle.std.proofs.Common.{◌≡◌, ℕ, List, Bool, Option, ap, sym, ◌∙◌, subst, refl}
+use Rattle.std.specs.Prelude.{Contains, slice_get}
+use Rattle.drum_core.specs.declared.location.Location.{Location}
+use Rattle.drum_core.specs.declared.op.Op.{Op}
+use Rattle.drum_core.specs.declared.word.Word.{Word}
+use Rattle.drum_times.specs.declared.entry.Entry.{Entry}
+use Rattle.drum_machine.specs.declared.feed.Feed.{Feed}
+use Rattle.drum_machine.specs.declared.machine.Machine.{Machine}
+use Rattle.drum_machine.specs.declared.step.Step.{Step}
+use Rattle.drum_machine.specs.declared.step.Step.TheVariants.{Went, Stopped}
+use Rattle.drum_machine.specs.declared.why.Why as whys
+use Rattle.drum_machine.specs.Alone.{writes_no_other}
+use Rattle.drum_machine.specs.Ending.{ended_by, own_notes}
+use Rattle.drum_machine.specs.Ends.{ends_by_its_own}
+use Rattle.drum_machine.specs.Feed.{cards_left, waits_left}
+use Rattle.drum_machine.specs.Machine.{GoesOn, HasStopped, Tells, Becomes, TakesStep, WritesAlone, EndsByAWay, state_in, op_in, way_told, wait_with}
+use Rattle.drum_machine.specs.Step.{State, Stepped, on, stopped, step, fetched, instruction_in}
+use Rattle.drum_machine.specs.Ways.{Way, to, ways}
+
+-- the way that is told is that by which the step ended
+told_way : (stepped : Stepped) (origin : Location) (word : Word) (load : Bool) (words : Option (List Word)) (answer : Step)
+    → Tells stepped origin word load words answer → ended_by stepped ≡ way_told answer
+told_way (on next) origin word load words (Went from fetch onto used read punch) told = ap to (sym told.2)
+told_way (on next) origin word load words (Stopped from fetch because used) told = absurd told
+told_way (stopped because moment) origin word load words answer told = ap way_told (sym told)
+
+-- a machine that goes on hasn't stopped
+goes_on : (m : Machine) (word : Word) (because : whys.Why) → GoesOn m → HasStopped m word because → ⊥
+goes_on m word because goes stops = cc
+
+-- A step that a machine takes ends by a way of its instruction,
+pub takes_ends : (times : Op → Entry) (before : Machine) (fed : Feed) (answer : Step) (after : Machine) (left : Feed)
+    → TakesStep times before fed answer after left → EndsByAWay (state_in before (cards_left fed)) answer
+takes_ends times before fed answer after left takes op is =
+    let s : State = state_in before (cards_left fed) in
+    let wait : ℕ = wait_with times (op_in s) (waits_left fed) in
+    subst (λ (way : Way). Contains (ways (own_notes s) (instruction_in s)) way) (told_way (step times s wait) before.sought _ _ _ answer takes.tells) (ends_by_its_own times s wait op is)
+
+-- and writes what it writes alone.
+pub takes_writes : (times : Op → Entry) (before : Machine) (fed : Feed) (answer : Step) (after : Machine) (left : Feed)
+    → TakesStep times before fed answer after left → GoesOn after → WritesAlone (state_in before (cards_left fed)) (state_in after (cards_left left))
+takes_writes times before fed answer after left takes goes place apart =
+    go (step times s wait) refl takes.becomes
+  where
+    s : State
+    s = state_in before (cards_left fed)
+
+    wait : ℕ
+    wait = wait_with times (op_in s) (waits_left fed)
+
+    go : (stepped : Stepped) → step times s wait ≡ stepped → Becomes stepped before.sought (fetched s) after (cards_left left)
+        → slice_get (state_in after (cards_left left)).contents.drum place ≡ slice_get s.contents.drum place
+    go (on next) is becomes =
+        ap (λ (t : State). slice_get t.contents.drum place) becomes.1 ∙ writes_no_other times s wait next place is apart
+    go (stopped because moment) is becomes = absurd (goes_on after (fetched s) because goes becomes.0)
