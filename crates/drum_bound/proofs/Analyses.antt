@@ -26,7 +26,7 @@ use Rattle.drum_bound.specs.KeysOf.{setting_of}
 use Rattle.drum_bound.specs.RowOf.{rows_below}
 use Rattle.drum_bound.proofs.Rows.{is_table, few_rows, turns_of_rows}
 use Rattle.drum_bound.proofs.ShortWalks.{short_walk}
-use Rattle.drum_bound.specs.ScanOf.{IsDone, setting_in, places_in, size_in}
+use Rattle.drum_bound.specs.ScanOf.{IsDone, setting_in, order_of, size_in}
 use Rattle.drum_bound.specs.Scanned.{start_angle, Scanned, turns_below}
 use Rattle.drum_bound.specs.Table.{Row, IsTable}
 use Rattle.drum_bound.specs.Visited.{Visited, IsWalkOf}
@@ -50,7 +50,7 @@ pub record IsFound (keys : Keys) (times : Times) (scan : Scan) (rows : List Row)
   pub scanned : Scanned (setting_of keys.flow.now times) (order_in keys.flow.now)
       (keys_of (setting_of keys.flow.now times).notes.marks (order_in keys.flow.now))
       (keys_of (setting_of keys.flow.now times).notes.marks (order_in keys.flow.now)) scan.cells.kept.items scan.cells.last
-  pub turns : scan.cells.turns.count ≡ turns_below (setting_of keys.flow.now times) (order_in keys.flow.now) scan.cells.kept.items
+  pub turns : scan.cells.made.count ≡ turns_below (setting_of keys.flow.now times) (order_in keys.flow.now) scan.cells.kept.items
       (keys_of (setting_of keys.flow.now times).notes.marks (order_in keys.flow.now))
   pub table : rows ≡ rows_below (setting_of keys.flow.now times) (order_in keys.flow.now) scan.cells.kept.items
       (keys_of (setting_of keys.flow.now times).notes.marks (order_in keys.flow.now))
@@ -59,7 +59,7 @@ pub record IsFound (keys : Keys) (times : Times) (scan : Scan) (rows : List Row)
 
 -- They are of the keys and the timing table that the scan was given.
 pub is_found : (keys : Keys) (times : Times) (scan : Scan) (rows : List Row) (visits : List Visited) → scan.keys.now ≡ keys → scan.times.now ≡ times → IsDone scan
-    → rows ≡ rows_below (setting_in scan) (places_in scan) scan.cells.kept.items (size_in scan)
+    → rows ≡ rows_below (setting_in scan) (order_of scan) scan.cells.kept.items (size_in scan)
     → IsWalkOf (setting_in scan) (start_angle (setting_in scan).start) (scan.cells.last.clock - start_angle (setting_in scan).start) visits
     → IsFound keys times scan rows visits
 is_found keys times scan rows visits same_keys same_times done table walk =

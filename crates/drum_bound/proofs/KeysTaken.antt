@@ -16,9 +16,9 @@ use Rattle.drum_bound.specs.declared.scan.Scan.{Scan}
 use Rattle.drum_bound.specs.Keys.{place_at}
 use Rattle.drum_bound.specs.KeysOf.{AreKeys, setting_of}
 use Rattle.drum_bound.specs.Scanned.{cell_at, Scanned, Taking, turns_at, turns_below}
-use Rattle.drum_bound.specs.ScanOf.{setting_in, places_in, IsScanned, IsAgreed}
-use Rattle.drum_bound.specs.Turns.{IsLater}
-use Rattle.drum_bound.proofs.LaterTurns.{before_end, before_next}
+use Rattle.drum_bound.specs.ScanOf.{setting_in, order_of, IsScanned, IsAgreed}
+use Rattle.drum_bound.specs.KeyHops.{IsLater}
+use Rattle.drum_bound.proofs.LaterHops.{before_end, before_next}
 use Rattle.drum_bound.proofs.Scans.{skip, open_key, close_key}
 
 -- the hops of keys whose cells are the same are as many
@@ -39,7 +39,7 @@ turns_few g order cells (suc key) sound = omega (arith, turns_few g order cells 
 
 -- the hops of a key
 abbrev pub hops_at : Scan → ℕ → List Hop
-hops_at scan key = hops (setting_in scan).loads (setting_in scan).notes (place_at (places_in scan) key)
+hops_at scan key = hops (setting_in scan).loads (setting_in scan).notes (place_at (order_of scan) key)
 
 -- a hop that has a number among them is one of them
 pub hop_among : (scan : Scan) (key number : ℕ) (hop : Hop) → slice_get (hops_at scan key) number ≡ Some hop → Contains (hops_at scan key) hop
@@ -59,30 +59,30 @@ skipped scan key is none =
       keys = is.keys;
       words = is.words;
       counts = is.counts;
-      scanned = skip (setting_in scan) (places_in scan) key scan.cells.kept.items scan.cells.last none is.scanned;
-      turns = omega (arith, is.turns, ap (turns_at (setting_in scan) (places_in scan) key) none);
-      before = before_next scan.cells.turns.last key is.before;
+      scanned = skip (setting_in scan) (order_of scan) key scan.cells.kept.items scan.cells.last none is.scanned;
+      turns = omega (arith, is.turns, ap (turns_at (setting_in scan) (order_of scan) key) none);
+      before = before_next scan.cells.made.last key is.before;
     })
 
 -- all hops of a key at which something is kept are left
 pub opened : (scan : Scan) (key : ℕ) (kept : Latest) (left : List Hop) → IsScanned scan key → cell_at scan.cells.kept.items key ≡ Some kept → left ≡ hops_at scan key
-    → Taking (setting_in scan) (places_in scan) key kept.clock left scan.cells.kept.items scan.cells.last
+    → Taking (setting_in scan) (order_of scan) key kept.clock left scan.cells.kept.items scan.cells.last
 opened scan key kept left is there all =
-    subst (λ (hops : List Hop). Taking (setting_in scan) (places_in scan) key kept.clock hops scan.cells.kept.items scan.cells.last) (sym all)
-    (open_key (setting_in scan) (places_in scan) key kept scan.cells.kept.items scan.cells.last there is.scanned)
+    subst (λ (hops : List Hop). Taking (setting_in scan) (order_of scan) key kept.clock hops scan.cells.kept.items scan.cells.last) (sym all)
+    (open_key (setting_in scan) (order_of scan) key kept scan.cells.kept.items scan.cells.last there is.scanned)
 
 -- clocks and turns are far from their limits
 pub early_clock : (scan : Scan) (key : ℕ) (kept : Latest) → IsScanned scan key → key < scan.keys.now.size → cell_at scan.cells.kept.items key ≡ Some kept → kept.clock ≤ 2305843009213693952
 early_clock scan key kept is below there = omega (arith, is.scanned.near key kept there, below, is.keys.size, is.keys.ordered.0.few)
 
-pub few_turns : (scan : Scan) (key count left : ℕ) → IsScanned scan key → key < scan.keys.now.size → count + left ≡ scan.cells.turns.count + length (hops_at scan key) → count < 4611686018427387904
+pub few_turns : (scan : Scan) (key count left : ℕ) → IsScanned scan key → key < scan.keys.now.size → count + left ≡ scan.cells.made.count + length (hops_at scan key) → count < 4611686018427387904
 few_turns scan key count left is below so_far =
     omega (
       arith,
       so_far,
       is.turns,
-      turns_few (setting_in scan) (places_in scan) scan.cells.kept.items key is.keys.ordered.0.sound,
-      few_hops (setting_in scan).loads (setting_in scan).notes (place_at (places_in scan) key) is.keys.ordered.0.sound,
+      turns_few (setting_in scan) (order_of scan) scan.cells.kept.items key is.keys.ordered.0.sound,
+      few_hops (setting_in scan).loads (setting_in scan).notes (place_at (order_of scan) key) is.keys.ordered.0.sound,
       below,
       is.keys.size,
       is.keys.ordered.0.few,
@@ -93,20 +93,20 @@ abbrev TakingOf : ℕ → ℕ → List Hop → List (Option Latest) → Latest �
 TakingOf key clock left cells last times keys = Taking (setting_of keys.now.flow.now times.now) (order_in keys.now.flow.now) key clock left cells last
 
 pub taking_as : (a b : Scan) (key clock : ℕ) (left : List Hop) (cells : List (Option Latest)) (last : Latest) → a.times ≡ b.times → a.keys ≡ b.keys
-    → Taking (setting_in a) (places_in a) key clock left cells last → Taking (setting_in b) (places_in b) key clock left cells last
+    → Taking (setting_in a) (order_of a) key clock left cells last → Taking (setting_in b) (order_of b) key clock left cells last
 taking_as a b key clock left cells last times keys taking =
     subst (λ (k : Bor Keys). TakingOf key clock left cells last b.times k) keys (subst (λ (t : Bor Times). TakingOf key clock left cells last t a.keys) times taking)
 
 -- no hop of the key is left
 pub closed : (a b : Scan) (key number : ℕ) (kept : Latest) → a.times ≡ b.times → a.keys ≡ b.keys → IsScanned b key → cell_at b.cells.kept.items key ≡ Some kept
     → a.cells.words ≡ b.cells.words → a.cells.counts ≡ b.cells.counts
-    → Taking (setting_in b) (places_in b) key kept.clock [] a.cells.kept.items a.cells.last → a.cells.turns.count ≡ b.cells.turns.count + length (hops_at b key) → IsAgreed key b.cells.kept.items a.cells.kept.items
-    → IsLater a.cells.turns.last (record { key = key; hop = number }) → IsScanned a (key + 1)
+    → Taking (setting_in b) (order_of b) key kept.clock [] a.cells.kept.items a.cells.last → a.cells.made.count ≡ b.cells.made.count + length (hops_at b key) → IsAgreed key b.cells.kept.items a.cells.kept.items
+    → IsLater a.cells.made.last (record { key = key; hop = number }) → IsScanned a (key + 1)
 closed a b key number kept times keys is there words counts taking count agreed later =
     let next : suc key ≡ key + 1 = omega arith in
     let g = setting_in b in
-    let order = places_in b in
-    let turns : a.cells.turns.count ≡ turns_below g order a.cells.kept.items (suc key) =
+    let order = order_of b in
+    let turns : a.cells.made.count ≡ turns_below g order a.cells.kept.items (suc key) =
     omega (
       arith,
       count,
@@ -116,8 +116,8 @@ closed a b key number kept times keys is there words counts taking count agreed 
     ) in
     let Right : Bor Times → Bor Keys → Type 0 = λ t k.
     AreKeys k.now × Scanned (setting_of k.now.flow.now t.now) (order_in k.now.flow.now) (suc key) (suc key) a.cells.kept.items a.cells.last
-    × (a.cells.turns.count ≡ turns_below (setting_of k.now.flow.now t.now) (order_in k.now.flow.now) a.cells.kept.items (suc key))
+    × (a.cells.made.count ≡ turns_below (setting_of k.now.flow.now t.now) (order_in k.now.flow.now) a.cells.kept.items (suc key))
     × (a.cells.words ≡ length (order_in k.now.flow.now)) × (a.cells.counts ≡ counts_of (setting_of k.now.flow.now t.now).notes.marks) in
     let right : Right b.times b.keys = (is.keys, close_key g order key kept.clock a.cells.kept.items a.cells.last taking, turns, words ∙ is.words, counts ∙ is.counts) in
     let as_a : Right a.times a.keys = subst (λ (k : Bor Keys). Right a.times k) (sym keys) (subst (λ (t : Bor Times). Right t b.keys) (sym times) right) in
-    subst (IsScanned a) next (record { keys = as_a.0; words = as_a.3; counts = as_a.4; scanned = as_a.1; turns = as_a.2; before = before_end a.cells.turns.last key number later })
+    subst (IsScanned a) next (record { keys = as_a.0; words = as_a.3; counts = as_a.4; scanned = as_a.1; turns = as_a.2; before = before_end a.cells.made.last key number later })

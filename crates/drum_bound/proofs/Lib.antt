@@ -10,7 +10,7 @@ pub mod FewHops
 mod Finished
 pub mod KeyLaws
 pub mod KeysTaken
-pub mod LaterTurns
+pub mod LaterHops
 pub mod LongestLaws
 pub mod Onward
 pub mod Ordering

@@ -20,11 +20,11 @@ use Rattle.drum_bound.specs.Digits.{digits}
 use Rattle.drum_bound.proofs.DigitsLaws.{digits_leading}
 use Rattle.drum_bound.proofs.KeyLaws.{counts_within, leading_at, one_index}
 use Rattle.drum_bound.specs.Keys.{counts_at, keys_of, IsKey}
-use Rattle.drum_bound.specs.KeysOf.{AreKeys, HavePlaces, numbers, sites_in}
+use Rattle.drum_bound.specs.KeysOf.{AreKeys, HaveIndices, numbers, sites_in}
 
 -- each of the first locations' place stands at its number
-abbrev pub HavePlacesBelow : ℕ → List Location → List ℕ → Type 0
-HavePlacesBelow below order places = (k place : ℕ) → k < below → slice_get (numbers order) k ≡ Some place → slice_get places place ≡ Some k
+abbrev pub HaveIndicesBelow : ℕ → List Location → List ℕ → Type 0
+HaveIndicesBelow below order places = (k place : ℕ) → k < below → slice_get (numbers order) k ≡ Some place → slice_get places place ≡ Some k
 
 -- a member of a list without repeats stands in one place
 one_place : (order : List ℕ) (a b place : ℕ) → AreDifferent order → slice_get order a ≡ Some place → slice_get order b ≡ Some place → a ≡ b
@@ -33,7 +33,7 @@ one_place order a b place different p q =
 
 -- one more location's place is written
 pub place_written : (order : List Location) (places : List ℕ) (k number : ℕ) → AreDifferent (numbers order) → number < length places
-    → slice_get (numbers order) k ≡ Some number → HavePlacesBelow k order places → HavePlacesBelow (k + 1) order (set places number k)
+    → slice_get (numbers order) k ≡ Some number → HaveIndicesBelow k order places → HaveIndicesBelow (k + 1) order (set places number k)
 place_written order places k number different inside here before other place below at = elim (cases_eq place number) [
   | inl same ↦ (
       let one : other ≡ k = one_place (numbers order) other k number different (at ∙ ap Some same) here in
@@ -46,7 +46,7 @@ place_written order places k number different inside here before other place bel
     same_place : Some place ≡ Some number → place ≡ number
     same_place e = cc
 
-pub all_places : (order : List Location) (places : List ℕ) (below : ℕ) → length order ≤ below → HavePlacesBelow below order places → HavePlaces (numbers order) places
+pub all_places : (order : List Location) (places : List ℕ) (below : ℕ) → length order ≤ below → HaveIndicesBelow below order places → HaveIndices (numbers order) places
 all_places order places below le have k place at =
     have k place (omega (arith, le, slice_get_within (numbers order) k place at, length-map order (λ (one : Location). one.number))) at
 

@@ -29,6 +29,7 @@ CanHaveKeys flow = IsOrdered (loads_in (deck_of flow)) (notes_of flow) (start_in
 abbrev pub numbers : List Location → List ℕ
 numbers locations = map (λ location. location.number) locations
 
+-- the numbers of the locations of sites
 abbrev pub sites_in : List Site → List ℕ
 sites_in sites = map (λ site. site.location.number) sites
 
@@ -37,23 +38,23 @@ abbrev pub HaveHops : Flow → List Site → Type 0
 HaveHops flow sites = (site : Site) → Contains sites site
     → hops_left site.hops ≡ hops (loads_in (deck_of flow)) (notes_of flow) site.location.number
 
--- each location's place stands at its number
-abbrev pub HavePlaces : List ℕ → List ℕ → Type 0
-HavePlaces order places = (k place : ℕ) → slice_get order k ≡ Some place → slice_get places place ≡ Some k
+-- each location's index stands at its number
+abbrev pub HaveIndices : List ℕ → List ℕ → Type 0
+HaveIndices order places = (k place : ℕ) → slice_get order k ≡ Some place → slice_get places place ≡ Some k
 
 -- The keys of a flow graph.
 pub record AreKeys (keys : Keys) : Type 0 where
   pub ordered : CanHaveKeys keys.flow.now
   pub sites : sites_in keys.sites.items ≡ order_in keys.flow.now
   pub hops : HaveHops keys.flow.now keys.sites.items
-  pub places : HavePlaces (order_in keys.flow.now) keys.places.items
+  pub indices : HaveIndices (order_in keys.flow.now) keys.indices.items
   pub counts : keys.counts ≡ counts_of (notes_of keys.flow.now).marks
   pub size : keys.size ≡ keys_of (notes_of keys.flow.now).marks (order_in keys.flow.now)
 
--- A key with the place of its location in the order, and the location.
+-- A key with the index of its location in the order, and the location.
 pub record IsAt (keys : Keys) (at : At) : Type 0 where
   pub below : at.key < keys.size
-  pub whole : at.place ≡ at.key % length (order_in keys.flow.now)
+  pub rest : at.index ≡ at.key % length (order_in keys.flow.now)
   pub there : at.location.number ≡ place_at (order_in keys.flow.now) at.key
 
 -- the key that a hop from a key to a location leads to; none where a full mark bars it

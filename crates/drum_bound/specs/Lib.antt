@@ -2,6 +2,7 @@ pub mod AnalysisOf
 pub mod CountsIn
 pub mod Digits
 pub mod Ends
+pub mod KeyHops
 pub mod Keys
 pub mod KeysOf
 pub mod Longest
@@ -11,7 +12,6 @@ pub mod ScanOf
 pub mod Scanned
 pub mod Table
 pub mod TakenOf
-pub mod Turns
 pub mod Under
 pub mod Visited
 pub mod Worst

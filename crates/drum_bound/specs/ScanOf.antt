@@ -9,28 +9,28 @@ use Rattle.drum_bound.specs.declared.scan.Scan.{Scan}
 use Rattle.drum_bound.specs.Keys.{keys_of, place_at, counts_at, IsKey}
 use Rattle.drum_bound.specs.KeysOf.{AreKeys, setting_of}
 use Rattle.drum_bound.specs.Scanned.{cell_at, later, raised, Scanned, turns_below}
-use Rattle.drum_bound.specs.Turns.{IsBefore}
+use Rattle.drum_bound.specs.KeyHops.{IsBefore}
 
 -- what its walks are in
 abbrev pub setting_in : Scan → Setting
 setting_in scan = setting_of scan.keys.now.flow.now scan.times.now
 
 -- the order of its locations
-abbrev pub places_in : Scan → List ℕ
-places_in scan = order_in scan.keys.now.flow.now
+abbrev pub order_of : Scan → List ℕ
+order_of scan = order_in scan.keys.now.flow.now
 
 -- how many keys it has
 abbrev pub size_in : Scan → ℕ
-size_in scan = keys_of (setting_in scan).notes.marks (places_in scan)
+size_in scan = keys_of (setting_in scan).notes.marks (order_of scan)
 
 -- The keys below one have been taken.
 pub record IsScanned (scan : Scan) (taken : ℕ) : Type 0 where
   pub keys : AreKeys scan.keys.now
-  pub words : scan.cells.words ≡ length (places_in scan)
+  pub words : scan.cells.words ≡ length (order_of scan)
   pub counts : scan.cells.counts ≡ counts_of (setting_in scan).notes.marks
-  pub scanned : Scanned (setting_in scan) (places_in scan) taken taken scan.cells.kept.items scan.cells.last
-  pub turns : scan.cells.turns.count ≡ turns_below (setting_in scan) (places_in scan) scan.cells.kept.items taken
-  pub before : IsBefore scan.cells.turns.last taken
+  pub scanned : Scanned (setting_in scan) (order_of scan) taken taken scan.cells.kept.items scan.cells.last
+  pub turns : scan.cells.made.count ≡ turns_below (setting_in scan) (order_of scan) scan.cells.kept.items taken
+  pub before : IsBefore scan.cells.made.last taken
 
 -- All have.
 abbrev pub IsDone : Scan → Type 0

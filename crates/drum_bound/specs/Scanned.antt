@@ -27,10 +27,12 @@ cell_at cells key = slice_index_or cells key None
 abbrev pub later : Latest → Latest → Latest
 later old new = if nat_lt old.clock new.clock then new else old
 
+-- and of nothing, what comes
 abbrev pub later_than : Option Latest → Latest → Latest
 later_than None new = new
 later_than (Some old) new = later old new
 
+-- the cells, where what comes is kept at a key if it is later
 abbrev pub raised : List (Option Latest) → ℕ → Latest → List (Option Latest)
 raised cells key new = slice_set cells key (Some (later_than (cell_at cells key) new))
 
@@ -46,7 +48,7 @@ pub record Begins (g : Setting) (order : List ℕ) (cells : List (Option Latest)
 abbrev pub end_from : Setting → List ℕ → ℕ → Hop → ℕ → ℕ
 end_from g order key hop clock = longest g.times (place_at order key) hop.ins hop.way clock
 
--- a hop from one key to another, of this counts' pass
+-- a hop leads from one key to another, with the counts after it
 pub record LeadsOn (g : Setting) (order : List ℕ) (from : ℕ) (hop : Hop) (key : ℕ) : Type 0 where
   pub onto : hop.way ≡ to (place_at order key)
   pub within : AreWithin g.notes.marks (counts_at g.notes.marks order key)

@@ -73,7 +73,7 @@ fn analysis_by<'a>(
         walk,
         counts: counts_of(marks) as usize,
         words: keys.flow.order().len(),
-        turns: scan.cells.turns(),
+        turns: scan.cells.made(),
     })
 }
 

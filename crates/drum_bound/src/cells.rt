@@ -6,7 +6,7 @@ ghost use Rattle.drum_flow.specs.Seen.{seen_way};
 ghost use Rattle.drum_bound.specs.Longest.{longest};
 ghost use Rattle.drum_bound.specs.Profile.{MayEnd};
 ghost use Rattle.drum_bound.specs.Scanned.{cell_at, later, raised};
-ghost use Rattle.drum_bound.specs.Turns.{IsBefore, IsLater, KeepsAt};
+ghost use Rattle.drum_bound.specs.KeyHops.{IsBefore, IsLater, KeepsAt};
 
 mod end;
 
@@ -14,8 +14,8 @@ use crate::latest::Latest;
 use drum_core::Location;
 use drum_flow::Hop;
 use drum_times::Times;
-use end::Turns;
-pub use end::{End, Turn};
+use end::Made;
+pub use end::{End, KeyHop};
 use std::alloc::{AllocError, Global};
 
 /// The latest end at each key, of the hops that lead there, or the moment of the start; and the latest of all.
@@ -26,13 +26,23 @@ use std::alloc::{AllocError, Global};
 pub struct Cells {
     kept: Vec<Option<Latest>>,
     last: Latest,
-    turns: Turns,
-    /// How many executed locations there are.
+    made: Made,
+    /// How many executed locations there are, and how many counts the marks can have: for the limit alone.
     words: usize,
-    /// How many counts the marks can have.
     counts: usize,
     /// There are never more cells than locations times counts.
     ghost limit: { length kept.items ≤ counts * words },
+}
+
+/// What is kept, or the end of a hop where that is later.
+fn later_of(kept: Latest, end: &End) -> Latest
+    ensures { result ≡ later kept end.now.latest }
+{
+    if kept.clock < end.latest().clock {
+        end.latest()
+    } else {
+        kept
+    }
 }
 
 impl Cells {
@@ -49,8 +59,8 @@ impl Cells {
         requires few { counts * words ≤ 4000000 }
         ensures kept { IfOk result (λ cells. cells.kept.items ≡ set (replicate (counts * words) None) start_key (Some (record { clock = clock; origin = None }))) }
         ensures last { IfOk result (λ cells. cells.last ≡ record { clock = clock; origin = None }) }
-        ensures turns { IfOk result (λ cells. cells.turns.count ≡ 0) }
-        ensures unturned { IfOk result (λ cells. cells.turns.last ≡ None) }
+        ensures made { IfOk result (λ cells. cells.made.count ≡ 0) }
+        ensures unmade { IfOk result (λ cells. cells.made.last ≡ None) }
         ensures words { IfOk result (λ cells. cells.words ≡ words) }
         ensures counts { IfOk result (λ cells. cells.counts ≡ counts) }
     {
@@ -63,7 +73,7 @@ impl Cells {
         Ok(Cells {
             kept,
             last: start,
-            turns: Turns::none(),
+            made: Made::none(),
             words,
             counts,
         })
@@ -87,68 +97,59 @@ impl Cells {
     }
 
     /// How many ends have been made.
-    pub fn turns(&self) -> u64
-        ensures { result ≡ self.now.turns.count }
+    pub fn made(&self) -> u64
+        ensures { result ≡ self.now.made.count }
     {
-        self.turns.count()
+        self.made.count()
     }
 
     /// Makes the end of a hop of a key, which is at this location and keeps this clock: the latest at which the hop can end.
     pub fn end(
         &mut self,
         times: &Times,
-        turn: Turn,
+        key_hop: KeyHop,
         location: Location,
         hop: Hop,
         clock: u64,
     ) -> End
-        requires kept { KeepsAt self.old.kept.items turn.key clock }
-        requires later { IsLater self.old.turns.last turn }
-        requires few { self.old.turns.count < 2 ^ 62 }
+        requires kept { KeepsAt self.old.kept.items key_hop.key clock }
+        requires later { IsLater self.old.made.last key_hop }
+        requires few { self.old.made.count < 2 ^ 62 }
         requires soon { clock ≤ 2 ^ 61 }
         requires may_end { MayEnd hop.instruction (seen_way hop.way) }
-        ensures counted { self.new.turns.count ≡ self.old.turns.count + 1 }
-        ensures turn { self.new.turns.last ≡ Some turn }
-        ensures kept { self.new.kept.items ≡ self.old.kept.items }
-        ensures last { self.new.last ≡ self.old.last }
-        ensures words { self.new.words ≡ self.old.words }
-        ensures counts { self.new.counts ≡ self.old.counts }
-        ensures origin { result.latest.origin ≡ Some (record { key = turn.key; hop = hop }) }
+        ensures same { self.new ≡ record self.old { made = self.new.made } }
+        ensures counted { self.new.made.count ≡ self.old.made.count + 1 }
+        ensures now_last { self.new.made.last ≡ Some key_hop }
+        ensures origin { result.latest.origin ≡ Some (record { key = key_hop.key; hop = hop }) }
         ensures clock { result.latest.clock ≡ longest (entry_in times.now) location.number hop.instruction (seen_way hop.way) clock }
     {
-        self.turns.end(times, turn, location, hop, clock)
+        self.made.end(times, key_hop, location, hop, clock)
     }
 
     /// Keeps the end of a hop that goes on at a key, where it is later than what is kept there, and of all. The key is later
     /// than those whose ends have been made.
     pub fn raise(&mut self, key: usize, end: &End)
         requires there { key < length self.old.kept.items }
-        requires onward { IsBefore self.old.turns.last key }
+        requires onward { IsBefore self.old.made.last key }
         ensures kept { self.new.kept.items ≡ raised self.old.kept.items key end.now.latest }
         ensures last { self.new.last ≡ later self.old.last end.now.latest }
-        ensures turns { self.new.turns ≡ self.old.turns }
+        ensures made { self.new.made ≡ self.old.made }
         ensures words { self.new.words ≡ self.old.words }
         ensures counts { self.new.counts ≡ self.old.counts }
     {
         let latest = match self.kept[key] {
-            Some(mut old) => {
-                old.raise(end);
-                old
-            }
+            Some(kept) => later_of(kept, end),
             None => end.latest(),
         };
         self.kept[key] = Some(latest);
-        self.last.raise(end);
+        self.last = later_of(self.last, end);
     }
 
     /// Keeps the end of a hop that stops, where it is later than all others.
     pub fn stop(&mut self, end: &End)
+        ensures same { self.new ≡ record self.old { last = self.new.last } }
         ensures last { self.new.last ≡ later self.old.last end.now.latest }
-        ensures kept { self.new.kept.items ≡ self.old.kept.items }
-        ensures turns { self.new.turns ≡ self.old.turns }
-        ensures words { self.new.words ≡ self.old.words }
-        ensures counts { self.new.counts ≡ self.old.counts }
     {
-        self.last.raise(end);
+        self.last = later_of(self.last, end);
     }
 }

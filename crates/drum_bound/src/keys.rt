@@ -12,7 +12,7 @@ ghost use Rattle.drum_bound.specs.CountsIn.{counts_in};
 ghost use Rattle.drum_bound.specs.Keys as numbered;
 ghost use Rattle.drum_bound.specs.Keys.{place_at, IsKey};
 ghost use Rattle.drum_bound.specs.Scanned.{start_angle as start_angle_of};
-ghost use Rattle.drum_bound.specs.KeysOf.{AreKeys, CanHaveKeys, HaveHops, HavePlaces, IsAfter, IsAt, numbers, sites_in};
+ghost use Rattle.drum_bound.specs.KeysOf.{AreKeys, CanHaveKeys, HaveHops, HaveIndices, IsAfter, IsAt, numbers, sites_in};
 
 use crate::counts::Counts;
 use drum_core::Location;
@@ -30,26 +30,26 @@ pub struct Site<'a> {
 }
 
 /// The executed locations, in an order in which each edge free of marks goes on, with the counts that the marks can have.
-/// A key is a number: that of the counts, with the first mark's leading, times the number of the locations, and the place of
+/// A key is a number: that of the counts, with the first mark's leading, times the number of the locations, and the index of
 /// one among them.
 #[derive(Debug, Drop)]
 pub struct Keys<'a> {
     pub flow: &'a Flow<'a>,
     /// The locations, in order.
     pub sites: Vec<Site<'a>>,
-    /// The place of each location in the order, by its number.
-    pub places: Vec<usize>,
+    /// The index of each location in the order, by its number.
+    indices: Vec<usize>,
     /// How many counts the marks can have.
     pub counts: usize,
     /// How many keys there are.
     pub size: usize,
 }
 
-/// A key, the place of its location in the order, and the location.
+/// A key, the index of its location in the order, and the location.
 #[derive(Clone, Copy, Debug)]
 pub struct At {
     pub key: usize,
-    pub place: usize,
+    pub index: usize,
     pub location: Location,
 }
 
@@ -70,16 +70,16 @@ fn sites_of<'a>(alloc: Global, flow: &'a Flow<'a>) -> Result<Vec<Site<'a>>, Allo
     Ok(sites)
 }
 
-/// The place of each of these locations among them, by its number.
-fn places_of(alloc: Global, order: &[Location]) -> Result<Vec<usize>, AllocError>
+/// The index of each of these locations among them, by its number.
+fn indices_of(alloc: Global, order: &[Location]) -> Result<Vec<usize>, AllocError>
     requires { AreDifferent (numbers order.now) }
-    ensures { IfOk result (λ places. HavePlaces (numbers order.now) places.items) }
+    ensures { IfOk result (λ indices. HaveIndices (numbers order.now) indices.items) }
 {
-    let mut places = vec![in alloc; 0; Location::NUMBERS]?;
-    for place in 0..order.len() {
-        places[order[place].number as usize] = place;
+    let mut indices = vec![in alloc; 0; Location::NUMBERS]?;
+    for index in 0..order.len() {
+        indices[order[index].number as usize] = index;
     }
-    Ok(places)
+    Ok(indices)
 }
 
 impl<'a> Keys<'a> {
@@ -92,7 +92,7 @@ impl<'a> Keys<'a> {
         let Ok(sites) = sites_of(alloc, flow) else {
             return Err(AllocError);
         };
-        let Ok(places) = places_of(alloc, flow.order()) else {
+        let Ok(indices) = indices_of(alloc, flow.order()) else {
             return Err(AllocError);
         };
         let counts = counts_of(flow.notes().marks()) as usize;
@@ -100,7 +100,7 @@ impl<'a> Keys<'a> {
         Ok(Keys {
             flow,
             sites,
-            places,
+            indices,
             counts,
             size,
         })
@@ -138,11 +138,11 @@ impl<'a> Keys<'a> {
         ensures key { result.key ≡ key }
         ensures at { IsAt self.now result }
     {
-        let place = key % self.sites.len();
+        let index = key % self.sites.len();
         At {
             key,
-            place,
-            location: self.sites[place].location,
+            index,
+            location: self.sites[index].location,
         }
     }
 
@@ -152,7 +152,7 @@ impl<'a> Keys<'a> {
         requires at { IsAt self.now at.now }
         ensures { hops_left result ≡ said.hops (loads_in (deck_of self.now.flow.now)) (notes_of self.now.flow.now) (place_at (order_in self.now.flow.now) at.now.key) }
     {
-        self.sites[at.place].hops
+        self.sites[at.index].hops
     }
 
     /// The counts of a key.
@@ -164,13 +164,13 @@ impl<'a> Keys<'a> {
         Counts::of(self.marks(), key / self.sites.len())
     }
 
-    /// The place of a location in the order.
-    fn place_of(&self, location: Location) -> usize
+    /// The index of a location in the order.
+    fn index_of(&self, location: Location) -> usize
         requires keys { AreKeys self.now }
         requires there { Contains (order_in self.now.flow.now) location.number }
         ensures { slice_get (order_in self.now.flow.now) result ≡ Some location.number }
     {
-        self.places[location.number as usize]
+        self.indices[location.number as usize]
     }
 
     /// The key of counts and a location of the order.
@@ -180,7 +180,7 @@ impl<'a> Keys<'a> {
         requires there { Contains (order_in self.now.flow.now) location.number }
         ensures { IsKey (notes_of self.now.flow.now).marks (order_in self.now.flow.now) result location.number (counts_in counts (notes_of self.now.flow.now).marks) }
     {
-        counts.leading(self.marks()) * self.sites.len() + self.place_of(location)
+        counts.leading(self.marks()) * self.sites.len() + self.index_of(location)
     }
 
     /// The key of a location of the order, with the counts of another key.
@@ -190,7 +190,7 @@ impl<'a> Keys<'a> {
         requires there { Contains (order_in self.now.flow.now) location.number }
         ensures { IsKey (notes_of self.now.flow.now).marks (order_in self.now.flow.now) result location.number (numbered.counts_at (notes_of self.now.flow.now).marks (order_in self.now.flow.now) at.now.key) }
     {
-        at.key - at.place + self.place_of(location)
+        at.key - at.index + self.index_of(location)
     }
 
     /// The key that a hop which passes a mark leads to; `None` where a full mark bars it.

@@ -2,7 +2,7 @@
 
 ghost use Rattle.std.specs.Prelude.{◌≡◌, ◌+◌, ◌^◌, ◌<◌, ◌≤◌, ◌∷◌, length, ℕ, List, slice_get, IfOk, Contains, Some};
 
-use crate::cells::{Cells, End, Turn};
+use crate::cells::{Cells, End, KeyHop};
 use crate::keys::{At, Keys};
 use drum_core::Location;
 use drum_flow::{Hop, Way};
@@ -23,8 +23,8 @@ impl<'a> Scan<'a> {
     ghost use Rattle.drum_bound.specs.Keys.{place_at};
     ghost use Rattle.drum_bound.specs.KeysOf.{AreKeys, IsAt};
     ghost use Rattle.drum_bound.specs.Scanned.{start_angle, Taking};
-    ghost use Rattle.drum_bound.specs.ScanOf.{setting_in, places_in, size_in, IsScanned, IsDone, Goes, IsAgreed};
-    ghost use Rattle.drum_bound.specs.Turns.{IsBefore, IsLater, KeepsAt};
+    ghost use Rattle.drum_bound.specs.ScanOf.{setting_in, order_of, size_in, IsScanned, IsDone, Goes, IsAgreed};
+    ghost use Rattle.drum_bound.specs.KeyHops.{IsBefore, IsLater, KeepsAt};
 
     /// The latest ends at all keys, and of all: each key is taken once, after all that can raise what is kept there.
     pub fn of(alloc: Global, times: &'a Times, keys: &'a Keys<'a>) -> Result<Scan<'a>, AllocError>
@@ -68,13 +68,13 @@ impl<'a> Scan<'a> {
     fn go_on(&mut self, at: &At, next: Location, end: &End)
         requires keys { AreKeys self.old.keys.now }
         requires at { IsAt self.old.keys.now at.now }
-        requires edge { IsEdge (setting_in self.old).loads (setting_in self.old).notes (place_at (places_in self.old) at.now.key) next.number }
-        requires before { IsBefore self.old.cells.turns.last (at.now.key + 1) }
+        requires edge { IsEdge (setting_in self.old).loads (setting_in self.old).notes (place_at (order_of self.old) at.now.key) next.number }
+        requires before { IsBefore self.old.cells.made.last (at.now.key + 1) }
         requires size { length self.old.cells.kept.items ≡ size_in self.old }
-        ensures goes { Goes (setting_in self.old) (places_in self.old) at.now.key next.number end.now.latest self.old.cells.kept.items self.old.cells.last self.new.cells.kept.items self.new.cells.last }
+        ensures goes { Goes (setting_in self.old) (order_of self.old) at.now.key next.number end.now.latest self.old.cells.kept.items self.old.cells.last self.new.cells.kept.items self.new.cells.last }
         ensures times { self.new.times ≡ self.old.times }
         ensures keys { self.new.keys ≡ self.old.keys }
-        ensures turns { self.new.cells.turns ≡ self.old.cells.turns }
+        ensures made { self.new.cells.made ≡ self.old.cells.made }
         ensures words { self.new.cells.words ≡ self.old.cells.words }
         ensures counts { self.new.cells.counts ≡ self.old.cells.counts }
     {
@@ -88,27 +88,27 @@ impl<'a> Scan<'a> {
     fn take_hop(&mut self, at: &At, clock: u64, number: usize, hop: Hop)
         requires keys { AreKeys self.old.keys.now }
         requires at { IsAt self.old.keys.now at.now }
-        requires hop { slice_get (hops (setting_in self.old).loads (setting_in self.old).notes (place_at (places_in self.old) at.now.key)) number ≡ Some (seen_hop hop) }
+        requires hop { slice_get (hops (setting_in self.old).loads (setting_in self.old).notes (place_at (order_of self.old) at.now.key)) number ≡ Some (seen_hop hop) }
         requires kept { KeepsAt self.old.cells.kept.items at.now.key clock }
-        requires later { IsLater self.old.cells.turns.last (record { key = at.now.key; hop = number }) }
+        requires later { IsLater self.old.cells.made.last (record { key = at.now.key; hop = number }) }
         requires soon { clock ≤ 2 ^ 61 }
-        requires few { self.old.cells.turns.count < 2 ^ 62 }
+        requires few { self.old.cells.made.count < 2 ^ 62 }
         requires size { length self.old.cells.kept.items ≡ size_in self.old }
         ensures times { self.new.times ≡ self.old.times }
         ensures keys { self.new.keys ≡ self.old.keys }
-        ensures counted { self.new.cells.turns.count ≡ self.old.cells.turns.count + 1 }
-        ensures last { self.new.cells.turns.last ≡ Some (record { key = at.now.key; hop = number }) }
+        ensures counted { self.new.cells.made.count ≡ self.old.cells.made.count + 1 }
+        ensures last { self.new.cells.made.last ≡ Some (record { key = at.now.key; hop = number }) }
         ensures words { self.new.cells.words ≡ self.old.cells.words }
         ensures counts { self.new.cells.counts ≡ self.old.cells.counts }
         ensures agreed { IsAgreed at.now.key self.old.cells.kept.items self.new.cells.kept.items }
-        ensures taken { (left : List HopOf) → Taking (setting_in self.old) (places_in self.old) at.now.key clock (seen_hop hop ∷ left) self.old.cells.kept.items self.old.cells.last
-            → Taking (setting_in self.old) (places_in self.old) at.now.key clock left self.new.cells.kept.items self.new.cells.last }
+        ensures taken { (left : List HopOf) → Taking (setting_in self.old) (order_of self.old) at.now.key clock (seen_hop hop ∷ left) self.old.cells.kept.items self.old.cells.last
+            → Taking (setting_in self.old) (order_of self.old) at.now.key clock left self.new.cells.kept.items self.new.cells.last }
     {
-        let turn = Turn {
+        let key_hop = KeyHop {
             key: at.key,
             hop: number,
         };
-        let end = self.cells.end(self.times, turn, at.location, hop, clock);
+        let end = self.cells.end(self.times, key_hop, at.location, hop, clock);
         match hop.way {
             Way::To(next) => self.go_on(at, next, &end),
             Way::Early | Way::Late => self.cells.stop(&end),

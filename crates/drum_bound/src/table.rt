@@ -2,7 +2,7 @@
 
 ghost use Rattle.std.specs.Prelude.{◌≡◌, map, Some, IfOk};
 ghost use Rattle.drum_bound.specs.RowOf.{row_in, row_of, rows_below};
-ghost use Rattle.drum_bound.specs.ScanOf.{IsDone, places_in, setting_in, size_in};
+ghost use Rattle.drum_bound.specs.ScanOf.{IsDone, order_of, setting_in, size_in};
 ghost use Rattle.drum_bound.specs.Scanned.{cell_at};
 
 use crate::latest::Latest;
@@ -15,7 +15,7 @@ impl Scan<'_> {
     fn worst_at(&self, key: usize, kept: Latest) -> Worst
         requires done { IsDone self.now }
         requires kept { cell_at self.now.cells.kept.items key ≡ Some kept }
-        ensures { row_in result ≡ row_of (setting_in self.now) (places_in self.now) key kept }
+        ensures { row_in result ≡ row_of (setting_in self.now) (order_of self.now) key kept }
     {
         let counts = self.keys.counts_at(key);
         Worst {
@@ -29,7 +29,7 @@ impl Scan<'_> {
     /// The table of worst times: an entry for each key at which something is kept.
     pub fn table(&self, alloc: Global) -> Result<Vec<Worst>, AllocError>
         requires { IsDone self.now }
-        ensures { IfOk result (λ rows. map row_in rows.items ≡ rows_below (setting_in self.now) (places_in self.now) self.now.cells.kept.items (size_in self.now)) }
+        ensures { IfOk result (λ rows. map row_in rows.items ≡ rows_below (setting_in self.now) (order_of self.now) self.now.cells.kept.items (size_in self.now)) }
     {
         let mut rows = Vec::new(alloc);
         for key in 0..self.keys.size {

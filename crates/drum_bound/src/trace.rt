@@ -1,7 +1,7 @@
 //! The walk whose end is the latest of all that a finished scan keeps.
 
 ghost use Rattle.std.specs.Prelude.{◌≡◌, ◌-◌, ◌≤◌, map, Some, IfOk};
-ghost use Rattle.drum_bound.specs.ScanOf.{IsDone, places_in, setting_in};
+ghost use Rattle.drum_bound.specs.ScanOf.{IsDone, order_of, setting_in};
 ghost use Rattle.drum_bound.specs.Scanned.{cell_at, start_angle};
 ghost use Rattle.drum_bound.specs.Visited.{IsWalkOf, seen_visit, visited};
 ghost use Rattle.drum_bound.specs.TakenOf.{taken_of};
@@ -18,7 +18,7 @@ impl Scan<'_> {
         requires begun { cell_at self.now.cells.kept.items origin.key ≡ Some begin }
         requires later { begin.clock ≤ end.clock }
         ensures { let angle = start_angle (setting_in self.now).start in
-            seen_visit result ≡ visited (taken_of (setting_in self.now) (places_in self.now) origin (begin.clock - angle) (end.clock - angle)) }
+            seen_visit result ≡ visited (taken_of (setting_in self.now) (order_of self.now) origin (begin.clock - angle) (end.clock - angle)) }
     {
         let angle = self.start_angle();
         Visit {

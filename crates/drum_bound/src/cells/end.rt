@@ -8,8 +8,8 @@ use drum_core::Location;
 use drum_flow::Hop;
 use drum_times::Times;
 
-/// The latest end of a hop from a key. It is made by [`Turns::end`] alone, which counts it.
-#[derive(Clone, Copy, Debug)]
+/// The latest end of a hop from a key. It is made by [`Made::end`] alone, which counts it.
+#[derive(Debug, Drop)]
 pub struct End {
     latest: Latest,
 }
@@ -25,7 +25,7 @@ impl End {
 
 /// A hop of a key, by its number among those of the key's location, from 0.
 #[derive(Clone, Copy, Debug, PartialEq, Eq)]
-pub struct Turn {
+pub struct KeyHop {
     pub key: usize,
     pub hop: usize,
 }
@@ -33,24 +33,24 @@ pub struct Turn {
 /// The ends of hops that have been made: how many, and which was the last. Each is of a later hop than the one before it, so
 /// that none is made twice.
 #[derive(Debug, Drop)]
-pub struct Turns {
+pub struct Made {
     count: u64,
-    last: Option<Turn>,
+    last: Option<KeyHop>,
 }
 
-impl Turns {
+impl Made {
     ghost use Rattle.drum_times.specs.Entries.{entry_in};
     ghost use Rattle.drum_flow.specs.Seen.{seen_way};
     ghost use Rattle.drum_bound.specs.Longest as said;
     ghost use Rattle.drum_bound.specs.Profile.{MayEnd};
-    ghost use Rattle.drum_bound.specs.Turns.{IsLater};
+    ghost use Rattle.drum_bound.specs.KeyHops.{IsLater};
 
     /// No end yet.
-    pub fn none() -> Turns
+    pub fn none() -> Made
         ensures count { result.count ≡ 0 }
         ensures last { result.last ≡ None }
     {
-        Turns {
+        Made {
             count: 0,
             last: None,
         }
@@ -68,28 +68,29 @@ impl Turns {
     pub fn end(
         &mut self,
         times: &Times,
-        turn: Turn,
+        key_hop: KeyHop,
         location: Location,
         hop: Hop,
         clock: u64,
     ) -> End
         requires few { self.old.count < 2 ^ 62 }
-        requires later { IsLater self.old.last turn }
+        requires later { IsLater self.old.last key_hop }
         requires soon { clock ≤ 2 ^ 61 }
         requires may_end { MayEnd hop.instruction (seen_way hop.way) }
         ensures counted { self.new.count ≡ self.old.count + 1 }
-        ensures last { self.new.last ≡ Some turn }
-        ensures origin { result.latest.origin ≡ Some (record { key = turn.key; hop = hop }) }
+        ensures last { self.new.last ≡ Some key_hop }
+        ensures origin { result.latest.origin ≡ Some (record { key = key_hop.key; hop = hop }) }
         ensures clock { result.latest.clock ≡ said.longest (entry_in times.now) location.number hop.instruction (seen_way hop.way) clock }
-        ensures later { clock ≤ result.latest.clock }
-        ensures near { result.latest.clock ≤ clock + 92000099 }
     {
         self.count += 1;
-        self.last = Some(turn);
+        self.last = Some(key_hop);
         End {
             latest: Latest {
                 clock: longest(times, location, hop, clock),
-                origin: Some(Origin { key: turn.key, hop }),
+                origin: Some(Origin {
+                    key: key_hop.key,
+                    hop,
+                }),
             },
         }
     }

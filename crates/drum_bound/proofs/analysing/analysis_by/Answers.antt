@@ -32,6 +32,6 @@ returns c =
       walk = found.walk;
       words = sym (length-map c.order.result.now (λ location. location.number)) ∙ ap length c.order.ensures;
       counts = c.counts_of.ensures.value ∙ ap counts_of marks;
-      turns = c.turns.ensures ∙ found.turns;
+      turns = c.made.ensures ∙ found.turns;
       passed = subst (λ (all : List Mark). ArePasses all visits c.passes_of_marks.result) marks passed;
     })

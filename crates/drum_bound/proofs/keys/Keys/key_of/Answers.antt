@@ -45,7 +45,7 @@ overflow_add-result c =
     let lead : c.leading.result ≡ leading marks counts = c.leading.ensures ∙ ap (λ (all : List Mark). leading all (counts_in c.args.counts all)) c.marks.ensures.all in
     let words : c.len.result ≡ length order = omega (arith, c.len.ensures, c.args.self.now.sites.ok.0, same_length c.args.self.now c.requires.keys) in
     let product : c.leading.result * c.len.result ≡ leading marks counts * length order = ap (λ (n : ℕ). n * c.len.result) lead ∙ ap (λ (n : ℕ). leading marks counts * n) words in
-    omega (arith, product, small_number marks order counts c.place_of.result c.args.location.number c.requires.within c.requires.keys.ordered.0.few c.place_of.ensures)
+    omega (arith, product, small_number marks order counts c.index_of.result c.args.location.number c.requires.within c.requires.keys.ordered.0.few c.index_of.ensures)
 
 pub returns : goal.returns
 returns c =
@@ -55,5 +55,5 @@ returns c =
     let lead : c.leading.result ≡ leading marks counts = c.leading.ensures ∙ ap (λ (all : List Mark). leading all (counts_in c.args.counts all)) c.marks.ensures.all in
     let words : c.len.result ≡ length order = omega (arith, c.len.ensures, c.args.self.now.sites.ok.0, same_length c.args.self.now c.requires.keys) in
     let product : c.leading.result * c.len.result ≡ leading marks counts * length order = ap (λ (n : ℕ). n * c.len.result) lead ∙ ap (λ (n : ℕ). leading marks counts * n) words in
-    subst (λ (key : ℕ). IsKey marks order key c.args.location.number counts) (ap (λ (n : ℕ). n + c.place_of.result) (sym product))
-    (key_of_place marks order counts c.place_of.result c.args.location.number c.requires.within c.place_of.ensures)
+    subst (λ (key : ℕ). IsKey marks order key c.args.location.number counts) (ap (λ (n : ℕ). n + c.index_of.result) (sym product))
+    (key_of_place marks order counts c.index_of.result c.args.location.number c.requires.within c.index_of.ensures)

@@ -1,10 +1,10 @@
 use Rattle.std.proofs.Common.{arith}
 use Rattle.drum_machine.specs.Ways.{to}
 use Rattle.drum_bound.proofs.KeyLaws.{place_there}
-use Rattle.drum_bound.proofs.LaterTurns.{before_later}
+use Rattle.drum_bound.proofs.LaterHops.{before_later}
 use Rattle.drum_bound.proofs.Onward.{leads_on}
 use Rattle.drum_bound.specs.Keys.{place_at}
-use Rattle.drum_bound.specs.ScanOf.{setting_in, places_in}
+use Rattle.drum_bound.specs.ScanOf.{setting_in, order_of}
 use Rattle.std.proofs.Common.{refl}
 use Rattle.drum_bound.proofs.scan.Scan.go_on.Goals as goal
 
@@ -12,13 +12,13 @@ pub after-requires-clause-next : goal.after-requires-clause-next
 after-requires-clause-next c =
     let scan = c.args.self.now in
     let key = c.args.at.now.key in
-    c.requires.keys.ordered.0.closed (place_at (places_in scan) key) c.args.next.number
-    (place_there (setting_in scan).notes.marks (places_in scan) key (omega (arith, c.requires.at.below, c.requires.keys.size))) c.requires.edge
+    c.requires.keys.ordered.0.closed (place_at (order_of scan) key) c.args.next.number
+    (place_there (setting_in scan).notes.marks (order_of scan) key (omega (arith, c.requires.at.below, c.requires.keys.size))) c.requires.edge
 
 pub raise-requires-clause-onward : goal.raise-requires-clause-onward
 raise-requires-clause-onward c =
     let scan = c.args.self.now in
     let key = c.args.at.now.key in
-    let leads = leads_on (setting_in scan) (places_in scan) c.requires.keys.ordered.0 key (record { ins = c.requires.edge.0; way = to c.args.next.number }) c.in-Some.key c.args.next.number
+    let leads = leads_on (setting_in scan) (order_of scan) c.requires.keys.ordered.0 key (record { ins = c.requires.edge.0; way = to c.args.next.number }) c.in-Some.key c.args.next.number
     (omega (arith, c.requires.at.below, c.requires.keys.size)) c.requires.edge.1 refl c.in-Some.ensures.0 c.in-Some.ensures.1 in
-    before_later scan.cells.turns.last key c.in-Some.key c.requires.before leads.later
+    before_later scan.cells.made.last key c.in-Some.key c.requires.before leads.later

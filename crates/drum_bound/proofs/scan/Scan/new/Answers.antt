@@ -1,11 +1,11 @@
 use Rattle.std.proofs.Common.{◌≡◌, ℕ, ◌*◌, List, length, Option, None, set, replicate, Some, ap, sym, ◌∙◌, refl, subst, arith}
 use Rattle.drum_flow.specs.Flow.{order_in}
-use Rattle.drum_bound.specs.declared.cells.end.Turn.{Turn}
+use Rattle.drum_bound.specs.declared.cells.end.KeyHop.{KeyHop}
 use Rattle.drum_bound.specs.declared.latest.Latest.{Latest}
 use Rattle.drum_bound.specs.KeysOf.{setting_of}
 use Rattle.drum_bound.specs.Keys.{keys_of}
 use Rattle.drum_bound.specs.Scanned.{Scanned}
-use Rattle.drum_bound.specs.Turns.{IsBefore}
+use Rattle.drum_bound.specs.KeyHops.{IsBefore}
 use Rattle.drum_bound.proofs.Begun.{begun}
 use Rattle.drum_bound.proofs.Sites.{same_length}
 use Rattle.drum_bound.proofs.scan.Scan.new.Goals as goal
@@ -27,6 +27,6 @@ returns-clause-scanned c =
       scanned = subst (λ (last : Latest). Scanned g order 0 0 c.in-Ok.cells.kept.items last) (sym c.in-Ok.ensures.last)
           (subst (λ (all : List (Option Latest)). Scanned g order 0 0 all start) (sym cells)
           (begun g order c.start_key-start.result start c.start_key-start.ensures c.start_angle-clock.ensures refl));
-      turns = c.in-Ok.ensures.turns;
-      before = subst (λ (last : Option Turn). IsBefore last 0) (sym c.in-Ok.ensures.unturned) tt;
+      turns = c.in-Ok.ensures.made;
+      before = subst (λ (last : Option KeyHop). IsBefore last 0) (sym c.in-Ok.ensures.unmade) tt;
     }

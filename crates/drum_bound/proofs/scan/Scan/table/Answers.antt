@@ -2,7 +2,7 @@ use Rattle.std.proofs.Common.{◌≡◌, ℕ, ◌+◌, suc, List, Some, None, Ve
 use Rattle.drum_bound.specs.declared.worst.Worst.{Worst}
 use Rattle.drum_bound.specs.RowOf.{row_in}
 use Rattle.drum_bound.specs.RowOf.{rows_below}
-use Rattle.drum_bound.specs.ScanOf.{places_in, setting_in}
+use Rattle.drum_bound.specs.ScanOf.{order_of, setting_in}
 use Rattle.drum_bound.specs.Scanned.{cell_at}
 use Rattle.drum_bound.proofs.Finished.{row_more, row_none}
 use Rattle.drum_bound.proofs.scan.Scan.table.Goals as goal
@@ -12,7 +12,7 @@ pub loop-key-preserved : goal.loop-key-preserved
 loop-key-preserved c =
     let scan = c.args.self.now in
     let key = c.loop-key.key in
-    let Goes : ℕ → List Worst → Type 0 = λ n rows. map row_in rows ≡ rows_below (setting_in scan) (places_in scan) scan.cells.kept.items n in
+    let Goes : ℕ → List Worst → Type 0 = λ n rows. map row_in rows ≡ rows_below (setting_in scan) (order_of scan) scan.cells.kept.items n in
     let next : suc key ≡ key + 1 = omega arith in
     let moved : Goes (suc key) c.match-kept_at.rows.items = elim c.match-kept_at.branch [
       | in-Some+in_ok-push w ↦

@@ -4,45 +4,46 @@ use Rattle.drum_flow.specs.declared.way.Way as code
 use Rattle.drum_flow.specs.declared.way.Way.TheVariants as way
 use Rattle.drum_flow.specs.Seen.{seen_hop, seen_way}
 use Rattle.drum_flow.specs.Walk.{Setting}
-use Rattle.drum_bound.specs.declared.cells.end.Turns.{Turns}
+use Rattle.drum_bound.specs.declared.cells.Cells.{Cells}
+use Rattle.drum_bound.specs.declared.cells.end.Made.{Made}
 use Rattle.drum_bound.specs.declared.latest.Latest.{Latest}
 use Rattle.drum_bound.specs.Keys.{place_at}
 use Rattle.drum_bound.specs.Longest.{longest}
 use Rattle.drum_bound.proofs.KeysTaken.{hop_among}
 use Rattle.drum_bound.proofs.Profiles.{hop_may_end}
 use Rattle.drum_bound.specs.Scanned.{cell_at, later, Taking}
-use Rattle.drum_bound.specs.ScanOf.{setting_in, places_in}
+use Rattle.drum_bound.specs.ScanOf.{setting_in, order_of}
 use Rattle.drum_bound.proofs.Scans.{Comes, take_stop}
-use Rattle.drum_bound.proofs.LaterTurns.{before_own}
+use Rattle.drum_bound.proofs.LaterHops.{before_own}
 use Rattle.drum_bound.proofs.Taken.{edge_of, goes_agreed, goes_as, goes_taken}
 use Rattle.drum_bound.proofs.scan.Scan.take_hop.Goals as goal
 
 pub end-end-requires-clause-may_end : goal.end-end-requires-clause-may_end
 end-end-requires-clause-may_end c =
     let g : Setting = setting_in c.args.self.now in
-    hop_may_end g.loads g.notes (place_at (places_in c.args.self.now) c.args.at.now.key) c.args.hop.instruction (seen_way c.args.hop.way)
+    hop_may_end g.loads g.notes (place_at (order_of c.args.self.now) c.args.at.now.key) c.args.hop.instruction (seen_way c.args.hop.way)
     (hop_among c.args.self.now c.args.at.now.key c.args.number (seen_hop c.args.hop) c.requires.hop)
 
 pub go_on-requires-clause-edge : goal.go_on-requires-clause-edge
 go_on-requires-clause-edge c =
-    edge_of (setting_in c.args.self.now) (places_in c.args.self.now) c.requires.keys.ordered.0 c.args.at.now.key (omega (arith, c.requires.at.below, c.requires.keys.size))
+    edge_of (setting_in c.args.self.now) (order_of c.args.self.now) c.requires.keys.ordered.0 c.args.at.now.key (omega (arith, c.requires.at.below, c.requires.keys.size))
     (seen_hop c.args.hop) c.in-To.next.number (hop_among c.args.self.now c.args.at.now.key c.args.number (seen_hop c.args.hop) c.requires.hop) (ap seen_way c.in-To.is)
 
 pub go_on-requires-clause-before : goal.go_on-requires-clause-before
-go_on-requires-clause-before c = before_own c.end-end.new.self.turns.last c.args.at.now.key c.args.number c.end-end.ensures.turn
+go_on-requires-clause-before c = before_own c.end-end.new.self.made.last c.args.at.now.key c.args.number c.end-end.ensures.now_last
 
 pub returns-in-To-clause-agreed : goal.returns-in-To-clause-agreed
 returns-in-To-clause-agreed c =
-    goes_agreed (setting_in c.args.self.now) (places_in c.args.self.now) c.requires.keys.ordered.0 c.args.at.now.key (omega (arith, c.requires.at.below, c.requires.keys.size))
+    goes_agreed (setting_in c.args.self.now) (order_of c.args.self.now) c.requires.keys.ordered.0 c.args.at.now.key (omega (arith, c.requires.at.below, c.requires.keys.size))
     (seen_hop c.args.hop) c.in-To.next.number c.end-end.result.latest c.args.self.now.cells.kept.items c.args.self.now.cells.last c.go_on.new.self.cells.kept.items c.go_on.new.self.cells.last
     (hop_among c.args.self.now c.args.at.now.key c.args.number (seen_hop c.args.hop) c.requires.hop) (ap seen_way c.in-To.is)
-    (goes_as (setting_in c.args.self.now) (places_in c.args.self.now) c.args.at.now.key c.in-To.next.number c.end-end.result.latest c.end-end.new.self.kept.items c.args.self.now.cells.kept.items
-    c.end-end.new.self.last c.args.self.now.cells.last c.go_on.new.self.cells.kept.items c.go_on.new.self.cells.last c.end-end.ensures.kept c.end-end.ensures.last c.go_on.ensures.goes)
+    (goes_as (setting_in c.args.self.now) (order_of c.args.self.now) c.args.at.now.key c.in-To.next.number c.end-end.result.latest c.end-end.new.self.kept.items c.args.self.now.cells.kept.items
+    c.end-end.new.self.last c.args.self.now.cells.last c.go_on.new.self.cells.kept.items c.go_on.new.self.cells.last (ap (λ (cells : Cells). cells.kept.items) c.end-end.ensures.same) (ap (λ (cells : Cells). cells.last) c.end-end.ensures.same) c.go_on.ensures.goes)
 
 pub returns-in-To-clause-taken : goal.returns-in-To-clause-taken
 returns-in-To-clause-taken c =
     let g : Setting = setting_in c.args.self.now in
-    let order = places_in c.args.self.now in
+    let order = order_of c.args.self.now in
     let at = c.args.at.now in
     let new = c.end-end.result.latest in
     let comes : Comes g order at.key c.args.clock (record { key = at.key; hop = c.args.hop }) new = record {
@@ -53,13 +54,13 @@ returns-in-To-clause-taken c =
     } in
     goes_taken g order c.requires.keys.ordered.0 at.key (omega (arith, c.requires.at.below, c.requires.keys.size)) c.args.clock (record { key = at.key; hop = c.args.hop })
     c.in-To.next.number new c.args.self.now.cells.kept.items c.args.self.now.cells.last c.go_on.new.self.cells.kept.items c.go_on.new.self.cells.last comes (ap seen_way c.in-To.is)
-    (goes_as (setting_in c.args.self.now) (places_in c.args.self.now) c.args.at.now.key c.in-To.next.number c.end-end.result.latest c.end-end.new.self.kept.items c.args.self.now.cells.kept.items
-    c.end-end.new.self.last c.args.self.now.cells.last c.go_on.new.self.cells.kept.items c.go_on.new.self.cells.last c.end-end.ensures.kept c.end-end.ensures.last c.go_on.ensures.goes)
+    (goes_as (setting_in c.args.self.now) (order_of c.args.self.now) c.args.at.now.key c.in-To.next.number c.end-end.result.latest c.end-end.new.self.kept.items c.args.self.now.cells.kept.items
+    c.end-end.new.self.last c.args.self.now.cells.last c.go_on.new.self.cells.kept.items c.go_on.new.self.cells.last (ap (λ (cells : Cells). cells.kept.items) c.end-end.ensures.same) (ap (λ (cells : Cells). cells.last) c.end-end.ensures.same) c.go_on.ensures.goes)
 
 pub returns-in-Early : goal.returns-in-Early
 returns-in-Early c =
     let g : Setting = setting_in c.args.self.now in
-    let order = places_in c.args.self.now in
+    let order = order_of c.args.self.now in
     let at = c.args.at.now in
     let new = c.end-end.result.latest in
     let comes : Comes g order at.key c.args.clock (record { key = at.key; hop = c.args.hop }) new = record {
@@ -68,15 +69,15 @@ returns-in-Early c =
       ended = c.end-end.ensures.clock ∙ ap (λ (place : ℕ). longest g.times place c.args.hop.instruction (seen_way c.args.hop.way) c.args.clock) c.requires.at.there;
       hop = hop_among c.args.self.now at.key c.args.number (seen_hop c.args.hop) c.requires.hop;
     } in
-    let kept : c.stop.new.self.kept.items ≡ c.args.self.now.cells.kept.items = c.stop.ensures.kept ∙ c.end-end.ensures.kept in
-    let last : c.stop.new.self.last ≡ later c.args.self.now.cells.last new = c.stop.ensures.last ∙ ap (λ (l : Latest). later l new) c.end-end.ensures.last in
+    let kept : c.stop.new.self.kept.items ≡ c.args.self.now.cells.kept.items = (ap (λ (cells : Cells). cells.kept.items) c.stop.ensures.same) ∙ (ap (λ (cells : Cells). cells.kept.items) c.end-end.ensures.same) in
+    let last : c.stop.new.self.last ≡ later c.args.self.now.cells.last new = c.stop.ensures.last ∙ ap (λ (l : Latest). later l new) (ap (λ (cells : Cells). cells.last) c.end-end.ensures.same) in
     record {
       times = refl;
       keys = refl;
-      counted = ap (λ (turns : Turns). turns.count) c.stop.ensures.turns ∙ c.end-end.ensures.counted;
-      last = ap (λ (turns : Turns). turns.last) c.stop.ensures.turns ∙ c.end-end.ensures.turn;
-      words = c.stop.ensures.words ∙ c.end-end.ensures.words;
-      counts = c.stop.ensures.counts ∙ c.end-end.ensures.counts;
+      counted = ap (λ (made : Made). made.count) (ap (λ (cells : Cells). cells.made) c.stop.ensures.same) ∙ c.end-end.ensures.counted;
+      last = ap (λ (made : Made). made.last) (ap (λ (cells : Cells). cells.made) c.stop.ensures.same) ∙ c.end-end.ensures.now_last;
+      words = (ap (λ (cells : Cells). cells.words) c.stop.ensures.same) ∙ (ap (λ (cells : Cells). cells.words) c.end-end.ensures.same);
+      counts = (ap (λ (cells : Cells). cells.counts) c.stop.ensures.same) ∙ (ap (λ (cells : Cells). cells.counts) c.end-end.ensures.same);
       agreed = λ other within. ap (λ (all : List (Option Latest)). cell_at all other) kept;
       taken = λ left taking. subst (λ (all : List (Option Latest)). Taking g order at.key c.args.clock left all c.stop.new.self.last) (sym kept)
           (subst (λ (l : Latest). Taking g order at.key c.args.clock left c.args.self.now.cells.kept.items l) (sym last)

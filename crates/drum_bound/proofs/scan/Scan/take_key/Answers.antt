@@ -8,11 +8,11 @@ use Rattle.drum_flow.specs.HopsLeft.{hops_left}
 use Rattle.drum_flow.specs.Seen.{seen_hop}
 use Rattle.drum_bound.specs.Keys.{place_at}
 use Rattle.drum_bound.specs.Scanned.{Taking}
-use Rattle.drum_bound.specs.ScanOf.{setting_in, places_in}
-use Rattle.drum_bound.specs.Turns.{IsLater}
+use Rattle.drum_bound.specs.ScanOf.{setting_in, order_of}
+use Rattle.drum_bound.specs.KeyHops.{IsLater}
 use Rattle.drum_bound.proofs.FewHops.{few_hops}
 use Rattle.drum_bound.proofs.KeysTaken.{hops_at, hops_as, skipped, opened, early_clock, few_turns, taking_as, closed}
-use Rattle.drum_bound.proofs.LaterTurns.{first_left, others_left, later_key, later_hop}
+use Rattle.drum_bound.proofs.LaterHops.{first_left, others_left, later_key, later_hop}
 use Rattle.drum_bound.proofs.scan.Scan.take_key.Goals as goal
 
 pub returns-in_default-clause-scanned : goal.returns-in_default-clause-scanned
@@ -26,7 +26,7 @@ loop-number-init-derived c =
     let number : enumerate_count each.result ≡ 0 = ap enumerate_count each.ensures.into_iter_gives ∙ c.enumerate-number-items.ensures.count in
     let left : hops_left (enumerate_source each.result) ≡ hops_at scan c.at-at.result.key =
     ap (λ (e : Enumerate Hops). hops_left (enumerate_source e)) each.ensures.into_iter_gives ∙ ap hops_left c.enumerate-number-items.ensures.source ∙ c.hops.ensures in
-    let few = few_hops g.loads g.notes (place_at (places_in scan) c.at-at.result.key) c.requires.scanned.keys.ordered.0.sound in
+    let few = few_hops g.loads g.notes (place_at (order_of scan) c.at-at.result.key) c.requires.scanned.keys.ordered.0.sound in
     ((tt, tt, inl (omega (arith, number, few, ap (λ (hops : List Hop). length hops) left))), tt)
 
 pub loop-number-init : goal.loop-number-init
@@ -44,10 +44,10 @@ loop-number-init c =
       words = refl;
       counts = refl;
       taking = opened scan c.args.key c.in-Some.latest (hops_left (enumerate_source each.result)) c.requires.scanned there left;
-      turns = ap (λ (hops : List Hop). scan.cells.turns.count + length hops) left;
+      turns = ap (λ (hops : List Hop). scan.cells.made.count + length hops) left;
       agreed = λ other below. refl;
       left = ap (λ (n : ℕ). drop n (hops_at scan c.args.key)) number ∙ sym left;
-      later = later_key scan.cells.turns.last c.args.key (enumerate_count each.result) c.requires.scanned.before;
+      later = later_key scan.cells.made.last c.args.key (enumerate_count each.result) c.requires.scanned.before;
     }
 
 pub take_hop-requires-clause-hop : goal.take_hop-requires-clause-hop
@@ -64,7 +64,7 @@ take_hop-requires-clause-hop c =
 
 pub take_hop-requires-clause-later : goal.take_hop-requires-clause-later
 take_hop-requires-clause-later c =
-    let last = c.loop-number.self.cells.turns.last in
+    let last = c.loop-number.self.cells.made.last in
     subst (λ (key : ℕ). IsLater last (record { key = key; hop = c.in-Some-2.number })) (sym c.at-at.ensures.key)
     (subst (λ (number : ℕ). IsLater last (record { key = c.args.key; hop = number })) (sym c.in-Some-2.ensures.steps.1) c.loop-number.invariant.later)
 
@@ -73,7 +73,7 @@ take_hop-requires-clause-soon c = early_clock c.args.self.now c.args.key c.in-So
 
 pub take_hop-requires-clause-few : goal.take_hop-requires-clause-few
 take_hop-requires-clause-few c =
-    few_turns c.args.self.now c.args.key c.loop-number.self.cells.turns.count (length (hops_left (enumerate_source c.loop-number.number-iterator)))
+    few_turns c.args.self.now c.args.key c.loop-number.self.cells.made.count (length (hops_left (enumerate_source c.loop-number.number-iterator)))
     c.requires.scanned c.requires.below c.loop-number.invariant.turns
 
 pub loop-number-preserved : goal.loop-number-preserved
@@ -88,16 +88,16 @@ loop-number-preserved c =
     let known = c.loop-number.invariant in
     let step : hops_left (enumerate_source c.loop-number.number-iterator) ≡ hop ∷ rest = c.in-Some-2.ensures.steps.0 in
     let next_number : enumerate_count c.next.new.self ≡ number + 1 = c.in-Some-2.ensures.steps.2 in
-    let turn : after.cells.turns.last ≡ Some (record { key = c.args.key; hop = number }) =
+    let turn : after.cells.made.last ≡ Some (record { key = c.args.key; hop = number }) =
     c.take_hop.ensures.last ∙ ap (λ (key : ℕ). Some (record { key = key; hop = c.in-Some-2.number })) c.at-at.ensures.key
     ∙ ap (λ (hop : ℕ). Some (record { key = c.args.key; hop = hop })) c.in-Some-2.ensures.steps.1 in
-    let taking : Taking (setting_in scan) (places_in scan) c.args.key clock (hop ∷ rest) before.cells.kept.items before.cells.last =
-    subst (λ (left : List Hop). Taking (setting_in scan) (places_in scan) c.args.key clock left before.cells.kept.items before.cells.last) step known.taking in
-    let here : Taking (setting_in before) (places_in before) c.at-at.result.key clock (hop ∷ rest) before.cells.kept.items before.cells.last =
-    subst (λ (key : ℕ). Taking (setting_in before) (places_in before) key clock (hop ∷ rest) before.cells.kept.items before.cells.last) (sym c.at-at.ensures.key)
+    let taking : Taking (setting_in scan) (order_of scan) c.args.key clock (hop ∷ rest) before.cells.kept.items before.cells.last =
+    subst (λ (left : List Hop). Taking (setting_in scan) (order_of scan) c.args.key clock left before.cells.kept.items before.cells.last) step known.taking in
+    let here : Taking (setting_in before) (order_of before) c.at-at.result.key clock (hop ∷ rest) before.cells.kept.items before.cells.last =
+    subst (λ (key : ℕ). Taking (setting_in before) (order_of before) key clock (hop ∷ rest) before.cells.kept.items before.cells.last) (sym c.at-at.ensures.key)
     (taking_as scan before c.args.key clock (hop ∷ rest) before.cells.kept.items before.cells.last (sym known.times) (sym known.keys) taking) in
-    let next : Taking (setting_in before) (places_in before) c.args.key clock rest after.cells.kept.items after.cells.last =
-    subst (λ (key : ℕ). Taking (setting_in before) (places_in before) key clock rest after.cells.kept.items after.cells.last) c.at-at.ensures.key (c.take_hop.ensures.taken rest here) in
+    let next : Taking (setting_in before) (order_of before) c.args.key clock rest after.cells.kept.items after.cells.last =
+    subst (λ (key : ℕ). Taking (setting_in before) (order_of before) key clock rest after.cells.kept.items after.cells.last) c.at-at.ensures.key (c.take_hop.ensures.taken rest here) in
     record {
       times = c.take_hop.ensures.times ∙ known.times;
       keys = c.take_hop.ensures.keys ∙ known.keys;
@@ -107,7 +107,7 @@ loop-number-preserved c =
       turns = omega (arith, known.turns, c.take_hop.ensures.counted, ap (λ (hops : List Hop). length hops) step);
       agreed = λ other below. c.take_hop.ensures.agreed other (omega (arith, below, c.at-at.ensures.key)) ∙ known.agreed other below;
       left = ap (λ (n : ℕ). drop n (hops_at scan c.args.key)) next_number ∙ others_left number (hops_at scan c.args.key) rest hop (known.left ∙ step);
-      later = subst (λ (n : ℕ). IsLater after.cells.turns.last (record { key = c.args.key; hop = n })) (sym next_number) (later_hop after.cells.turns.last c.args.key number turn);
+      later = subst (λ (n : ℕ). IsLater after.cells.made.last (record { key = c.args.key; hop = n })) (sym next_number) (later_hop after.cells.made.last c.args.key number turn);
     }
 
 pub returns-clause-scanned : goal.returns-clause-scanned
@@ -118,5 +118,5 @@ returns-clause-scanned c =
     let none : hops_left (enumerate_source c.loop-number.number-iterator) ≡ [] = c.in-None.ensures.steps.0.0 in
     closed after scan c.args.key (enumerate_count c.loop-number.number-iterator) c.in-Some.latest known.times known.keys c.requires.scanned
     (sym c.kept_at.ensures ∙ c.in-Some.is) known.words known.counts
-    (subst (λ (left : List Hop). Taking (setting_in scan) (places_in scan) c.args.key c.in-Some.latest.clock left after.cells.kept.items after.cells.last) none known.taking)
+    (subst (λ (left : List Hop). Taking (setting_in scan) (order_of scan) c.args.key c.in-Some.latest.clock left after.cells.kept.items after.cells.last) none known.taking)
     (omega (arith, known.turns, ap (λ (hops : List Hop). length hops) none)) known.agreed known.later

@@ -1,6 +1,6 @@
 use Rattle.std.proofs.Common.{◌≡◌, List, Some, sym, ◌∙◌, subst}
 use Rattle.drum_bound.specs.declared.visit.Visit.{Visit}
-use Rattle.drum_bound.specs.ScanOf.{places_in, setting_in}
+use Rattle.drum_bound.specs.ScanOf.{order_of, setting_in}
 use Rattle.drum_bound.specs.Scanned.{cell_at}
 use Rattle.drum_bound.proofs.Finished.{is_ordered, starts_on_drum}
 use Rattle.drum_bound.proofs.Traces.{IsTraced, begins_before, trace_more}
@@ -10,14 +10,14 @@ pub visit-requires-clause-later : goal.visit-requires-clause-later
 visit-requires-clause-later c =
     let scan = c.args.self.now in
     let there : cell_at scan.cells.kept.items c.in-Some.origin.key ≡ Some c.in-Some-kept_at.begin = sym c.kept_at.ensures ∙ c.in-Some-kept_at.is in
-    begins_before (setting_in scan) (places_in scan) scan.cells.kept.items scan.cells.last (is_ordered scan c.requires) (starts_on_drum scan) c.requires.scanned
+    begins_before (setting_in scan) (order_of scan) scan.cells.kept.items scan.cells.last (is_ordered scan c.requires) (starts_on_drum scan) c.requires.scanned
     c.loop-end.end c.loop-end.visits.items c.in-Some.origin c.in-Some-kept_at.begin c.loop-end.invariant c.in-Some.is there
 
 pub loop-end-preserved : goal.loop-end-preserved
 loop-end-preserved c =
     let scan = c.args.self.now in
     let there : cell_at scan.cells.kept.items c.in-Some.origin.key ≡ Some c.in-Some-kept_at.begin = sym c.kept_at.ensures ∙ c.in-Some-kept_at.is in
-    subst (λ (visits : List Visit). IsTraced (setting_in scan) (places_in scan) scan.cells.kept.items scan.cells.last c.in-Some-kept_at.begin visits)
+    subst (λ (visits : List Visit). IsTraced (setting_in scan) (order_of scan) scan.cells.kept.items scan.cells.last c.in-Some-kept_at.begin visits)
     (sym {A = List Visit} c.in_ok-push.ensures.items)
-    (trace_more (setting_in scan) (places_in scan) scan.cells.kept.items scan.cells.last (is_ordered scan c.requires) (starts_on_drum scan) c.requires.scanned
+    (trace_more (setting_in scan) (order_of scan) scan.cells.kept.items scan.cells.last (is_ordered scan c.requires) (starts_on_drum scan) c.requires.scanned
     c.loop-end.end c.in-Some-kept_at.begin c.loop-end.visits.items c.in-Some.origin c.visit.result c.loop-end.invariant c.in-Some.is there c.visit.ensures)

@@ -3,17 +3,17 @@ use Rattle.std.specs.Prelude.{slice_get}
 use Rattle.std.proofs.lemmas.Option.{slice_get_within, get_or_from_slice_get}
 use Rattle.drum_flow.specs.Flow.{order_in}
 use Rattle.drum_flow.specs.Lists.{contains_at}
-use Rattle.drum_bound.proofs.keys.Keys.place_of.Goals as goal
+use Rattle.drum_bound.proofs.keys.Keys.index_of.Goals as goal
 
 pub index-requires : goal.index-requires
 index-requires c =
     let found = contains_at (order_in c.args.self.now.flow.now) c.args.location.number c.requires.there in
-    let places = c.args.self.now.places in
-    omega (arith, slice_get_within places.items c.args.location.number found.0 (c.requires.keys.places found.0 c.args.location.number found.1), places.ok.0)
+    let places = c.args.self.now.indices in
+    omega (arith, slice_get_within places.items c.args.location.number found.0 (c.requires.keys.indices found.0 c.args.location.number found.1), places.ok.0)
 
 pub returns : goal.returns
 returns c =
     let found = contains_at (order_in c.args.self.now.flow.now) c.args.location.number c.requires.there in
-    let places = c.args.self.now.places in
-    let is = get_or_from_slice_get places.items c.args.location.number found.0 c.index.result.now (c.requires.keys.places found.0 c.args.location.number found.1) in
+    let places = c.args.self.now.indices in
+    let is = get_or_from_slice_get places.items c.args.location.number found.0 c.index.result.now (c.requires.keys.indices found.0 c.args.location.number found.1) in
     ap (slice_get (order_in c.args.self.now.flow.now)) (c.index.ensures ∙ is) ∙ found.1

@@ -1,16 +1,16 @@
 -- Which hops of keys come after which.
 use Rattle.std.specs.Prelude.{◌≡◌, ℕ, ◌<◌, List, Option, Some, None, ◌⊎◌}
-use Rattle.drum_bound.specs.declared.cells.end.Turn.{Turn}
+use Rattle.drum_bound.specs.declared.cells.end.KeyHop.{KeyHop}
 use Rattle.drum_bound.specs.declared.latest.Latest.{Latest}
 use Rattle.drum_bound.specs.Scanned.{cell_at}
 
 -- a hop of a key comes after the last one: of a later key, or of the same key with a greater number; after none, each does
-abbrev pub IsLater : Option Turn → Turn → Type 0
+abbrev pub IsLater : Option KeyHop → KeyHop → Type 0
 IsLater None turn = Unit {0}
 IsLater (Some last) turn = (last.key < turn.key) ⊎ ((last.key ≡ turn.key) × (last.hop < turn.hop))
 
 -- none is of this key or a later one
-abbrev pub IsBefore : Option Turn → ℕ → Type 0
+abbrev pub IsBefore : Option KeyHop → ℕ → Type 0
 IsBefore None key = Unit {0}
 IsBefore (Some last) key = last.key < key
 
