@@ -7,7 +7,7 @@ use Rattle.drum_times.specs.declared.times.Times.{Times}
 use Rattle.drum_flow.specs.Accepted.{counts_of}
 use Rattle.drum_flow.specs.Flow.{order_in}
 use Rattle.drum_flow.specs.Hops.{Hop, hops}
-use Rattle.drum_flow.specs.Lists.{contains_from_get}
+use Rattle.drum_flow.proofs.Lists.{contains_from_get}
 use Rattle.drum_flow.specs.Walk.{Setting}
 use Rattle.drum_bound.proofs.FewHops.{few_hops}
 use Rattle.drum_bound.specs.declared.keys.Keys.{Keys}

@@ -7,7 +7,7 @@ use Rattle.drum_machine.specs.Ways.{Way, to}
 use Rattle.drum_flow.specs.Accepted.{IsFree}
 use Rattle.drum_flow.specs.Graph.{AreDifferent, GoOn}
 use Rattle.drum_flow.specs.Hops.{Hop, hops, IsEdge}
-use Rattle.drum_flow.specs.Lists.{contains_there}
+use Rattle.drum_flow.proofs.Lists.{contains_there}
 use Rattle.drum_flow.specs.Passes.{leading, pass_raises}
 use Rattle.drum_flow.specs.Walk.{Setting}
 use Rattle.drum_bound.specs.Keys.{keys_of, place_at, counts_at, IsKey, IsOrdered}

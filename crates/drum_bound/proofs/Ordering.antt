@@ -11,7 +11,7 @@ use Rattle.drum_flow.specs.Accepted.{counts_of, IsGood, IsAccepted}
 use Rattle.drum_flow.specs.Flow.{deck_of, notes_of, executed_in, order_in, AreExecuted}
 use Rattle.drum_flow.specs.Free.{IsFreeOrder}
 use Rattle.drum_flow.specs.Graph.{AreDifferent}
-use Rattle.drum_flow.specs.Lists.{contains_here, contains_there, contains_cases, contains_none, contains_from_get}
+use Rattle.drum_flow.proofs.Lists.{contains_here, contains_there, contains_cases, contains_none, contains_from_get}
 use Rattle.drum_flow.proofs.Orders.{only_executed, all_executed, lead_push}
 use Rattle.drum_bound.specs.Keys.{keys_of, IsOrdered}
 use Rattle.drum_bound.specs.KeysOf.{CanHaveKeys}

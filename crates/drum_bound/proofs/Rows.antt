@@ -8,7 +8,7 @@ use Rattle.std.proofs.lemmas.List.Sums.{sum-map, sum_by-append}
 use Rattle.drum_times.specs.declared.notes.mark.Mark.{Mark}
 use Rattle.drum_flow.specs.Graph.{AreDifferent}
 use Rattle.drum_flow.specs.Hops.{hops}
-use Rattle.drum_flow.specs.Lists.{contains_here, contains_there, contains_cases, contains_none}
+use Rattle.drum_flow.proofs.Lists.{contains_here, contains_there, contains_cases, contains_none}
 use Rattle.drum_flow.specs.Walk.{Setting}
 use Rattle.drum_bound.specs.declared.latest.Latest.{Latest}
 use Rattle.drum_bound.proofs.DigitsLaws.{number_injective}

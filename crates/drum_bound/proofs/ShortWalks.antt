@@ -5,7 +5,7 @@ use Rattle.drum_times.specs.declared.notes.mark.Mark.{Mark}
 use Rattle.drum_machine.specs.Counts.{after_pass, no_counts, AreWithin}
 use Rattle.drum_machine.specs.Ways.{Way, early, to, late}
 use Rattle.drum_flow.specs.Hops.{hops, IsEdge}
-use Rattle.drum_flow.specs.Lists.{contains_at}
+use Rattle.drum_flow.proofs.Lists.{contains_at}
 use Rattle.drum_flow.specs.Passes.{leading}
 use Rattle.drum_flow.specs.Walk.{Setting, Taken, Follow, IsWalkFrom, IsWalk}
 use Rattle.drum_bound.proofs.DigitsLaws.{no_counts_within}

@@ -6,7 +6,7 @@ use Rattle.std.proofs.lemmas.Option.{slice_get_within, get_or_from_slice_get}
 use Rattle.drum_core.specs.declared.location.Location.{Location}
 use Rattle.drum_flow.specs.Flow.{order_in}
 use Rattle.drum_flow.specs.Graph.{AreDifferent}
-use Rattle.drum_flow.specs.Lists.{get_written, get_other}
+use Rattle.drum_flow.proofs.Lists.{get_written, get_other}
 use Rattle.drum_flow.specs.Accepted.{counts_of}
 use Rattle.drum_flow.specs.Passes.{leading, leading-<}
 use Rattle.drum_machine.specs.Counts.{AreWithin}

@@ -3,7 +3,7 @@ use Rattle.std.proofs.Common.{◌≡◌, ℕ, zero, suc, ◌+◌, ◌*◌, ◌/�
 use Rattle.std.proofs.Math.ListN.{get_or-append}
 use Rattle.std.proofs.Math.Seq.{take-append_seam, drop-append_seam}
 use Rattle.std.proofs.lemmas.Grind.{pow_more}
-use Rattle.drum_core.specs.Same.{same_word}
+use Rattle.drum_core.proofs.Same.{same_word}
 use Rattle.drum_core.specs.declared.word.Word.{Word}
 use Rattle.drum_core.specs.DeckText.{Line, comment, start, card, IsLine}
 use Rattle.drum_core.specs.Numeral.{digits_of}

@@ -5,7 +5,7 @@ use Rattle.std.proofs.lemmas.Bool.{cases_lt, eq-eqb}
 use Rattle.std.specs.List.{AllByRecursion}
 use Rattle.std.specs.Prelude.{Contains, slice_index_or}
 use borrow.Author.Tests.{ne_eqb}
-use Rattle.drum_core.specs.Same.{same_location}
+use Rattle.drum_core.proofs.Same.{same_location}
 use Rattle.drum_core.specs.declared.deck.fault.DeckFault.{DeckFault}
 use Rattle.drum_core.specs.declared.deck.fault.DeckFault.TheVariants.{Read, Memory, Card, Twice, NoStart, TwoStarts, PastDrum, TooLong}
 use Rattle.drum_core.specs.declared.word.Word.{Word}

@@ -1,12 +1,14 @@
 pub mod Bytes
 pub mod Cards
+mod Checks
+pub mod DeckLaws
+pub mod FaultLaws
 pub mod Firsts
 pub mod LineLemmas
-pub mod Numerals
-pub mod Puts
-pub mod Progress
-pub mod Words
-pub mod DeckLaws
-mod Checks
-pub mod FaultLaws
 mod Loads
+pub mod Numerals
+pub mod OpLaws
+pub mod Progress
+pub mod Puts
+pub mod Same
+pub mod Words

@@ -13,10 +13,8 @@ pub mod Location
 pub mod Moment
 pub mod Numeral
 pub mod Op
-pub mod OpLaws
 pub mod Position
 pub mod Recurs
-pub mod Same
 pub mod Shift
 pub mod Span
 pub mod Store

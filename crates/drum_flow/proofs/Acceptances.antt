@@ -19,7 +19,7 @@ use Rattle.drum_flow.specs.Free.{IsFreeOrder, IsCycleRefusal}
 use Rattle.drum_flow.specs.Graph.{AreDifferent, GoOn}
 use Rattle.drum_flow.specs.Refused.{IsFlowRefusal}
 use Rattle.drum_flow.specs.Size.{product_of, IsTooMuch}
-use Rattle.drum_flow.specs.Lists.{contains_there, contains_cases, contains_none}
+use Rattle.drum_flow.proofs.Lists.{contains_there, contains_cases, contains_none}
 
 -- how far before the end of a list a member stands
 abbrev height_by : Bool → ℕ → ℕ → ℕ

@@ -5,7 +5,7 @@ use Rattle.std.proofs.lemmas.Bool.{cases_eq}
 use Rattle.std.proofs.lemmas.List.Elements.{Contains-append_left, Contains-push, Contains-push_cases}
 use Rattle.drum_times.specs.Allowed.{Notes, is_listed}
 use Rattle.drum_flow.specs.Fixed.{AreFlagged}
-use Rattle.drum_flow.specs.Lists.{contains_none, get_written, get_other, get_replicated}
+use Rattle.drum_flow.proofs.Lists.{contains_none, get_written, get_other, get_replicated}
 
 -- no location, no flag
 pub none_flagged : (notes : Notes) (size : ℕ) → AreFlagged [] notes (replicate size false)

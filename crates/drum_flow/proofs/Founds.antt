@@ -13,7 +13,7 @@ use Rattle.std.proofs.lemmas.Option.{slice_get-get_or, slice_get-map}
 use Rattle.drum_core.specs.declared.location.Location.{Location}
 use Rattle.drum_flow.specs.Executed.{with_new}
 use Rattle.drum_flow.specs.Graph.{AreDifferent}
-use Rattle.drum_flow.specs.Lists.{contains_here, contains_there, contains_cases, contains_none}
+use Rattle.drum_flow.proofs.Lists.{contains_here, contains_there, contains_cases, contains_none}
 
 -- the numbers of locations
 abbrev pub numbers : List Location → List ℕ

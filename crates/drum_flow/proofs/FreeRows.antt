@@ -15,7 +15,7 @@ use Rattle.drum_flow.specs.Free.{IsFreeRow, IsUnmarkedRow, AreFreeRows}
 use Rattle.drum_flow.specs.Rows.{row_in, AreWithin}
 use Rattle.drum_flow.specs.Graph.{AreDifferent}
 use Rattle.drum_flow.specs.Hops.{hops}
-use Rattle.drum_flow.specs.Lists.{contains_none, contains_from_get}
+use Rattle.drum_flow.proofs.Lists.{contains_none, contains_from_get}
 use Rattle.drum_flow.proofs.Orders.{target_there, hop_there, with_new_has, with_new_only}
 
 -- what stands at two places of a list without repeats stands at one

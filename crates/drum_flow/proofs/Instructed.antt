@@ -10,7 +10,7 @@ use Rattle.std.specs.Prelude.{slice_get, flat_map, Contains}
 use Rattle.drum_core.specs.declared.instruction.Instruction.{Instruction}
 use Rattle.drum_core.specs.declared.word.Word.{Word}
 use Rattle.drum_core.specs.Instruction.{IsInstructionOf, instruction, instruction_of}
-use Rattle.drum_core.specs.Same.{same_instruction}
+use Rattle.drum_core.proofs.Same.{same_instruction}
 use Rattle.drum_times.specs.declared.notes.pattern.Pattern.{Pattern}
 use Rattle.drum_times.specs.Allowed.{matching}
 use Rattle.drum_flow.specs.Instructions.{listed_from}

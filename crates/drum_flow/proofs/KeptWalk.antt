@@ -13,12 +13,12 @@ use Rattle.drum_core.specs.Op.{op_of}
 use Rattle.drum_core.specs.Word.{word, number_in}
 use Rattle.drum_times.specs.declared.entry.Entry.{Entry}
 use Rattle.drum_times.specs.Allowed.{Notes, is_listed, allowed, loaded, listed, patterns_of}
-use Rattle.drum_machine.specs.Alone.{writes_no_other, leaves_switch}
+use Rattle.drum_machine.proofs.Alone.{writes_no_other, leaves_switch}
 use Rattle.drum_machine.specs.Contents.{Contents, word_at, upper}
 use Rattle.drum_machine.specs.Counts.{after_pass, no_counts, AreWithin}
 use Rattle.drum_machine.specs.Effect.{is_too_large, quotient}
 use Rattle.drum_machine.specs.Ending.{ended_by, stops_by, clock_by}
-use Rattle.drum_machine.specs.Ends.{Ends, KeepsStart, step_ends}
+use Rattle.drum_machine.proofs.Ends.{Ends, KeepsStart, step_ends}
 use Rattle.drum_machine.specs.Keeps.{IsAsDeclared, IsAllowed, counts_after, counts_by, IsKeptTurn, AreKept, IsKept}
 use Rattle.drum_machine.specs.Run as run
 use Rattle.drum_machine.specs.Run.{Turn, IsTurn, IsRun, IsFirstState, used_from}
@@ -30,7 +30,7 @@ use Rattle.drum_machine.specs.declared.why.Why.TheVariants as why
 use Rattle.drum_machine.specs.Writes.{writes}
 use Rattle.drum_flow.specs.Accepted.{IsAccepted, IsFixed, IsThere}
 use Rattle.drum_flow.specs.Hops.{Hop, hops_of, hops, IsEdge, Lead, IsExecuted}
-use Rattle.drum_flow.specs.Lists.{contains_here, contains_there, contains_cases}
+use Rattle.drum_flow.proofs.Lists.{contains_here, contains_there, contains_cases}
 use Rattle.drum_flow.specs.RunHops.{units_with, hop_of, hops_taken}
 use Rattle.drum_flow.specs.Walk.{Setting, IsProper, Taken, MayHaveUnits, end_by, IsTimed, IsHopAt, Follow, IsWalkFrom, IsWalk, time_from, time_of}
 

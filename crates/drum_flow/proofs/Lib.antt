@@ -6,9 +6,10 @@ pub mod Founds
 pub mod FreeRows
 pub mod Instructed
 pub mod KeptWalk
+pub mod Lists
 pub mod Orders
 pub mod Products
+mod Refusals
 pub mod Searches
 pub mod Translations
 pub mod Turns
-mod Refusals

@@ -16,7 +16,7 @@ use Rattle.drum_flow.specs.Refused.{IsWrong, IsFlowRefusal}
 use Rattle.drum_flow.specs.Executed.{target_of, successors, with_new, added_by, found_after}
 use Rattle.drum_flow.specs.Flow.{AreExecuted}
 use Rattle.drum_flow.specs.Hops.{Hop, hops, IsEdge, Lead, IsExecuted}
-use Rattle.drum_flow.specs.Lists.{contains_here, contains_there, contains_cases, contains_none, contains_at, contains_from_get}
+use Rattle.drum_flow.proofs.Lists.{contains_here, contains_there, contains_cases, contains_none, contains_at, contains_from_get}
 
 get_push : (xs : List ℕ) (y k x : ℕ) → slice_get xs k ≡ Some x → slice_get (xs ++ y ∷ []) k ≡ Some x
 get_push [] y k x e = cc

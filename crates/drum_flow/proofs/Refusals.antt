@@ -12,7 +12,7 @@ use Rattle.drum_flow.specs.Accepted.{IsAccepted, IsMet, IsFirstIn, IsClosed, cou
 use Rattle.drum_flow.specs.Executed.{found_after, IsOrder}
 use Rattle.drum_flow.specs.Hops.{IsExecuted}
 use Rattle.drum_flow.proofs.Acceptances.{one_order}
-use Rattle.drum_flow.specs.Lists.{contains_here, contains_there, contains_from_get}
+use Rattle.drum_flow.proofs.Lists.{contains_here, contains_there, contains_from_get}
 use Rattle.drum_flow.proofs.Orders.{only_executed}
 
 within : {X : Type 0} (before : List X) (one : X) (behind : List X) → Contains (before ++ one ∷ behind) one

@@ -10,7 +10,7 @@ use Rattle.drum_flow.specs.declared.graph.progress.Progress.{Progress}
 use Rattle.drum_flow.specs.declared.graph.progress.Progress.TheVariants.{New, Open, Finished}
 use Rattle.drum_flow.specs.Graph.{AreDifferent, GoOn, Leads, LeadRound, IsClosed, IsCycle, IsTopologicalOrder}
 use Rattle.drum_flow.specs.Search.{LeadAlong, AreLinked, last_of, IsSearch, steps_left, ForgetsNone}
-use Rattle.drum_flow.specs.Lists.{contains_at, contains_from_get, contains_cases, contains_none, contains_reverse, contains_reversed, contains_dropped, distinct_push, distinct_front, distinct_last, distinct_dropped, distinct_reversed, get_written, get_other, get_replicated}
+use Rattle.drum_flow.proofs.Lists.{contains_at, contains_from_get, contains_cases, contains_none, contains_reverse, contains_reversed, contains_dropped, distinct_push, distinct_front, distinct_last, distinct_dropped, distinct_reversed, get_written, get_other, get_replicated}
 
 last_cons : (a b : ℕ) (bs : List ℕ) → last_of (a ∷ b ∷ bs) ≡ last_of (b ∷ bs)
 last_cons a b bs =

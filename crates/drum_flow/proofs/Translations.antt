@@ -15,7 +15,7 @@ use Rattle.drum_flow.proofs.Founds.{numbers}
 use Rattle.drum_flow.proofs.Turns.{IsTurnedCycle, turned_cycle}
 use Rattle.drum_flow.specs.Graph.{AreDifferent, GoOn, Leads, LeadRound, IsClosed, IsCycle, IsTopologicalOrder}
 use Rattle.drum_flow.proofs.FreeRows.{one_place}
-use Rattle.drum_flow.specs.Lists.{contains_here, contains_there, contains_cases, contains_none, contains_at, contains_from_get}
+use Rattle.drum_flow.proofs.Lists.{contains_here, contains_there, contains_cases, contains_none, contains_at, contains_from_get}
 use Rattle.drum_flow.proofs.Orders.{lead_push}
 
 contains_mapped : (f : ℕ → ℕ) (xs : List ℕ) (x : ℕ) → Contains xs x → Contains (map f xs) (f x)

@@ -11,7 +11,7 @@ use Rattle.drum_flow.specs.Accepted.{LeadRound, IsClosed, IsSmallestFirst}
 use Rattle.drum_flow.specs.Graph.{AreDifferent}
 use Rattle.drum_flow.specs.Turned.{IsTurned}
 use Rattle.drum_flow.proofs.Founds.{numbers}
-use Rattle.drum_flow.specs.Lists.{contains_here, contains_there, contains_cases, contains_none}
+use Rattle.drum_flow.proofs.Lists.{contains_here, contains_there, contains_cases, contains_none}
 
 -- the location behind a number
 pub location_at : (locations : List Location) (k n : ℕ) → slice_get (numbers locations) k ≡ Some n → (location : Location) × (slice_get locations k ≡ Some location) × (location.number ≡ n)

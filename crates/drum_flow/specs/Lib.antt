@@ -10,7 +10,6 @@ pub mod Graph
 pub mod Hops
 pub mod HopsLeft
 pub mod Instructions
-pub mod Lists
 pub mod Passes
 pub mod Refused
 pub mod Rows

@@ -1,14 +1,18 @@
 pub mod Allowing
+pub mod Alone
 mod Checks
 mod Effects
-pub mod Keeping
+pub mod Ends
 pub mod Fronts
+pub mod Going
 pub mod Judging
+pub mod Keeping
 mod Marks
 pub mod OwnLocations
 pub mod Passing
 mod Setting
-pub mod Watching
-pub mod Wholes
 pub mod StepLaws
 pub mod Stepping
+pub mod Watching
+pub mod Wholes
+pub mod Within

@@ -10,9 +10,9 @@ use Rattle.drum_machine.specs.declared.machine.Machine.{Machine}
 use Rattle.drum_machine.specs.declared.step.Step.{Step}
 use Rattle.drum_machine.specs.declared.step.Step.TheVariants.{Went, Stopped}
 use Rattle.drum_machine.specs.declared.why.Why as whys
-use Rattle.drum_machine.specs.Alone.{writes_no_other}
+use Rattle.drum_machine.proofs.Alone.{writes_no_other}
 use Rattle.drum_machine.specs.Ending.{ended_by, own_notes}
-use Rattle.drum_machine.specs.Ends.{ends_by_its_own}
+use Rattle.drum_machine.proofs.Ends.{ends_by_its_own}
 use Rattle.drum_machine.specs.Feed.{cards_left, waits_left}
 use Rattle.drum_machine.specs.Machine.{GoesOn, HasStopped, Tells, Becomes, TakesStep, WritesAlone, EndsByAWay, state_in, op_in, way_told, wait_with}
 use Rattle.drum_machine.specs.Step.{State, Stepped, on, stopped, step, fetched, instruction_in}

@@ -19,7 +19,7 @@ use Rattle.drum_times.specs.declared.entry.Entry.{Entry}
 use Rattle.drum_machine.specs.declared.card.Card.{Card}
 use Rattle.drum_machine.specs.Contents.{Contents, is_minus, upper, word_at}
 use Rattle.drum_machine.specs.Effect.{effect, takes, keeps, with_words, band, reads, amount_of, product, quotient, rest, is_too_large, places, shifted, after_test, digit_at, differ}
-use Rattle.drum_machine.specs.Going.{IfGoes, goes_if, keeps_goes, divides, digit_goes, step_on}
+use Rattle.drum_machine.proofs.Going.{IfGoes, goes_if, keeps_goes, divides, digit_goes, step_on}
 use Rattle.drum_machine.specs.Run.{IsWhole}
 use Rattle.drum_machine.specs.Step.{State, on, step, instruction_in}
 

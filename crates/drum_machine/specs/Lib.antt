@@ -1,12 +1,9 @@
-pub mod Alone
 pub mod Contents
 pub mod Counts
 pub mod Effect
 pub mod Ending
-pub mod Ends
 pub mod Feed
 pub mod FirstState
-pub mod Going
 pub mod Keeps
 pub mod Machine
 pub mod Monitor
@@ -16,5 +13,4 @@ pub mod Setup
 pub mod Step
 pub mod Timing
 pub mod Ways
-pub mod Within
 pub mod Writes

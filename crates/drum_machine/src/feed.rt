@@ -12,7 +12,7 @@ use std::vec::IntoIter;
 /// What the card machine is fed with: cards for the reader, and how long it lets the machine wait.
 ///
 /// That waits are given one by one is this project's choice.
-#[derive(Drop)]
+#[derive(Debug, Drop)]
 pub struct Feed {
     cards: IntoIter<Card>,
     waits: IntoIter<u32>,

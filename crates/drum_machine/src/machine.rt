@@ -17,7 +17,7 @@ use std::alloc::Global;
 /// A machine: what it holds, where it seeks its next instruction, and the time that it has used.
 ///
 /// Source: the IBM 650 Manual of Operation; the moments of a step are this project's choice.
-#[derive(Drop)]
+#[derive(Debug, Drop)]
 pub struct Machine {
     registers: Registers,
     sought: Location,
@@ -141,7 +141,7 @@ impl Machine {
     }
 
     /// Takes the step of an operation that was fetched, from x on.
-    fn run(&mut self, op: Op, word: Word, times: &Times, feed: &mut Feed) -> Step
+    fn take(&mut self, op: Op, word: Word, times: &Times, feed: &mut Feed) -> Step
         requires early { self.old.used ≤ 2 ^ 62 }
         requires runs { self.old.stop ≡ None }
         requires fetched { word ≡ fetched (state_in self.old (cards_left feed.old)) }
@@ -202,7 +202,7 @@ impl Machine {
         }
         let word = self.registers.word_at(self.sought);
         match Op::of(instruction_of(word).op) {
-            Some(op) => self.run(op, word, times, feed),
+            Some(op) => self.take(op, word, times, feed),
             None => {
                 let clock = found(self.sought, self.clock());
                 self.halt(word, Why::Operation, clock)

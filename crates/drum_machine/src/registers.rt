@@ -12,7 +12,7 @@ use drum_core::{Amount, Branch, Kind, Location, Op, Position, Shift, Store, Word
 /// What a machine holds apart from the time and from the cards in its reader.
 ///
 /// Source: the IBM 650 Manual of Operation.
-#[derive(Drop)]
+#[derive(Debug, Drop)]
 pub struct Registers {
     /// The 2000 words of the drum.
     pub drum: Vec<Word>,

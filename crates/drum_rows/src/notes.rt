@@ -76,7 +76,6 @@ fn answers(rt: HostRuntime) -> Result<(), Fail> {
     let notes = read_notes(rt.alloc(), WHOLE.as_bytes())?;
     assert_eq!(rt; notes.programmed(), Programmed::Run);
     assert!(rt; notes.load_cards());
-    assert!(rt; notes.has_lists());
     assert_eq!(rt; notes.marks().len(), 2);
     let outer = notes.marks()[0];
     assert_eq!(rt;
@@ -118,7 +117,10 @@ fn the_least(rt: HostRuntime) -> Result<(), Fail> {
     let notes = read_notes(rt.alloc(), NOTES.as_bytes())?;
     assert_eq!(rt; notes.programmed(), Programmed::Stop);
     assert!(rt; !notes.load_cards());
-    assert!(rt; !notes.has_lists());
+    for number in 0..2000u16 {
+        let location = Location::new(number).ok_or("no location")?;
+        assert!(rt; notes.patterns(location).is_none());
+    }
     assert!(rt; notes.marks().is_empty());
     Ok(())
 }

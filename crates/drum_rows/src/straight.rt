@@ -103,8 +103,10 @@ fn refusals(rt: HostRuntime) -> Result<(), Fail> {
 
 #[test]
 fn refusals_by_notes(rt: HostRuntime) -> Result<(), Fail> {
-    let most = "[[mark]]\nfrom = 100\nto = 100\nmost = 9999\n[[mark]]\nfrom = 100\nto = 110\nmost = 200\n";
-    let list = "[[list]]\nlocation = 100\n[[list.pattern]]\nop = 24\nd_from = 0\nd_to = 9999\ni = 106\n";
+    let most =
+        "[[mark]]\nfrom = 100\nto = 100\nmost = 9999\n[[mark]]\nfrom = 100\nto = 110\nmost = 200\n";
+    let list =
+        "[[list]]\nlocation = 100\n[[list.pattern]]\nop = 24\nd_from = 0\nd_to = 9999\ni = 106\n";
     for (deck, more, line) in [
         (
             "0100 +2401060106\n0106 +0100000106\nSTART 0100\n",

@@ -7,7 +7,7 @@ use Rattle.std.specs.Option.{option_map}
 use Rattle.std.specs.Prelude.{slice_get}
 use Rattle.drum_core.specs.declared.instruction.Instruction.{Instruction}
 use Rattle.drum_core.specs.Instruction.{instruction}
-use Rattle.drum_core.specs.Same.{same_instruction}
+use Rattle.drum_core.proofs.Same.{same_instruction}
 use Rattle.drum_times.specs.declared.notes.pattern.Pattern.{Pattern}
 use Rattle.drum_times.specs.Allowed.{matching}
 

@@ -6,7 +6,7 @@ use Rattle.std.proofs.lemmas.Option.{get_or_from_slice_get}
 use Rattle.std.specs.Prelude.{codes, flat_map, slice_get}
 use Rattle.drum_core.specs.declared.op.Op.{Op}
 use Rattle.drum_core.specs.Op.{number_of, ops}
-use Rattle.drum_core.specs.OpLaws.{same_op, number_below, place_of}
+use Rattle.drum_core.proofs.OpLaws.{same_op, number_below, place_of}
 use Rattle.drum_times.specs.declared.entry.Entry.{Entry}
 use Rattle.drum_times.specs.declared.fault.NoteFault.{NoteFault}
 use Rattle.drum_times.specs.Document.{Fault, missing, unknown_in}

@@ -55,13 +55,6 @@ impl Notes {
         Listing::patterns_in(&self.lists, location)
     }
 
-    /// Whether some location is listed.
-    pub fn has_lists(&self) -> bool
-        ensures { IsTrue result ↔ 0 < length self.now.lists }
-    {
-        !self.lists.is_empty()
-    }
-
     /// The marks, at most 8, in order. Each has an edge of its own.
     pub fn marks(&self) -> &[Mark]
         ensures all { result.now ≡ self.now.marks }

@@ -7,7 +7,7 @@ use Rattle.drum_flow.proofs.Founds.{numbers_more}
 use Rattle.drum_flow.specs.Flow.{deck_of, notes_of, executed_in, order_in}
 use Rattle.drum_flow.specs.Hops.{hops}
 use Rattle.drum_flow.specs.HopsLeft.{hops_left}
-use Rattle.drum_flow.specs.Lists.{contains_from_get}
+use Rattle.drum_flow.proofs.Lists.{contains_from_get}
 use Rattle.drum_bound.specs.declared.keys.Site.{Site}
 use Rattle.drum_bound.specs.KeysOf.{HaveHops, numbers, sites_in}
 use Rattle.drum_bound.proofs.Sites.{sites_more}

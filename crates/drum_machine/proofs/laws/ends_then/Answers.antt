@@ -1,4 +1,4 @@
-use Rattle.drum_machine.specs.Ends as ends
+use Rattle.drum_machine.proofs.Ends as ends
 use Rattle.drum_machine.proofs.laws.ends_then.Goals as goal
 
 pub returns : goal.returns

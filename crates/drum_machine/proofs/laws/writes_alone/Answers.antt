@@ -1,4 +1,4 @@
-use Rattle.drum_machine.specs.Alone.{writes_no_other}
+use Rattle.drum_machine.proofs.Alone.{writes_no_other}
 use Rattle.drum_machine.proofs.laws.writes_alone.Goals as goal
 
 pub returns : goal.returns

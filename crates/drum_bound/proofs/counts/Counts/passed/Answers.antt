@@ -1,7 +1,7 @@
 use Rattle.std.proofs.Common.{◌≡◌, ap, subst, sym, ◌∙◌, arith, length, take}
 use Rattle.drum_times.specs.declared.notes.mark.Mark.{Mark}
 use Rattle.drum_machine.specs.Counts.{after_pass, AreWithin}
-use Rattle.drum_machine.specs.Within.{counts_passed, too_often, within_after}
+use Rattle.drum_machine.proofs.Within.{counts_passed, too_often, within_after}
 use Rattle.drum_bound.proofs.counts.Counts.passed.Goals as goal
 
 pub returns-then-self-passed : goal.returns-then-self-passed

@@ -1,4 +1,4 @@
-use Rattle.drum_core.specs.OpLaws.{found_in_list}
+use Rattle.drum_core.proofs.OpLaws.{found_in_list}
 use Rattle.drum_core.proofs.op.Op.of.Goals as goal
 
 pub returns-clause-listed : goal.returns-clause-listed

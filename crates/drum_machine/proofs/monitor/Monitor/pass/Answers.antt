@@ -1,6 +1,6 @@
 use Rattle.std.proofs.Common.{refl, ap, sym, ◌∙◌, arith, length, take}
 use Rattle.drum_times.specs.declared.notes.mark.Mark.{Mark}
-use Rattle.drum_machine.specs.Within.{counts_passed, too_often, within_after}
+use Rattle.drum_machine.proofs.Within.{counts_passed, too_often, within_after}
 use Rattle.drum_machine.proofs.monitor.Monitor.pass.Goals as goal
 
 pub returns-then-self-passed : goal.returns-then-self-passed

@@ -5,7 +5,7 @@ use Rattle.drum_flow.specs.declared.graph.progress.Progress.{Progress}
 use Rattle.drum_flow.specs.declared.graph.progress.Progress.TheVariants.{New, Open}
 use Rattle.drum_flow.specs.Graph.{row, size}
 use Rattle.drum_flow.specs.Search.{IsSearch}
-use Rattle.drum_flow.specs.Lists.{get_written}
+use Rattle.drum_flow.proofs.Lists.{get_written}
 use Rattle.drum_flow.proofs.Searches.{enter_sound, forgets_none, less_left}
 use Rattle.drum_flow.proofs.graph.search.Search.enter.Goals as goal
 

@@ -13,7 +13,7 @@ use Rattle.drum_machine.specs.Machine.{state_in, op_in, wait_with, punched_with,
 use Rattle.drum_machine.specs.Registers.{contents_with, cards_before, outcome_of}
 use Rattle.drum_machine.specs.Step.{step, leaves, fetched, clock_of, MayWait, instruction_in, is_operand, is_read, has_cards, lacks_card}
 use Rattle.drum_machine.proofs.Stepping.{short_work, step_past_x, not_lacking, load_read, same_end, same_effect, same_told, same_left, taken_past_x}
-use Rattle.drum_machine.proofs.machine.Machine.run.Goals as goal
+use Rattle.drum_machine.proofs.machine.Machine.take.Goals as goal
 
 pub ended-end-requires-clause-work : goal.ended-end-requires-clause-work
 ended-end-requires-clause-work c =

@@ -13,7 +13,7 @@ use Rattle.drum_times.specs.declared.entry.Entry.{Entry}
 use Rattle.drum_machine.specs.declared.card.Card.{Card}
 use Rattle.drum_machine.specs.Contents.{Contents, word_at}
 use Rattle.drum_machine.specs.Effect.{effect, with_words, band, reads, takes, after_test, digit_at, is_too_large, amount_of, product}
-use Rattle.drum_machine.specs.Going.{IfGoes, goes_if, keeps_goes, divides, digit_goes, step_on}
+use Rattle.drum_machine.proofs.Going.{IfGoes, goes_if, keeps_goes, divides, digit_goes, step_on}
 use Rattle.drum_machine.specs.Step.{State, on, step, instruction_in, is_operand}
 use Rattle.drum_machine.specs.Writes.{written_by, writes_with, writes}
 
