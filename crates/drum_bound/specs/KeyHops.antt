@@ -6,8 +6,8 @@ use Rattle.drum_bound.specs.Scanned.{cell_at}
 
 -- a hop of a key comes after the last one: of a later key, or of the same key with a greater number; after none, each does
 abbrev pub IsLater : Option KeyHop → KeyHop → Type 0
-IsLater None turn = Unit {0}
-IsLater (Some last) turn = (last.key < turn.key) ⊎ ((last.key ≡ turn.key) × (last.hop < turn.hop))
+IsLater None next = Unit {0}
+IsLater (Some last) next = (last.key < next.key) ⊎ ((last.key ≡ next.key) × (last.hop < next.hop))
 
 -- none is of this key or a later one
 abbrev pub IsBefore : Option KeyHop → ℕ → Type 0

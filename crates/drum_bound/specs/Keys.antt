@@ -1,5 +1,5 @@
--- Keys: a place of an order of the executed locations and counts of the marks, as one number. The counts, read with the
--- first mark's leading, are the whole part of its division by the number of places, and the place is the rest.
+-- Keys: an index in an order of the executed locations, and counts of the marks, as one number. The counts, read with the
+-- first mark's leading, are the whole part of its division by the number of locations, and the index is the rest.
 use Rattle.std.specs.Prelude.{◌≡◌, ℕ, ◌*◌, ◌/◌, ◌%◌, ◌<◌, ◌≤◌, List, length, slice_index, Option, Contains}
 use Rattle.drum_core.specs.declared.word.Word.{Word}
 use Rattle.drum_times.specs.declared.notes.mark.Mark.{Mark}

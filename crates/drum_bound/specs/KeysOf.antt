@@ -40,7 +40,7 @@ HaveHops flow sites = (site : Site) → Contains sites site
 
 -- each location's index stands at its number
 abbrev pub HaveIndices : List ℕ → List ℕ → Type 0
-HaveIndices order places = (k place : ℕ) → slice_get order k ≡ Some place → slice_get places place ≡ Some k
+HaveIndices order indices = (k place : ℕ) → slice_get order k ≡ Some place → slice_get indices place ≡ Some k
 
 -- The keys of a flow graph.
 pub record AreKeys (keys : Keys) : Type 0 where

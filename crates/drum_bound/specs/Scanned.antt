@@ -124,7 +124,7 @@ abbrev pub turns_at : Setting → List ℕ → ℕ → Option Latest → ℕ
 turns_at g order key None = 0
 turns_at g order key (Some kept) = length (hops g.loads g.notes (place_at order key))
 
--- how many hops the first keys have
+-- how many hops the first keys have that something is kept at
 abbrev pub turns_below : Setting → List ℕ → List (Option Latest) → ℕ → ℕ
 turns_below g order cells zero = 0
 turns_below g order cells (suc key) = turns_below g order cells key + turns_at g order key (cell_at cells key)

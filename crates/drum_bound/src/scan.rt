@@ -9,7 +9,7 @@ use drum_flow::{Hop, Way};
 use drum_times::Times;
 use std::alloc::{AllocError, Global};
 
-/// What is known of the keys that have been taken: the latest end at each, and of all.
+/// What is known when some of the keys have been taken: the latest end at each key, and of all.
 #[derive(Debug, Drop)]
 pub struct Scan<'a> {
     pub times: &'a Times,

@@ -1,4 +1,4 @@
--- Definitions evaluated: a deck of two words, one of which loads the distributor and the other stops. Its worst walk
+-- Definitions evaluated: a deck of two words, one of which loads the distributor and the other stops. A walk of it
 -- takes 56 word times, from start angle 1.
 use Rattle.std.proofs.Common.{◌≡◌, ℕ, ◌≤◌, false, List, [], ◌∷◌, refl, arith, Option, Some, None}
 use Rattle.std.specs.Prelude.{◌==◌, if◌then◌else◌}

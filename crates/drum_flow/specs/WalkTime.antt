@@ -1,4 +1,4 @@
--- A law of walks: their hops, units and waits determine their times.
+-- A law of walks: their start angle, hops, units and waits determine their times.
 use Rattle.std.proofs.Common.{◌≡◌, ℕ, ◌+◌, List, [], ◌∷◌, Option, Some, None, refl, ap, sym, ◌∙◌, subst, arith}
 use Rattle.drum_core.specs.declared.instruction.Instruction.{Instruction}
 use Rattle.drum_core.specs.declared.op.Op.{Op}

@@ -26,7 +26,7 @@ pub fn passes_raise()
         → mark_on marks from onto ≡ Some k → leading marks counts < leading marks (after_pass marks from onto counts) }
 {}
 
-/// The hops of a walk, its units and its waits determine its time.
+/// The start angle of a walk, its hops, its units and its waits determine its time.
 pub fn one_time()
     ensures { (g : Setting) (angle : ℕ) (hops others : List Taken) → AreAlike hops others → IsWalk g angle hops → IsWalk g angle others
         → time_of hops ≡ time_of others }

@@ -106,8 +106,8 @@ abbrev pub way_told : Step → Way
 way_told (Went from fetch onto used read punch) = to onto.number
 way_told (Stopped from fetch why used) = stops_by why
 
--- A step alters no drum word but those that its instruction writes: what the machine, with these cards in the reader, has
--- at another location it had before.
+-- A step alters no drum word but those that its instruction writes: what the state after it has at another location, the
+-- one before had.
 abbrev pub WritesAlone : State → State → Type 0
 WritesAlone s next = (place : ℕ) → ¬ Contains (writes (instruction_in s)) place → slice_get next.contents.drum place ≡ slice_get s.contents.drum place
 
