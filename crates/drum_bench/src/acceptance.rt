@@ -22,7 +22,7 @@ fn all_listed(alloc: Global) -> Result<String, AllocError> {
 }
 
 /// Prints how many executed words there are, and how long it took to accept them.
-pub fn run<R: AllocGlobal + Print + Clock>(rt: &R) -> Result<(), Stopped> {
+pub(crate) fn run<R: AllocGlobal + Print + Clock>(rt: &R) -> Result<(), Stopped> {
     let deck = read_deck(rt.alloc(), &mut Reading::new(b"START 0000\n".as_slice())).map_err(stop)?;
     let text = all_listed(rt.alloc()).map_err(stop)?;
     let notes = read_notes(rt.alloc(), text.as_bytes()).map_err(stop)?;

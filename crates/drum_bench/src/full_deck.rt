@@ -31,7 +31,7 @@ fn full_deck(alloc: Global) -> Result<String, AllocError> {
 }
 
 /// Prints the microseconds that one reading takes.
-pub fn run<R: AllocGlobal + Print + Clock>(rt: &R) -> Result<(), Stopped> {
+pub(crate) fn run<R: AllocGlobal + Print + Clock>(rt: &R) -> Result<(), Stopped> {
     let text = full_deck(rt.alloc()).map_err(stop)?;
     let start = Instant::now(rt).map_err(stop)?;
     let mut words = 0u32;

@@ -16,7 +16,7 @@ const DECK: &str =
     "0000 +1500100001 +2000110002 +4500030003 +0000000000\n0010 +0000000001\nSTART 0000\n";
 
 /// Prints how many steps were taken, and how long they took.
-pub fn run<R: AllocGlobal + Print + Clock>(rt: &R) -> Result<(), Stopped> {
+pub(crate) fn run<R: AllocGlobal + Print + Clock>(rt: &R) -> Result<(), Stopped> {
     let deck = read_deck(rt.alloc(), &mut Reading::new(DECK.as_bytes())).map_err(stop)?;
     let times = read_times(
         rt.alloc(),

@@ -4,7 +4,7 @@ use drum_core::Op;
 use std::alloc::{AllocError, Global};
 
 /// The text of a timing table.
-pub fn timing_table(alloc: Global) -> Result<String, AllocError> {
+pub(crate) fn timing_table(alloc: Global) -> Result<String, AllocError> {
     let mut text = String::from_str(alloc, "[op]\n")?;
     for op in Op::all() {
         write!(text, "{:02} = ", op.number())?;

@@ -61,7 +61,7 @@ fn measure<R: AllocGlobal + Print + Clock>(rt: &R, deck: &str, notes: &str) -> R
 }
 
 /// Rings of two thousand words, of 10,000, 100,000, 1,000,000 and 4,000,000 keys, all of them reached.
-pub fn run_full<R: AllocGlobal + Print + Clock>(rt: &R) -> Result<(), Stopped> {
+pub(crate) fn run_full<R: AllocGlobal + Print + Clock>(rt: &R) -> Result<(), Stopped> {
     let deck = ring(rt.alloc()).map_err(stop)?;
     for most in [4, 49, 499, 1999] {
         let notes = back(rt.alloc(), most).map_err(stop)?;
@@ -71,7 +71,7 @@ pub fn run_full<R: AllocGlobal + Print + Clock>(rt: &R) -> Result<(), Stopped> {
 }
 
 /// A ring of diamonds, of 4,000,000 keys with two hops each.
-pub fn run_wide<R: AllocGlobal + Print + Clock>(rt: &R) -> Result<(), Stopped> {
+pub(crate) fn run_wide<R: AllocGlobal + Print + Clock>(rt: &R) -> Result<(), Stopped> {
     let deck = diamonds(rt.alloc()).map_err(stop)?;
     let notes = back(rt.alloc(), 1999).map_err(stop)?;
     measure(rt, deck.as_str(), notes.as_str())
@@ -79,7 +79,7 @@ pub fn run_wide<R: AllocGlobal + Print + Clock>(rt: &R) -> Result<(), Stopped> {
 
 /// Two words, and 4,000,000 keys of which 20,000 are reached: the second mark is passed when the loop is left, and so
 /// never more than once.
-pub fn run_sparse<R: AllocGlobal + Print + Clock>(rt: &R) -> Result<(), Stopped> {
+pub(crate) fn run_sparse<R: AllocGlobal + Print + Clock>(rt: &R) -> Result<(), Stopped> {
     let deck = "0100 +4501000110\n0110 +0100000110\nSTART 0100\n";
     let notes =
         "programmed = \"stop\"\nload_cards = \"none\"\n[[mark]]\nfrom = 100\nto = 100\nmost = 9999\n[[mark]]\nfrom = 100\nto = 110\nmost = 199\n";

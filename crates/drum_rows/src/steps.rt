@@ -9,7 +9,7 @@ use std::process::Abort;
 use std::test::Fail;
 
 /// The word of this text, and +0 where it is none.
-pub fn word(text: &str) -> Word {
+pub(crate) fn word(text: &str) -> Word {
     let zero = Word {
         minus: false,
         digits: 0,

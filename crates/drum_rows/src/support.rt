@@ -16,7 +16,7 @@ pub struct Ran {
 }
 
 /// Runs a joined text.
-pub fn run_text(alloc: Global, text: &[u8]) -> Result<Ran, AllocError> {
+pub(crate) fn run_text(alloc: Global, text: &[u8]) -> Result<Ran, AllocError> {
     let mut input = Reading::new(text);
     let mut out = Writing::new(Vec::new(alloc));
     let mut err = Writing::new(Vec::new(alloc));
@@ -33,7 +33,12 @@ fn text_of(alloc: Global, bytes: &[u8]) -> Result<String, AllocError> {
 }
 
 /// The joined form of a deck, a timing table and notes.
-pub fn joined(alloc: Global, deck: &str, times: &str, notes: &str) -> Result<String, AllocError> {
+pub(crate) fn joined(
+    alloc: Global,
+    deck: &str,
+    times: &str,
+    notes: &str,
+) -> Result<String, AllocError> {
     let end = if deck.is_empty() || deck.ends_with('\n') {
         ""
     } else {
@@ -43,7 +48,7 @@ pub fn joined(alloc: Global, deck: &str, times: &str, notes: &str) -> Result<Str
 }
 
 /// That a deck with these times has this line as its bound.
-pub fn ended(
+pub(crate) fn ended(
     rt: &(impl AllocGlobal + Abort),
     deck: &str,
     times: &str,
@@ -60,7 +65,7 @@ pub fn ended(
 }
 
 /// That a deck with these times is refused with this fault line.
-pub fn refused(
+pub(crate) fn refused(
     rt: &(impl AllocGlobal + Abort),
     deck: &str,
     times: &str,

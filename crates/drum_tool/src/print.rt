@@ -1,6 +1,7 @@
 //! What goes out, piece by piece, with no memory.
 
-ghost use Rattle.std.specs.Prelude.{◌+◌, ◌^◌, ◌≤◌, length};
+ghost use Rattle.std.specs.Prelude.{◌+◌, ◌^◌, ◌≤◌, ◌++◌, length, codes, decimal, OnOk};
+ghost use Rattle.std.specs.Io.KnownBytes.{Appends};
 
 use drum_core::Location;
 use drum_core::device::output::Output;
@@ -12,7 +13,8 @@ pub mod fault_line;
 /// Writes a number in decimal.
 pub fn write_number<O: Output>(output: &mut O, number: u64) -> Result<(), Unsent>
     requires { O.called output.old ≤ 2 ^ 62 + 2 ^ 40 }
-    ensures { O.called output.new ≤ O.called output.old + 40 }
+    ensures all { OnOk result (Appends (O.written output.old) (O.written output.new) (decimal number)) }
+    ensures calls { O.called output.new ≤ O.called output.old + 40 }
 {
     let mut buffer = Buffer::new();
     write_whole(output, buffer.format(number).as_bytes())
@@ -37,6 +39,7 @@ pub fn write_location<O: Output>(output: &mut O, location: Location) -> Result<(
 pub fn write_numbered<O: Output>(output: &mut O, text: &[u8], number: u64) -> Result<(), Unsent>
     requires called { O.called output.old ≤ 2 ^ 62 + 2 ^ 20 }
     requires short { length text.now ≤ 100 }
+    ensures all { OnOk result (Appends (O.written output.old) (O.written output.new) (text.now ++ decimal number ++ codes "\n")) }
 {
     write_whole(output, text)?;
     write_number(output, number)?;
@@ -47,6 +50,7 @@ pub fn write_numbered<O: Output>(output: &mut O, text: &[u8], number: u64) -> Re
 pub fn write_product<O: Output>(output: &mut O, text: &[u8], product: u128) -> Result<(), Unsent>
     requires called { O.called output.old ≤ 2 ^ 62 + 2 ^ 20 }
     requires short { length text.now ≤ 100 }
+    ensures all { OnOk result (Appends (O.written output.old) (O.written output.new) (text.now ++ decimal product ++ codes "\n")) }
 {
     write_whole(output, text)?;
     let mut buffer = Buffer::new();
