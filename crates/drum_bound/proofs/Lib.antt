@@ -8,6 +8,7 @@ pub mod EntriesRaised
 pub mod EntryEnds
 pub mod FewHops
 mod Finished
+mod InTime
 pub mod KeyLaws
 pub mod KeysTaken
 pub mod LaterHops

@@ -121,7 +121,7 @@ module _ (entry : Entry) (op : Op) (d place units wait : ℕ) where
   end_periodic (to next) t = ended_periodic t
   end_periodic late t = ended_periodic t
 
-  end_later : (way : Way) (t : ℕ) → t ≤ end_by way entry op d place units wait t
+  pub end_later : (way : Way) (t : ℕ) → t ≤ end_by way entry op d place units wait t
   end_later early t = ready_later t
   end_later (to next) t = ended_later t
   end_later late t = ended_later t

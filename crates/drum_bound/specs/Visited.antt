@@ -1,5 +1,5 @@
 -- The hops of a walk as they are handed out: without their units and their waits.
-use Rattle.std.specs.Prelude.{◌≡◌, ℕ, ◌+◌, List, [], ◌∷◌, map}
+use Rattle.std.specs.Prelude.{◌≡◌, ℕ, ◌+◌, ◌≤◌, List, [], ◌∷◌, map}
 use Rattle.std.proofs.Common.{refl, ap}
 use Rattle.drum_core.specs.declared.instruction.Instruction.{Instruction}
 use Rattle.drum_times.specs.declared.notes.mark.Mark.{Mark}
@@ -29,6 +29,11 @@ pub record IsWalkOf (g : Setting) (angle used : ℕ) (visits : List Visited) : T
   pub walk : IsWalk g angle hops
   pub time : time_of hops ≡ used
   pub same : map visited hops ≡ visits
+
+-- Visits follow one another in time, from one time to another: each begins when the one before has ended.
+abbrev pub AreInTime : ℕ → List Visited → ℕ → Type 0
+AreInTime time [] used = time ≡ used
+AreInTime time (visit ∷ visits) used = (visit.begun ≡ time) × (time ≤ visit.ended) × AreInTime visit.ended visits used
 
 -- how often hops pass a mark, whatever it stands inside of
 abbrev pub passes_in : Mark → List Visited → ℕ

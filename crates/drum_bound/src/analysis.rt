@@ -1,13 +1,12 @@
-ghost use Rattle.std.specs.Prelude.{◌≡◌, ◌<◌, length, map, slice_index};
-ghost use Rattle.drum_bound.specs.AnalysisOf.{angle_of, bound_of, counts_in_all, passed_of, rows_of, turns_of, visits_of, words_of};
-ghost use Rattle.drum_bound.specs.RowOf.{row_in};
-ghost use Rattle.drum_bound.specs.Visited.{seen_visit};
+ghost use Rattle.std.specs.Prelude.{◌≡◌, ◌^◌, ◌<◌, map};
+ghost use Rattle.drum_bound.specs.Visited.{AreInTime, seen_visit};
 
 use crate::visit::Visit;
 use crate::worst::Worst;
 use drum_machine::passes::MOST_MARKS;
 
-/// What [`analyse`](crate::analyse) finds for a deck with its timing table and notes.
+/// What [`analyse`](crate::analyse) finds for a deck with its timing table and notes. The hops of its walk follow one
+/// another in time, from 0 to the bound.
 #[derive(Debug, Drop)]
 pub struct Analysis {
     pub(crate) bound: u64,
@@ -19,12 +18,19 @@ pub struct Analysis {
     pub(crate) turns: u64,
     /// By the marks' places in the notes; what stands past the last mark means nothing.
     pub(crate) passed: [u64; MOST_MARKS],
+    ghost in_time: { ∥ AreInTime 0 (map seen_visit walk.items) bound ∥₁ },
+    ghost below: { bound < 2 ^ 62 },
 }
 
 impl Analysis {
+    ghost use Rattle.std.specs.Prelude.{slice_index};
+    ghost use Rattle.drum_bound.specs.AnalysisOf.{angle_of, bound_of, counts_in_all, passed_of, rows_of, turns_of, visits_of, words_of};
+    ghost use Rattle.drum_bound.specs.RowOf.{row_in};
+
     /// The bound, in word times: no run that keeps to the notes uses more, and some walk uses just as many. Below 2^62.
     pub fn bound(&self) -> u64
-        ensures { result ≡ bound_of self.now }
+        ensures told { result ≡ bound_of self.now }
+        ensures below { result < 2 ^ 62 }
     {
         self.bound
     }
@@ -45,7 +51,8 @@ impl Analysis {
 
     /// The hops of a walk that uses as many word times as the bound, in order; none where the bound is 0.
     pub fn walk(&self) -> &[Visit]
-        ensures { map seen_visit result.now ≡ visits_of self.now }
+        ensures told { map seen_visit result.now ≡ visits_of self.now }
+        ensures in_time { ∥ AreInTime 0 (visits_of self.now) (bound_of self.now) ∥₁ }
     {
         &self.walk
     }

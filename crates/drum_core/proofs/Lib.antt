@@ -1,5 +1,6 @@
 pub mod Bytes
 pub mod Cards
+pub mod CardLines
 mod Checks
 pub mod DeckLaws
 pub mod FaultLaws

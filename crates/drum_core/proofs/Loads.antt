@@ -15,16 +15,16 @@ use Rattle.drum_core.specs.declared.location.Kind.TheVariants.{Drum}
 use Rattle.drum_core.specs.DeckText.{Line, IsLine, IsFaultOfLine, comment, start, card, Given, given_by_card, given_by, given_from, given_at, loads_of, cards_from, starts, IsPastDrum, IsGiven, AreDistinct, AreSound}
 use Rattle.drum_core.specs.declared.deck.fault.DeckFault.TheVariants.{Twice}
 use Rattle.drum_core.specs.Taken.{IsFirstTaken}
-use Rattle.drum_core.specs.Holds.{seen, started, Holds}
+use Rattle.drum_core.specs.Held.{seen, started, Holds}
 use Rattle.drum_core.specs.Loads.{found_in}
 use Rattle.drum_core.proofs.FaultLaws.{starts-append, given_from-append}
 
 -- what the first has, or else the second
-abbrev or_else : Option Given → Option Given → Option Given
+abbrev pub or_else : Option Given → Option Given → Option Given
 or_else None other = other
 or_else (Some one) other = Some one
 
-given_at-append : (xs ys : List Given) (n : ℕ) → given_at (xs ++ ys) n ≡ or_else (given_at xs n) (given_at ys n)
+pub given_at-append : (xs ys : List Given) (n : ℕ) → given_at (xs ++ ys) n ≡ or_else (given_at xs n) (given_at ys n)
 given_at-append [] ys n = refl
 given_at-append (x ∷ xs) ys n = go (x.location == n) (given_at-append xs ys n)
   where

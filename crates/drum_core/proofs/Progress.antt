@@ -42,6 +42,10 @@ few_left text rest loading number short p =
     let long : length (lines_of text) ≡ length p.texts + length (lines_of rest) = ap (λ (xs : List (List ℕ)). length xs) p.split ∙ length-append p.texts (lines_of rest) in
     elim (cases_lt 4000 (length (lines_of text))) [ inl more ↦ absurd (short (inl more)) | inr few ↦ omega (arith, few, long, p.counted) ]
 
+pub few_lines : (text rest : List ℕ) (loading : Loading) (number : ℕ) → (IsTooLong text → ⊥) → (p : Progress text rest loading number) → length p.lines ≤ 4000
+few_lines text rest loading number short p =
+    omega (arith, few_left text rest loading number short p, p.counted, say_length p.texts p.lines p.said)
+
 pub one_more : (text rest rest' : List ℕ) (loading loading' : Loading) (number : ℕ) (line : List ℕ) (says : Line) → (p : Progress text rest loading number)
     → lines_of rest ≡ line ∷ lines_of rest' → IsLine line says → HoldsLines loading' (p.lines ++ says ∷ []) → Progress text rest' loading' (number + 1)
 one_more text rest rest' loading loading' number line says p steps is_line holds = record {

@@ -4,6 +4,7 @@ pub mod Branch
 pub mod DeckLine
 pub mod DeckText
 pub mod Device
+pub mod Held
 pub mod Holds
 pub mod Instruction
 pub mod Kind

@@ -1,5 +1,5 @@
--- What a deck loads and where it starts, as it is held. (It is what its lines say: a law.)
-use Rattle.std.specs.Prelude.{ℕ, slice_get, Option, Some, None}
+-- What a deck loads, from which cards, and where it starts, as it is held. (It is what its lines say: a law.)
+use Rattle.std.specs.Prelude.{ℕ, List, slice_get, Option, Some, None}
 use Rattle.std.specs.Option.{option_map}
 use Rattle.drum_core.specs.declared.deck.Given.{Given}
 use Rattle.drum_core.specs.declared.deck.Deck.{Deck}
@@ -21,3 +21,11 @@ loads_in deck location = option_map (λ one. one.word) (given_in deck location)
 -- the location of the program's first instruction
 abbrev pub start_in : Deck → ℕ
 start_in deck = deck.start.number
+
+-- the line of the card that loads a location
+abbrev pub card_in : Deck → ℕ → Option ℕ
+card_in deck location = option_map (λ one. one.line) (given_in deck location)
+
+-- the lines of the data cards, in order
+abbrev pub cards_in : Deck → List ℕ
+cards_in deck = deck.cards.items

@@ -1,4 +1,5 @@
 ghost use Rattle.std.specs.Prelude.{◌≡◌, ◌<◌, vec_len};
+ghost use Rattle.drum_core.specs.Held.{AreOfLines};
 
 use crate::location::{Kind, Location};
 use crate::word::Word;
@@ -19,7 +20,8 @@ pub struct Given {
     pub line: u16,
 }
 
-/// A deck: which words it loads onto the drum, from which cards, and where the program starts.
+/// A deck: which words it loads onto the drum, from which cards, and where the program starts. Some lines, 4000 at most,
+/// say just that.
 #[derive(Debug, PartialEq, Eq, Drop)]
 pub struct Deck {
     image: Vec<Option<Given>>,
@@ -27,13 +29,16 @@ pub struct Deck {
     start: Location,
     ghost whole: { vec_len image ≡ 2000 },
     ghost on_drum: { start.number < 2000 },
+    ghost of_lines: { ∥ AreOfLines image.items cards.items start ∥₁ },
 }
 
 impl Deck {
-    ghost use Rattle.std.specs.Prelude.{◌∷◌, [], List};
+    ghost use Rattle.std.specs.Prelude.{◌≤◌, ◌∷◌, [], List, All, Contains, IfSome};
+    ghost use Rattle.std.specs.List.Sorted.{IsStrictlyIncreasing};
     ghost use Rattle.drum_core.specs.DeckText.{Line, given_at, given_from, loads_of, card_of, cards_from, starts};
-    ghost use Rattle.drum_core.specs.Holds.{seen, IsDeckOf};
-    ghost use Rattle.drum_core.specs.Loads.{given_in, loads_in, start_in};
+    ghost use Rattle.drum_core.specs.Held.{seen};
+    ghost use Rattle.drum_core.specs.Holds.{IsDeckOf};
+    ghost use Rattle.drum_core.specs.Loads.{card_in, cards_in, given_in, loads_in, start_in};
 
     /// What the deck gives the location: nothing but for locations on the drum that it loads.
     fn given(&self, location: Location) -> Option<Given>
@@ -57,15 +62,22 @@ impl Deck {
 
     /// The line of the card that loads the location; `None` where no card does.
     pub fn card_of(&self, location: Location) -> Option<u16>
-        ensures { (lines : List Line) → IsDeckOf self.now lines → result ≡ card_of lines location.number }
+        ensures held { result ≡ card_in self.now location.number }
+        ensures among { IfSome result (Contains (cards_in self.now)) }
+        ensures told { (lines : List Line) → IsDeckOf self.now lines
+            → result ≡ card_of lines location.number }
     {
         let given = self.given(location)?;
         Some(given.line)
     }
 
-    /// The lines of its data cards, in order.
+    /// The lines of its data cards, in order: each from 1 to 4000.
     pub fn cards(&self) -> &[u16]
-        ensures { (lines : List Line) → IsDeckOf self.now lines → result.now ≡ cards_from 1 lines }
+        ensures held { result.now ≡ cards_in self.now }
+        ensures numbered { All (λ line. (1 ≤ line) × (line ≤ 4000)) result.now }
+        ensures ascending { IsStrictlyIncreasing result.now }
+        ensures told { (lines : List Line) → IsDeckOf self.now lines
+            → result.now ≡ cards_from 1 lines }
     {
         &self.cards
     }

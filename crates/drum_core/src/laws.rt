@@ -1,10 +1,11 @@
 //! Laws of the definitions, each the contract of a function that does nothing.
 
-ghost use Rattle.std.specs.Prelude.{◌≡◌, ℕ, ◌<◌, List, [], ◌∷◌, Some, Contains};
+ghost use Rattle.std.specs.Prelude.{◌≡◌, ℕ, ◌<◌, ◌≤◌, List, [], ◌∷◌, length, Some, Contains};
+ghost use Rattle.std.specs.List.Sorted.{IsStrictlyIncreasing};
 ghost use Rattle.drum_core.specs.Available.{is_angle, has_parity, is_available};
 ghost use Rattle.drum_core.specs.DeckText.{Given, Line, given_at, loads_of, starts, AreDistinct, IsDeck, IsRefused};
 ghost use Rattle.drum_core.specs.Holds.{IsDeckOf};
-ghost use Rattle.drum_core.specs.Loads.{loads_in, start_in};
+ghost use Rattle.drum_core.specs.Loads.{card_in, cards_in, loads_in, start_in};
 ghost use Rattle.drum_core.specs.Moment.{IsFirst, first};
 ghost use Rattle.drum_core.specs.declared.deck.Deck.{Deck};
 ghost use Rattle.drum_core.specs.declared.deck.fault.DeckFault.{DeckFault};
@@ -31,6 +32,16 @@ pub fn loads_what_is_said()
     ensures loads { (deck : Deck) (lines : List Line) (location : ℕ) → IsDeckOf deck lines → loads_in deck location ≡ loads_of lines location }
     ensures on_drum { (deck : Deck) (location : ℕ) (word : Word) → loads_in deck location ≡ Some word → location < 2000 }
     ensures starts { (deck : Deck) (lines : List Line) → IsDeckOf deck lines → starts lines ≡ start_in deck ∷ [] }
+{}
+
+/// Every deck is what some lines say, 4000 at most. The lines of its cards ascend, and the line of each word that it loads
+/// is among them.
+pub fn decks_are_of_lines()
+    ensures lines { (deck : Deck)
+        → ∥ ((lines : List Line) × IsDeckOf deck lines × (length lines ≤ 4000)) ∥₁ }
+    ensures cards { (deck : Deck) → IsStrictlyIncreasing (cards_in deck) }
+    ensures among { (deck : Deck) (location line : ℕ) → card_in deck location ≡ Some line
+        → Contains (cards_in deck) line }
 {}
 
 /// A moment that is found by looking at one after the other is the least at or after the clock whose angle serves: for an

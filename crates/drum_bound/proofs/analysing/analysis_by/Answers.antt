@@ -1,4 +1,5 @@
-use Rattle.std.proofs.Common.{◌≡◌, ℕ, ◌-◌, List, length, map, ap, sym, ◌∙◌, subst}
+use Rattle.std.proofs.Common.{◌≡◌, ℕ, ◌-◌, List, length, map, ap, sym, ◌∙◌, subst, arith}
+use Rattle.std.proofs.lemmas.Grind.{merely}
 use Rattle.std.proofs.lemmas.List.{length-map}
 use Rattle.drum_times.specs.declared.notes.mark.Mark.{Mark}
 use Rattle.drum_flow.specs.Accepted.{counts_of}
@@ -8,8 +9,10 @@ use Rattle.drum_bound.specs.declared.visit.Visit.{Visit}
 use Rattle.drum_bound.specs.AnalysisOf.{ArePasses}
 use Rattle.drum_bound.specs.KeysOf.{setting_of}
 use Rattle.drum_bound.specs.RowOf.{row_in}
-use Rattle.drum_bound.specs.Visited.{seen_visit}
+use Rattle.drum_bound.specs.Scanned.{start_angle}
+use Rattle.drum_bound.specs.Visited.{AreInTime, seen_visit}
 use Rattle.drum_bound.proofs.Analyses.{IsFound, is_found, is_analysis}
+use Rattle.drum_bound.proofs.InTime.{walk_in_time}
 use Rattle.drum_bound.proofs.analysing.analysis_by.Goals as goal
 
 pub returns : goal.returns
@@ -35,3 +38,20 @@ returns c =
       turns = c.made.ensures ∙ found.turns;
       passed = subst (λ (all : List Mark). ArePasses all visits c.passes_of_marks.result) marks passed;
     })
+
+pub invariant_of-result : goal.invariant_of-result
+invariant_of-result c =
+    let scan = c.in-Ok.scan in
+    let keys = c.args.keys.now in
+    let times = c.args.times.now in
+    let g = setting_of keys.flow.now times in
+    let rows = map row_in c.in-Ok-table.table.items in
+    let visits = map seen_visit c.in-Ok-walk.walk.items in
+    let found : IsFound keys times scan rows visits =
+    is_found keys times scan rows visits c.in-Ok.ensures.keys c.in-Ok.ensures.times c.in-Ok.ensures.done c.in-Ok-table.ensures c.in-Ok-walk.ensures in
+    let bound : c.last.result.clock - c.start_angle-angle.result ≡ scan.cells.last.clock - start_angle g.start =
+    ap (λ (l : Latest). l.clock - c.start_angle-angle.result) c.last.ensures ∙ ap (λ (n : ℕ). scan.cells.last.clock - n) c.start_angle-angle.ensures in
+    record {
+      in_time = merely (subst (AreInTime 0 visits) (sym bound) (walk_in_time g (start_angle g.start) (scan.cells.last.clock - start_angle g.start) visits found.walk));
+      below = omega (arith, bound, found.scanned.last_near, c.requires.ordered.0.few);
+    }

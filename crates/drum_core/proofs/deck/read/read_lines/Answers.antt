@@ -3,7 +3,7 @@ use Rattle.drum_core.specs.declared.deck.fault.DeckFault.TheVariants as faults
 use Rattle.drum_core.specs.declared.deck.lines.Lines.{Lines}
 use Rattle.drum_core.specs.Lines.{lines_of}
 use Rattle.drum_core.specs.DeckText.{IsRefused}
-use Rattle.drum_core.proofs.Progress.{next_number, few_left, one_more, refused_here, deck_of_all, no_start_at_all}
+use Rattle.drum_core.proofs.Progress.{next_number, few_left, few_lines, one_more, refused_here, deck_of_all, no_start_at_all}
 use Rattle.drum_core.proofs.deck.read.read_lines.Goals as goal
 
 pub loop-line-init : goal.loop-line-init
@@ -47,3 +47,8 @@ returns-clause-ok c = deck_of_all c.args.text.now c.loop-line.line-iterator.rest
 
 pub returns-clause-err : goal.returns-clause-err
 returns-clause-err c = no_start_at_all c.args.text.now c.loop-line.line-iterator.rest.now c.loop-line.loading c.loop-line.number c.finish.result c.requires.short c.loop-line.invariant.so_far c.in-None.ensures.steps.0 c.finish.ensures.err
+
+pub finish-requires : goal.finish-requires
+finish-requires c =
+    let p = c.loop-line.invariant.so_far in
+    (p.lines, p.holds, few_lines c.args.text.now c.loop-line.line-iterator.rest.now c.loop-line.loading c.loop-line.number c.requires.short p)

@@ -3,7 +3,7 @@ use Rattle.std.specs.Result.{is_ok}
 use Rattle.drum_core.specs.declared.word.Word.{Word}
 use Rattle.drum_core.specs.DeckText as text
 use Rattle.drum_core.specs.Taken.{IsFirstTaken}
-use Rattle.drum_core.specs.Holds.{Holds}
+use Rattle.drum_core.specs.Held.{Holds}
 use Rattle.drum_core.proofs.Loads.{holds_card, twice_fault}
 use Rattle.drum_core.proofs.deck.loading.Loading.load.Goals as goal
 

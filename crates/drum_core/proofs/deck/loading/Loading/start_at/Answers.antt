@@ -1,7 +1,7 @@
 use Rattle.std.proofs.Common.{◌≡◌, Option, None, refl, sym, ◌∙◌, arith, subst}
 use Rattle.drum_core.specs.declared.location.Location.{Location}
 use Rattle.drum_core.specs.DeckText as text
-use Rattle.drum_core.specs.Holds.{Holds}
+use Rattle.drum_core.specs.Held.{Holds}
 use Rattle.drum_core.proofs.Loads.{holds_start, none_is}
 use Rattle.drum_core.proofs.deck.loading.Loading.start_at.Goals as goal
 

@@ -1,0 +1,12 @@
+use Rattle.std.proofs.Common.{sym, ◌∙◌, ap}
+use Rattle.std.specs.Option.{option_map}
+use Rattle.drum_core.specs.declared.deck.Given.{Given}
+use Rattle.drum_core.proofs.CardLines.{card_among}
+use Rattle.drum_core.proofs.deck.Deck.card_of.Goals as goal
+
+pub returns-clause-among : goal.returns-clause-among
+returns-clause-among c =
+    let deck = c.args.self.now in
+    let given = c.in_ok-given.given in
+    card_among deck.image.items deck.cards.items deck.start (sym deck.image.ok.0 ∙ deck.whole) deck.of_lines c.args.location.number given.line
+    (ap (option_map (λ (one : Given). one.line)) (sym c.in_ok-given.ensures.held))
