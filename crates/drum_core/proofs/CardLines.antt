@@ -107,6 +107,16 @@ cards_rise image cards begun of_lines k some = ∥∥₁_elim of_lines le_prop (
     let next : get_or cards (k + 1) 0 ≡ get_or (cards_from 1 of.lines) (suc k) 0 = ap (λ (n : ℕ). get_or cards n 0) one_more ∙ ap (λ (xs : List ℕ). get_or xs (suc k) 0) of.holds.numbers in
     omega (arith, here, same, next))
 
+-- there are no more cards than lines
+few_cards : (number : ℕ) (lines : List Line) → length (cards_from number lines) ≤ length lines
+few_cards number [] = omega arith
+few_cards number (comment ∷ lines) = omega (arith, few_cards (number + 1) lines)
+few_cards number (start n ∷ lines) = omega (arith, few_cards (number + 1) lines)
+few_cards number (card n words ∷ lines) = omega (arith, few_cards (number + 1) lines)
+
+pub cards_few : (image : List (Option held.Given)) (cards : List ℕ) (begun : Location) → ∥ AreOfLines image cards begun ∥₁ → length cards ≤ 4000
+cards_few image cards begun of_lines = ∥∥₁_elim of_lines le_prop (λ of. omega (arith, ap length of.holds.numbers, few_cards 1 of.lines, of.few))
+
 pub card_among : (image : List (Option held.Given)) (cards : List ℕ) (begun : Location) → length image ≡ 2000 → ∥ AreOfLines image cards begun ∥₁ → (n line : ℕ)
     → option_map (λ (one : held.Given). one.line) (found_in (slice_get image n)) ≡ Some line → Contains cards line
 card_among image cards begun whole of_lines n line is_line = elim (cases_lt n 2000) [

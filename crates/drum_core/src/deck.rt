@@ -33,7 +33,7 @@ pub struct Deck {
 }
 
 impl Deck {
-    ghost use Rattle.std.specs.Prelude.{◌≤◌, ◌∷◌, [], List, All, Contains, IfSome};
+    ghost use Rattle.std.specs.Prelude.{◌≤◌, ◌∷◌, [], List, length, All, Contains, IfSome};
     ghost use Rattle.std.specs.List.Sorted.{IsStrictlyIncreasing};
     ghost use Rattle.drum_core.specs.DeckText.{Line, given_at, given_from, loads_of, card_of, cards_from, starts};
     ghost use Rattle.drum_core.specs.Held.{seen};
@@ -76,6 +76,7 @@ impl Deck {
         ensures held { result.now ≡ cards_in self.now }
         ensures numbered { All (λ line. (1 ≤ line) × (line ≤ 4000)) result.now }
         ensures ascending { IsStrictlyIncreasing result.now }
+        ensures few { length result.now ≤ 4000 }
         ensures told { (lines : List Line) → IsDeckOf self.now lines
             → result.now ≡ cards_from 1 lines }
     {

@@ -1,5 +1,6 @@
-ghost use Rattle.std.specs.Prelude.{◌≡◌, ℕ, ◌+◌, ◌^◌, ◌<◌, ◌≤◌, ◌↔◌, IsErr, IfErr, IsOk, OnOk, take, length};
+ghost use Rattle.std.specs.Prelude.{◌≡◌, ℕ, ◌+◌, ◌^◌, ◌<◌, ◌≤◌, IfErr, OnOk, is_err, if◌then◌else◌, take, length};
 ghost use Rattle.std.specs.Io.KnownBytes.{Appends};
+ghost use Rattle.drum_core.specs.Device.{joined};
 
 use super::output::Output;
 
@@ -16,8 +17,8 @@ pub fn write_whole<O: Output>(output: &mut O, bytes: &[u8]) -> Result<(), Unsent
     ensures all { OnOk result (Appends (O.written output.old) (O.written output.new) bytes.now) }
     ensures front { IfErr result (λ error. Appends (O.written output.old) (O.written output.new) (take error.sent bytes.now)) }
     ensures some { IfErr result (λ error. error.sent < length bytes.now) }
-    ensures failed { IsErr result ↔ (O.failed output.new ≡ O.failed output.old + 1) }
-    ensures once { O.failed output.new ≤ O.failed output.old + 1 }
+    ensures failures { O.failed output.new
+        ≡ O.failed output.old + (if is_err result then 1 else 0) }
     ensures calls { O.called output.new ≤ O.called output.old + length bytes.now }
 {
     let mut sent = 0;
@@ -25,6 +26,32 @@ pub fn write_whole<O: Output>(output: &mut O, bytes: &[u8]) -> Result<(), Unsent
         match output.write(&bytes[sent..]) {
             Ok(0) | Err(_) => return Err(Unsent { sent }),
             Ok(count) => sent += count,
+        }
+    }
+    Ok(())
+}
+
+/// Writes pieces one after the other, as many times as the output asks for.
+pub fn write_pieces<O: Output>(output: &mut O, pieces: &[&[u8]]) -> Result<(), Unsent>
+    requires { O.called output.old + length (joined pieces.now) ≤ 2 ^ 63 }
+    ensures all { OnOk result
+        (Appends (O.written output.old) (O.written output.new) (joined pieces.now)) }
+    ensures front { IfErr result (λ error.
+        Appends (O.written output.old) (O.written output.new) (take error.sent (joined pieces.now))) }
+    ensures some { IfErr result (λ error. error.sent < length (joined pieces.now)) }
+    ensures failures { O.failed output.new
+        ≡ O.failed output.old + (if is_err result then 1 else 0) }
+    ensures calls { O.called output.new ≤ O.called output.old + length (joined pieces.now) }
+{
+    let mut sent = 0;
+    for piece in pieces {
+        match write_whole(output, piece) {
+            Ok(()) => sent += piece.len(),
+            Err(unsent) => {
+                return Err(Unsent {
+                    sent: sent + unsent.sent,
+                });
+            }
         }
     }
     Ok(())

@@ -1,5 +1,5 @@
-use Rattle.std.proofs.Common.{sym, subst}
-use Rattle.drum_core.proofs.CardLines.{AreNumbered, DoRise, cards_within, cards_rise}
+use Rattle.std.proofs.Common.{length, ap, arith, sym, subst}
+use Rattle.drum_core.proofs.CardLines.{AreNumbered, DoRise, cards_within, cards_rise, cards_few}
 use Rattle.drum_core.proofs.deck.Deck.cards.Goals as goal
 
 pub returns-clause-numbered : goal.returns-clause-numbered
@@ -11,3 +11,8 @@ pub returns-clause-ascending : goal.returns-clause-ascending
 returns-clause-ascending c =
     let deck = c.args.self.now in
     subst DoRise (sym c.deref.ensures.value) (cards_rise deck.image.items deck.cards.items deck.start deck.of_lines)
+
+pub returns-clause-few : goal.returns-clause-few
+returns-clause-few c =
+    let deck = c.args.self.now in
+    omega (arith, ap length c.deref.ensures.value, cards_few deck.image.items deck.cards.items deck.start deck.of_lines)
