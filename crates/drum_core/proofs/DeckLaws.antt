@@ -1,5 +1,5 @@
 -- Laws of deck text: a line says one thing, and a text has one fault.
-use Rattle.std.proofs.Common.{◌≡◌, ℕ, zero, suc, ◌+◌, ◌*◌, ◌/◌, ◌%◌, ◌^◌, ◌<◌, ◌≤◌, Bool, true, false, cond, List, [], ◌∷◌, ◌++◌, length, get_or, take, drop, flat_map, refl, ap, sym, ◌∙◌, subst, arith}
+use Rattle.std.proofs.Common.{◌≡◌, ℕ, zero, suc, ◌+◌, ◌*◌, ◌/◌, ◌%◌, ◌^◌, ◌<◌, ◌≤◌, Bool, true, false, cond, List, [], ◌∷◌, ◌++◌, length, get_or, take, drop, refl, ap, sym, ◌∙◌, subst, arith}
 use Rattle.std.proofs.Math.ListN.{get_or-append}
 use Rattle.std.proofs.Math.Seq.{take-append_seam, drop-append_seam}
 use Rattle.std.proofs.lemmas.Grind.{pow_more}
@@ -7,7 +7,7 @@ use Rattle.drum_core.proofs.Same.{same_word}
 use Rattle.drum_core.specs.declared.word.Word.{Word}
 use Rattle.drum_core.specs.DeckText.{Line, comment, start, card, IsLine}
 use Rattle.drum_core.specs.Numeral.{digits_of}
-use Rattle.drum_core.specs.Word.{spelling}
+use Rattle.drum_core.specs.Word.{spelling, spaced}
 use Rattle.drum_core.proofs.Numerals.{length-digits_of, digit_at}
 
 -- fronts of one length
@@ -18,7 +18,7 @@ same_front xs xs' ys ys' long e = (
 )
 
 -- the digits of a number determine it
-digits_of-one : (k a b : ℕ) → a < 10 ^ k → b < 10 ^ k → digits_of k a ≡ digits_of k b → a ≡ b
+pub digits_of-one : (k a b : ℕ) → a < 10 ^ k → b < 10 ^ k → digits_of k a ≡ digits_of k b → a ≡ b
 digits_of-one zero a b h h' e = omega arith
 digits_of-one (suc k) a b h h' e =
     let parts = same_front (digits_of k (a / 10)) (digits_of k (b / 10)) ((48 + a % 10) ∷ []) ((48 + b % 10) ∷ []) (length-digits_of k (a / 10) ∙ sym (length-digits_of k (b / 10))) e in
@@ -34,7 +34,7 @@ abbrev sign_of : Bool → ℕ
 sign_of minus = cond minus 45 43
 
 -- a word's text is that of no other
-spelling-one : (v w : Word) → spelling v ≡ spelling w → v ≡ w
+pub spelling-one : (v w : Word) → spelling v ≡ spelling w → v ≡ w
 spelling-one v w e =
     let sign : sign_of v.minus ≡ sign_of w.minus = ap (λ xs. get_or xs 0 0) e in
     let minus : v.minus ≡ w.minus = one_sign v.minus w.minus sign in
@@ -47,14 +47,10 @@ spelling-one v w e =
     one_sign true false h = absurd (omega (arith, h))
     one_sign false true h = absurd (omega (arith, h))
 
--- the words that a card spells, a space before each
-abbrev pub spaced : List Word → List ℕ
-spaced words = flat_map (λ word. 32 ∷ spelling word) words
-
 pub length-spelling : (w : Word) → length (spelling w) ≡ 11
 length-spelling w = ap suc (length-digits_of 10 w.digits)
 
-spaced-one : (vs ws : List Word) → spaced vs ≡ spaced ws → vs ≡ ws
+pub spaced-one : (vs ws : List Word) → spaced vs ≡ spaced ws → vs ≡ ws
 spaced-one [] [] e = refl
 spaced-one [] (w ∷ ws) e = cc
 spaced-one (v ∷ vs) [] e = cc

@@ -1,5 +1,5 @@
 -- A word of the drum: a sign and ten decimal digits (IBM 650 Manual of Operation).
-use Rattle.std.specs.Prelude.{ℕ, ◌%◌, ◌^◌, ◌<◌, Bool, List, ◌∷◌, if◌then◌else◌, ℤ, pos, neg_ℤ}
+use Rattle.std.specs.Prelude.{ℕ, ◌%◌, ◌^◌, ◌<◌, Bool, List, ◌∷◌, flat_map, if◌then◌else◌, ℤ, pos, neg_ℤ}
 use Rattle.std.proofs.Common.{arith}
 use Rattle.drum_core.specs.declared.word.Word.{Word}
 use Rattle.drum_core.specs.Numeral.{digits_of}
@@ -7,6 +7,10 @@ use Rattle.drum_core.specs.Numeral.{digits_of}
 -- the text of a word: `+` or `-`, and its ten digits
 abbrev pub spelling : Word → List ℕ
 spelling word = (if word.minus then 45 else 43) ∷ digits_of 10 word.digits
+
+-- words with a space before each
+abbrev pub spaced : List Word → List ℕ
+spaced words = flat_map (λ word. 32 ∷ spelling word) words
 
 pub ten_digits : (n : ℕ) → n % 10 ^ 10 < 10 ^ 10
 ten_digits n = omega arith

@@ -8,9 +8,10 @@ pub mod device;
 pub mod instruction;
 pub mod laws;
 pub mod location;
-mod numeral;
+pub mod numeral;
 pub mod op;
 pub mod rotation;
+pub mod spaced;
 pub mod word;
 
 pub use deck::Deck;

@@ -2,6 +2,7 @@ ghost use Rattle.std.specs.Prelude.{◌≡◌, ◌≢◌, ℕ, ◌+◌, ◌*◌,
 ghost use Rattle.drum_core.specs.Word.{spelling};
 
 use crate::numeral::read_digits;
+use crate::spaced::read_words;
 use crate::word::Word;
 
 /// The most words on a card.
@@ -34,18 +35,6 @@ fn count_words(bytes: usize) -> Option<usize>
     }
 }
 
-/// The word that twelve bytes spell, with a space before it.
-fn read_spaced(text: &[u8]) -> Option<Word>
-    requires { length text.now ≡ 12 }
-    ensures found { IfSome result (λ word. text.now ≡ 32 ∷ spelling word) }
-    ensures none { IfNone result ((word : Word) → text.now ≢ 32 ∷ spelling word) }
-{
-    if text[0] != b' ' {
-        return None;
-    }
-    Word::read(&text[1..])
-}
-
 impl Card {
     ghost use Rattle.std.specs.Prelude.{List, take};
     ghost use Rattle.drum_core.specs.DeckText as text;
@@ -66,12 +55,8 @@ impl Card {
             digits: 0,
         };
         let mut words = [blank; WORDS];
-        for place in 0..len {
-            let at = 4 + 12 * place;
-            let Some(word) = read_spaced(&line[at..at + 12]) else {
-                return None;
-            };
-            words[place] = word;
+        if !read_words(&line[4..], &mut words[..len]) {
+            return None;
         }
         Some(Card {
             address: address as u16,
