@@ -1,10 +1,11 @@
 -- The first line of a text.
-use Rattle.std.proofs.Common.{◌≡◌, ◌≢◌, ℕ, zero, suc, ◌+◌, ◌-◌, ◌<◌, ◌≤◌, cond, List, [], ◌∷◌, length, get_or, take, drop, ap, ◌∙◌, arith, add-one}
-use Rattle.std.proofs.lemmas.Bool.{eq-eqb}
+use Rattle.std.proofs.Common.{◌≡◌, ◌≢◌, ℕ, zero, suc, ◌+◌, ◌-◌, ◌*◌, ◌<◌, ◌≤◌, Bool, true, false, cond, inl, inr, refl, List, [], ◌∷◌, length, get_or, take, drop, ap, ◌∙◌, arith, add-one}
+use Rattle.std.proofs.lemmas.Bool.{eq-eqb, cases_lt}
 use Rattle.std.proofs.lemmas.List.{take_all, length-drop}
-use Rattle.std.specs.Prelude.{Any}
+use Rattle.std.proofs.Math.Nat.{mul-suc, mul-le-mul_left}
+use Rattle.std.specs.Prelude.{Any, ◌==◌}
 use borrow.Author.Tests.{ne_eqb}
-use Rattle.drum_core.specs.Lines.{with_front, lines_of}
+use Rattle.drum_core.specs.Lines.{with_front, lines_of, IsLonger}
 
 -- a byte that ends no line stands in front of the first line
 lines_of-other : (byte : ℕ) (bytes : List ℕ) → byte ≢ 10 → lines_of (byte ∷ bytes) ≡ with_front byte (lines_of bytes)
@@ -36,11 +37,45 @@ lines_of-behind text end within found first =
     rw (take_all (length text - (end + 1)) (drop (end + 1) text) enough, add-one) (lines_of-at text end within found first)
 
 -- a long line is the first or one behind it
-pub long_behind : (first : List ℕ) (lines : List (List ℕ)) → length first ≤ 100 → Any (λ line. 100 < length line) (first ∷ lines) → Any (λ line. 100 < length line) lines
-long_behind first lines short (zero, line, within, here, long) =
+pub long_behind : (longest : ℕ) (first : List ℕ) (lines : List (List ℕ)) → length first ≤ longest → Any (λ line. longest < length line) (first ∷ lines)
+    → Any (λ line. longest < length line) lines
+long_behind longest first lines short (zero, line, within, here, long) =
     let same : length first ≡ length line = ap length here in
     absurd (omega (arith, same, long))
-long_behind first lines short (suc k, line, within, here, long) = (k, line, omega arith, here, long)
+long_behind longest first lines short (suc k, line, within, here, long) = (k, line, omega arith, here, long)
 
-pub long_among : (first : List ℕ) (lines : List (List ℕ)) → Any (λ line. 100 < length line) lines → Any (λ line. 100 < length line) (first ∷ lines)
-long_among first lines (k, line, within, here, long) = (suc k, line, omega arith, here, long)
+pub long_among : (longest : ℕ) (first : List ℕ) (lines : List (List ℕ)) → Any (λ line. longest < length line) lines → Any (λ line. longest < length line) (first ∷ lines)
+long_among longest first lines (k, line, within, here, long) = (suc k, line, omega arith, here, long)
+
+-- the bytes of lines, with a line feed for each
+abbrev total : List (List ℕ) → ℕ
+total [] = 0
+total (line ∷ lines) = length line + 1 + total lines
+
+front_counts : (byte : ℕ) (lines : List (List ℕ)) → 1 + total lines ≤ total (with_front byte lines)
+front_counts byte [] = omega arith
+front_counts byte (line ∷ lines) = omega arith
+
+all_count : (text : List ℕ) → length text ≤ total (lines_of text)
+all_count [] = omega arith
+all_count (byte ∷ bytes) = go (byte == 10) (all_count bytes)
+  where
+    go : (ends : Bool) → length bytes ≤ total (lines_of bytes) → suc (length bytes) ≤ total (cond ends ([] ∷ lines_of bytes) (with_front byte (lines_of bytes)))
+    go true rest = omega (arith, rest)
+    go false rest = omega (arith, rest, front_counts byte (lines_of bytes))
+
+some_long : (longest : ℕ) (lines : List (List ℕ)) → (longest + 1) * length lines < total lines → Any (λ line. longest < length line) lines
+some_long longest [] more = absurd (omega (arith, more))
+some_long longest (line ∷ lines) more =
+    elim (cases_lt longest (length line)) [
+      | inl long ↦ (0, line, omega arith, refl, long)
+      | inr short ↦ long_among longest line lines (some_long longest lines (omega (arith, more, short, mul-suc (longest + 1) (length lines))))
+    ]
+
+-- A text of more bytes than the most lines of the most bytes have is longer.
+pub longer_by_bytes : (most longest : ℕ) (text : List ℕ) → (longest + 1) * most < length text → IsLonger most longest text
+longer_by_bytes most longest text more =
+    elim (cases_lt most (length (lines_of text))) [
+      | inl many ↦ inl many
+      | inr few ↦ inr (some_long longest (lines_of text) (omega (arith, more, all_count text, mul-le-mul_left (longest + 1) few)))
+    ]

@@ -1,14 +1,14 @@
 -- How a deck's lines are read, one by one.
-use Rattle.std.proofs.Common.{◌≡◌, ℕ, suc, ◌+◌, ◌*◌, ◌<◌, ◌≤◌, List, [], ◌∷◌, ◌++◌, length, refl, ap, sym, ◌∙◌, subst, arith, inl, inr, Bool, true, false, cond, length-append, append_assoc}
+use Rattle.std.proofs.Common.{◌≡◌, ℕ, suc, ◌+◌, ◌<◌, ◌≤◌, List, [], ◌∷◌, ◌++◌, length, refl, ap, sym, ◌∙◌, subst, arith, inl, inr, length-append, append_assoc}
 use Rattle.std.proofs.lemmas.Bool.{cases_lt}
 use Rattle.std.proofs.lemmas.List.{append-nil}
-use Rattle.std.specs.Prelude.{Any, Option, Some, None, IfSome, Result, Ok, Err, IfOk, IfErr, ◌==◌}
+use Rattle.std.specs.Prelude.{Option, Some, None, IfSome, Result, Ok, Err, IfOk, IfErr}
 use Rattle.drum_core.specs.declared.deck.Deck.{Deck}
 use Rattle.drum_core.specs.declared.deck.fault.DeckFault.{DeckFault}
 use Rattle.drum_core.specs.declared.deck.fault.DeckFault.TheVariants as faults
 use Rattle.drum_core.specs.declared.deck.loading.Loading.{Loading}
-use Rattle.drum_core.specs.Lines.{lines_of, with_front}
-use Rattle.drum_core.proofs.LineLemmas.{long_among}
+use Rattle.drum_core.specs.Lines.{lines_of}
+use Rattle.drum_core.proofs.LineLemmas.{longer_by_bytes}
 use Rattle.drum_core.specs.DeckText.{Line, IsLine, Say, starts, IsTooLong, IsDeck, LacksStart, IsFaultOfLine, IsFirstFault, IsRefused}
 use Rattle.drum_core.specs.Holds.{HoldsLines, IsDeckOf}
 
@@ -108,35 +108,9 @@ no_start_at_all text rest loading number (Err fault) short p nothing held = λ n
     let lacks : LacksStart text = record { lines = p.lines; said = all_said text rest loading number p nothing; sound = p.holds.sound; none = held.1 p.lines p.holds } in
     subst (IsRefused text) (sym held.0) (short, lacks)
 
--- the bytes of lines, with a line feed for each
-abbrev total : List (List ℕ) → ℕ
-total [] = 0
-total (line ∷ lines) = length line + 1 + total lines
-
-front_counts : (byte : ℕ) (lines : List (List ℕ)) → 1 + total lines ≤ total (with_front byte lines)
-front_counts byte [] = omega arith
-front_counts byte (line ∷ lines) = omega arith
-
-all_count : (text : List ℕ) → length text ≤ total (lines_of text)
-all_count [] = omega arith
-all_count (byte ∷ bytes) = go (byte == 10) (all_count bytes)
-  where
-    go : (ends : Bool) → length bytes ≤ total (lines_of bytes) → suc (length bytes) ≤ total (cond ends ([] ∷ lines_of bytes) (with_front byte (lines_of bytes)))
-    go true rest = omega (arith, rest)
-    go false rest = omega (arith, rest, front_counts byte (lines_of bytes))
-
-some_long : (lines : List (List ℕ)) → 101 * length lines < total lines → Any (λ line. 100 < length line) lines
-some_long [] more = absurd (omega (arith, more))
-some_long (line ∷ lines) more =
-    elim (cases_lt 100 (length line)) [ inl long ↦ (0, line, omega arith, refl, long) | inr short ↦ long_among line lines (some_long lines (omega (arith, more, short))) ]
-
-pub too_long : (text : List ℕ) → 404000 < length text → IsTooLong text
-too_long text more =
-    elim (cases_lt 4000 (length (lines_of text))) [ inl many ↦ inl many | inr few ↦ inr (some_long (lines_of text) (omega (arith, more, few, all_count text))) ]
-
 pub left_too_long : (left : Option (List ℕ)) → IfSome left (λ bytes. 404000 < length bytes) → IfSome left IsTooLong
 left_too_long None more = tt
-left_too_long (Some bytes) more = too_long bytes more
+left_too_long (Some bytes) more = longer_by_bytes 4000 100 bytes more
 
 pub deck_of_left : (left : Option (List ℕ)) (whole text : List ℕ) (result : Result Deck DeckFault) → text ≡ whole → IfSome left (λ bytes. whole ≡ bytes)
     → IfOk result (λ deck. (lines : List Line) × IsDeck text lines × IsDeckOf deck lines)

@@ -1,5 +1,5 @@
 -- The lines of a text (this project's choice).
-use Rattle.std.specs.Prelude.{ℕ, List, [], ◌∷◌, ◌==◌, if◌then◌else◌}
+use Rattle.std.specs.Prelude.{ℕ, ◌<◌, List, [], ◌∷◌, ◌==◌, ◌⊎◌, Any, length, if◌then◌else◌}
 
 -- a byte in front of the first line
 abbrev pub with_front : ℕ → List (List ℕ) → List (List ℕ)
@@ -10,3 +10,7 @@ with_front byte (line ∷ lines) = (byte ∷ line) ∷ lines
 abbrev pub lines_of : List ℕ → List (List ℕ)
 lines_of [] = []
 lines_of (byte ∷ bytes) = if byte == 10 then [] ∷ lines_of bytes else with_front byte (lines_of bytes)
+
+-- a text of more lines, or with a line of more bytes
+abbrev pub IsLonger : ℕ → ℕ → List ℕ → Type 0
+IsLonger count bytes text = (count < length (lines_of text)) ⊎ Any (λ line. bytes < length line) (lines_of text)

@@ -1,6 +1,6 @@
-ghost use Rattle.std.specs.Prelude.{◌≡◌, ◌≢◌, ℕ, ◌<◌, length, slice_index, IfSome, IfNone};
+ghost use Rattle.std.specs.Prelude.{◌≡◌, ◌≢◌, ℕ, ◌<◌, ◌↔◌, ◌^◌, length, slice_index, IfSome, IfNone, IsTrue};
 ghost use Rattle.std.specs.Iterator.{YieldsFirstBy, item_count};
-ghost use Rattle.drum_core.specs.Lines.{lines_of};
+ghost use Rattle.drum_core.specs.Lines.{lines_of, IsLonger};
 
 /// The lines of a text: its parts between line feeds. The last may lack its line feed, and a text that
 /// ends with one has no empty line after it.
@@ -43,4 +43,19 @@ impl<'a> Iterator for Lines<'a> {
             }
         }
     }
+}
+
+/// Whether a text has more lines than `most`, or a line of more bytes than `longest`, its line feed not counted.
+pub fn is_longer(text: &[u8], most: usize, longest: usize) -> bool
+    requires { most < 2 ^ 32 }
+    ensures { IsTrue result ↔ IsLonger most longest text.now }
+{
+    let mut lines = 0;
+    for line in (Lines { rest: text }) {
+        lines += 1;
+        if lines > most || line.len() > longest {
+            return true;
+        }
+    }
+    false
 }

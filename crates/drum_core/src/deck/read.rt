@@ -4,7 +4,7 @@ ghost use Rattle.drum_core.specs.Holds.{IsDeckOf};
 
 use super::Deck;
 use super::fault::DeckFault;
-use super::lines::Lines;
+use super::lines::{Lines, is_longer};
 use super::loading::Loading;
 use crate::device::input::Input;
 use crate::device::whole::{WholeError, read_whole};
@@ -18,20 +18,6 @@ const LINE: usize = 100;
 
 /// The most bytes of a deck.
 const BYTES: usize = LINES * (LINE + 1);
-
-/// Whether the text has more lines, or a longer line, than a deck may have.
-fn is_too_long(text: &[u8]) -> bool
-    ensures { IsTrue result ↔ IsTooLong text.now }
-{
-    let mut lines = 0;
-    for line in (Lines { rest: text }) {
-        lines += 1;
-        if lines > LINES || line.len() > LINE {
-            return true;
-        }
-    }
-    false
-}
 
 /// Reads a deck. The whole text is read first, 404,001 bytes at most, so that a reader without end is
 /// too long.
@@ -55,7 +41,7 @@ pub fn read_deck<I: Input>(alloc: Global, reader: &mut I) -> Result<Deck, DeckFa
         Err(WholeError::Memory) => return Err(DeckFault::Memory),
         Err(WholeError::TooLong) => return Err(DeckFault::TooLong),
     };
-    if is_too_long(&text) {
+    if is_longer(&text, LINES, LINE) {
         return Err(DeckFault::TooLong);
     }
     read_lines(alloc, &text)
