@@ -7,7 +7,7 @@ use Rattle.drum_flow.specs.declared.refusal.Refusal.TheVariants as refusal
 use Rattle.drum_times.specs.declared.fault.NoteFault.{NoteFault}
 use Rattle.drum_times.specs.declared.fault.NoteFault.TheVariants as note
 use Rattle.drum_tool.specs.declared.fault.Fault.{Fault}
-use Rattle.drum_tool.specs.declared.fault.Fault.TheVariants.{NoPart, InputRead, InputTooLong, Memory, Deck, Times, Notes, Refused}
+use Rattle.drum_tool.specs.declared.fault.Fault.TheVariants.{NoPart, InputRead, InputTooLong, Memory, Deck, Times, Notes, Refused, Loaded}
 use Rattle.drum_tool.specs.declared.status.Status as status
 use Rattle.drum_tool.specs.declared.status.Status.TheVariants as ends
 
@@ -33,3 +33,4 @@ status_after (Deck fault) = after_deck fault
 status_after (Times fault) = after_note fault
 status_after (Notes fault) = after_note fault
 status_after (Refused fault) = after_refusal fault
+status_after (Loaded location) = ends.Refused

@@ -1,2 +1,5 @@
 pub mod FaultStatus
+pub mod Following
+pub mod Given
+pub mod Replay
 pub mod Status

@@ -3,10 +3,10 @@ ghost use Rattle.drum_tool.specs.FaultStatus.{status_after};
 
 use crate::status::Status;
 use drum_bound::Refusal;
-use drum_core::DeckFault;
+use drum_core::{DeckFault, Location};
 use drum_times::NoteFault;
 
-/// Why the joined form has no bound.
+/// Why there is no bound, or no replay.
 #[derive(Debug, Drop)]
 pub enum Fault {
     /// A line that ends a part is missing.
@@ -15,7 +15,7 @@ pub enum Fault {
     InputRead,
     /// The input is longer than its limit.
     InputTooLong,
-    /// There is no memory for the input.
+    /// There is no memory for the input, or for the machine.
     Memory,
     /// The deck is refused.
     Deck(DeckFault),
@@ -25,6 +25,8 @@ pub enum Fault {
     Notes(NoteFault),
     /// The analysis refuses the deck.
     Refused(Refusal),
+    /// The inputs give a word to a location that the deck loads too.
+    Loaded(Location),
 }
 
 impl Fault {

@@ -4,9 +4,16 @@
 mod answer;
 pub mod commands;
 mod fault;
+mod inputs;
 mod joined;
 mod print;
+mod replaying;
 pub mod status;
+mod verdict;
 
 pub use commands::run_joined;
+pub use fault::Fault;
+pub use inputs::Inputs;
+pub use replaying::replay;
 pub use status::Status;
+pub use verdict::Verdict;

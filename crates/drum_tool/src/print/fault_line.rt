@@ -21,6 +21,7 @@ pub fn write_fault<O: Output>(output: &mut O, fault: &Fault) -> Result<(), Unsen
         Fault::Times(fault) => write_note_fault(output, b"times", fault),
         Fault::Notes(fault) => write_note_fault(output, b"notes", fault),
         Fault::Refused(refusal) => write_refusal(output, refusal),
+        Fault::Loaded(location) => write_located(output, b"fault 47 inputs loaded ", *location),
     }
 }
 

@@ -1,0 +1,105 @@
+-- The run that a setup and a feed fix, and the verdict of its replay (this project's choice).
+use Rattle.std.specs.Prelude.{◌≡◌, ℕ, ◌+◌, ◌≤◌, List, [], ◌∷◌, ◌++◌, length, Some, None}
+use Rattle.drum_core.specs.declared.op.Op.{Op}
+use Rattle.drum_times.specs.declared.entry.Entry.{Entry}
+use Rattle.drum_machine.specs.declared.card.Card.{Card}
+use Rattle.drum_machine.specs.declared.left.Left as lefts
+use Rattle.drum_machine.specs.declared.left.Left.TheVariants as left
+use Rattle.drum_machine.specs.declared.setup.Setup.{Setup}
+use Rattle.drum_machine.specs.declared.why.Why.{Why}
+use Rattle.drum_machine.specs.Counts.{no_counts}
+use Rattle.drum_machine.specs.FirstState.{IsSetUp}
+use Rattle.drum_machine.specs.Keeps.{IsAsDeclared, AreKept, Leaves}
+use Rattle.drum_machine.specs.Machine.{op_in, wait_with, waits_with}
+use Rattle.drum_machine.specs.Monitor.{counts_over}
+use Rattle.drum_machine.specs.Run.{Turn, IsRun, used_from}
+use Rattle.drum_machine.specs.Setup.{first_loaded}
+use Rattle.drum_machine.specs.Step.{State, stopped}
+use Rattle.drum_flow.specs.Acceptance.{IsRefusal}
+use Rattle.drum_flow.specs.Accepted.{IsAccepted}
+use Rattle.drum_flow.specs.Walk.{Setting}
+use Rattle.drum_bound.specs.Worst.{IsWorst}
+use Rattle.drum_tool.specs.declared.fault.Fault as fails
+use Rattle.drum_tool.specs.declared.fault.Fault.TheVariants as fault
+use Rattle.drum_tool.specs.declared.verdict.Verdict.{Verdict}
+use Rattle.drum_tool.specs.declared.verdict.Verdict.TheVariants.{Kept, Left}
+
+-- what a machine is set up with and fed with
+pub record Given : Type 0 where
+  pub setup : Setup
+  pub cards : List Card
+  pub waits : List ℕ
+
+-- the turns take the waits that are fed, one after the other
+abbrev pub AreFed : (Op → Entry) → List ℕ → List Turn → Type 0
+AreFed times waits [] = Unit {0}
+AreFed times waits (turn ∷ turns) =
+    (turn.wait ≡ wait_with times (op_in turn.origin) waits)
+    × AreFed times (waits_with (op_in turn.origin) turn.origin waits) turns
+
+-- The turns are the first of the run that a setup and a feed fix: from the state that is set up, with the cards in the
+-- reader, and with the waits as they are fed.
+pub record IsReplayed (g : Setting) (given : Given) (turns : List Turn) : Type 0 where
+  pub first : State
+  pub set_up : IsSetUp g.loads g.start given.setup first
+  pub reader : first.contents.cards ≡ given.cards
+  pub run : IsRun g.times first turns
+  pub fed : AreFed g.times given.waits turns
+
+-- The run keeps to the notes until it stops, at this step, for this reason, with so many word times used.
+pub record StopsAt (g : Setting) (given : Given) (step used : ℕ) (because : Why) : Type 0 where
+  pub declared : IsAsDeclared g.notes.programmed given.setup.programmed
+  pub turns : List Turn
+  pub last : Turn
+  pub replayed : IsReplayed g given (turns ++ last ∷ [])
+  pub kept : AreKept g.loads g.notes (no_counts g.notes.marks) (turns ++ last ∷ [])
+  pub stops : last.outcome ≡ stopped because used
+  pub number : step ≡ length turns + 1
+
+-- The run keeps to the notes before this step, with so many word times used, and leaves them with it.
+pub record LeavesAt (g : Setting) (given : Given) (step used : ℕ) (what : lefts.Left) : Type 0 where
+  pub declared : IsAsDeclared g.notes.programmed given.setup.programmed
+  pub turns : List Turn
+  pub last : Turn
+  pub replayed : IsReplayed g given (turns ++ last ∷ [])
+  pub kept : AreKept g.loads g.notes (no_counts g.notes.marks) turns
+  pub leaves : Leaves g.loads g.notes (counts_over g.notes (no_counts g.notes.marks) turns) last what
+  pub number : step ≡ length turns + 1
+  pub time : used ≡ used_from 0 turns
+
+-- how the notes are left: by the programmed switch before any step, else with a step
+abbrev pub IsLeft : Setting → Given → ℕ → ℕ → lefts.Left → Type 0
+IsLeft g given step used left.Switch =
+    ¬ IsAsDeclared g.notes.programmed given.setup.programmed × (step ≡ 0) × (used ≡ 0)
+IsLeft g given step used what = LeavesAt g given step used what
+
+-- the verdict on the run, which ends or leaves the notes with this step, where this is the deck's worst time
+abbrev pub IsVerdict : Setting → Given → ℕ → ℕ → Verdict → Type 0
+IsVerdict g given worst step (Kept used bound because) = (bound ≡ worst) × StopsAt g given step used because
+IsVerdict g given worst step (Left what number used) = (number ≡ step) × IsLeft g given step used what
+
+-- the word times that a verdict tells
+abbrev pub used_in : Verdict → ℕ
+used_in (Kept used bound because) = used
+used_in (Left what step used) = used
+
+-- What a replay answers: the verdict on its one run, in which no more word times are used than any walk takes at most, and
+-- which has no more steps than those and one.
+pub record IsReplay (g : Setting) (given : Given) (verdict : Verdict) : Type 0 where
+  pub own_words : first_loaded g.loads given.setup.words.items ≡ None
+  pub worst : ℕ
+  pub is_worst : IsWorst g worst
+  pub step : ℕ
+  pub says : IsVerdict g given worst step verdict
+  pub within : used_in verdict ≤ worst
+  pub short : step ≤ worst + 1
+
+-- Why there is no replay: a word is given that the deck loads too, of which the first is told; else the deck with its notes
+-- is refused; else there is no memory for the machine.
+abbrev pub IsReplayFault : Setting → Given → fails.Fault → Type 0
+IsReplayFault g given (fault.Loaded location) = first_loaded g.loads given.setup.words.items ≡ Some location
+IsReplayFault g given (fault.Refused refusal) =
+    (first_loaded g.loads given.setup.words.items ≡ None) × IsRefusal g.loads g.notes g.start refusal
+IsReplayFault g given fault.Memory =
+    (first_loaded g.loads given.setup.words.items ≡ None) × ((executed : List ℕ) × IsAccepted g.loads g.notes g.start executed)
+IsReplayFault g given _ = ⊥

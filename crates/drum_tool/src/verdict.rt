@@ -1,0 +1,24 @@
+use drum_machine::{Left, Why};
+
+/// What a replay found of its run.
+#[derive(Clone, Copy, Debug, PartialEq, Eq)]
+pub enum Verdict {
+    /// The run keeps to the notes until it stops.
+    Kept {
+        /// The word times that it used, up to the stop.
+        used: u64,
+        /// The word times that a run of this deck can use at most.
+        bound: u64,
+        /// Why it stopped.
+        why: Why,
+    },
+    /// The run leaves the notes.
+    Left {
+        /// How it leaves them.
+        what: Left,
+        /// The step with which it does, from 1; 0 for the programmed switch, which is looked at before any step.
+        step: u64,
+        /// The word times used before this step.
+        used: u64,
+    },
+}
