@@ -1,2 +1,4 @@
 pub mod Followed
 pub mod Leading
+pub mod OneRun
+pub mod OneVerdict

@@ -6,6 +6,7 @@ pub mod commands;
 mod fault;
 mod inputs;
 mod joined;
+pub mod laws;
 mod print;
 mod replaying;
 pub mod status;
