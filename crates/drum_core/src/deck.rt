@@ -60,10 +60,11 @@ impl Deck {
         Some(given.word)
     }
 
-    /// The line of the card that loads the location; `None` where no card does.
+    /// The line of the card that loads the location, from 1 to 4000; `None` where no card does.
     pub fn card_of(&self, location: Location) -> Option<u16>
         ensures held { result ≡ card_in self.now location.number }
         ensures among { IfSome result (Contains (cards_in self.now)) }
+        ensures numbered { IfSome result (λ line. (1 ≤ line) × (line ≤ 4000)) }
         ensures told { (lines : List Line) → IsDeckOf self.now lines
             → result ≡ card_of lines location.number }
     {
