@@ -1,5 +1,10 @@
+ghost use Rattle.std.specs.Prelude.{◌≡◌};
+ghost use Rattle.drum_flow.specs.Seen.{seen_way};
+ghost use Rattle.drum_flow.specs.Walk.{passes_by};
+
 use drum_core::{Instruction, Location};
 use drum_flow::Way;
+use drum_times::Mark;
 
 /// A hop of a walk, and when it was taken.
 #[derive(Clone, Copy, Debug, PartialEq, Eq)]
@@ -14,4 +19,21 @@ pub struct Visit {
     pub begun: u64,
     /// The word times used when it ends.
     pub ended: u64,
+}
+
+impl Visit {
+    /// How often the hop passes a mark: once where it goes along the mark's edge, else never.
+    pub fn passes(&self, mark: &Mark) -> u64
+        ensures { result ≡ passes_by mark.now self.now.place.number (seen_way self.now.way) }
+    {
+        let Way::To(onto) = self.way else {
+            return 0;
+        };
+        let from = self.place;
+        if mark.from.number() == from.number() && mark.onto.number() == onto.number() {
+            1
+        } else {
+            0
+        }
+    }
 }
