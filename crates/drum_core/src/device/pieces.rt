@@ -1,4 +1,4 @@
-ghost use Rattle.std.specs.Prelude.{◌≡◌, ℕ, ◌+◌, ◌^◌, ◌<◌, ◌≤◌, IfErr, OnOk, is_err, if◌then◌else◌, take, length};
+ghost use Rattle.std.specs.Prelude.{◌≡◌, ℕ, ◌+◌, ◌^◌, ◌<◌, ◌≤◌, IfErr, IfOk, OnOk, is_err, if◌then◌else◌, take, length};
 ghost use Rattle.std.specs.Io.KnownBytes.{Appends};
 ghost use Rattle.drum_core.specs.Device.{joined};
 
@@ -31,11 +31,12 @@ pub fn write_whole<O: Output>(output: &mut O, bytes: &[u8]) -> Result<(), Unsent
     Ok(())
 }
 
-/// Writes pieces one after the other, as many times as the output asks for.
-pub fn write_pieces<O: Output>(output: &mut O, pieces: &[&[u8]]) -> Result<(), Unsent>
+/// Writes pieces one after the other, as many times as the output asks for, and tells how many bytes they have.
+pub fn write_pieces<O: Output>(output: &mut O, pieces: &[&[u8]]) -> Result<usize, Unsent>
     requires { O.called output.old + length (joined pieces.now) ≤ 2 ^ 63 }
     ensures all { OnOk result
         (Appends (O.written output.old) (O.written output.new) (joined pieces.now)) }
+    ensures count { IfOk result (λ count. count ≡ length (joined pieces.now)) }
     ensures front { IfErr result (λ error.
         Appends (O.written output.old) (O.written output.new) (take error.sent (joined pieces.now))) }
     ensures some { IfErr result (λ error. error.sent < length (joined pieces.now)) }
@@ -54,5 +55,5 @@ pub fn write_pieces<O: Output>(output: &mut O, pieces: &[&[u8]]) -> Result<(), U
             }
         }
     }
-    Ok(())
+    Ok(sent)
 }
