@@ -9,12 +9,16 @@ mod joined;
 pub mod laws;
 mod print;
 mod replaying;
+mod reporting;
 pub mod status;
 mod verdict;
+mod write_fault;
 
 pub use commands::run_joined;
 pub use fault::Fault;
 pub use inputs::Inputs;
 pub use replaying::replay;
+pub use reporting::report;
 pub use status::Status;
 pub use verdict::Verdict;
+pub use write_fault::WriteFault;

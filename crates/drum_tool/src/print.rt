@@ -1,7 +1,8 @@
 //! What goes out, piece by piece, with no memory.
 
-ghost use Rattle.std.specs.Prelude.{◌+◌, ◌^◌, ◌≤◌, ◌++◌, length, codes, decimal, OnOk};
+ghost use Rattle.std.specs.Prelude.{◌≡◌, ◌+◌, ◌^◌, ◌≤◌, ◌++◌, length, codes, decimal, OnOk};
 ghost use Rattle.std.specs.Io.KnownBytes.{Appends};
+ghost use Rattle.drum_core.specs.Numeral.{digits_of};
 
 use drum_core::Location;
 use drum_core::device::output::Output;
@@ -20,19 +21,25 @@ pub fn write_number<O: Output>(output: &mut O, number: u64) -> Result<(), Unsent
     write_whole(output, buffer.format(number).as_bytes())
 }
 
+/// The four decimal digits of a number.
+pub fn four_digits(number: u16) -> [u8; 4]
+    ensures { result ≡ digits_of 4 number }
+{
+    [
+        b'0' + (number / 10 / 10 / 10 % 10) as u8,
+        b'0' + (number / 10 / 10 % 10) as u8,
+        b'0' + (number / 10 % 10) as u8,
+        b'0' + (number % 10) as u8,
+    ]
+}
+
 /// Writes a location in four digits.
 pub fn write_location<O: Output>(output: &mut O, location: Location) -> Result<(), Unsent>
     requires { O.called output.old ≤ 2 ^ 62 + 2 ^ 40 }
-    ensures { O.called output.new ≤ O.called output.old + 4 }
+    ensures all { OnOk result (Appends (O.written output.old) (O.written output.new) (digits_of 4 location.number)) }
+    ensures calls { O.called output.new ≤ O.called output.old + 4 }
 {
-    let number = location.number();
-    let digits = [
-        b'0' + (number / 1000 % 10) as u8,
-        b'0' + (number / 100 % 10) as u8,
-        b'0' + (number / 10 % 10) as u8,
-        b'0' + (number % 10) as u8,
-    ];
-    write_whole(output, &digits)
+    write_whole(output, &four_digits(location.number()))
 }
 
 /// Writes a line of a text and a number.

@@ -1,0 +1,29 @@
+ghost use Rattle.std.specs.Prelude.{◌≡◌, ◌+◌, ◌-◌, ◌^◌, ◌<◌, ◌≤◌};
+
+use drum_bound::Visit;
+
+/// How many hops there are, and the word times that they take.
+#[derive(Clone, Copy)]
+pub struct Tally {
+    pub visits: u64,
+    pub time: u64,
+}
+
+impl Tally {
+    /// The tally of no hops.
+    pub const NONE: Tally = Tally { visits: 0, time: 0 };
+
+    /// The tally with a hop more.
+    pub fn with(&self, visit: &Visit) -> Tally
+        requires later { visit.now.begun ≤ visit.now.ended }
+        requires few { self.now.visits < 2 ^ 62 }
+        requires short { self.now.time + (visit.now.ended - visit.now.begun) < 2 ^ 62 }
+        ensures visits { result.visits ≡ self.now.visits + 1 }
+        ensures time { result.time ≡ self.now.time + (visit.now.ended - visit.now.begun) }
+    {
+        Tally {
+            visits: self.visits + 1,
+            time: self.time + (visit.ended - visit.begun),
+        }
+    }
+}
