@@ -11,7 +11,8 @@ use Rattle.drum_tool.specs.Replay.{Given, IsVerdict, used_in}
 
 -- each run that keeps to the notes uses so many word times at most
 abbrev pub IsBounded : Setting → ℕ → Type 0
-IsBounded g bound = (s : State) (steps : List Turn) → IsFirstState g.loads (IsFixed g.loads g.notes g.start) g.start s
+IsBounded g bound = (s : State) (steps : List Turn)
+    → IsFirstState g.loads (IsFixed g.loads g.notes g.start) g.start s
     → IsRun g.times s steps → IsKept g.loads g.notes s steps → used_from 0 steps ≤ bound
 
 -- a state in which a kept run may begin
@@ -25,8 +26,10 @@ pub record AreGiven (g : Setting) (given : Given) (s : State) (waits : List ℕ)
   pub reader : s.contents.cards ≡ given.cards
   pub feed : waits ≡ given.waits
 
--- The verdict is that on the run which begins in this state with these waits, and no time in it is past the bound.
-pub record IsFollowed (g : Setting) (s : State) (waits : List ℕ) (bound : ℕ) (verdict : Verdict) : Type 0 where
+-- The verdict is that on the run which begins in this state with these waits, and no time in it is
+-- past the bound.
+pub record IsFollowed (g : Setting) (s : State) (waits : List ℕ) (bound : ℕ) (verdict : Verdict) :
+    Type 0 where
   pub step : ℕ
   pub says : (given : Given) → AreGiven g given s waits → IsVerdict g given bound step verdict
   pub within : used_in verdict ≤ bound

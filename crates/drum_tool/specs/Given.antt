@@ -4,4 +4,8 @@ use Rattle.drum_tool.specs.declared.inputs.Inputs.{Inputs}
 use Rattle.drum_tool.specs.Replay.{Given}
 
 abbrev pub given : Inputs → Given
-given inputs = record { setup = inputs.setup; cards = cards_left inputs.feed; waits = waits_left inputs.feed }
+given inputs = record {
+  setup = inputs.setup;
+  cards = cards_left inputs.feed;
+  waits = waits_left inputs.feed;
+}

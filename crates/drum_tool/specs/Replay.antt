@@ -37,8 +37,8 @@ AreFed times waits (turn ∷ turns) =
     (turn.wait ≡ wait_with times (op_in turn.origin) waits)
     × AreFed times (waits_with (op_in turn.origin) turn.origin waits) turns
 
--- The turns are the first of the run that a setup and a feed fix: from the state that is set up, with the cards in the
--- reader, and with the waits as they are fed.
+-- The turns are the first of the run that a setup and a feed fix: from the state that is set up,
+-- with the cards in the reader, and with the waits as they are fed.
 pub record IsReplayed (g : Setting) (given : Given) (turns : List Turn) : Type 0 where
   pub first : State
   pub set_up : IsSetUp g.loads g.start given.setup first
@@ -46,7 +46,8 @@ pub record IsReplayed (g : Setting) (given : Given) (turns : List Turn) : Type 0
   pub run : IsRun g.times first turns
   pub fed : AreFed g.times given.waits turns
 
--- The run keeps to the notes until it stops, at this step, for this reason, with so many word times used.
+-- The run keeps to the notes until it stops, at this step, for this reason, with so many word times
+-- used.
 pub record StopsAt (g : Setting) (given : Given) (step used : ℕ) (because : Why) : Type 0 where
   pub declared : IsAsDeclared g.notes.programmed given.setup.programmed
   pub turns : List Turn
@@ -56,14 +57,16 @@ pub record StopsAt (g : Setting) (given : Given) (step used : ℕ) (because : Wh
   pub stops : last.outcome ≡ stopped because used
   pub number : step ≡ length turns + 1
 
--- The run keeps to the notes before this step, with so many word times used, and leaves them with it.
+-- The run keeps to the notes before this step, with so many word times used, and leaves them with
+-- it.
 pub record LeavesAt (g : Setting) (given : Given) (step used : ℕ) (what : lefts.Left) : Type 0 where
   pub declared : IsAsDeclared g.notes.programmed given.setup.programmed
   pub turns : List Turn
   pub last : Turn
   pub replayed : IsReplayed g given (turns ++ last ∷ [])
   pub kept : AreKept g.loads g.notes (no_counts g.notes.marks) turns
-  pub leaves : Leaves g.loads g.notes (counts_over g.notes (no_counts g.notes.marks) turns) last what
+  pub leaves :
+      Leaves g.loads g.notes (counts_over g.notes (no_counts g.notes.marks) turns) last what
   pub number : step ≡ length turns + 1
   pub time : used ≡ used_from 0 turns
 
@@ -73,18 +76,21 @@ IsLeft g given step used left.Switch =
     ¬ IsAsDeclared g.notes.programmed given.setup.programmed × (step ≡ 0) × (used ≡ 0)
 IsLeft g given step used what = LeavesAt g given step used what
 
--- the verdict on the run, which ends or leaves the notes with this step, where this is the deck's worst time
+-- the verdict on the run, which ends or leaves the notes with this step, where this is the deck's
+-- worst time
 abbrev pub IsVerdict : Setting → Given → ℕ → ℕ → Verdict → Type 0
-IsVerdict g given worst step (Kept used bound because) = (bound ≡ worst) × StopsAt g given step used because
-IsVerdict g given worst step (Left what number used) = (number ≡ step) × IsLeft g given step used what
+IsVerdict g given worst step (Kept used bound because) =
+    (bound ≡ worst) × StopsAt g given step used because
+IsVerdict g given worst step (Left what number used) =
+    (number ≡ step) × IsLeft g given step used what
 
 -- the word times that a verdict tells
 abbrev pub used_in : Verdict → ℕ
 used_in (Kept used bound because) = used
 used_in (Left what step used) = used
 
--- What a replay answers: the verdict on its one run, in which no more word times are used than any walk takes at most, and
--- which has no more steps than those and one.
+-- What a replay answers: the verdict on its one run, in which no more word times are used than any
+-- walk takes at most, and which has no more steps than those and one.
 pub record IsReplay (g : Setting) (given : Given) (verdict : Verdict) : Type 0 where
   pub own_words : first_loaded g.loads given.setup.words.items ≡ None
   pub worst : ℕ
@@ -94,12 +100,15 @@ pub record IsReplay (g : Setting) (given : Given) (verdict : Verdict) : Type 0 w
   pub within : used_in verdict ≤ worst
   pub short : step ≤ worst + 1
 
--- Why there is no replay: a word is given that the deck loads too, of which the first is told; else the deck with its notes
--- is refused; else there is no memory for the machine.
+-- Why there is no replay: a word is given that the deck loads too, of which the first is told; else
+-- the deck with its notes is refused; else there is no memory for the machine.
 abbrev pub IsReplayFault : Setting → Given → fails.Fault → Type 0
-IsReplayFault g given (fault.Loaded location) = first_loaded g.loads given.setup.words.items ≡ Some location
+IsReplayFault g given (fault.Loaded location) =
+    first_loaded g.loads given.setup.words.items ≡ Some location
 IsReplayFault g given (fault.Refused refusal) =
-    (first_loaded g.loads given.setup.words.items ≡ None) × IsRefusal g.loads g.notes g.start refusal
+    (first_loaded g.loads given.setup.words.items ≡ None)
+    × IsRefusal g.loads g.notes g.start refusal
 IsReplayFault g given fault.Memory =
-    (first_loaded g.loads given.setup.words.items ≡ None) × ((executed : List ℕ) × IsAccepted g.loads g.notes g.start executed)
+    (first_loaded g.loads given.setup.words.items ≡ None)
+    × ((executed : List ℕ) × IsAccepted g.loads g.notes g.start executed)
 IsReplayFault g given _ = ⊥

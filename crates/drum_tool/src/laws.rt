@@ -8,12 +8,14 @@ ghost use Rattle.drum_tool.specs.Replay.{Given, IsReplayed, IsVerdict};
 
 /// What is given fixes one run: as many of its first turns are the same.
 pub fn one_run()
-    ensures { (g : Setting) (given : Given) (turns others : List Turn) → IsReplayed g given turns → IsReplayed g given others
-        → length turns ≡ length others → turns ≡ others }
+    ensures { (g : Setting) (given : Given) (turns others : List Turn)
+        → IsReplayed g given turns → IsReplayed g given others → length turns ≡ length others
+        → turns ≡ others }
 {}
 
 /// What is given fixes one verdict.
 pub fn one_verdict()
-    ensures { (g : Setting) (given : Given) (worst step last : ℕ) (verdict other : Verdict) → IsVerdict g given worst step verdict
-        → IsVerdict g given worst last other → verdict ≡ other }
+    ensures { (g : Setting) (given : Given) (worst step last : ℕ) (verdict other : Verdict)
+        → IsVerdict g given worst step verdict → IsVerdict g given worst last other
+        → verdict ≡ other }
 {}

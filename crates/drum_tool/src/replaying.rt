@@ -18,8 +18,8 @@ use drum_machine::{Feed, Machine, Monitor, Step};
 use drum_times::{Notes, Times};
 use std::alloc::Global;
 
-/// Follows a run from its beginning until it leaves the notes or stops. It ends, since each step uses time, and no run that
-/// keeps to the notes uses more than the bound.
+/// Follows a run from its beginning until it leaves the notes or stops. It ends, since each step
+/// uses time, and no run that keeps to the notes uses more than the bound.
 fn follow(
     deck: &Deck,
     times: &Times,
@@ -31,11 +31,13 @@ fn follow(
 ) -> Verdict
     requires bounded { IsBounded (setting deck.now times.now notes.now) bound }
     requires below { bound < 2 ^ 62 }
-    requires begins { CanBegin (setting deck.now times.now notes.now) (state_in machine (cards_left feed)) }
+    requires begins { CanBegin (setting deck.now times.now notes.now)
+        (state_in machine (cards_left feed)) }
     requires goes { GoesOn machine }
     requires silent { answer_of monitor ≡ None }
     requires seen { HasSeen (loads_in deck.now) notes.now monitor [] }
-    ensures { IsFollowed (setting deck.now times.now notes.now) (state_in machine (cards_left feed)) (waits_left feed) bound result }
+    ensures { IsFollowed (setting deck.now times.now notes.now)
+        (state_in machine (cards_left feed)) (waits_left feed) bound result }
 {
     let mut number = 0;
     loop {
@@ -59,8 +61,9 @@ fn follow(
 ///
 /// # Errors
 ///
-/// [`Fault::Loaded`] for the first word of the inputs that the deck loads too; else [`Fault::Refused`] where the deck with
-/// its notes isn't accepted ([`analyse`]); [`Fault::Memory`] where memory for the machine is wanting.
+/// [`Fault::Loaded`] for the first word of the inputs that the deck loads too; else
+/// [`Fault::Refused`] where the deck with its notes isn't accepted ([`analyse`]); else
+/// [`Fault::Memory`] where memory for the machine is wanting.
 pub fn replay(
     alloc: Global,
     deck: &Deck,
@@ -68,9 +71,12 @@ pub fn replay(
     notes: &Notes,
     inputs: Inputs,
 ) -> Result<Verdict, Fault>
-    ensures verdict { IfOk result (IsReplay (setting deck.now times.now notes.now) (given inputs)) }
-    ensures accepted { IfOk result (λ _. (executed : List ℕ) × IsAccepted (loads_in deck.now) notes.now (start_in deck.now) executed) }
-    ensures refused { IfErr result (IsReplayFault (setting deck.now times.now notes.now) (given inputs)) }
+    ensures verdict { IfOk result
+        (IsReplay (setting deck.now times.now notes.now) (given inputs)) }
+    ensures accepted { IfOk result (λ _. (executed : List ℕ)
+        × IsAccepted (loads_in deck.now) notes.now (start_in deck.now) executed) }
+    ensures refused { IfErr result
+        (IsReplayFault (setting deck.now times.now notes.now) (given inputs)) }
 {
     let Inputs { setup, feed } = inputs;
     if let Some(location) = setup.loaded_by(deck) {

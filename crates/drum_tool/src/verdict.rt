@@ -16,7 +16,7 @@ pub enum Verdict {
     Left {
         /// How it leaves them.
         what: Left,
-        /// The step with which it does, from 1; 0 for the programmed switch, which is looked at before any step.
+        /// The step with which it does, from 1; 0 for the programmed switch.
         step: u64,
         /// The word times used before this step.
         used: u64,
