@@ -1,12 +1,12 @@
 -- A setup and a feed fix one run.
-use Rattle.std.proofs.Common.{◌≡◌, ℕ, zero, suc, ◌<◌, List, [], ◌∷◌, ◌++◌, length, refl, ap, sym, subst, ◌∙◌, arith, Bool, ℤ, Option, Some}
+use Rattle.std.proofs.Common.{◌≡◌, ℕ, suc, ◌<◌, List, [], ◌∷◌, length, refl, ap, sym, subst, ◌∙◌, arith, Bool, ℤ, Option, Some}
 use Rattle.std.specs.Prelude.{slice_get}
 use Rattle.drum_core.specs.declared.op.Op.{Op}
 use Rattle.drum_core.specs.declared.word.Word.{Word}
 use Rattle.drum_times.specs.declared.entry.Entry.{Entry}
 use Rattle.drum_machine.specs.declared.card.Card.{Card}
 use Rattle.drum_machine.specs.Contents.{Contents}
-use Rattle.drum_machine.specs.FirstState.{IsFirstDrum, IsSetUp, first_word}
+use Rattle.drum_machine.specs.FirstState.{IsFirstDrum, IsSetUp}
 use Rattle.drum_machine.specs.Machine.{op_in, wait_with, waits_with}
 use Rattle.drum_machine.specs.Run.{Turn, IsTurn, IsRun, Follow}
 use Rattle.drum_machine.specs.Step.{State, Stepped, on, stopped, step}

@@ -1,8 +1,6 @@
 -- A setup and a feed fix one verdict.
-use Rattle.std.proofs.Common.{◌≡◌, ℕ, ◌+◌, List, [], ◌∷◌, ◌++◌, length, refl, ap, sym, subst, ◌∙◌, inl, inr, arith}
+use Rattle.std.proofs.Common.{◌≡◌, ℕ, ◌+◌, List, [], ◌∷◌, ◌++◌, length, refl, ap, sym, subst, ◌∙◌, inl, inr}
 use Rattle.std.specs.Prelude.{◌⊎◌}
-use Rattle.drum_core.specs.declared.location.Location.{Location}
-use Rattle.drum_core.specs.declared.word.Word.{Word}
 use Rattle.drum_core.proofs.Same.{same_location}
 use Rattle.drum_machine.specs.declared.left.Left as lefts
 use Rattle.drum_machine.specs.declared.left.Left.TheVariants as left
@@ -11,7 +9,7 @@ use Rattle.drum_machine.specs.Counts.{no_counts}
 use Rattle.drum_machine.specs.Keeps.{AreKept, IsKeptTurn, IsAsDeclared, Leaves, GoesTo, counts_after}
 use Rattle.drum_machine.specs.Machine.{op_in, waits_with}
 use Rattle.drum_machine.specs.Monitor.{counts_over}
-use Rattle.drum_machine.specs.Run.{Turn, IsTurn, IsRun, Follow, used_from}
+use Rattle.drum_machine.specs.Run.{Turn, IsRun, Follow, used_from}
 use Rattle.drum_machine.specs.Step.{State, Stepped, on, stopped}
 use Rattle.drum_flow.specs.Walk.{Setting}
 use Rattle.drum_tool.specs.declared.verdict.Verdict.{Verdict}
