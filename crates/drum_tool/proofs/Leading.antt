@@ -30,16 +30,22 @@ used_more time [] turn = refl
 used_more time (one ∷ turns) turn = used_more (time_of one.outcome) turns turn
 
 module _ (times : Op → Entry) where
-  -- turns from a state with waits, each of which goes on, lead to a state with the waits that are left
+  -- turns from a state with waits, each of which goes on, lead to a state with the waits that are
+  -- left
   abbrev pub Lead : State → List ℕ → List Turn → State → List ℕ → Type 0
   Lead s waits [] now left = (s ≡ now) × (waits ≡ left)
   Lead s waits (turn ∷ turns) now left =
       IsTurn times s turn × (turn.wait ≡ wait_with times (op_in turn.origin) waits)
-      × Goes turn.outcome (λ next. Lead next (waits_with (op_in turn.origin) turn.origin waits) turns now left)
+      × Goes turn.outcome
+      (λ next. Lead next (waits_with (op_in turn.origin) turn.origin waits) turns now left)
 
   -- the turn of a state with waits
   abbrev pub turn_at : State → List ℕ → Turn
-  turn_at s waits = record { origin = s; wait = wait_with times (op_in s) waits; outcome = step times s (wait_with times (op_in s) waits) }
+  turn_at s waits = record {
+    origin = s;
+    wait = wait_with times (op_in s) waits;
+    outcome = step times s (wait_with times (op_in s) waits);
+  }
 
   -- the wait that is fed is one that the operation may have
   abbrev pub MayBe : State → List ℕ → Type 0

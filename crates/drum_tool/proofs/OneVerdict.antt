@@ -65,7 +65,8 @@ module _ (g : Setting) where
   -- a turn with which a verdict comes: it keeps to the notes and stops, or it leaves them
   abbrev Ends : List ℕ → Turn → Type 0
   Ends counts turn =
-      (KeptTurn counts turn × ((because : whys.Why) × (moment : ℕ) × (turn.outcome ≡ stopped because moment)))
+      (KeptTurn counts turn
+      × ((because : whys.Why) × (moment : ℕ) × (turn.outcome ≡ stopped because moment)))
       ⊎ ((what : lefts.Left) × Leave counts turn what)
 
   stops_last : (outcome : Stepped) (because : whys.Why) (moment : ℕ) (Right : State → Type 0) (turns : List Turn) (last : Turn)
@@ -80,7 +81,8 @@ module _ (g : Setting) where
       stops_last turn.outcome because moment Right turns last stops follow
   ends_last counts turn Right turns last (inr (what, leaves)) keeps follow = kept_leaves_none counts turn what keeps leaves
 
-  -- Turns from a state with waits, and a last one with which a verdict comes; marks were passed so often before them.
+  -- Turns from a state with waits, and a last one with which a verdict comes; marks were passed so
+  -- often before them.
   record Ending (s : State) (waits counts : List ℕ) (turns : List Turn) (last : Turn) : Type 0 where
     run : IsRun g.times s (turns ++ last ∷ [])
     fed : AreFed g.times waits (turns ++ last ∷ [])
@@ -198,7 +200,9 @@ module _ (g : Setting) where
 
     -- the notes are left by the switch, or by a turn
     abbrev ByWhat : ℕ → ℕ → lefts.Left → Type 0
-    ByWhat step used what = ((what ≡ left.Switch) × ¬ Declared × (step ≡ 0) × (used ≡ 0)) ⊎ LeavesAt g given step used what
+    ByWhat step used what =
+        ((what ≡ left.Switch) × ¬ Declared × (step ≡ 0) × (used ≡ 0))
+        ⊎ LeavesAt g given step used what
 
     by_what : (step used : ℕ) (what : lefts.Left) → IsLeft g given step used what → ByWhat step used what
     by_what step used (left.Unlisted location word) is = inr is
