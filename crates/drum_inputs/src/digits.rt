@@ -1,0 +1,48 @@
+//! The numbers that a line is written with.
+
+ghost use Rattle.std.specs.Prelude.{◌≡◌, ◌≢◌, ℕ, ◌+◌, ◌^◌, ◌<◌, length, IfSome, IfNone, codes};
+ghost use Rattle.drum_core.specs.Numeral.{digits_of};
+ghost use Rattle.drum_inputs.specs.InputsText as text;
+
+use crate::key::behind;
+use drum_core::numeral::read_digits;
+
+/// How many angles the drum has.
+const ANGLES: u64 = 50;
+
+/// The longest wait.
+const LONGEST: u64 = 1_000_000;
+
+/// The angle of a line that states the start angle.
+pub fn read_angle(line: &[u8]) -> Option<u8>
+    ensures found { IfSome result (λ n. text.IsLine line.now (text.angle n)) }
+    ensures none { IfNone result ((n : ℕ) → ¬ text.IsLine line.now (text.angle n)) }
+{
+    let Some(digits) = behind(line, b"ANGLE ") else {
+        return None;
+    };
+    if digits.len() != 2 {
+        return None;
+    }
+    match read_digits(digits) {
+        Some(angle) if angle < ANGLES => Some(angle as u8),
+        _ => None,
+    }
+}
+
+/// How long the line lets the machine wait.
+pub fn read_wait(line: &[u8]) -> Option<u32>
+    ensures found { IfSome result (λ n. text.IsLine line.now (text.wait n)) }
+    ensures none { IfNone result ((n : ℕ) → ¬ text.IsLine line.now (text.wait n)) }
+{
+    let Some(digits) = behind(line, b"WAIT ") else {
+        return None;
+    };
+    if digits.is_empty() || digits.len() > 7 {
+        return None;
+    }
+    match read_digits(digits) {
+        Some(wait) if wait <= LONGEST => Some(wait as u32),
+        _ => None,
+    }
+}

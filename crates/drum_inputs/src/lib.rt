@@ -1,0 +1,14 @@
+//! The inputs of a replay: a text that states what a machine is set up with and what it is fed with, read and
+//! refused for its first fault.
+#![tactic(auto)]
+
+mod accumulator;
+mod digits;
+mod fault;
+mod inputs;
+mod key;
+mod line;
+mod setting;
+
+pub use fault::InputFault;
+pub use inputs::Inputs;

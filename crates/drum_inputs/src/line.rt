@@ -1,0 +1,91 @@
+ghost use Rattle.std.specs.Prelude.{◌≡◌, ◌≢◌, ◌∷◌, ℕ, Bool, List, length, IfSome, IfNone};
+ghost use Rattle.drum_core.specs.Word.{spaced};
+ghost use Rattle.drum_inputs.specs.InputsText as text;
+ghost use Rattle.drum_inputs.specs.Said.{said};
+
+use crate::digits::read_wait;
+use crate::key::behind;
+use crate::setting::Setting;
+use drum_core::Word;
+use drum_core::deck::card::Card as DeckCard;
+use drum_core::spaced::read_words;
+use drum_machine::Card;
+
+/// How many words a card has.
+const WORDS: usize = 10;
+
+/// A line of inputs.
+#[derive(Clone, Copy, Debug)]
+pub enum Line {
+    /// `*` and any bytes.
+    Comment,
+    /// A setting.
+    Setting(Setting),
+    /// Words for drum locations, written as a card of a deck.
+    Words(DeckCard),
+    /// A card for the card reader.
+    Card(Card),
+    /// How long the card machine lets the machine wait.
+    Wait(u32),
+}
+
+/// The words of a card, a space before each.
+fn read_ten(text: &[u8]) -> Option<[Word; WORDS]>
+    ensures found { IfSome result (λ words. text.now ≡ spaced words) }
+    ensures none { IfNone result ((words : List Word) → length words ≡ 10 → text.now ≢ spaced words) }
+{
+    if text.len() != 12 * WORDS {
+        return None;
+    }
+    let blank = Word {
+        minus: false,
+        digits: 0,
+    };
+    let mut words = [blank; WORDS];
+    if read_words(text, &mut words) {
+        Some(words)
+    } else {
+        None
+    }
+}
+
+/// The card that a line spells.
+fn read_card(line: &[u8]) -> Option<Card>
+    ensures found { IfSome result (λ card. text.IsLine line.now (text.card card.load card.words)) }
+    ensures none { IfNone result ((load : Bool) (words : List Word) → ¬ text.IsLine line.now (text.card load words)) }
+{
+    let load = line.first() == Some(&b'L');
+    let mark = if load { b"LOAD" } else { b"CARD" };
+    let Some(rest) = behind(line, mark) else {
+        return None;
+    };
+    match read_ten(rest) {
+        Some(words) => Some(Card { words, load }),
+        None => None,
+    }
+}
+
+impl Line {
+    /// What the bytes spell; `None` where they are no line of inputs.
+    pub fn read(bytes: &[u8]) -> Option<Line>
+        ensures found { IfSome result (λ line. text.IsLine bytes.now (said line)) }
+        ensures none { IfNone result ((line : text.Line) → ¬ text.IsLine bytes.now line) }
+    {
+        if bytes.first() == Some(&b'*') {
+            return Some(Line::Comment);
+        }
+        if let Some(setting) = Setting::read(bytes) {
+            return Some(Line::Setting(setting));
+        }
+        if let Some(words) = DeckCard::read(bytes) {
+            return Some(Line::Words(words));
+        }
+        if let Some(card) = read_card(bytes) {
+            return Some(Line::Card(card));
+        }
+        match read_wait(bytes) {
+            Some(wait) => Some(Line::Wait(wait)),
+            None => None,
+        }
+    }
+}
