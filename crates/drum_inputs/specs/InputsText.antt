@@ -5,7 +5,7 @@ use Rattle.drum_core.specs.declared.word.Word.{Word}
 use Rattle.drum_core.specs.DeckText as deck
 use Rattle.drum_core.specs.Lines.{lines_of}
 use Rattle.drum_core.specs.Numeral.{digits_of}
-use Rattle.drum_core.specs.Word.{signed, spelling, word}
+use Rattle.drum_core.specs.Word.{signed, spelling, spaced, word}
 use Rattle.drum_inputs.specs.declared.fault.InputFault.{InputFault}
 use Rattle.drum_inputs.specs.declared.fault.InputFault.TheVariants as faults
 
@@ -29,10 +29,6 @@ pub data Line : Type 0 where
   card : Bool → List Word → Line
   -- how long the card machine lets the machine wait
   wait : ℕ → Line
-
--- words with a space before each
-abbrev pub spaced : List Word → List ℕ
-spaced ws = flat_map (λ w. 32 ∷ spelling w) ws
 
 -- How each kind of line is spelled. Words for locations are spelled as on a card of a deck.
 abbrev pub IsLine : List ℕ → Line → Type 0

@@ -1,6 +1,6 @@
 //! The accumulator as a line states it.
 
-ghost use Rattle.std.specs.Prelude.{◌≡◌, ◌≢◌, ℕ, ◌+◌, ◌^◌, ◌<◌, ℤ, pos, length, IfSome, IfNone};
+ghost use Rattle.std.specs.Prelude.{◌≡◌, ◌≢◌, ℕ, ◌+◌, ◌^◌, ◌<◌, ℤ, length, IfSome, IfNone};
 ghost use Rattle.drum_core.specs.Numeral.{digits_of};
 ghost use Rattle.drum_inputs.specs.InputsText as text;
 
@@ -8,9 +8,10 @@ use crate::key::behind;
 use drum_core::numeral::read_digits;
 
 /// The number that twenty digits write.
-fn read_twenty(text: &[u8]) -> Option<i128>
+fn read_twenty(text: &[u8]) -> Option<u128>
     requires { length text.now ≡ 20 }
-    ensures found { IfSome result (λ a. (n : ℕ) × (a ≡ pos n) × (n < 10 ^ 20) × (text.now ≡ digits_of 20 n)) }
+    ensures found { IfSome result (λ n. text.now ≡ digits_of 20 n) }
+    ensures small { IfSome result (λ n. n < 10 ^ 20) }
     ensures none { IfNone result ((n : ℕ) → text.now ≢ digits_of 20 n) }
 {
     let Some(upper) = read_digits(&text[..10]) else {
@@ -19,7 +20,7 @@ fn read_twenty(text: &[u8]) -> Option<i128>
     let Some(lower) = read_digits(&text[10..]) else {
         return None;
     };
-    Some(i128::from(upper) * 10_000_000_000 + i128::from(lower))
+    Some(u128::from(upper) * 10_000_000_000 + u128::from(lower))
 }
 
 /// The number of a line that states the accumulator; minus zero is zero.
@@ -37,8 +38,8 @@ pub fn read_accumulator(line: &[u8]) -> Option<i128>
         return None;
     };
     match number[0] {
-        b'+' => Some(magnitude),
-        b'-' => Some(-magnitude),
+        b'+' => Some(magnitude as i128),
+        b'-' => Some(-(magnitude as i128)),
         _ => None,
     }
 }

@@ -1,4 +1,4 @@
-ghost use Rattle.std.specs.Prelude.{◌≡◌, ◌≢◌, ◌∷◌, ℕ, Bool, List, length, IfSome, IfNone};
+ghost use Rattle.std.specs.Prelude.{◌≡◌, ◌≢◌, ◌++◌, ℕ, Bool, List, length, IfSome, IfNone, IsTrue, ◌↔◌};
 ghost use Rattle.drum_core.specs.Word.{spaced};
 ghost use Rattle.drum_inputs.specs.InputsText as text;
 ghost use Rattle.drum_inputs.specs.Said.{said};
@@ -29,11 +29,21 @@ pub enum Line {
     Wait(u32),
 }
 
-/// The words of a card, a space before each.
-fn read_ten(text: &[u8]) -> Option<[Word; WORDS]>
-    ensures found { IfSome result (λ words. text.now ≡ spaced words) }
-    ensures none { IfNone result ((words : List Word) → length words ≡ 10 → text.now ≢ spaced words) }
+/// Whether the bytes are a comment.
+fn is_comment(bytes: &[u8]) -> bool
+    ensures { IsTrue result ↔ text.IsLine bytes.now text.comment }
 {
+    bytes.first() == Some(&b'*')
+}
+
+/// The words behind the mark of a card, a space before each.
+fn read_ten(line: &[u8], mark: &[u8]) -> Option<[Word; WORDS]>
+    ensures found { IfSome result (λ words. line.now ≡ mark.now ++ spaced words) }
+    ensures none { IfNone result ((words : List Word) → length words ≡ 10 → line.now ≢ mark.now ++ spaced words) }
+{
+    let Some(text) = behind(line, mark) else {
+        return None;
+    };
     if text.len() != 12 * WORDS {
         return None;
     }
@@ -54,13 +64,11 @@ fn read_card(line: &[u8]) -> Option<Card>
     ensures found { IfSome result (λ card. text.IsLine line.now (text.card card.load card.words)) }
     ensures none { IfNone result ((load : Bool) (words : List Word) → ¬ text.IsLine line.now (text.card load words)) }
 {
-    let load = line.first() == Some(&b'L');
-    let mark = if load { b"LOAD" } else { b"CARD" };
-    let Some(rest) = behind(line, mark) else {
-        return None;
-    };
-    match read_ten(rest) {
-        Some(words) => Some(Card { words, load }),
+    if let Some(words) = read_ten(line, b"CARD") {
+        return Some(Card { words, load: false });
+    }
+    match read_ten(line, b"LOAD") {
+        Some(words) => Some(Card { words, load: true }),
         None => None,
     }
 }
@@ -71,7 +79,7 @@ impl Line {
         ensures found { IfSome result (λ line. text.IsLine bytes.now (said line)) }
         ensures none { IfNone result ((line : text.Line) → ¬ text.IsLine bytes.now line) }
     {
-        if bytes.first() == Some(&b'*') {
+        if is_comment(bytes) {
             return Some(Line::Comment);
         }
         if let Some(setting) = Setting::read(bytes) {

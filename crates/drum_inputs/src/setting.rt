@@ -32,10 +32,10 @@ fn read_word(line: &[u8], key: &[u8]) -> Option<Word>
     ensures found { IfSome result (λ word. line.now ≡ key.now ++ spelling word) }
     ensures none { IfNone result ((word : Word) → line.now ≢ key.now ++ spelling word) }
 {
-    match behind(line, key) {
-        Some(word) => Word::read(word),
-        None => None,
-    }
+    let Some(word) = behind(line, key) else {
+        return None;
+    };
+    Word::read(word)
 }
 
 /// Whether the line is the first text; `None` where it is neither.

@@ -1,0 +1,8 @@
+use Rattle.std.proofs.Common.{sym, ◌∙◌}
+use Rattle.drum_core.specs.Word.{spelling}
+use Rattle.drum_inputs.proofs.Fronts.{same_behind, none_too}
+use Rattle.drum_inputs.proofs.setting.read_word.Goals as goal
+
+pub returns-clause-none : goal.returns-clause-none
+returns-clause-none c =
+    none_too c.read.result (λ other word spelled. other word (same_behind c.args.key.now c.in-Some.word.now (spelling word) (sym c.in-Some.ensures ∙ spelled))) c.read.ensures.none
