@@ -1,2 +1,7 @@
+pub mod Firsts
 pub mod Fronts
 pub mod Halves
+pub mod Marks
+pub mod Sounds
+pub mod Steps
+pub mod Takes

@@ -1,6 +1,7 @@
 -- The inputs of a replay (this project's choice): what each line says, which texts are inputs, what they state, and why
 -- another text is refused.
 use Rattle.std.specs.Prelude.{◌≡◌, ℕ, ◌+◌, ◌^◌, ◌<◌, ◌≤◌, List, [], ◌∷◌, ◌++◌, length, flat_map, codes, ◌⊎◌, Any, Bool, true, false, if◌then◌else◌, Option, Some, None, IsSome, ℤ}
+use Rattle.std.specs.Option.{option_or}
 use Rattle.drum_core.specs.declared.word.Word.{Word}
 use Rattle.drum_core.specs.DeckText as deck
 use Rattle.drum_core.specs.Lines.{lines_of}
@@ -89,7 +90,7 @@ on_overflow_in _ = None
 -- what the first line says that says anything of a setting
 abbrev pub first_said : {A : Type 0} → (Line → Option A) → List Line → Option A
 first_said in_line [] = None
-first_said in_line (line ∷ lines) = elim (in_line line) [ Some said ↦ Some said | None ↦ first_said in_line lines ]
+first_said in_line (line ∷ lines) = option_or (in_line line) (first_said in_line lines)
 
 -- words for consecutive locations, from this one on
 abbrev pub placed : ℕ → List Word → List (ℕ × Word)

@@ -1,3 +1,4 @@
+pub mod Holds
 pub mod Inputs
 pub mod InputsText
 pub mod Said

@@ -4,11 +4,14 @@
 
 mod accumulator;
 mod digits;
+mod drum_words;
 mod fault;
 mod inputs;
 mod key;
 mod line;
 mod setting;
+mod settings;
+mod stating;
 
 pub use fault::InputFault;
 pub use inputs::Inputs;

@@ -1,0 +1,26 @@
+use Rattle.std.proofs.Common.{refl, subst}
+use Rattle.drum_inputs.specs.InputsText as text
+use Rattle.drum_inputs.specs.declared.line.Line as read
+use Rattle.drum_inputs.specs.Said.{said, stated}
+use Rattle.drum_inputs.proofs.Steps.{on_ok_too, holds_comment, holds_setting}
+use Rattle.drum_inputs.proofs.stating.Stating.take.Goals as goal
+
+pub take-requires : goal.take-requires
+take-requires c = (c.args.bytes.now, subst (λ (line : read.Line). text.IsLine c.args.bytes.now (said line)) c.in-Some-Setting.field-0-is c.in-Some-Setting.ensures.found)
+
+pub returns-in-Some-Comment-clause-ok : goal.returns-in-Some-Comment-clause-ok
+returns-in-Some-Comment-clause-ok c lines holds = (
+  text.comment,
+  subst (λ (line : read.Line). text.IsLine c.args.bytes.now (said line)) c.in-Some-Comment.field-0-is c.in-Some-Comment.ensures.found,
+  holds_comment c.args.self.now lines holds,
+)
+
+pub returns-in-Some-Setting-clause-ok : goal.returns-in-Some-Setting-clause-ok
+returns-in-Some-Setting-clause-ok c =
+    on_ok_too c.take.result (λ took lines holds.
+        let both = took lines holds.settings in (
+          stated c.in-Some-Setting.setting,
+          subst (λ (line : read.Line). text.IsLine c.args.bytes.now (said line)) c.in-Some-Setting.field-0-is c.in-Some-Setting.ensures.found,
+          holds_setting c.args.self.now _ lines c.in-Some-Setting.setting holds both.0 both.1 refl refl refl,
+        ))
+    c.take.ensures.ok
