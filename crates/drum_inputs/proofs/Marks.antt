@@ -1,8 +1,8 @@
 -- Words for drum locations, and their marks.
-use Rattle.std.proofs.Common.{◌≡◌, ◌≢◌, ℕ, zero, suc, ◌+◌, ◌<◌, ◌≤◌, ◌↔◌, ◌⊎◌, inl, inr, Bool, true, false, List, [], ◌∷◌, ◌++◌, length, get_or, set, take, map, refl, ap, sym, ◌∙◌, subst, arith, append_assoc}
+use Rattle.std.proofs.Common.{◌≡◌, ◌≢◌, ℕ, zero, suc, ◌+◌, ◌-◌, ◌<◌, ◌≤◌, ◌↔◌, ◌⊎◌, inl, inr, Bool, true, false, List, [], ◌∷◌, ◌++◌, length, get_or, set, take, drop, map, refl, ap, sym, ◌∙◌, subst, arith, append_assoc}
 use Rattle.std.proofs.lemmas.Bool.{cases_lt}
-use Rattle.std.proofs.lemmas.List.{append-nil, get_or-set_same, get_or-set_other, map-append, get_or_default}
-use Rattle.std.specs.Prelude.{Any, slice_index_or}
+use Rattle.std.proofs.lemmas.List.{append-nil, get_or-set_same, get_or-set_other, get_or_default, get_or-take, get_or-drop, length-take, length-drop}
+use Rattle.std.specs.Prelude.{Any, Contains, slice_index_or, slice_range}
 use Rattle.drum_core.specs.declared.word.Word.{Word}
 use Rattle.drum_inputs.specs.declared.drum_words.DrumWords.{DrumWords}
 use Rattle.drum_inputs.specs.Holds.{HoldWords}
@@ -89,3 +89,28 @@ placed_more first (suc place) (w ∷ words) word within here =
     let next : suc place + 1 ≡ suc (place + 1) = omega arith in
     ap (λ (k : ℕ). placed first (take k (w ∷ words))) next
     ∙ ap (λ (xs : List (ℕ × Word)). (first, w) ∷ xs) (placed_more (first + 1) place words word (omega arith) here ∙ ap (λ (n : ℕ). placed (first + 1) (take place words) ++ (n, word) ∷ []) at)
+
+-- a mark among so many is that of a location that is given a word
+pub marked_given : (drum : DrumWords) (given : List (ℕ × Word)) (first count : ℕ) → first + count ≤ 2000 → HoldWords drum given
+    → Contains (slice_range drum.marks.items first (first + count)) true → (location : ℕ) × (first ≤ location) × (location < first + count) × Given given location
+marked_given drum given first count fits holds (k, within, here) =
+    let marks = drum.marks.items in
+    let few : k < count = omega (arith, within, length-take (first + count - first) (drop first marks)) in
+    let below : k < first + count - first = omega (arith, few) in
+    let read : get_or (slice_range marks first (first + count)) k false ≡ true = get_or_default (slice_range marks first (first + count)) k false true within ∙ here in
+    let marked : get_or marks (first + k) false ≡ true = sym (get_or-drop first marks k false) ∙ sym (get_or-take (first + count - first) (drop first marks) k false below) ∙ read in
+    (first + k, omega arith, omega (arith, few), (holds.marks (first + k) (omega (arith, few))).0 marked)
+
+-- and such a location is marked
+pub given_marked : (drum : DrumWords) (given : List (ℕ × Word)) (first count location : ℕ) → first + count ≤ length drum.marks.items → length drum.marks.items ≡ 2000 → HoldWords drum given
+    → first ≤ location → location < first + count → Given given location → Contains (slice_range drum.marks.items first (first + count)) true
+given_marked drum given first count location fits long holds low high is_given =
+    let marks = drum.marks.items in
+    let k : ℕ = location - first in
+    let at : first + k ≡ location = omega arith in
+    let below : k < first + count - first = omega arith in
+    let within : k < length (slice_range marks first (first + count)) = omega (arith, length-take (first + count - first) (drop first marks), length-drop first marks) in
+    let marked : get_or marks location false ≡ true = (holds.marks location (omega (arith, long))).1 is_given in
+    let read : get_or (slice_range marks first (first + count)) k false ≡ true =
+    get_or-take (first + count - first) (drop first marks) k false below ∙ get_or-drop first marks k false ∙ ap (λ (n : ℕ). get_or marks n false) at ∙ marked in
+    (k, within, get_or_default (slice_range marks first (first + count)) k true false within ∙ read)

@@ -1,9 +1,10 @@
 -- What one line more gives.
 use Rattle.std.proofs.Common.{◌≡◌, ℕ, ◌+◌, ◌<◌, ◌≤◌, List, [], ◌∷◌, ◌++◌, length, map, refl, ap, sym, ◌∙◌, subst, Option, None}
 use Rattle.std.proofs.lemmas.Grind.{flat_map-append}
-use Rattle.std.proofs.lemmas.List.{append-nil}
+use Rattle.std.proofs.lemmas.List.{append-nil, map-append}
 use Rattle.std.specs.Prelude.{Result, Ok, Err, OnOk, Bool, flat_map}
 use Rattle.drum_core.specs.declared.word.Word.{Word}
+use Rattle.drum_machine.specs.declared.card.Card.{Card}
 use Rattle.drum_inputs.specs.declared.drum_words.DrumWords.{DrumWords}
 use Rattle.drum_inputs.specs.declared.setting.Setting.{Setting}
 use Rattle.drum_inputs.specs.declared.setting.Setting.TheVariants.{Angle, Switches, Distributor, Accumulator, Latch, Programmed, OnOverflow}
@@ -82,3 +83,37 @@ holds_setting old new lines setting holds settings once drum cards waits =
     holds_more old new lines (stated setting) holds settings
     (subst (HoldWords new.drum) given (subst (λ (d : DrumWords). HoldWords d (given_in lines)) (sym drum) holds.words))
     (ap (λ cs. map read_card cs.items) cards ∙ holds.cards ∙ no_card) (ap (λ ws. ws.items) waits ∙ holds.waits ∙ no_wait) is_plain.on_drum once
+
+-- what a line gives no part of
+same_words : (drum : DrumWords) (lines : List Line) → HoldWords drum (given_in lines) → HoldWords drum (given_in lines ++ [])
+same_words drum lines holds = subst (HoldWords drum) (sym (append-nil (given_in lines))) holds
+
+pub holds_card : (old new : Stating) (lines : List Line) (one : Card) → HoldsLines old lines → new.settings ≡ old.settings → new.drum ≡ old.drum
+    → new.cards.items ≡ old.cards.items ++ one ∷ [] → new.waits ≡ old.waits → HoldsLines new (lines ++ card one.load one.words ∷ [])
+holds_card old new lines one holds settings drum cards waits =
+    let line : Line = card one.load one.words in
+    holds_more old new lines line holds
+    (settings_kept new.settings lines line refl refl refl refl refl refl refl (subst (λ (s : Settings). HoldSettings s lines) (sym settings) holds.settings))
+    (same_words new.drum lines (subst (λ (d : DrumWords). HoldWords d (given_in lines)) (sym drum) holds.words))
+    (ap (map read_card) cards ∙ map-append read_card old.cards.items (one ∷ []) ∙ ap (λ cs. cs ++ read_card one ∷ []) holds.cards)
+    (ap (λ ws. ws.items) waits ∙ holds.waits ∙ sym (append-nil (waits_in lines))) (λ past. past) (λ again. again)
+
+pub holds_wait : (old new : Stating) (lines : List Line) (n : ℕ) → HoldsLines old lines → new.settings ≡ old.settings → new.drum ≡ old.drum → new.cards ≡ old.cards
+    → new.waits.items ≡ old.waits.items ++ n ∷ [] → HoldsLines new (lines ++ wait n ∷ [])
+holds_wait old new lines n holds settings drum cards waits =
+    let line : Line = wait n in
+    holds_more old new lines line holds
+    (settings_kept new.settings lines line refl refl refl refl refl refl refl (subst (λ (s : Settings). HoldSettings s lines) (sym settings) holds.settings))
+    (same_words new.drum lines (subst (λ (d : DrumWords). HoldWords d (given_in lines)) (sym drum) holds.words))
+    (ap (λ cs. map read_card cs.items) cards ∙ holds.cards ∙ sym (append-nil (cards_in lines)))
+    (waits ∙ ap (λ (ws : List ℕ). ws ++ n ∷ []) holds.waits) (λ past. past) (λ again. again)
+
+pub holds_words : (old new : Stating) (lines : List Line) (n : ℕ) (ws : List Word) → HoldsLines old lines → new.settings ≡ old.settings
+    → HoldWords new.drum (given_in lines ++ placed n ws) → new.cards ≡ old.cards → new.waits ≡ old.waits → ¬ IsPastDrum (words n ws) → ¬ Repeats lines (words n ws)
+    → HoldsLines new (lines ++ words n ws ∷ [])
+holds_words old new lines n ws holds settings drum cards waits on_drum once =
+    let line : Line = words n ws in
+    holds_more old new lines line holds
+    (settings_kept new.settings lines line refl refl refl refl refl refl refl (subst (λ (s : Settings). HoldSettings s lines) (sym settings) holds.settings)) drum
+    (ap (λ cs. map read_card cs.items) cards ∙ holds.cards ∙ sym (append-nil (cards_in lines)))
+    (ap (λ vs. vs.items) waits ∙ holds.waits ∙ sym (append-nil (waits_in lines))) on_drum once

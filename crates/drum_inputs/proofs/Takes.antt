@@ -1,5 +1,6 @@
 -- A setting more.
-use Rattle.std.proofs.Common.{◌≡◌, ℕ, zero, suc, ◌^◌, ◌<◌, Bool, true, false, List, [], ◌∷◌, ◌++◌, refl, ap, sym, ◌∙◌, subst, ℤ, Option, Some, None, arith, to_z, of_z, w128}
+use Rattle.std.proofs.Common.{◌≡◌, ℕ, zero, suc, ◌^◌, ◌<◌, Bool, true, false, List, [], ◌∷◌, ◌++◌, refl, ap, sym, ◌∙◌, subst, ℤ, Option, Some, None, arith, to_z, of_z}
+use Rattle.std.specs.Int.{w128}
 use Rattle.std.proofs.lemmas.Int.{to_z-of_z, fits_signed_from_abs}
 use Rattle.std.specs.Prelude.{Result, Ok, Err, OnOk, IsSome, unsigned_abs}
 use Rattle.drum_core.specs.declared.word.Word.{Word}

@@ -2,7 +2,7 @@ use Rattle.std.proofs.Common.{refl, subst}
 use Rattle.drum_inputs.specs.InputsText as text
 use Rattle.drum_inputs.specs.declared.line.Line as read
 use Rattle.drum_inputs.specs.Said.{said, stated}
-use Rattle.drum_inputs.proofs.Steps.{on_ok_too, holds_comment, holds_setting}
+use Rattle.drum_inputs.proofs.Steps.{on_ok_too, holds_comment, holds_setting, holds_card, holds_wait}
 use Rattle.drum_inputs.proofs.stating.Stating.take.Goals as goal
 
 pub take-requires : goal.take-requires
@@ -24,3 +24,17 @@ returns-in-Some-Setting-clause-ok c =
           holds_setting c.args.self.now _ lines c.in-Some-Setting.setting holds both.0 both.1 refl refl refl,
         ))
     c.take.ensures.ok
+
+pub returns-in_ok-push-in-Some-Card-clause-ok : goal.returns-in_ok-push-in-Some-Card-clause-ok
+returns-in_ok-push-in-Some-Card-clause-ok c lines holds = (
+  text.card c.in-Some-Card.card.load c.in-Some-Card.card.words,
+  subst (λ (line : read.Line). text.IsLine c.args.bytes.now (said line)) c.in-Some-Card.field-0-is c.in-Some-Card.ensures.found,
+  holds_card c.args.self.now _ lines c.in-Some-Card.card holds refl refl c.in_ok-push-in-Some-Card.ensures.items refl,
+)
+
+pub returns-in_ok-push-in-Some-Wait-clause-ok : goal.returns-in_ok-push-in-Some-Wait-clause-ok
+returns-in_ok-push-in-Some-Wait-clause-ok c lines holds = (
+  text.wait c.in-Some-Wait.wait,
+  subst (λ (line : read.Line). text.IsLine c.args.bytes.now (said line)) c.in-Some-Wait.field-0-is c.in-Some-Wait.ensures.found,
+  holds_wait c.args.self.now _ lines c.in-Some-Wait.wait holds refl refl refl c.in_ok-push-in-Some-Wait.ensures.items,
+)
