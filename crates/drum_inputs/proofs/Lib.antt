@@ -1,8 +1,10 @@
+pub mod Defaults
 pub mod Firsts
 pub mod Fronts
 pub mod Halves
 pub mod Marks
 pub mod Own
+pub mod Progress
 pub mod Sounds
 pub mod Steps
 pub mod Takes

@@ -27,16 +27,16 @@ placed_on_drum n (w ∷ ws) fits (suc k) d within = placed_on_drum (n + 1) ws (o
 given_on_drum : (line : Line) → ¬ IsPastDrum line → AreOnDrum (given_by line)
 given_on_drum (words n ws) on_drum =
     placed_on_drum n ws (elim (cases_lt 2000 (n + length ws)) [ inl past ↦ absurd (on_drum past) | inr fits ↦ fits ])
-given_on_drum comment on_drum k d within = absurd (omega arith)
-given_on_drum (angle n) on_drum k d within = absurd (omega arith)
-given_on_drum (switches w) on_drum k d within = absurd (omega arith)
-given_on_drum (distributor w) on_drum k d within = absurd (omega arith)
-given_on_drum (accumulator a) on_drum k d within = absurd (omega arith)
-given_on_drum (latch b) on_drum k d within = absurd (omega arith)
-given_on_drum (programmed b) on_drum k d within = absurd (omega arith)
-given_on_drum (on_overflow b) on_drum k d within = absurd (omega arith)
-given_on_drum (card load ws) on_drum k d within = absurd (omega arith)
-given_on_drum (wait n) on_drum k d within = absurd (omega arith)
+given_on_drum comment on_drum = All-nil (λ one. one.0 < 2000)
+given_on_drum (angle n) on_drum = All-nil (λ one. one.0 < 2000)
+given_on_drum (switches w) on_drum = All-nil (λ one. one.0 < 2000)
+given_on_drum (distributor w) on_drum = All-nil (λ one. one.0 < 2000)
+given_on_drum (accumulator a) on_drum = All-nil (λ one. one.0 < 2000)
+given_on_drum (latch b) on_drum = All-nil (λ one. one.0 < 2000)
+given_on_drum (programmed b) on_drum = All-nil (λ one. one.0 < 2000)
+given_on_drum (on_overflow b) on_drum = All-nil (λ one. one.0 < 2000)
+given_on_drum (card load ws) on_drum = All-nil (λ one. one.0 < 2000)
+given_on_drum (wait n) on_drum = All-nil (λ one. one.0 < 2000)
 
 -- words for locations that have none yet
 placed_apart : (given : List (ℕ × Word)) (n : ℕ) (ws : List Word) → AreApart given → ((location : ℕ) → n ≤ location → location < n + length ws → Given given location → ⊥)
@@ -92,7 +92,7 @@ pub own_locations : (given : List (Location × Word)) (lines : List Line) → Ar
 own_locations given lines sound same =
     let drum : AreOnDrum (map given_word given) = subst AreOnDrum (sym same) (on_drum_given lines sound) in
     let apart : AreApart (map given_word given) = subst AreApart (sym same) (once_given lines sound) in
-    let long : length (map given_word given) ≡ length given = length-map given_word given in
+    let long : length (map given_word given) ≡ length given = length-map given given_word in
     record {
       on_drum = λ k d within.
           let at : get_or (map given_word given) k (given_word d) ≡ given_word (get_or given k d) = get_or-map given_word given k d (given_word d) within in

@@ -9,9 +9,11 @@ mod fault;
 mod inputs;
 mod key;
 mod line;
+mod read;
 mod setting;
 mod settings;
 mod stating;
 
 pub use fault::InputFault;
 pub use inputs::Inputs;
+pub use read::read_inputs;

@@ -1,6 +1,22 @@
-use Rattle.std.proofs.Common.{◌≡◌, ℕ, ◌^◌, ◌<◌, refl, ap, sym, ◌∙◌, subst, arith}
+use Rattle.std.proofs.Common.{refl, ap, ◌∙◌, map, true, false, pos}
+use Rattle.drum_inputs.specs.Inputs.{read_card}
+use Rattle.drum_inputs.proofs.Defaults.{or_default, or_zero}
 use Rattle.drum_inputs.proofs.Own.{own_locations}
 use Rattle.drum_inputs.proofs.stating.Stating.finish.Goals as goal
 
 pub invariant_of-result-clause-own_locations : goal.invariant_of-result-clause-own_locations
 invariant_of-result-clause-own_locations c = own_locations c.args.self.drum.words.items c.requires.0 c.requires.1.sound c.requires.1.words.words
+
+pub returns : goal.returns
+returns c lines holds = record {
+  angle = or_default 0 c.unwrap_or.ensures holds.settings.angle;
+  switches = or_zero _ c.unwrap_or-2.ensures holds.settings.switches refl refl;
+  distributor = or_zero _ c.unwrap_or-3.ensures holds.settings.distributor refl refl;
+  accumulator = ?;
+  latch = or_default false c.unwrap_or-5.ensures holds.settings.latch;
+  programmed = or_default true c.unwrap_or-6.ensures holds.settings.programmed;
+  on_overflow = or_default true c.unwrap_or-7.ensures holds.settings.on_overflow;
+  words = holds.words.words;
+  cards = ap (map read_card) c.new.ensures.cards ∙ holds.cards;
+  waits = c.new.ensures.waits ∙ holds.waits;
+}

@@ -1,0 +1,13 @@
+-- A slot's value, or its default.
+use Rattle.std.proofs.Common.{◌≡◌, ℕ, ap, ◌∙◌, Bool, false, Option}
+use Rattle.std.specs.Prelude.{unwrap_or}
+use Rattle.drum_core.specs.declared.word.Word.{Word}
+use Rattle.drum_core.specs.Word.{word}
+use Rattle.drum_core.proofs.Same.{same_word}
+
+pub or_default : {A : Type 0} {value : A} {slot said : Option A} (default : A) → value ≡ unwrap_or slot default → slot ≡ said → value ≡ unwrap_or said default
+or_default default e held = e ∙ ap (λ one. unwrap_or one default) held
+
+pub or_zero : {value : Word} {slot said : Option Word} (zero : Word) → value ≡ unwrap_or slot zero → slot ≡ said → zero.minus ≡ false → zero.digits ≡ 0
+    → value ≡ unwrap_or said (word false 0)
+or_zero {said = said} zero e held minus digits = or_default zero e held ∙ ap (unwrap_or said) (same_word zero (word false 0) minus digits)
