@@ -1,6 +1,8 @@
-use Rattle.std.proofs.Common.{refl, ap, ◌∙◌, map, true, false, pos}
+use Rattle.std.proofs.Common.{◌^◌, ◌<◌, refl, ap, sym, ◌∙◌, subst, map, true, false, ℤ, pos}
+use Rattle.std.specs.Prelude.{unsigned_abs}
 use Rattle.drum_inputs.specs.Inputs.{read_card}
-use Rattle.drum_inputs.proofs.Defaults.{or_default, or_zero}
+use Rattle.drum_inputs.proofs.Defaults.{or_default, or_zero, small_or_zero}
+use Rattle.drum_inputs.proofs.Takes.{same_signed}
 use Rattle.drum_inputs.proofs.Own.{own_locations}
 use Rattle.drum_inputs.proofs.stating.Stating.finish.Goals as goal
 
@@ -12,7 +14,10 @@ returns c lines holds = record {
   angle = or_default 0 c.unwrap_or.ensures holds.settings.angle;
   switches = or_zero _ c.unwrap_or-2.ensures holds.settings.switches refl refl;
   distributor = or_zero _ c.unwrap_or-3.ensures holds.settings.distributor refl refl;
-  accumulator = ?;
+  accumulator =
+      let value = or_default {slot = c.args.self.settings.accumulator} (pos 0) c.unwrap_or-4.ensures refl in
+      let small = subst (λ (a : ℤ). unsigned_abs a < 10 ^ 20) (sym value) (small_or_zero c.args.self.settings.accumulator holds.settings.twenty) in
+      same_signed c.unwrap_or-4.result small ∙ or_default (pos 0) c.unwrap_or-4.ensures holds.settings.accumulator;
   latch = or_default false c.unwrap_or-5.ensures holds.settings.latch;
   programmed = or_default true c.unwrap_or-6.ensures holds.settings.programmed;
   on_overflow = or_default true c.unwrap_or-7.ensures holds.settings.on_overflow;
