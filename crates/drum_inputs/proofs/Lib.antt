@@ -3,8 +3,10 @@ pub mod Firsts
 pub mod Fronts
 pub mod Halves
 pub mod Marks
+pub mod OneLine
 pub mod Own
 pub mod Progress
+pub mod Refusals
 pub mod Sounds
 pub mod Steps
 pub mod Takes

@@ -8,6 +8,7 @@ mod drum_words;
 mod fault;
 mod inputs;
 mod key;
+pub mod laws;
 mod line;
 mod read;
 mod setting;
