@@ -13,4 +13,5 @@ lines_of (byte ∷ bytes) = if byte == 10 then [] ∷ lines_of bytes else with_f
 
 -- a text of more lines, or with a line of more bytes
 abbrev pub IsLonger : ℕ → ℕ → List ℕ → Type 0
-IsLonger count bytes text = (count < length (lines_of text)) ⊎ Any (λ line. bytes < length line) (lines_of text)
+IsLonger count bytes text =
+    (count < length (lines_of text)) ⊎ Any (λ line. bytes < length line) (lines_of text)

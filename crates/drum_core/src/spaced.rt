@@ -20,12 +20,13 @@ fn read_spaced(text: &[u8]) -> Option<Word>
     Word::read(&text[1..])
 }
 
-/// Reads words that are written with a space before each, as many as there is room for. Whether the text spells so
-/// many; where it doesn't, some of the words may have been read.
+/// Reads words that are written with a space before each, as many as there is room for. Whether the
+/// text spells so many; where it doesn't, some of the words may have been read.
 pub fn read_words(text: &[u8], words: &mut [Word]) -> bool
     requires { length text.now ≡ 12 * length words.old }
     ensures found { IsTrue result → text.now ≡ spaced words.new }
-    ensures none { IsFalse result → (others : List Word) → length others ≡ length words.old → text.now ≢ spaced others }
+    ensures none { IsFalse result → (others : List Word) → length others ≡ length words.old
+        → text.now ≢ spaced others }
 {
     for place in 0..words.len() {
         let at = BYTES * place;

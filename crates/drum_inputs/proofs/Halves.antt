@@ -51,9 +51,7 @@ halves text n written =
     let small : lower < 10 ^ 10 = omega arith in
     let all : n ≡ upper * 10 ^ 10 + lower = omega arith in
     let split : text ≡ digits_of 10 upper ++ digits_of 10 lower = written ∙ ap (digits_of 20) all ∙ digits_join 10 10 upper lower small in
-    let ten : length (digits_of 10 upper) ≡ 10 = length-digits_of 10 upper in
-
-    (
+    let ten : length (digits_of 10 upper) ≡ 10 = length-digits_of 10 upper in (
       ap (take 10) split ∙ sym (ap (λ (i : ℕ). take i (digits_of 10 upper ++ digits_of 10 lower)) ten) ∙ take-append_seam (digits_of 10 upper) (digits_of 10 lower),
       ap (drop 10) split ∙ sym (ap (λ (i : ℕ). drop i (digits_of 10 upper ++ digits_of 10 lower)) ten) ∙ drop-append_seam (digits_of 10 upper) (digits_of 10 lower),
     )

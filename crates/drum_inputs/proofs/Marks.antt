@@ -1,7 +1,7 @@
 -- Words for drum locations, and their marks.
-use Rattle.std.proofs.Common.{◌≡◌, ◌≢◌, ℕ, zero, suc, ◌+◌, ◌-◌, ◌<◌, ◌≤◌, ◌↔◌, ◌⊎◌, inl, inr, Bool, true, false, List, [], ◌∷◌, ◌++◌, length, get_or, set, take, drop, map, refl, ap, sym, ◌∙◌, subst, arith, append_assoc}
+use Rattle.std.proofs.Common.{◌≡◌, ◌≢◌, ℕ, zero, suc, ◌+◌, ◌-◌, ◌<◌, ◌≤◌, ◌↔◌, ◌⊎◌, inl, inr, Bool, true, false, List, [], ◌∷◌, ◌++◌, length, get_or, set, take, drop, map, refl, ap, sym, ◌∙◌, subst, arith}
 use Rattle.std.proofs.lemmas.Bool.{cases_lt}
-use Rattle.std.proofs.lemmas.List.{append-nil, get_or-set_same, get_or-set_other, get_or_default, get_or-take, get_or-drop, length-take, length-drop}
+use Rattle.std.proofs.lemmas.List.{get_or-set_same, get_or-set_other, get_or_default, get_or-take, get_or-drop, length-take, length-drop}
 use Rattle.std.specs.Prelude.{Any, Contains, slice_index_or, slice_range}
 use Rattle.drum_core.specs.declared.word.Word.{Word}
 use Rattle.drum_inputs.specs.declared.drum_words.DrumWords.{DrumWords}
@@ -62,6 +62,7 @@ push_holds old new given number word within words marks holds = record {
             | inr last ↦ absurd (differs (sym (given_alone number word n last)))
           ],
         )
+
     at : (n : ℕ) → n < 2000 → (slice_index_or (set old.marks.items number true) n false ≡ true) ↔ Given (given ++ (number, word) ∷ []) n
     at n below =
         elim (cases_lt n number) [

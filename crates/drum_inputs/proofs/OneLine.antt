@@ -1,8 +1,7 @@
 -- A line says one thing.
-use Rattle.std.proofs.Common.{◌≡◌, ℕ, ◌+◌, ◌/◌, ◌%◌, ◌^◌, ◌<◌, ltb, Bool, true, false, cond, List, [], ◌∷◌, ◌++◌, length, get_or, drop, refl, ap, sym, ◌∙◌, subst, arith, ℤ}
+use Rattle.std.proofs.Common.{◌≡◌, ℕ, ◌+◌, ◌/◌, ◌%◌, ◌^◌, ◌<◌, ltb, Bool, true, false, cond, List, length, get_or, drop, refl, ap, sym, ◌∙◌, subst, arith, ℤ}
 use Rattle.std.proofs.lemmas.Bool.{lt-ltb}
 use Rattle.std.specs.Prelude.{◌==◌}
-use Rattle.drum_core.specs.declared.word.Word.{Word}
 use Rattle.drum_core.specs.DeckText as deck
 use Rattle.drum_core.specs.Numeral.{digits_of}
 use Rattle.drum_core.specs.Word.{signed}

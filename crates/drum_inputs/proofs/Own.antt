@@ -1,5 +1,5 @@
 -- Sound lines give each location a word once at most, and only drum locations.
-use Rattle.std.proofs.Common.{◌≡◌, ◌≢◌, ℕ, zero, suc, ◌+◌, ◌<◌, ◌≤◌, List, [], ◌∷◌, ◌++◌, length, get_or, map, inl, inr, refl, ap, sym, ◌∙◌, subst, arith, append_assoc}
+use Rattle.std.proofs.Common.{◌≡◌, ◌≢◌, ℕ, zero, suc, ◌+◌, ◌<◌, ◌≤◌, List, [], ◌∷◌, ◌++◌, length, get_or, map, inl, inr, ap, sym, ◌∙◌, subst, arith, append_assoc}
 use Rattle.std.proofs.lemmas.Bool.{cases_lt}
 use Rattle.std.proofs.lemmas.List.{append-nil, get_or_default, get_or-map, length-map}
 use Rattle.std.proofs.lemmas.List.Elements.{All-append, All-nil}
@@ -44,12 +44,12 @@ placed_apart : (given : List (ℕ × Word)) (n : ℕ) (ws : List Word) → AreAp
 placed_apart given n [] apart free = subst AreApart (sym (append-nil given)) apart
 placed_apart given n (w ∷ ws) apart free =
     let other : (k : ℕ) (d : ℕ × Word) → k < length given → (get_or given k d).0 ≢ n = λ k d within same.
-        free n (omega arith) (omega arith) (k, get_or given k d, within, get_or_default given k (get_or given k d) d within, same) in
+    free n (omega arith) (omega arith) (k, get_or given k d, within, get_or_default given k (get_or given k d) d within, same) in
     let free' : (location : ℕ) → n + 1 ≤ location → location < n + 1 + length ws → Given (given ++ (n, w) ∷ []) location → ⊥ = λ location low high is_given.
-        elim (given_by_either given ((n, w) ∷ []) location is_given) [
-          | inl before ↦ free location (omega arith) (omega arith) before
-          | inr last ↦ omega (arith, low, alone last)
-        ] in
+    elim (given_by_either given ((n, w) ∷ []) location is_given) [
+      | inl before ↦ free location (omega arith) (omega arith) before
+      | inr last ↦ omega (arith, low, alone last)
+    ] in
     subst AreApart (append_assoc given ((n, w) ∷ []) (placed (n + 1) ws))
     (placed_apart (given ++ (n, w) ∷ []) (n + 1) ws (all_pairs_push (λ one later. one.0 ≢ later.0) given (n, w) apart other) free')
   where

@@ -1,5 +1,5 @@
 -- Sound lines, and one more.
-use Rattle.std.proofs.Common.{◌≡◌, List, [], ◌∷◌, ◌++◌, sym, subst, append_assoc}
+use Rattle.std.proofs.Common.{List, [], ◌∷◌, ◌++◌, sym, subst, append_assoc}
 use Rattle.std.proofs.lemmas.List.{append-nil}
 use Rattle.drum_inputs.specs.InputsText.{Line, IsPastDrum, Repeats, AreSoundBehind, AreSound}
 

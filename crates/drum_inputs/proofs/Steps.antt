@@ -1,8 +1,8 @@
 -- What one line more gives.
-use Rattle.std.proofs.Common.{◌≡◌, ℕ, ◌+◌, ◌<◌, ◌≤◌, List, [], ◌∷◌, ◌++◌, length, map, refl, ap, sym, ◌∙◌, subst, Option, None}
+use Rattle.std.proofs.Common.{◌≡◌, ℕ, List, [], ◌∷◌, ◌++◌, map, refl, ap, sym, ◌∙◌, subst, None}
 use Rattle.std.proofs.lemmas.Grind.{flat_map-append}
 use Rattle.std.proofs.lemmas.List.{append-nil, map-append}
-use Rattle.std.specs.Prelude.{Result, Ok, Err, OnOk, Bool, flat_map}
+use Rattle.std.specs.Prelude.{Result, Ok, Err, OnOk, flat_map}
 use Rattle.drum_core.specs.declared.word.Word.{Word}
 use Rattle.drum_machine.specs.declared.card.Card.{Card}
 use Rattle.drum_inputs.specs.declared.drum_words.DrumWords.{DrumWords}
@@ -12,7 +12,7 @@ use Rattle.drum_inputs.specs.declared.settings.Settings.{Settings}
 use Rattle.drum_inputs.specs.declared.stating.Stating.{Stating}
 use Rattle.drum_inputs.specs.Holds.{HoldSettings, HoldWords, HoldsLines}
 use Rattle.drum_inputs.specs.Inputs.{read_card}
-use Rattle.drum_inputs.specs.InputsText.{Line, comment, words, card, wait, IsPastDrum, Repeats, first_said, angle_in, switches_in, distributor_in, accumulator_in, latch_in, programmed_in, on_overflow_in, given_by, given_in, card_by, cards_in, wait_by, waits_in, placed}
+use Rattle.drum_inputs.specs.InputsText.{Line, comment, words, card, wait, IsPastDrum, Repeats, angle_in, switches_in, distributor_in, accumulator_in, latch_in, programmed_in, on_overflow_in, given_by, given_in, card_by, cards_in, wait_by, waits_in, placed}
 use Rattle.drum_inputs.specs.Said.{stated}
 use Rattle.drum_inputs.proofs.Firsts.{keeps}
 use Rattle.drum_inputs.proofs.Sounds.{sound_more}

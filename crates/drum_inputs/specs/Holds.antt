@@ -29,7 +29,8 @@ pub record HoldSettings (settings : Settings) (lines : List Line) : Type 0 where
 -- The words are these, and a location is marked exactly if it is given one.
 pub record HoldWords (drum : DrumWords) (given : List (ℕ × Word)) : Type 0 where
   pub words : map given_word drum.words.items ≡ given
-  pub marks : (n : ℕ) → n < 2000 → (slice_index_or drum.marks.items n false ≡ true) ↔ Any (λ one. one.0 ≡ n) given
+  pub marks : (n : ℕ) → n < 2000
+      → (slice_index_or drum.marks.items n false ≡ true) ↔ Any (λ one. one.0 ≡ n) given
 
 -- The inputs are those of sound lines.
 pub record HoldsLines (stating : Stating) (lines : List Line) : Type 0 where

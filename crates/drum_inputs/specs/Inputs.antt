@@ -15,12 +15,13 @@ given_word given = (given.0.number, given.1)
 abbrev pub read_card : Card → Bool × List Word
 read_card card = (card.load, card.words)
 
--- The inputs state what these lines say: each setting as its line says it, or its default where none does; words for drum
--- locations, cards and waits in the order of the lines.
+-- The inputs state what these lines say: each setting as its line says it, or its default where no
+-- line does; words for drum locations, cards and waits in the order of the lines.
 pub record AreInputsOf (inputs : Inputs) (lines : List Line) : Type 0 where
   pub angle : inputs.setup.angle ≡ unwrap_or (first_said angle_in lines) 0
   pub switches : inputs.setup.switches ≡ unwrap_or (first_said switches_in lines) (word false 0)
-  pub distributor : inputs.setup.distributor ≡ unwrap_or (first_said distributor_in lines) (word false 0)
+  pub distributor :
+      inputs.setup.distributor ≡ unwrap_or (first_said distributor_in lines) (word false 0)
   pub accumulator : inputs.setup.accumulator ≡ unwrap_or (first_said accumulator_in lines) (pos 0)
   pub latch : inputs.setup.latch ≡ unwrap_or (first_said latch_in lines) false
   pub programmed : inputs.setup.programmed ≡ unwrap_or (first_said programmed_in lines) true

@@ -1,12 +1,12 @@
--- The inputs of a replay (this project's choice): what each line says, which texts are inputs, what they state, and why
--- another text is refused.
+-- The inputs of a replay (this project's choice): what each line says, which texts are inputs, what
+-- they state, and why another text is refused.
 use Rattle.std.specs.Prelude.{◌≡◌, ℕ, ◌+◌, ◌^◌, ◌<◌, ◌≤◌, List, [], ◌∷◌, ◌++◌, length, flat_map, codes, ◌⊎◌, Any, Bool, true, false, if◌then◌else◌, Option, Some, None, IsSome, ℤ}
 use Rattle.std.specs.Option.{option_or}
 use Rattle.drum_core.specs.declared.word.Word.{Word}
 use Rattle.drum_core.specs.DeckText as deck
 use Rattle.drum_core.specs.Lines.{lines_of}
 use Rattle.drum_core.specs.Numeral.{digits_of}
-use Rattle.drum_core.specs.Word.{signed, spelling, spaced, word}
+use Rattle.drum_core.specs.Word.{signed, spelling, spaced}
 use Rattle.drum_inputs.specs.declared.fault.InputFault.{InputFault}
 use Rattle.drum_inputs.specs.declared.fault.InputFault.TheVariants as faults
 
@@ -47,9 +47,11 @@ IsLine text (programmed false) = text ≡ codes "PROGRAMMED RUN"
 IsLine text (on_overflow true) = text ≡ codes "ONOVERFLOW STOP"
 IsLine text (on_overflow false) = text ≡ codes "ONOVERFLOW SENSE"
 IsLine text (words n ws) = deck.IsLine text (deck.card n ws)
-IsLine text (card load ws) = (length ws ≡ 10) × (text ≡ codes (if load then "LOAD" else "CARD") ++ spaced ws)
+IsLine text (card load ws) =
+    (length ws ≡ 10) × (text ≡ codes (if load then "LOAD" else "CARD") ++ spaced ws)
 IsLine text (wait n) =
-    (count : ℕ) × (1 ≤ count) × (count ≤ 7) × (n < 10 ^ count) × (n ≤ 1000000) × (text ≡ codes "WAIT " ++ digits_of count n)
+    (count : ℕ) × (1 ≤ count) × (count ≤ 7) × (n < 10 ^ count) × (n ≤ 1000000)
+    × (text ≡ codes "WAIT " ++ digits_of count n)
 
 -- each line of a text, and what it says
 abbrev pub Say : List (List ℕ) → List Line → Type 0
@@ -140,14 +142,16 @@ Repeats before (accumulator a) = IsSome (first_said accumulator_in before)
 Repeats before (latch is_on) = IsSome (first_said latch_in before)
 Repeats before (programmed stops) = IsSome (first_said programmed_in before)
 Repeats before (on_overflow stops) = IsSome (first_said on_overflow_in before)
-Repeats before (words n ws) = (location : ℕ) × (n ≤ location) × (location < n + length ws) × IsGiven before location
+Repeats before (words n ws) =
+    (location : ℕ) × (n ≤ location) × (location < n + length ws) × IsGiven before location
 Repeats before (card load ws) = ⊥
 Repeats before (wait n) = ⊥
 
 -- lines with no fault, behind others
 abbrev pub AreSoundBehind : List Line → List Line → Type 0
 AreSoundBehind before [] = Unit {0}
-AreSoundBehind before (line ∷ lines) = ¬ IsPastDrum line × ¬ Repeats before line × AreSoundBehind (before ++ line ∷ []) lines
+AreSoundBehind before (line ∷ lines) =
+    ¬ IsPastDrum line × ¬ Repeats before line × AreSoundBehind (before ++ line ∷ []) lines
 
 abbrev pub AreSound : List Line → Type 0
 AreSound lines = AreSoundBehind [] lines
@@ -156,17 +160,20 @@ AreSound lines = AreSoundBehind [] lines
 abbrev pub IsTooLong : List ℕ → Type 0
 IsTooLong text = (4000 < length (lines_of text)) ⊎ Any (λ line. 200 < length line) (lines_of text)
 
--- The text is inputs, and these are its lines: it isn't too long, each line is of one of the kinds, no location is past the
--- drum, and nothing is said twice.
+-- The text is inputs, and these are its lines: it isn't too long, each line is of one of the kinds,
+-- no location is past the drum, and nothing is said twice.
 pub record AreInputs (text : List ℕ) (lines : List Line) : Type 0 where
   pub short : ¬ IsTooLong text
   pub said : Say (lines_of text) lines
   pub sound : AreSound lines
 
--- Behind sound lines, the line of this number and this text has this fault. On one line PastDrum comes before Repeated.
+-- Behind sound lines, the line of this number and this text has this fault. On one line PastDrum
+-- comes before Repeated.
 abbrev pub IsFaultOfLine : List Line → ℕ → List ℕ → InputFault → Type 0
-IsFaultOfLine before number text (faults.Line n) = (n ≡ number) × ((line : Line) → ¬ IsLine text line)
-IsFaultOfLine before number text (faults.PastDrum n) = (n ≡ number) × ((line : Line) × IsLine text line × IsPastDrum line)
+IsFaultOfLine before number text (faults.Line n) =
+    (n ≡ number) × ((line : Line) → ¬ IsLine text line)
+IsFaultOfLine before number text (faults.PastDrum n) =
+    (n ≡ number) × ((line : Line) × IsLine text line × IsPastDrum line)
 IsFaultOfLine before number text (faults.Repeated n) =
     (n ≡ number) × ((line : Line) × IsLine text line × ¬ IsPastDrum line × Repeats before line)
 IsFaultOfLine before number text faults.Read = ⊥
@@ -184,8 +191,8 @@ pub record IsFirstFault (text : List ℕ) (fault : InputFault) : Type 0 where
   pub sound : AreSound before
   pub first : IsFaultOfLine before (length texts + 1) line fault
 
--- Why a text is no inputs: it is too long; else the fault of the first line with one. (Read and Memory are faults of the
--- reading, not of the text.)
+-- Why a text is no inputs: it is too long; else the fault of the first line with one. (Read and
+-- Memory are faults of the reading, not of the text.)
 abbrev pub IsRefused : List ℕ → InputFault → Type 0
 IsRefused text faults.TooLong = IsTooLong text
 IsRefused text faults.Read = ⊥

@@ -34,7 +34,8 @@ impl DrumWords {
     /// Whether one of so many locations has a word.
     pub fn has_any(&self, first: u16, count: usize) -> bool
         requires { first + count ≤ 2000 }
-        ensures { IsTrue result ↔ Contains (slice_range self.now.marks.items first (first + count)) true }
+        ensures { IsTrue result
+            ↔ Contains (slice_range self.now.marks.items first (first + count)) true }
     {
         let first = usize::from(first);
         self.marks[first..first + count].contains(&true)

@@ -1,4 +1,4 @@
-//! The inputs of a replay: a text that states what a machine is set up with and what it is fed with, read and
+//! The inputs of a replay: a text that states what a machine is set up with and fed with, read, or
 //! refused for its first fault.
 #![tactic(auto)]
 

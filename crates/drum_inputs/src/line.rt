@@ -39,7 +39,8 @@ fn is_comment(bytes: &[u8]) -> bool
 /// The words behind the mark of a card, a space before each.
 fn read_ten(line: &[u8], mark: &[u8]) -> Option<[Word; WORDS]>
     ensures found { IfSome result (λ words. line.now ≡ mark.now ++ spaced words) }
-    ensures none { IfNone result ((words : List Word) → length words ≡ 10 → line.now ≢ mark.now ++ spaced words) }
+    ensures none { IfNone result ((words : List Word) → length words ≡ 10
+        → line.now ≢ mark.now ++ spaced words) }
 {
     let Some(text) = behind(line, mark) else {
         return None;
@@ -62,7 +63,8 @@ fn read_ten(line: &[u8], mark: &[u8]) -> Option<[Word; WORDS]>
 /// The card that a line spells.
 fn read_card(line: &[u8]) -> Option<Card>
     ensures found { IfSome result (λ card. text.IsLine line.now (text.card card.load card.words)) }
-    ensures none { IfNone result ((load : Bool) (words : List Word) → ¬ text.IsLine line.now (text.card load words)) }
+    ensures none { IfNone result ((load : Bool) (words : List Word)
+        → ¬ text.IsLine line.now (text.card load words)) }
 {
     if let Some(words) = read_ten(line, b"CARD") {
         return Some(Card { words, load: false });

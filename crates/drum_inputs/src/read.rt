@@ -19,20 +19,21 @@ const LINE: usize = 200;
 /// The most bytes of inputs.
 const BYTES: usize = LINES * (LINE + 1);
 
-/// Reads the inputs of a replay. The whole text is read first, 804,001 bytes at most, so that a reader without end is
-/// too long.
+/// Reads the inputs of a replay. The whole text is read first, 804,001 bytes at most, so that a
+/// reader without end is too long.
 ///
 /// # Errors
 ///
-/// Read where a read failed; Memory; TooLong before any line is looked at; then the first line with a fault, Line
-/// before PastDrum before Repeated.
+/// Read where a read failed; Memory; TooLong before any line is looked at; then the first line with
+/// a fault, Line before PastDrum before Repeated.
 pub fn read_inputs<I: Input>(alloc: Global, reader: &mut I) -> Result<Inputs, InputFault>
     requires { I.called reader.old ≤ 2 ^ 62 }
     ensures inputs { IfOk result (λ inputs. IfSome (I.left reader.old) (λ bytes.
         (lines : List Line) × AreInputs bytes lines × AreInputsOf inputs lines)) }
     ensures refused { IfErr result (λ fault. fault ≢ InputFault.Read → fault ≢ InputFault.Memory
         → IfSome (I.left reader.old) (λ bytes. IsRefused bytes fault)) }
-    ensures read { IsErrOf result InputFault.Read ↔ (I.failed reader.new ≡ I.failed reader.old + 1) }
+    ensures read { IsErrOf result InputFault.Read
+        ↔ (I.failed reader.new ≡ I.failed reader.old + 1) }
     ensures once { I.failed reader.new ≤ I.failed reader.old + 1 }
     ensures asked { I.called reader.new ≤ I.called reader.old + 804001 }
 {
@@ -51,7 +52,8 @@ pub fn read_inputs<I: Input>(alloc: Global, reader: &mut I) -> Result<Inputs, In
 /// The inputs of a text that isn't too long.
 fn read_lines(alloc: Global, text: &[u8]) -> Result<Inputs, InputFault>
     requires short { ¬ IsTooLong text.now }
-    ensures ok { IfOk result (λ inputs. (lines : List Line) × AreInputs text.now lines × AreInputsOf inputs lines) }
+    ensures ok { IfOk result (λ inputs.
+        (lines : List Line) × AreInputs text.now lines × AreInputsOf inputs lines) }
     ensures err { IfErr result (λ fault. fault ≢ InputFault.Memory → IsRefused text.now fault) }
     ensures read { ¬ IsErrOf result InputFault.Read }
 {

@@ -40,7 +40,8 @@ fn read_word(line: &[u8], key: &[u8]) -> Option<Word>
 
 /// Whether the line is the first text; `None` where it is neither.
 fn read_choice(line: &[u8], first: &[u8], second: &[u8]) -> Option<bool>
-    ensures found { IfSome result (λ is_first. line.now ≡ (if is_first then first.now else second.now)) }
+    ensures found { IfSome result (λ is_first.
+        line.now ≡ (if is_first then first.now else second.now)) }
     ensures first { IfNone result (line.now ≢ first.now) }
     ensures second { IfNone result (line.now ≢ second.now) }
 {
@@ -59,7 +60,8 @@ impl Setting {
     /// The setting that a line states.
     pub fn read(line: &[u8]) -> Option<Setting>
         ensures found { IfSome result (λ setting. text.IsLine line.now (stated setting)) }
-        ensures none { IfNone result ((setting : Setting) → ¬ text.IsLine line.now (stated setting)) }
+        ensures none { IfNone result ((setting : Setting)
+            → ¬ text.IsLine line.now (stated setting)) }
     {
         if let Some(angle) = read_angle(line) {
             return Some(Setting::Angle(angle));

@@ -7,7 +7,7 @@ use crate::fault::InputFault;
 use crate::setting::Setting;
 use drum_core::Word;
 
-/// The settings that lines have stated so far.
+/// The settings that lines have stated so far, each as in `Setting`.
 #[derive(Clone, Copy, Debug)]
 pub struct Settings {
     pub angle: Option<u8>,
@@ -53,8 +53,10 @@ impl Settings {
     pub fn take(&mut self, setting: Setting, line: u16) -> Result<(), InputFault>
         requires { CanBeStated setting }
         ensures ok { OnOk result ((lines : List Line) → HoldSettings self.old lines
-            → HoldSettings self.new (lines ++ stated setting ∷ []) × (¬ Repeats lines (stated setting))) }
-        ensures err { OnErr result ((lines : List Line) → HoldSettings self.old lines → Repeats lines (stated setting)) }
+            → HoldSettings self.new (lines ++ stated setting ∷ [])
+            × (¬ Repeats lines (stated setting))) }
+        ensures err { OnErr result ((lines : List Line) → HoldSettings self.old lines
+            → Repeats lines (stated setting)) }
         ensures fault { IfErr result (λ fault. fault ≡ InputFault.Repeated line) }
     {
         match setting {

@@ -38,7 +38,8 @@ impl Stating {
     /// Takes the next line, of this number.
     pub fn take(&mut self, bytes: &[u8], line: u16) -> Result<(), InputFault>
         ensures ok { OnOk result ((lines : List text.Line) → HoldsLines self.old lines
-            → (one : text.Line) × text.IsLine bytes.now one × HoldsLines self.new (lines ++ one ∷ [])) }
+            → (one : text.Line) × text.IsLine bytes.now one
+            × HoldsLines self.new (lines ++ one ∷ [])) }
         ensures err { IfErr result (λ fault. fault ≢ InputFault.Memory → (lines : List text.Line)
             → HoldsLines self.old lines → text.IsFaultOfLine lines line bytes.now fault) }
     {
@@ -61,9 +62,10 @@ impl Stating {
     /// Takes words for drum locations.
     fn give(&mut self, card: &DeckCard, line: u16) -> Result<(), InputFault>
         ensures ok { OnOk result ((lines : List text.Line) → HoldsLines self.old lines
-            → HoldsLines self.new (lines ++ text.words card.now.address (take card.now.len card.now.words) ∷ [])) }
-        ensures err { IfErr result (λ fault. fault ≢ InputFault.Memory → (lines : List text.Line) (bytes : List ℕ)
-            → HoldsLines self.old lines
+            → HoldsLines self.new
+            (lines ++ text.words card.now.address (take card.now.len card.now.words) ∷ [])) }
+        ensures err { IfErr result (λ fault. fault ≢ InputFault.Memory
+            → (lines : List text.Line) (bytes : List ℕ) → HoldsLines self.old lines
             → text.IsLine bytes (text.words card.now.address (take card.now.len card.now.words))
             → text.IsFaultOfLine lines line bytes fault) }
     {

@@ -45,7 +45,8 @@ impl<'a> Iterator for Lines<'a> {
     }
 }
 
-/// Whether a text has more lines than `most`, or a line of more bytes than `longest`, its line feed not counted.
+/// Whether a text has more lines than `most`, or a line that is longer than `longest` bytes without
+/// its line feed.
 pub fn is_longer(text: &[u8], most: usize, longest: usize) -> bool
     requires { most < 2 ^ 32 }
     ensures { IsTrue result ↔ IsLonger most longest text.now }

@@ -1,4 +1,4 @@
-use Rattle.std.proofs.Common.{◌≡◌, ◌++◌, ◌∷◌, [], map, set, ℕ, true, refl, ap, sym, ◌∙◌, arith}
+use Rattle.std.proofs.Common.{map, set, ℕ, true, ap, ◌∙◌, arith}
 use Rattle.std.proofs.lemmas.List.{map-append}
 use Rattle.drum_inputs.specs.Inputs.{given_word}
 use Rattle.drum_inputs.proofs.Marks.{push_holds}

@@ -1,4 +1,4 @@
-use Rattle.std.proofs.Common.{◌≡◌, ℕ, ◌+◌, ◌<◌, ◌≤◌, ◌++◌, List, length, take, refl, ap, sym, ◌∙◌, subst, arith, true}
+use Rattle.std.proofs.Common.{◌≡◌, ◌+◌, ◌≤◌, ◌++◌, List, length, take, refl, ap, subst, arith, true}
 use Rattle.std.specs.Prelude.{Contains, slice_range}
 use Rattle.drum_core.specs.declared.word.Word.{Word}
 use Rattle.drum_inputs.specs.Holds.{HoldWords}
@@ -45,6 +45,6 @@ returns-clause-ok c lines holds =
     let given = subst (λ (vs : List Word). HoldWords c.give.new.self (text.given_in lines ++ text.placed first vs)) same (c.in_ok-give.ensures (text.given_in lines) holds.words) in
     holds_words c.args.self.now _ lines first ws holds refl given refl refl (λ past. omega (arith, past, fits, count))
     (λ (location, low, high, is_given).
-        let marked : Contains (slice_range c.args.self.now.drum.marks.items first (first + length c.words-words.result.now)) true =
-        given_marked c.args.self.now.drum (text.given_in lines) first (length c.words-words.result.now) location (omega (arith, fits, long)) long holds.words low (omega (arith, high, count)) is_given in
-        cc (c.has_any.ensures.1 marked, c.if-has_any.false))
+    let marked : Contains (slice_range c.args.self.now.drum.marks.items first (first + length c.words-words.result.now)) true =
+    given_marked c.args.self.now.drum (text.given_in lines) first (length c.words-words.result.now) location (omega (arith, fits, long)) long holds.words low (omega (arith, high, count)) is_given in
+    cc (c.has_any.ensures.1 marked, c.if-has_any.false))

@@ -18,11 +18,11 @@ returns-in-Some-Comment-clause-ok c lines holds = (
 pub returns-in-Some-Setting-clause-ok : goal.returns-in-Some-Setting-clause-ok
 returns-in-Some-Setting-clause-ok c =
     on_ok_too c.take.result (λ took lines holds.
-        let both = took lines holds.settings in (
-          stated c.in-Some-Setting.setting,
-          subst (λ (line : read.Line). text.IsLine c.args.bytes.now (said line)) c.in-Some-Setting.field-0-is c.in-Some-Setting.ensures.found,
-          holds_setting c.args.self.now _ lines c.in-Some-Setting.setting holds both.0 both.1 refl refl refl,
-        ))
+    let both = took lines holds.settings in (
+      stated c.in-Some-Setting.setting,
+      subst (λ (line : read.Line). text.IsLine c.args.bytes.now (said line)) c.in-Some-Setting.field-0-is c.in-Some-Setting.ensures.found,
+      holds_setting c.args.self.now _ lines c.in-Some-Setting.setting holds both.0 both.1 refl refl refl,
+    ))
     c.take.ensures.ok
 
 pub returns-in_ok-push-in-Some-Card-clause-ok : goal.returns-in_ok-push-in-Some-Card-clause-ok
