@@ -15,8 +15,7 @@ IsSent-then old between new sent total (Ok all) xs ys p q = (omega (arith, p.0, 
 IsSent-then old between new sent total (Err fault) xs ys p q =
     let part : length xs + (fault.sent - total) ≡ fault.sent - sent = omega (arith, p.0, q.0) in
     let front : take (fault.sent - sent) (xs ++ ys) ≡ xs ++ take (fault.sent - total) ys =
-    ap (λ (n : ℕ). take n (xs ++ ys)) (sym part) ∙ take_behind (fault.sent - total) xs ys in
-    (
+    ap (λ (n : ℕ). take n (xs ++ ys)) (sym part) ∙ take_behind (fault.sent - total) xs ys in (
       omega (arith, p.0, q.0),
       omega (arith, p.0, q.1, length-append xs ys),
       subst (Appends old new) (sym front) (Appends-then old between new xs (take (fault.sent - total) ys) p.1 q.2),

@@ -1,11 +1,11 @@
 -- Tallies with a hop more.
-use Rattle.std.proofs.Common.{◌≡◌, ℕ, zero, suc, ◌+◌, ◌-◌, ◌^◌, ◌<◌, ◌≤◌, Bool, true, false, List, [], ◌∷◌, ◌++◌, length, get_or, set, take, filter, map, refl, ap, sym, ◌∙◌, subst, arith, length-append, cond, inl, inr, Option, Some, None}
+use Rattle.std.proofs.Common.{◌≡◌, ℕ, suc, ◌+◌, ◌-◌, ◌^◌, ◌<◌, ◌≤◌, Bool, true, false, List, [], ◌∷◌, ◌++◌, length, get_or, set, take, map, ap, sym, ◌∙◌, subst, arith, length-append, cond, inl, inr, Option, Some, None}
 use Rattle.std.proofs.lemmas.Bool.{cases_eq, eq-eqb}
 use Rattle.std.proofs.lemmas.Option.{get_or_from_slice_get}
 use Rattle.std.proofs.lemmas.List.{length-map, length-take-le, map-append, take_more}
-use Rattle.std.proofs.lemmas.List.Sums.{sum_by-append, sum_by-cons, sum_by-take-le, sum_by_push}
+use Rattle.std.proofs.lemmas.List.Sums.{sum_by-cons, sum_by-take-le, sum_by_push}
 use Rattle.std.specs.List.{take-map}
-use Rattle.std.specs.Prelude.{◌==◌, slice_get, slice_index, sum_by}
+use Rattle.std.specs.Prelude.{◌==◌, slice_get, slice_index}
 use borrow.Author.Tests.{ne_eqb}
 use Rattle.drum_core.specs.declared.deck.Deck.{Deck}
 use Rattle.drum_core.specs.Loads.{card_in}
@@ -67,6 +67,7 @@ time_part here (one ∷ walk) = go (here one.place) (time_part here walk)
   where
     spent : Visited → ℕ
     spent v = v.ended - v.begun
+
     go : (b : Bool) → time_in (visits_at here walk) ≤ time_in walk → time_in (cond b (one ∷ visits_at here walk) (visits_at here walk)) ≤ time_in (one ∷ walk)
     go true rest = omega (arith, rest, sum_by-cons (λ (v : Visited). v.ended - v.begun) one (visits_at here walk), sum_by-cons (λ (v : Visited). v.ended - v.begun) one walk)
     go false rest = omega (arith, rest, sum_by-cons (λ (v : Visited). v.ended - v.begun) one walk)
@@ -110,15 +111,15 @@ by_line_some deck walk i visit cards line tally past within is of within_lines p
     subst (λ (visits : List Visited). slice_get (set cards line tally) other ≡ Some (tally_of (visits_at (is_of_card deck other) visits))) (sym after)
     (elim (cases_eq line other) [
       | inl same ↦
-        let here : is_of_card deck other visit.place.number ≡ true = giver ∙ eq-eqb line other same in
-        let old : get_or cards line past ≡ tally_of (visits_at (is_of_card deck other) before) =
-        ap (λ (n : ℕ). get_or cards n past) same ∙ get_or_from_slice_get cards other _ past (by_line other low) in
-        let put : slice_get (set cards line tally) other ≡ Some tally = ap (slice_get (set cards line tally)) (sym same) ∙ slice_get-set_same cards line tally (omega (arith, within_lines, places)) in
-        put ∙ ap Some (tally_more (is_of_card deck other) before (seen_visit visit) here tally
-        (visits ∙ ap (λ (t : Tally). t.visits + 1) old) (time ∙ ap (λ (t : Tally). t.time + (visit.ended - visit.begun)) old))
+          let here : is_of_card deck other visit.place.number ≡ true = giver ∙ eq-eqb line other same in
+          let old : get_or cards line past ≡ tally_of (visits_at (is_of_card deck other) before) =
+          ap (λ (n : ℕ). get_or cards n past) same ∙ get_or_from_slice_get cards other _ past (by_line other low) in
+          let put : slice_get (set cards line tally) other ≡ Some tally = ap (slice_get (set cards line tally)) (sym same) ∙ slice_get-set_same cards line tally (omega (arith, within_lines, places)) in
+          put ∙ ap Some (tally_more (is_of_card deck other) before (seen_visit visit) here tally
+          (visits ∙ ap (λ (t : Tally). t.visits + 1) old) (time ∙ ap (λ (t : Tally). t.time + (visit.ended - visit.begun)) old))
       | inr differ ↦
-        let here : is_of_card deck other visit.place.number ≡ false = giver ∙ ne_eqb line other differ in
-        slice_get-set_other cards line other tally differ ∙ by_line other low ∙ ap Some (tally_same (is_of_card deck other) before (seen_visit visit) here)
+          let here : is_of_card deck other visit.place.number ≡ false = giver ∙ ne_eqb line other differ in
+          slice_get-set_other cards line other tally differ ∙ by_line other low ∙ ap Some (tally_same (is_of_card deck other) before (seen_visit visit) here)
     ])
 
 pub by_line_none : (deck : Deck) (walk : List Visit) (i : ℕ) (visit : Visit) (cards : List Tally)

@@ -1,6 +1,6 @@
 -- What inputs give to a replay.
 use Rattle.drum_machine.specs.Feed.{cards_left, waits_left}
-use Rattle.drum_tool.specs.declared.inputs.Inputs.{Inputs}
+use Rattle.drum_inputs.specs.declared.inputs.Inputs.{Inputs}
 use Rattle.drum_tool.specs.Replay.{Given}
 
 abbrev pub given : Inputs → Given

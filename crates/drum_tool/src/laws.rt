@@ -1,10 +1,15 @@
 //! Laws of the definitions, each the contract of a function that does nothing.
 
-ghost use Rattle.std.specs.Prelude.{◌≡◌, ℕ, List, length};
+ghost use Rattle.std.specs.Prelude.{◌≡◌, ℕ, ◌+◌, List, length, sum_by};
+ghost use Rattle.drum_core.specs.declared.deck.Deck.{Deck};
+ghost use Rattle.drum_core.specs.Loads.{cards_in};
 ghost use Rattle.drum_machine.specs.Run.{Turn};
 ghost use Rattle.drum_flow.specs.Walk.{Setting};
+ghost use Rattle.drum_bound.specs.declared.analysis.Analysis.{Analysis};
+ghost use Rattle.drum_bound.specs.AnalysisOf.{bound_of, visits_of};
 ghost use Rattle.drum_tool.specs.declared.verdict.Verdict.{Verdict};
 ghost use Rattle.drum_tool.specs.Replay.{Given, IsReplayed, IsVerdict};
+ghost use Rattle.drum_tool.specs.Report.{is_of_card, is_of_none, time_in, used_after, visits_at};
 
 /// What is given fixes one run: as many of its first turns are the same.
 pub fn one_run()
@@ -18,4 +23,13 @@ pub fn one_verdict()
     ensures { (g : Setting) (given : Given) (worst step last : ℕ) (verdict other : Verdict)
         → IsVerdict g given worst step verdict → IsVerdict g given worst last other
         → verdict ≡ other }
+{}
+
+/// The times that a report tells of the cards and of the other locations add up to the bound, whatever the deck, and the
+/// walk's time, which it tells last, is the bound.
+pub fn report_adds_up()
+    ensures times { (analysis : Analysis) (deck : Deck)
+        → sum_by (λ line. time_in (visits_at (is_of_card deck line) (visits_of analysis))) (cards_in deck)
+        + time_in (visits_at (is_of_none deck) (visits_of analysis)) ≡ bound_of analysis }
+    ensures bound { (analysis : Analysis) → used_after 0 (visits_of analysis) ≡ bound_of analysis }
 {}

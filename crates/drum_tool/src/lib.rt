@@ -4,7 +4,6 @@
 mod answer;
 pub mod commands;
 mod fault;
-mod inputs;
 mod joined;
 pub mod laws;
 mod print;
@@ -15,8 +14,8 @@ mod verdict;
 mod write_fault;
 
 pub use commands::run_joined;
+pub use drum_inputs::{InputFault, Inputs, read_inputs};
 pub use fault::Fault;
-pub use inputs::Inputs;
 pub use replaying::replay;
 pub use reporting::report;
 pub use status::Status;

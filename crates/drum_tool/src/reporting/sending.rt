@@ -122,11 +122,7 @@ fn send_mark<O: Output>(
 }
 
 /// Writes the line of the bound.
-pub fn send_bound<O: Output>(
-    writer: &mut O,
-    sent: usize,
-    bound: u64,
-) -> Result<usize, WriteFault>
+pub fn send_bound<O: Output>(writer: &mut O, sent: usize, bound: u64) -> Result<usize, WriteFault>
     requires called { O.called writer.old ≤ 2 ^ 62 + 2 ^ 40 }
     requires few { sent ≤ 2 ^ 40 }
     ensures sent { IsSent (O.written writer.old) (O.written writer.new) sent result
@@ -134,11 +130,7 @@ pub fn send_bound<O: Output>(
     ensures failures { O.failed writer.new ≡ O.failed writer.old + fails_by result }
 {
     let mut number = Buffer::new();
-    let pieces: [&[u8]; 3] = [
-        b"bound ",
-        number.format(bound).as_bytes(),
-        b"\n",
-    ];
+    let pieces: [&[u8]; 3] = [b"bound ", number.format(bound).as_bytes(), b"\n"];
     send(writer, sent, &pieces)
 }
 

@@ -23,7 +23,7 @@ pub returns-clause-verdict : goal.returns-clause-verdict
 returns-clause-verdict c = record {
   own_words = sym c.loaded_by.ensures ∙ c.in_default.is;
   worst = c.bound.result;
-  is_worst = subst (λ (bound : ℕ). IsWorst (setting c.args.deck.now c.args.times.now c.args.notes.now) bound) (sym c.bound.ensures) c.in-Ok.ensures.worst;
+  is_worst = subst (λ (bound : ℕ). IsWorst (setting c.args.deck.now c.args.times.now c.args.notes.now) bound) (sym c.bound.ensures.told) c.in-Ok.ensures.worst;
   step = c.follow.ensures.step;
   says = c.follow.ensures.says (given c.args.inputs) (record { set_up = c.in-Ok-new.ensures.set_up (cards_left c.args.inputs.feed); reader = refl; feed = refl });
   within = c.follow.ensures.within;

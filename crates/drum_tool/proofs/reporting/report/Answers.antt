@@ -1,16 +1,15 @@
-use Rattle.std.proofs.Common.{◌≡◌, ℕ, ◌+◌, ◌<◌, ◌≤◌, List, ◌++◌, length, flat_map, map, Ok, Err, Result, ap, sym, ◌∙◌, subst, arith}
+use Rattle.std.proofs.Common.{◌≡◌, ℕ, List, ◌++◌, flat_map, map, Ok, Err, ap, sym, ◌∙◌, subst, arith}
 use Rattle.std.proofs.lemmas.Result.{err_from_is_err_and}
 use Rattle.std.specs.Prelude.{codes, decimal}
 use Rattle.drum_core.specs.declared.deck.Deck.{Deck}
 use Rattle.drum_core.specs.Loads.{cards_in}
 use Rattle.drum_times.specs.declared.notes.mark.Mark.{Mark}
-use Rattle.drum_times.specs.Allowed.{Notes}
 use Rattle.drum_bound.specs.declared.analysis.Analysis.{Analysis}
 use Rattle.drum_bound.specs.declared.visit.Visit.{Visit}
 use Rattle.drum_bound.specs.AnalysisOf.{bound_of, visits_of}
 use Rattle.drum_bound.specs.Visited.{Visited, AreInTime, seen_visit}
 use Rattle.drum_tool.specs.Report.{card_line, mark_line, other_line, bound_line, report_text, time_in}
-use Rattle.drum_tool.specs.Sent.{IsSent, IsWritten}
+use Rattle.drum_tool.specs.Sent.{IsSent}
 use Rattle.drum_tool.specs.declared.reporting.tally.Tally.{Tally}
 use Rattle.drum_tool.specs.declared.reporting.tallies.Tallies.{Tallies}
 use Rattle.drum_tool.specs.TalliesOf.{AreTallies, told_of_others}

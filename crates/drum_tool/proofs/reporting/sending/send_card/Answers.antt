@@ -1,6 +1,5 @@
 use Rattle.std.proofs.Common.{ℕ, List, ◌++◌, ◌∙◌, subst}
 use Rattle.std.specs.Prelude.{codes, decimal}
-use Rattle.drum_core.specs.Numeral.{digits_of}
 use Rattle.drum_tool.specs.Sent.{IsSent}
 use Rattle.drum_tool.proofs.Sending.{two_numbers}
 use Rattle.drum_tool.proofs.reporting.sending.send_card.Goals as goal

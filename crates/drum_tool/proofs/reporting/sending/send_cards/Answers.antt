@@ -1,11 +1,10 @@
-use Rattle.std.proofs.Common.{◌≡◌, ℕ, ◌+◌, ◌*◌, ◌<◌, ◌≤◌, List, length, get_or, Ok, Err, Result, ap, sym, ◌∙◌, subst, arith}
+use Rattle.std.proofs.Common.{◌≡◌, ℕ, ◌<◌, ◌≤◌, List, length, get_or, Ok, Err, ap, ◌∙◌, subst, arith}
 use Rattle.std.proofs.lemmas.Option.{get_or_from_slice_get}
 use Rattle.std.proofs.lemmas.Result.{err_from_is_err_and}
 use Rattle.drum_core.specs.declared.deck.Deck.{Deck}
 use Rattle.drum_core.specs.Loads.{cards_in}
 use Rattle.drum_bound.specs.Visited.{Visited}
 use Rattle.drum_tool.specs.declared.reporting.tally.Tally.{Tally}
-use Rattle.drum_tool.specs.declared.write_fault.WriteFault.{WriteFault}
 use Rattle.drum_tool.specs.Report.{card_line}
 use Rattle.drum_tool.specs.Sent.{IsSent}
 use Rattle.drum_tool.specs.TalliesOf.{AreByLine, told_of_card}

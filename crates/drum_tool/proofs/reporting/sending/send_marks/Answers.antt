@@ -1,10 +1,9 @@
-use Rattle.std.proofs.Common.{◌≡◌, ℕ, ◌+◌, ◌*◌, ◌<◌, ◌≤◌, List, length, get_or, Ok, Err, Result, Some, ap, sym, ◌∙◌, subst, arith}
+use Rattle.std.proofs.Common.{◌≡◌, ℕ, ◌<◌, List, length, get_or, Ok, Err, Some, ap, sym, ◌∙◌, subst, arith}
 use Rattle.std.proofs.lemmas.Option.{slice_get-get_or}
 use Rattle.std.proofs.lemmas.Result.{err_from_is_err_and}
 use Rattle.std.specs.Prelude.{slice_index}
 use Rattle.drum_times.specs.declared.notes.mark.Mark.{Mark}
 use Rattle.drum_bound.specs.Visited.{Visited}
-use Rattle.drum_tool.specs.declared.write_fault.WriteFault.{WriteFault}
 use Rattle.drum_tool.specs.Report.{mark_line}
 use Rattle.drum_tool.specs.Sent.{IsSent}
 use Rattle.drum_tool.specs.TalliesOf.{ArePasses, told_of_mark}

@@ -1,4 +1,4 @@
-use Rattle.std.proofs.Common.{ℕ, ◌<◌, replicate, Some, ap, ◌∙◌, arith}
+use Rattle.std.proofs.Common.{◌<◌, replicate, Some, ap, ◌∙◌, arith}
 use Rattle.std.proofs.lemmas.Option.{slice_get-get_or}
 use Rattle.std.proofs.Math.ListN.{get_or-replicate, length-replicate}
 use Rattle.drum_tool.specs.declared.reporting.tally.Tally.{Tally}

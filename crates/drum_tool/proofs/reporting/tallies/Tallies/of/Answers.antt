@@ -1,11 +1,11 @@
-use Rattle.std.proofs.Common.{◌≡◌, ℕ, ◌+◌, ◌-◌, ◌<◌, ◌≤◌, List, length, get_or, map, take, Some, ap, sym, ◌∙◌, subst, arith}
+use Rattle.std.proofs.Common.{ℕ, ◌+◌, ◌≤◌, length, map, take, ap, sym, ◌∙◌, subst, arith}
 use Rattle.std.proofs.Math.ListN.{length-set}
 use Rattle.std.proofs.lemmas.Option.{get_or_from_slice_get}
 use Rattle.std.specs.Prelude.{slice_index}
 use Rattle.drum_bound.specs.Visited.{seen_visit}
 use Rattle.drum_tool.specs.declared.reporting.tally.Tally.{Tally}
-use Rattle.drum_tool.specs.Report.{is_of_card, is_of_none, visits_at}
-use Rattle.drum_tool.specs.TalliesOf.{AreByLine, tally_of}
+use Rattle.drum_tool.specs.Report.{is_of_card, is_of_none}
+use Rattle.drum_tool.specs.TalliesOf.{AreByLine}
 use Rattle.drum_tool.proofs.Tallying.{visits_fit, times_fit, by_line_some, by_line_none, other_some, other_none, passes_more}
 use Rattle.drum_tool.proofs.reporting.tallies.Tallies.of.Goals as goal
 use Rattle.drum_tool.proofs.reporting.tallies.Tallies.of.Goals.{in-Some, in-None}
@@ -49,26 +49,26 @@ loop-visit-preserved c =
     let few : (k : ℕ) → slice_index c.count_passes.new.passed k ≤ i + 1 = λ k. omega (arith, c.count_passes.ensures.once k, before.few k) in
     elim c.match-card_of.branch [
       | in-Some w ↦
-        let line = w.in-Some.line in
-        let held = sym w.in-Some.ensures.held in
-        record {
-          by_line = subst (AreByLine deck (map seen_visit (take (i + 1) walk))) (sym w.cards-is)
-              (by_line_some deck walk i visit c.loop-visit.cards line w.with.result past c.loop-visit-test.true c.visit-item.is held w.in-Some.ensures.numbered.1 before.places
-              w.with.ensures.visits w.with.ensures.time before.by_line);
-          elsewhere = w.other-is ∙ other_some deck walk i visit c.loop-visit.other line c.loop-visit-test.true c.visit-item.is held before.elsewhere;
-          passes = passes;
-          few = few;
-          places = ap length w.cards-is ∙ length-set c.loop-visit.cards line w.with.result ∙ before.places;
-        }
+          let line = w.in-Some.line in
+          let held = sym w.in-Some.ensures.held in
+          record {
+            by_line = subst (AreByLine deck (map seen_visit (take (i + 1) walk))) (sym w.cards-is)
+                (by_line_some deck walk i visit c.loop-visit.cards line w.with.result past c.loop-visit-test.true c.visit-item.is held w.in-Some.ensures.numbered.1 before.places
+                w.with.ensures.visits w.with.ensures.time before.by_line);
+            elsewhere = w.other-is ∙ other_some deck walk i visit c.loop-visit.other line c.loop-visit-test.true c.visit-item.is held before.elsewhere;
+            passes = passes;
+            few = few;
+            places = ap length w.cards-is ∙ length-set c.loop-visit.cards line w.with.result ∙ before.places;
+          }
       | in-None w ↦
-        let held = sym w.in-None.ensures.held in
-        record {
-          by_line = subst (AreByLine deck (map seen_visit (take (i + 1) walk))) (sym w.cards-is)
-              (by_line_none deck walk i visit c.loop-visit.cards c.loop-visit-test.true c.visit-item.is held before.by_line);
-          elsewhere = w.other-is ∙ other_none deck walk i visit c.loop-visit.other w.with-other.result c.loop-visit-test.true c.visit-item.is held
-              w.with-other.ensures.visits w.with-other.ensures.time before.elsewhere;
-          passes = passes;
-          few = few;
-          places = ap length w.cards-is ∙ before.places;
-        }
+          let held = sym w.in-None.ensures.held in
+          record {
+            by_line = subst (AreByLine deck (map seen_visit (take (i + 1) walk))) (sym w.cards-is)
+                (by_line_none deck walk i visit c.loop-visit.cards c.loop-visit-test.true c.visit-item.is held before.by_line);
+            elsewhere = w.other-is ∙ other_none deck walk i visit c.loop-visit.other w.with-other.result c.loop-visit-test.true c.visit-item.is held
+                w.with-other.ensures.visits w.with-other.ensures.time before.elsewhere;
+            passes = passes;
+            few = few;
+            places = ap length w.cards-is ∙ before.places;
+          }
     ]
