@@ -17,11 +17,18 @@ pub record Visited : Type 0 where
   pub ended : ℕ
 
 abbrev pub visited : Taken → Visited
-visited hop = record { place = hop.place; ins = hop.ins; way = hop.way; begun = hop.begun; ended = hop.ended }
+visited hop =
+    record { place = hop.place; ins = hop.ins; way = hop.way; begun = hop.begun; ended = hop.ended }
 
 -- a visit as the code has it
 abbrev pub seen_visit : Visit → Visited
-seen_visit visit = record { place = visit.place.number; ins = visit.instruction; way = seen_way visit.way; begun = visit.begun; ended = visit.ended }
+seen_visit visit = record {
+  place = visit.place.number;
+  ins = visit.instruction;
+  way = seen_way visit.way;
+  begun = visit.begun;
+  ended = visit.ended;
+}
 
 -- These are the hops of a walk from this angle that takes so many word times.
 pub record IsWalkOf (g : Setting) (angle used : ℕ) (visits : List Visited) : Type 0 where
@@ -33,7 +40,8 @@ pub record IsWalkOf (g : Setting) (angle used : ℕ) (visits : List Visited) : T
 -- Visits follow one another in time, from one time to another: each begins when the one before has ended.
 abbrev pub AreInTime : ℕ → List Visited → ℕ → Type 0
 AreInTime time [] used = time ≡ used
-AreInTime time (visit ∷ visits) used = (visit.begun ≡ time) × (time ≤ visit.ended) × AreInTime visit.ended visits used
+AreInTime time (visit ∷ visits) used =
+    (visit.begun ≡ time) × (time ≤ visit.ended) × AreInTime visit.ended visits used
 
 -- how often hops pass a mark, whatever it stands inside of
 abbrev pub passes_in : Mark → List Visited → ℕ

@@ -14,14 +14,16 @@ started None = []
 started (Some location) = location.number ∷ []
 
 -- The image, the cards and the start are those of sound lines.
-pub record Holds (image : List (Option held.Given)) (cards : List ℕ) (start : Option Location) (lines : List Line) : Type 0 where
+pub record Holds (image : List (Option held.Given)) (cards : List ℕ) (start : Option Location)
+    (lines : List Line) : Type 0 where
   pub words : (n : ℕ) → n < 2000 → slice_get image n ≡ Some (seen (given_at (given_from 1 lines) n))
   pub numbers : cards ≡ cards_from 1 lines
   pub begins : starts lines ≡ started start
   pub sound : AreSound lines
 
 -- Some lines hold so, as many as a deck may have at most.
-pub record AreOfLines (image : List (Option held.Given)) (cards : List ℕ) (start : Location) : Type 0 where
+pub record AreOfLines (image : List (Option held.Given)) (cards : List ℕ) (start : Location) :
+    Type 0 where
   pub lines : List Line
   pub holds : Holds image cards (Some start) lines
   pub few : length lines ≤ 4000

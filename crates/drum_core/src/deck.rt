@@ -43,7 +43,8 @@ impl Deck {
     /// What the deck gives the location: nothing but for locations on the drum that it loads.
     fn given(&self, location: Location) -> Option<Given>
         ensures held { result ≡ given_in self.now location.number }
-        ensures told { (lines : List Line) → IsDeckOf self.now lines → result ≡ seen (given_at (given_from 1 lines) location.number) }
+        ensures told { (lines : List Line) → IsDeckOf self.now lines
+            → result ≡ seen (given_at (given_from 1 lines) location.number) }
     {
         match location.kind() {
             Kind::Drum => self.image[location.number() as usize],
@@ -54,7 +55,8 @@ impl Deck {
     /// The word that the deck loads into the location; `None` where it loads none.
     pub fn word(&self, location: Location) -> Option<Word>
         ensures held { result ≡ loads_in self.now location.number }
-        ensures told { (lines : List Line) → IsDeckOf self.now lines → result ≡ loads_of lines location.number }
+        ensures told { (lines : List Line) → IsDeckOf self.now lines
+            → result ≡ loads_of lines location.number }
     {
         let given = self.given(location)?;
         Some(given.word)
@@ -88,7 +90,8 @@ impl Deck {
     pub fn start(&self) -> Location
         ensures held { result.number ≡ start_in self.now }
         ensures on_drum { result.number < 2000 }
-        ensures begins { (lines : List Line) → IsDeckOf self.now lines → starts lines ≡ result.number ∷ [] }
+        ensures begins { (lines : List Line) → IsDeckOf self.now lines
+            → starts lines ≡ result.number ∷ [] }
     {
         self.start
     }

@@ -14,24 +14,30 @@ ghost use Rattle.drum_core.specs.declared.word.Word.{Word};
 
 /// A text that is no deck has one fault.
 pub fn one_fault()
-    ensures { (text : List ℕ) (fault other : DeckFault) → IsRefused text fault → IsRefused text other → fault ≡ other }
+    ensures { (text : List ℕ) (fault other : DeckFault) → IsRefused text fault
+        → IsRefused text other → fault ≡ other }
 {}
 
 /// A text that is a deck is not refused.
 pub fn not_refused()
-    ensures { (text : List ℕ) (lines : List Line) (fault : DeckFault) → IsDeck text lines → ¬ IsRefused text fault }
+    ensures { (text : List ℕ) (lines : List Line) (fault : DeckFault) → IsDeck text lines
+        → ¬ IsRefused text fault }
 {}
 
 /// The image of a deck is a function: what is given to a location is what is found there.
 pub fn one_word()
-    ensures { (given : List Given) (one : Given) → AreDistinct given → Contains given one → given_at given one.location ≡ Some one }
+    ensures { (given : List Given) (one : Given) → AreDistinct given → Contains given one
+        → given_at given one.location ≡ Some one }
 {}
 
 /// What a deck loads is what its lines say, and it starts where they say.
 pub fn loads_what_is_said()
-    ensures loads { (deck : Deck) (lines : List Line) (location : ℕ) → IsDeckOf deck lines → loads_in deck location ≡ loads_of lines location }
-    ensures on_drum { (deck : Deck) (location : ℕ) (word : Word) → loads_in deck location ≡ Some word → location < 2000 }
-    ensures starts { (deck : Deck) (lines : List Line) → IsDeckOf deck lines → starts lines ≡ start_in deck ∷ [] }
+    ensures loads { (deck : Deck) (lines : List Line) (location : ℕ) → IsDeckOf deck lines
+        → loads_in deck location ≡ loads_of lines location }
+    ensures on_drum { (deck : Deck) (location : ℕ) (word : Word)
+        → loads_in deck location ≡ Some word → location < 2000 }
+    ensures starts { (deck : Deck) (lines : List Line) → IsDeckOf deck lines
+        → starts lines ≡ start_in deck ∷ [] }
 {}
 
 /// Every deck is what some lines say, 4000 at most. The lines of its cards ascend, and the line of each word that it loads
@@ -47,7 +53,10 @@ pub fn decks_are_of_lines()
 /// A moment that is found by looking at one after the other is the least at or after the clock whose angle serves: for an
 /// angle, for a parity, and for each location.
 pub fn first_is_least()
-    ensures angles { (angle clock : ℕ) → angle < 50 → IsFirst (is_angle angle) clock (first (is_angle angle) clock) }
-    ensures parities { (parity : Parity) (clock : ℕ) → IsFirst (has_parity parity) clock (first (has_parity parity) clock) }
-    ensures locations { (location clock : ℕ) → IsFirst (is_available location) clock (first (is_available location) clock) }
+    ensures angles { (angle clock : ℕ) → angle < 50
+        → IsFirst (is_angle angle) clock (first (is_angle angle) clock) }
+    ensures parities { (parity : Parity) (clock : ℕ)
+        → IsFirst (has_parity parity) clock (first (has_parity parity) clock) }
+    ensures locations { (location clock : ℕ)
+        → IsFirst (is_available location) clock (first (is_available location) clock) }
 {}

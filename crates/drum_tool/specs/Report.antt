@@ -26,11 +26,14 @@ time_in visits = sum_by (λ visit. visit.ended - visit.begun) visits
 
 -- how many hops there are, and the word times that they take
 abbrev pub spent : List Visited → List ℕ
-spent visits = codes " visits " ++ decimal (length visits) ++ codes " time " ++ decimal (time_in visits) ++ codes "\n"
+spent visits =
+    codes " visits " ++ decimal (length visits)
+    ++ codes " time " ++ decimal (time_in visits) ++ codes "\n"
 
 -- the line of the card on a line of the deck
 abbrev pub card_line : Deck → List Visited → ℕ → List ℕ
-card_line deck walk line = codes "card " ++ digits_of 4 line ++ spent (visits_at (is_of_card deck line) walk)
+card_line deck walk line =
+    codes "card " ++ digits_of 4 line ++ spent (visits_at (is_of_card deck line) walk)
 
 -- the line of all locations that no card gives a word
 abbrev pub other_line : Deck → List Visited → List ℕ
@@ -40,7 +43,8 @@ other_line deck walk = codes "other" ++ spent (visits_at (is_of_none deck) walk)
 abbrev pub mark_line : List Visited → Mark → List ℕ
 mark_line walk mark =
     codes "mark " ++ digits_of 4 mark.from.number ++ codes " " ++ digits_of 4 mark.onto.number
-    ++ codes " passed " ++ decimal (passes_in mark walk) ++ codes " of " ++ decimal mark.most ++ codes "\n"
+    ++ codes " passed " ++ decimal (passes_in mark walk)
+    ++ codes " of " ++ decimal mark.most ++ codes "\n"
 
 -- the word times used at the end of hops that begin when so many are
 abbrev pub used_after : ℕ → List Visited → ℕ
@@ -51,7 +55,9 @@ used_after used (visit ∷ visits) = used_after visit.ended visits
 abbrev pub bound_line : List Visited → List ℕ
 bound_line walk = codes "bound " ++ decimal (used_after 0 walk) ++ codes "\n"
 
--- The report: a line for each card of the deck and one for all other locations, one for each mark of the notes, and the time.
+-- The report: a line for each card of the deck and one for all other locations, one for each mark of the notes, and the
+-- time.
 abbrev pub report_text : Deck → Notes → List Visited → List ℕ
 report_text deck notes walk =
-    flat_map (card_line deck walk) (cards_in deck) ++ other_line deck walk ++ flat_map (mark_line walk) notes.marks ++ bound_line walk
+    flat_map (card_line deck walk) (cards_in deck) ++ other_line deck walk
+    ++ flat_map (mark_line walk) notes.marks ++ bound_line walk

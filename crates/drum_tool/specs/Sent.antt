@@ -8,7 +8,8 @@ use Rattle.drum_tool.specs.declared.write_fault.WriteFault.{WriteFault}
 abbrev pub IsSent : Option (List ℕ) → Option (List ℕ) → ℕ → Result ℕ WriteFault → List ℕ → Type 0
 IsSent before after sent (Ok total) text = (total ≡ sent + length text) × Appends before after text
 IsSent before after sent (Err fault) text =
-    (sent ≤ fault.sent) × (fault.sent < sent + length text) × Appends before after (take (fault.sent - sent) text)
+    (sent ≤ fault.sent) × (fault.sent < sent + length text)
+    × Appends before after (take (fault.sent - sent) text)
 
 -- the failures of an output, counted: one more exactly where a write failed
 abbrev pub fails_by : {A : Type 0} → Result A WriteFault → ℕ
@@ -16,6 +17,8 @@ fails_by (Ok done) = 0
 fails_by (Err fault) = 1
 
 -- A text was written: all of it; or a write failed, and a front of it has gone out, of so many bytes as the fault tells.
-abbrev pub IsWritten : {A : Type 0} → Option (List ℕ) → Option (List ℕ) → Result A WriteFault → List ℕ → Type 0
+abbrev pub IsWritten : {A : Type 0} → Option (List ℕ) → Option (List ℕ) → Result A WriteFault
+    → List ℕ → Type 0
 IsWritten before after (Ok done) text = Appends before after text
-IsWritten before after (Err fault) text = (fault.sent < length text) × Appends before after (take fault.sent text)
+IsWritten before after (Err fault) text =
+    (fault.sent < length text) × Appends before after (take fault.sent text)

@@ -14,20 +14,24 @@ tally_of visits = record { visits = length visits; time = time_in visits }
 
 -- each is the tally of the walk's hops at the locations of the card on its line
 abbrev pub AreByLine : Deck → List Visited → List Tally → Type 0
-AreByLine deck walk tallies = (line : ℕ) → line ≤ 4000 → slice_get tallies line ≡ Some (tally_of (visits_at (is_of_card deck line) walk))
+AreByLine deck walk tallies = (line : ℕ) → line ≤ 4000
+    → slice_get tallies line ≡ Some (tally_of (visits_at (is_of_card deck line) walk))
 
 -- each mark's number is how often the walk passes it
 abbrev pub ArePasses : List Mark → List Visited → List ℕ → Type 0
-ArePasses marks walk passed = (k : ℕ) (mark : Mark) → slice_get marks k ≡ Some mark → slice_index passed k ≡ passes_in mark walk
+ArePasses marks walk passed = (k : ℕ) (mark : Mark) → slice_get marks k ≡ Some mark
+    → slice_index passed k ≡ passes_in mark walk
 
-pub record AreTallies (deck : Deck) (marks : List Mark) (walk : List Visited) (tallies : Tallies) : Type 0 where
+pub record AreTallies (deck : Deck) (marks : List Mark) (walk : List Visited) (tallies : Tallies) :
+    Type 0 where
   pub by_line : AreByLine deck walk tallies.cards
   pub elsewhere : tallies.other ≡ tally_of (visits_at (is_of_none deck) walk)
   pub passes : ArePasses marks walk tallies.passed
 
 -- what a tally tells
 abbrev pub told_of : Tally → List ℕ
-told_of tally = codes " visits " ++ decimal tally.visits ++ codes " time " ++ decimal tally.time ++ codes "\n"
+told_of tally =
+    codes " visits " ++ decimal tally.visits ++ codes " time " ++ decimal tally.time ++ codes "\n"
 
 -- the line of a card, of the other locations, and of a mark that is passed so often
 abbrev pub told_of_card : ℕ → Tally → List ℕ

@@ -29,7 +29,8 @@ pub fn one_verdict()
 /// walk's time, which it tells last, is the bound.
 pub fn report_adds_up()
     ensures times { (analysis : Analysis) (deck : Deck)
-        → sum_by (λ line. time_in (visits_at (is_of_card deck line) (visits_of analysis))) (cards_in deck)
+        → sum_by (λ line. time_in (visits_at (is_of_card deck line) (visits_of analysis)))
+        (cards_in deck)
         + time_in (visits_at (is_of_none deck) (visits_of analysis)) ≡ bound_of analysis }
     ensures bound { (analysis : Analysis) → used_after 0 (visits_of analysis) ≡ bound_of analysis }
 {}

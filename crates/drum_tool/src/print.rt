@@ -14,7 +14,8 @@ pub mod fault_line;
 /// Writes a number in decimal.
 pub fn write_number<O: Output>(output: &mut O, number: u64) -> Result<(), Unsent>
     requires { O.called output.old ≤ 2 ^ 62 + 2 ^ 40 }
-    ensures all { OnOk result (Appends (O.written output.old) (O.written output.new) (decimal number)) }
+    ensures all { OnOk result
+        (Appends (O.written output.old) (O.written output.new) (decimal number)) }
     ensures calls { O.called output.new ≤ O.called output.old + 40 }
 {
     let mut buffer = Buffer::new();
@@ -36,7 +37,8 @@ pub fn four_digits(number: u16) -> [u8; 4]
 /// Writes a location in four digits.
 pub fn write_location<O: Output>(output: &mut O, location: Location) -> Result<(), Unsent>
     requires { O.called output.old ≤ 2 ^ 62 + 2 ^ 40 }
-    ensures all { OnOk result (Appends (O.written output.old) (O.written output.new) (digits_of 4 location.number)) }
+    ensures all { OnOk result
+        (Appends (O.written output.old) (O.written output.new) (digits_of 4 location.number)) }
     ensures calls { O.called output.new ≤ O.called output.old + 4 }
 {
     write_whole(output, &four_digits(location.number()))
@@ -46,7 +48,8 @@ pub fn write_location<O: Output>(output: &mut O, location: Location) -> Result<(
 pub fn write_numbered<O: Output>(output: &mut O, text: &[u8], number: u64) -> Result<(), Unsent>
     requires called { O.called output.old ≤ 2 ^ 62 + 2 ^ 20 }
     requires short { length text.now ≤ 100 }
-    ensures all { OnOk result (Appends (O.written output.old) (O.written output.new) (text.now ++ decimal number ++ codes "\n")) }
+    ensures all { OnOk result (Appends (O.written output.old) (O.written output.new)
+        (text.now ++ decimal number ++ codes "\n")) }
 {
     write_whole(output, text)?;
     write_number(output, number)?;
@@ -57,7 +60,8 @@ pub fn write_numbered<O: Output>(output: &mut O, text: &[u8], number: u64) -> Re
 pub fn write_product<O: Output>(output: &mut O, text: &[u8], product: u128) -> Result<(), Unsent>
     requires called { O.called output.old ≤ 2 ^ 62 + 2 ^ 20 }
     requires short { length text.now ≤ 100 }
-    ensures all { OnOk result (Appends (O.written output.old) (O.written output.new) (text.now ++ decimal product ++ codes "\n")) }
+    ensures all { OnOk result (Appends (O.written output.old) (O.written output.new)
+        (text.now ++ decimal product ++ codes "\n")) }
 {
     write_whole(output, text)?;
     let mut buffer = Buffer::new();

@@ -41,8 +41,10 @@ impl Card {
 
     /// The card that a line spells: four digits, and from one to seven words with a space before each.
     pub fn read(line: &[u8]) -> Option<Card>
-        ensures found { IfSome result (λ card. text.IsLine line.now (text.card card.address (take card.len card.words))) }
-        ensures none { IfNone result ((n : ℕ) (words : List Word) → ¬ text.IsLine line.now (text.card n words)) }
+        ensures found { IfSome result (λ card.
+            text.IsLine line.now (text.card card.address (take card.len card.words))) }
+        ensures none { IfNone result ((n : ℕ) (words : List Word)
+            → ¬ text.IsLine line.now (text.card n words)) }
     {
         let Some(len) = count_words(line.len()) else {
             return None;

@@ -41,10 +41,11 @@ impl Loading {
 
     /// Takes the next line, of this number.
     pub fn take(&mut self, bytes: &[u8], line: u16) -> Result<(), DeckFault>
-        ensures ok { OnOk result ((lines : List text.Line) → line ≡ 1 + length lines → HoldsLines self.old lines
-            → (one : text.Line) × text.IsLine bytes.now one × HoldsLines self.new (lines ++ one ∷ [])) }
-        ensures err { IfErr result (λ fault. fault ≢ DeckFault.Memory → (lines : List text.Line) → line ≡ 1 + length lines
-            → HoldsLines self.old lines → text.IsFaultOfLine lines line bytes.now fault) }
+        ensures ok { OnOk result ((lines : List text.Line) → line ≡ 1 + length lines
+            → HoldsLines self.old lines → (one : text.Line) × text.IsLine bytes.now one
+            × HoldsLines self.new (lines ++ one ∷ [])) }
+        ensures err { IfErr result (λ fault. fault ≢ DeckFault.Memory → (lines : List text.Line)
+            → line ≡ 1 + length lines → HoldsLines self.old lines → text.IsFaultOfLine lines line bytes.now fault) }
     {
         match Line::read(bytes) {
             None => Err(DeckFault::Card(line)),
@@ -55,9 +56,10 @@ impl Loading {
     }
 
     fn start_at(&mut self, address: u16, line: u16) -> Result<(), DeckFault>
-        ensures ok { OnOk result ((lines : List text.Line) → HoldsLines self.old lines → HoldsLines self.new (lines ++ text.start address ∷ [])) }
-        ensures err { IfErr result (λ fault. (lines : List text.Line) (bytes : List ℕ) → HoldsLines self.old lines
-            → text.IsLine bytes (text.start address) → text.IsFaultOfLine lines line bytes fault) }
+        ensures ok { OnOk result ((lines : List text.Line) → HoldsLines self.old lines
+            → HoldsLines self.new (lines ++ text.start address ∷ [])) }
+        ensures err { IfErr result (λ fault. (lines : List text.Line) (bytes : List ℕ)
+            → HoldsLines self.old lines → text.IsLine bytes (text.start address) → text.IsFaultOfLine lines line bytes fault) }
     {
         if address >= 2000 {
             return Err(DeckFault::PastDrum(line));
@@ -70,10 +72,13 @@ impl Loading {
     }
 
     fn load(&mut self, card: &Card, line: u16) -> Result<(), DeckFault>
-        ensures ok { OnOk result ((lines : List text.Line) → line ≡ 1 + length lines → HoldsLines self.old lines
-            → HoldsLines self.new (lines ++ text.card card.now.address (take card.now.len card.now.words) ∷ [])) }
-        ensures err { IfErr result (λ fault. fault ≢ DeckFault.Memory → (lines : List text.Line) (bytes : List ℕ) → HoldsLines self.old lines
-            → text.IsLine bytes (text.card card.now.address (take card.now.len card.now.words)) → text.IsFaultOfLine lines line bytes fault) }
+        ensures ok { OnOk result ((lines : List text.Line) → line ≡ 1 + length lines
+            → HoldsLines self.old lines → HoldsLines self.new
+            (lines ++ text.card card.now.address (take card.now.len card.now.words) ∷ [])) }
+        ensures err { IfErr result (λ fault. fault ≢ DeckFault.Memory
+            → (lines : List text.Line) (bytes : List ℕ) → HoldsLines self.old lines
+            → text.IsLine bytes (text.card card.now.address (take card.now.len card.now.words))
+            → text.IsFaultOfLine lines line bytes fault) }
     {
         let words = card.words();
         if card.address as usize + words.len() > DRUM {
@@ -91,9 +96,10 @@ impl Loading {
     /// The deck, once all lines have been taken.
     pub fn finish(self) -> Result<Deck, DeckFault>
         requires { (lines : List text.Line) × HoldsLines self lines × (length lines ≤ 4000) }
-        ensures ok { IfOk result (λ deck. (lines : List text.Line) → HoldsLines self lines → IsDeckOf deck lines) }
-        ensures err { IfErr result (λ fault. (fault ≡ DeckFault.NoStart) × ((lines : List text.Line) → HoldsLines self lines
-            → text.starts lines ≡ [])) }
+        ensures ok { IfOk result (λ deck. (lines : List text.Line) → HoldsLines self lines
+            → IsDeckOf deck lines) }
+        ensures err { IfErr result (λ fault. (fault ≡ DeckFault.NoStart)
+            × ((lines : List text.Line) → HoldsLines self lines → text.starts lines ≡ [])) }
     {
         match self.start {
             None => Err(DeckFault::NoStart),
@@ -116,12 +122,15 @@ fn put_words(
     requires drum { vec_len image.old ≡ 2000 }
     requires within { first + length words.now ≤ 2000 }
     ensures drum { vec_len image.new ≡ 2000 }
-    ensures free { OnOk result ((k : ℕ) → k < length words.now → slice_get image.old.items (first + k) ≡ Some None) }
+    ensures free { OnOk result ((k : ℕ) → k < length words.now
+        → slice_get image.old.items (first + k) ≡ Some None) }
     ensures put { OnOk result ((k : ℕ) (word : Word) → slice_get words.now k ≡ Some word
-        → slice_get image.new.items (first + k) ≡ Some (Some (record { word = word; line = line }))) }
+        → slice_get image.new.items (first + k)
+        ≡ Some (Some (record { word = word; line = line }))) }
     ensures others { OnOk result ((n : ℕ) → (n < first) ⊎ (first + length words.now ≤ n)
         → slice_get image.new.items n ≡ slice_get image.old.items n) }
-    ensures taken { IfErr result (λ location. IsFirstTaken image.old.items first (length words.now) location.number) }
+    ensures taken { IfErr result (λ location.
+        IsFirstTaken image.old.items first (length words.now) location.number) }
 {
     for (place, word) in words.iter().enumerate() {
         let number = first + place as u16;

@@ -28,7 +28,8 @@ const BYTES: usize = LINES * (LINE + 1);
 /// fault, Card before PastDrum before TwoStarts before Twice; NoStart last.
 pub fn read_deck<I: Input>(alloc: Global, reader: &mut I) -> Result<Deck, DeckFault>
     requires { I.called reader.old ≤ 2 ^ 62 }
-    ensures deck { IfOk result (λ deck. IfSome (I.left reader.old) (λ bytes. (lines : List Line) × IsDeck bytes lines × IsDeckOf deck lines)) }
+    ensures deck { IfOk result (λ deck. IfSome (I.left reader.old) (λ bytes.
+        (lines : List Line) × IsDeck bytes lines × IsDeckOf deck lines)) }
     ensures refused { IfErr result (λ fault. fault ≢ DeckFault.Read → fault ≢ DeckFault.Memory
         → IfSome (I.left reader.old) (λ bytes. IsRefused bytes fault)) }
     ensures read { IsErrOf result DeckFault.Read ↔ (I.failed reader.new ≡ I.failed reader.old + 1) }
@@ -50,7 +51,8 @@ pub fn read_deck<I: Input>(alloc: Global, reader: &mut I) -> Result<Deck, DeckFa
 /// The deck of a text that isn't too long.
 fn read_lines(alloc: Global, text: &[u8]) -> Result<Deck, DeckFault>
     requires short { ¬ IsTooLong text.now }
-    ensures ok { IfOk result (λ deck. (lines : List Line) × IsDeck text.now lines × IsDeckOf deck lines) }
+    ensures ok { IfOk result (λ deck.
+        (lines : List Line) × IsDeck text.now lines × IsDeckOf deck lines) }
     ensures err { IfErr result (λ fault. fault ≢ DeckFault.Memory → IsRefused text.now fault) }
     ensures read { ¬ IsErrOf result DeckFault.Read }
 {

@@ -22,7 +22,8 @@ use itoa::Buffer;
 fn send<O: Output>(writer: &mut O, sent: usize, pieces: &[&[u8]]) -> Result<usize, WriteFault>
     requires called { O.called writer.old + length (joined pieces.now) ≤ 2 ^ 63 }
     requires few { sent + length (joined pieces.now) ≤ 2 ^ 63 }
-    ensures sent { IsSent (O.written writer.old) (O.written writer.new) sent result (joined pieces.now) }
+    ensures sent { IsSent (O.written writer.old) (O.written writer.new) sent result
+        (joined pieces.now) }
     ensures failures { O.failed writer.new ≡ O.failed writer.old + fails_by result }
     ensures calls { O.called writer.new ≤ O.called writer.old + length (joined pieces.now) }
 {
@@ -44,7 +45,8 @@ fn send_card<O: Output>(
     requires called { O.called writer.old ≤ 2 ^ 62 + 2 ^ 40 }
     requires few { sent ≤ 2 ^ 40 }
     requires digits { line < 10 ^ 4 }
-    ensures sent { IsSent (O.written writer.old) (O.written writer.new) sent result (told_of_card line tally.now) }
+    ensures sent { IsSent (O.written writer.old) (O.written writer.new) sent result
+        (told_of_card line tally.now) }
     ensures failures { O.failed writer.new ≡ O.failed writer.old + fails_by result }
     ensures calls { O.called writer.new ≤ O.called writer.old + 120 }
     ensures short { length (told_of_card line tally.now) ≤ 120 }
@@ -72,7 +74,8 @@ pub fn send_other<O: Output>(
 ) -> Result<usize, WriteFault>
     requires called { O.called writer.old ≤ 2 ^ 62 + 2 ^ 40 }
     requires few { sent ≤ 2 ^ 40 }
-    ensures sent { IsSent (O.written writer.old) (O.written writer.new) sent result (told_of_others tally.now) }
+    ensures sent { IsSent (O.written writer.old) (O.written writer.new) sent result
+        (told_of_others tally.now) }
     ensures failures { O.failed writer.new ≡ O.failed writer.old + fails_by result }
     ensures calls { O.called writer.new ≤ O.called writer.old + 120 }
     ensures short { length (told_of_others tally.now) ≤ 120 }
@@ -98,7 +101,8 @@ fn send_mark<O: Output>(
 ) -> Result<usize, WriteFault>
     requires called { O.called writer.old ≤ 2 ^ 62 + 2 ^ 40 }
     requires few { sent ≤ 2 ^ 40 }
-    ensures sent { IsSent (O.written writer.old) (O.written writer.new) sent result (told_of_mark mark.now passed) }
+    ensures sent { IsSent (O.written writer.old) (O.written writer.new) sent result
+        (told_of_mark mark.now passed) }
     ensures failures { O.failed writer.new ≡ O.failed writer.old + fails_by result }
     ensures calls { O.called writer.new ≤ O.called writer.old + 120 }
     ensures short { length (told_of_mark mark.now passed) ≤ 120 }
@@ -141,8 +145,9 @@ pub fn send_cards<O: Output>(
     tallies: &[Tally; LINES],
 ) -> Result<usize, WriteFault>
     requires { O.called writer.old ≤ 2 ^ 62 }
-    ensures sent { (walk : List Visited) → AreByLine deck.now walk tallies.now → IsSent
-        (O.written writer.old) (O.written writer.new) 0 result (flat_map (card_line deck.now walk) (cards_in deck.now)) }
+    ensures sent { (walk : List Visited) → AreByLine deck.now walk tallies.now
+        → IsSent (O.written writer.old) (O.written writer.new) 0 result
+        (flat_map (card_line deck.now walk) (cards_in deck.now)) }
     ensures failures { O.failed writer.new ≡ O.failed writer.old + fails_by result }
     ensures calls { O.called writer.new ≤ O.called writer.old + 480000 }
     ensures few { IfOk result (λ total. total ≤ 480000) }
@@ -164,8 +169,9 @@ pub fn send_marks<O: Output>(
     requires called { O.called writer.old ≤ 2 ^ 62 + 2 ^ 30 }
     requires few { sent ≤ 2 ^ 30 }
     requires marks { length marks.now ≤ 8 }
-    ensures sent { (walk : List Visited) → ArePasses marks.now walk passed.now → IsSent
-        (O.written writer.old) (O.written writer.new) sent result (flat_map (mark_line walk) marks.now) }
+    ensures sent { (walk : List Visited) → ArePasses marks.now walk passed.now
+        → IsSent (O.written writer.old) (O.written writer.new) sent result
+        (flat_map (mark_line walk) marks.now) }
     ensures failures { O.failed writer.new ≡ O.failed writer.old + fails_by result }
     ensures calls { O.called writer.new ≤ O.called writer.old + 960 }
     ensures few { IfOk result (λ total. total ≤ sent + 960) }

@@ -39,8 +39,9 @@ fn no_hops() -> [Tally; LINES]
 fn count_passes(passed: &mut [u64; MOST_MARKS], marks: &[NotedMark], visit: &Visit)
     requires marks { length marks.now ≤ 8 }
     requires few { (k : ℕ) → slice_index passed.old k < 2 ^ 62 }
-    ensures counted { (k : ℕ) (mark : Mark) → slice_get marks.now k ≡ Some mark → slice_index passed.new k
-        ≡ slice_index passed.old k + passes_by mark visit.now.place.number (seen_way visit.now.way) }
+    ensures counted { (k : ℕ) (mark : Mark) → slice_get marks.now k ≡ Some mark
+        → slice_index passed.new k ≡ slice_index passed.old k
+        + passes_by mark visit.now.place.number (seen_way visit.now.way) }
     ensures once { (k : ℕ) → slice_index passed.new k ≤ slice_index passed.old k + 1 }
 {
     for (place, mark) in marks.iter().enumerate() {
