@@ -2,7 +2,7 @@
 use Rattle.std.specs.Prelude.{◌≡◌, ℕ, ◌<◌, ◌≤◌, List, [], ◌∷◌, length, slice_get, Option, Some, None}
 use Rattle.drum_core.specs.declared.deck.Given as held
 use Rattle.drum_core.specs.declared.location.Location.{Location}
-use Rattle.drum_core.specs.DeckText.{Line, Given, given_from, given_at, cards_from, starts, AreSound}
+use Rattle.drum_core.specs.DeckText.{Line, Given, given_from, given_at, cards_from, starts, AreSound, Say}
 
 -- what is given to a location, as a deck holds it
 abbrev pub seen : Option Given → Option held.Given
@@ -21,9 +21,11 @@ pub record Holds (image : List (Option held.Given)) (cards : List ℕ) (start : 
   pub begins : starts lines ≡ started start
   pub sound : AreSound lines
 
--- Some lines hold so, as many as a deck may have at most.
+-- Some lines hold so: what texts say, as many as a deck may have at most.
 pub record AreOfLines (image : List (Option held.Given)) (cards : List ℕ) (start : Location) :
     Type 0 where
+  pub texts : List (List ℕ)
   pub lines : List Line
+  pub said : Say texts lines
   pub holds : Holds image cards (Some start) lines
   pub few : length lines ≤ 4000

@@ -3,7 +3,7 @@
 ghost use Rattle.std.specs.Prelude.{◌≡◌, ℕ, ◌<◌, ◌≤◌, List, [], ◌∷◌, length, Some, Contains};
 ghost use Rattle.std.specs.List.Sorted.{IsStrictlyIncreasing};
 ghost use Rattle.drum_core.specs.Available.{is_angle, has_parity, is_available};
-ghost use Rattle.drum_core.specs.DeckText.{Given, Line, given_at, loads_of, starts, AreDistinct, IsDeck, IsRefused};
+ghost use Rattle.drum_core.specs.DeckText.{Given, Line, given_at, loads_of, starts, AreDistinct, IsDeck, IsRefused, Say};
 ghost use Rattle.drum_core.specs.Holds.{IsDeckOf};
 ghost use Rattle.drum_core.specs.Loads.{card_in, cards_in, loads_in, start_in};
 ghost use Rattle.drum_core.specs.Moment.{IsFirst, first};
@@ -40,11 +40,12 @@ pub fn loads_what_is_said()
         → starts lines ≡ start_in deck ∷ [] }
 {}
 
-/// Every deck is what some lines say, 4000 at most. The lines of its cards ascend, and the line of each word that it loads
+/// Every deck is what some lines of text say, 4000 at most. The lines of its cards ascend, and the line of each word that it loads
 /// is among them.
 pub fn decks_are_of_lines()
     ensures lines { (deck : Deck)
-        → ∥ ((lines : List Line) × IsDeckOf deck lines × (length lines ≤ 4000)) ∥₁ }
+        → ∥ ((texts : List (List ℕ)) × (lines : List Line) × Say texts lines × IsDeckOf deck lines
+        × (length lines ≤ 4000)) ∥₁ }
     ensures cards { (deck : Deck) → IsStrictlyIncreasing (cards_in deck) }
     ensures among { (deck : Deck) (location line : ℕ) → card_in deck location ≡ Some line
         → Contains (cards_in deck) line }

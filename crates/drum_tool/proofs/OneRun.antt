@@ -1,5 +1,5 @@
 -- A setup and a feed fix one run.
-use Rattle.std.proofs.Common.{◌≡◌, ℕ, suc, ◌<◌, List, [], ◌∷◌, length, refl, ap, sym, subst, ◌∙◌, arith, Bool, ℤ, Option, Some}
+use Rattle.std.proofs.Common.{◌≡◌, ℕ, zero, suc, ◌<◌, List, [], ◌∷◌, length, take, refl, ap, sym, subst, ◌∙◌, arith, Bool, ℤ, Option, Some}
 use Rattle.std.specs.Prelude.{slice_get}
 use Rattle.drum_core.specs.declared.op.Op.{Op}
 use Rattle.drum_core.specs.declared.word.Word.{Word}
@@ -9,6 +9,7 @@ use Rattle.drum_machine.specs.Contents.{Contents}
 use Rattle.drum_machine.specs.FirstState.{IsFirstDrum, IsSetUp}
 use Rattle.drum_machine.specs.Machine.{op_in, wait_with, waits_with}
 use Rattle.drum_machine.specs.Run.{Turn, IsTurn, IsRun, Follow}
+use Rattle.drum_machine.proofs.Fronts.{run_front}
 use Rattle.drum_machine.specs.Step.{State, Stepped, on, stopped, step}
 use Rattle.drum_flow.specs.Walk.{Setting}
 use Rattle.drum_tool.specs.Replay.{Given, AreFed, IsReplayed}
@@ -128,3 +129,19 @@ pub one_run : (g : Setting) (given : Given) (turns others : List Turn) → IsRep
 one_run g given turns others is is_other long =
     let same : is_other.first ≡ is.first = one_first g given is_other.first is.first is_other.set_up is_other.reader is.set_up is.reader in
     one_from g.times turns others is.first given.waits is.run is.fed (subst (λ (s : State). IsRun g.times s others) same is_other.run) is_other.fed long
+
+-- Waits that are fed to turns are fed to the first of them,
+fed_front : (times : Op → Entry) (waits : List ℕ) (turns : List Turn) (n : ℕ) → AreFed times waits turns → AreFed times waits (take n turns)
+fed_front times waits turns zero fed = tt
+fed_front times waits [] (suc n) fed = tt
+fed_front times waits (turn ∷ turns) (suc n) fed = (fed.0, fed_front times (waits_with (op_in turn.origin) turn.origin waits) turns n fed.1)
+
+-- and so the first turns of a run are those of a shorter one.
+pub front_replayed : (g : Setting) (given : Given) (turns : List Turn) (n : ℕ) → IsReplayed g given turns → IsReplayed g given (take n turns)
+front_replayed g given turns n is = record {
+  first = is.first;
+  set_up = is.set_up;
+  reader = is.reader;
+  run = run_front g.times is.first turns n is.run;
+  fed = fed_front g.times given.waits turns n is.fed;
+}

@@ -163,13 +163,13 @@ module _ (g : Setting) where
 
     -- it stops once, for one reason, at one time,
     one_stop : (step step' used used' : ℕ) (because because' : whys.Why) → StopsAt g given step used because → StopsAt g given step' used' because'
-        → (used ≡ used') × (because ≡ because')
+        → (used ≡ used') × (because ≡ because') × (step ≡ step')
     one_stop step step' used used' because because' at other =
         let same = one_end at.turns other.turns at.last other.last (stops_ended step used because at) (stops_ended step' used' because' other) in
         let outcomes : stopped because used ≡ stopped because' used' = sym at.stops ∙ ap (λ (turn : Turn). turn.outcome) same.1 ∙ other.stops in
         let times : used ≡ used' = cc in
         let reasons : because ≡ because' = cc in
-        (times, reasons)
+        (times, reasons, at.number ∙ ap (λ (turns : List Turn). length turns + 1) same.0 ∙ sym other.number)
 
     -- or leaves the notes once, in one way, and not both.
     one_leave : (step step' used used' : ℕ) (what what' : lefts.Left) → LeavesAt g given step used what → LeavesAt g given step' used' what'
@@ -222,13 +222,14 @@ module _ (g : Setting) where
     one_left step step' used used' what what' (inr at) (inr other) = one_leave step step' used used' what what' at other
 
     pub one_verdict : (worst step step' : ℕ) (verdict other : Verdict) → IsVerdict g given worst step verdict → IsVerdict g given worst step' other
-        → verdict ≡ other
+        → (verdict ≡ other) × (step ≡ step')
     one_verdict worst step step' (Kept used bound because) (Kept used' bound' because') is is_other =
         let same = one_stop step step' used used' because because' is.1 is_other.1 in
         let times : used ≡ used' = same.0 in
         let reasons : because ≡ because' = same.1 in
         let bounds : bound ≡ bound' = is.0 ∙ sym is_other.0 in
-        cc
+        let verdicts : Kept used bound because ≡ Kept used' bound' because' = cc in
+        (verdicts, same.2)
     one_verdict worst step step' (Kept used bound because) (Left what number used') is is_other =
         absurd (stops_or_left step step' used used' because what is.1 (by_what step' used' what is_other.1))
     one_verdict worst step step' (Left what number used) (Kept used' bound because) is is_other =
@@ -238,4 +239,5 @@ module _ (g : Setting) where
         let ways : what ≡ what' = same.0 in
         let numbers : number ≡ number' = is.0 ∙ same.1 ∙ sym is_other.0 in
         let times : used ≡ used' = same.2 in
-        cc
+        let verdicts : Left what number used ≡ Left what' number' used' = cc in
+        (verdicts, same.1)

@@ -1,6 +1,6 @@
 //! Laws of the definitions, each the contract of a function that does nothing.
 
-ghost use Rattle.std.specs.Prelude.{◌≡◌, ℕ, ◌+◌, List, length, sum_by};
+ghost use Rattle.std.specs.Prelude.{◌≡◌, ℕ, ◌+◌, List, length, sum_by, take};
 ghost use Rattle.drum_core.specs.declared.deck.Deck.{Deck};
 ghost use Rattle.drum_core.specs.Loads.{cards_in};
 ghost use Rattle.drum_machine.specs.Run.{Turn};
@@ -11,18 +11,20 @@ ghost use Rattle.drum_tool.specs.declared.verdict.Verdict.{Verdict};
 ghost use Rattle.drum_tool.specs.Replay.{Given, IsReplayed, IsVerdict};
 ghost use Rattle.drum_tool.specs.Report.{is_of_card, is_of_none, time_in, used_after, visits_at};
 
-/// What is given fixes one run: as many of its first turns are the same.
+/// What is given fixes one run: as many of its first turns are the same, and those of fewer are a front of those of more.
 pub fn one_run()
-    ensures { (g : Setting) (given : Given) (turns others : List Turn)
+    ensures same { (g : Setting) (given : Given) (turns others : List Turn)
         → IsReplayed g given turns → IsReplayed g given others → length turns ≡ length others
         → turns ≡ others }
+    ensures fronts { (g : Setting) (given : Given) (turns : List Turn) (n : ℕ)
+        → IsReplayed g given turns → IsReplayed g given (take n turns) }
 {}
 
-/// What is given fixes one verdict.
+/// What is given fixes one verdict, and the step with which it comes.
 pub fn one_verdict()
     ensures { (g : Setting) (given : Given) (worst step last : ℕ) (verdict other : Verdict)
         → IsVerdict g given worst step verdict → IsVerdict g given worst last other
-        → verdict ≡ other }
+        → (verdict ≡ other) × (step ≡ last) }
 {}
 
 /// The times that a report tells of the cards and of the other locations add up to the bound, whatever the deck, and the

@@ -95,7 +95,8 @@ impl Loading {
 
     /// The deck, once all lines have been taken.
     pub fn finish(self) -> Result<Deck, DeckFault>
-        requires { (lines : List text.Line) × HoldsLines self lines × (length lines ≤ 4000) }
+        requires { (texts : List (List ℕ)) × (lines : List text.Line) × text.Say texts lines
+            × HoldsLines self lines × (length lines ≤ 4000) }
         ensures ok { IfOk result (λ deck. (lines : List text.Line) → HoldsLines self lines
             → IsDeckOf deck lines) }
         ensures err { IfErr result (λ fault. (fault ≡ DeckFault.NoStart)

@@ -1,4 +1,5 @@
 ghost use Rattle.std.specs.Prelude.{◌≡◌, ◌+◌, ◌^◌, ◌<◌, ◌≤◌, ◌↔◌, IfOk, IfSome, IsErrOf, vec_len, length};
+ghost use Rattle.drum_core.specs.Device.{TakesAtMost};
 
 use super::input::Input;
 use std::alloc::Global;
@@ -32,6 +33,7 @@ pub fn read_whole<I: Input>(
     ensures read { IsErrOf result WholeError.Read ↔ (I.failed input.new ≡ I.failed input.old + 1) }
     ensures once { I.failed input.new ≤ I.failed input.old + 1 }
     ensures asked { I.called input.new ≤ I.called input.old + limit + 1 }
+    ensures taken { TakesAtMost (I.left input.old) (I.left input.new) (limit + 1) }
 {
     let mut text = Vec::new(alloc);
     let mut chunk = [0; CHUNK];

@@ -132,6 +132,7 @@ pub fn send_bound<O: Output>(writer: &mut O, sent: usize, bound: u64) -> Result<
     ensures sent { IsSent (O.written writer.old) (O.written writer.new) sent result
         (codes "bound " ++ decimal bound ++ codes "\n") }
     ensures failures { O.failed writer.new ≡ O.failed writer.old + fails_by result }
+    ensures calls { O.called writer.new ≤ O.called writer.old + 120 }
 {
     let mut number = Buffer::new();
     let pieces: [&[u8]; 3] = [b"bound ", number.format(bound).as_bytes(), b"\n"];

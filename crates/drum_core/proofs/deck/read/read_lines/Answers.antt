@@ -51,4 +51,4 @@ returns-clause-err c = no_start_at_all c.args.text.now c.loop-line.line-iterator
 pub finish-requires : goal.finish-requires
 finish-requires c =
     let p = c.loop-line.invariant.so_far in
-    (p.lines, p.holds, few_lines c.args.text.now c.loop-line.line-iterator.rest.now c.loop-line.loading c.loop-line.number c.requires.short p)
+    (p.texts, p.lines, p.said, p.holds, few_lines c.args.text.now c.loop-line.line-iterator.rest.now c.loop-line.loading c.loop-line.number c.requires.short p)
