@@ -1,3 +1,4 @@
+mod Checks
 pub mod Defaults
 pub mod Firsts
 pub mod Fronts

@@ -1,3 +1,4 @@
+mod Checks
 pub mod Followed
 pub mod Leading
 pub mod OneRun
