@@ -1,7 +1,7 @@
 //! What a deck that was read answers.
 
-use crate::texts::TWO_WORDS;
 use drum_core::{Deck, DeckFault, Location, Reading, Word, read_deck};
+use drum_texts::TWO_WORDS;
 use std::alloc::Global;
 use std::test::Fail;
 

@@ -1,8 +1,8 @@
 //! Devices that end early, fail, or never end.
 
 use crate::support::joined;
-use crate::texts::{NOTES, TIMES, TWO_WORDS};
 use drum_core::{DeckFault, Input, Output, Reading, Writing, read_deck};
+use drum_texts::{NOTES, TIMES, TWO_WORDS};
 use drum_tool::{Status, run_joined};
 use std::io;
 use std::io::{ErrorKind, Read, Write};

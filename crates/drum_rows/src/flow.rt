@@ -1,26 +1,14 @@
 //! The flow graph of a deck: its hops, and why decks aren't accepted.
 
-use crate::texts::{NOTES, TWO_WORDS};
 use drum_core::{Location, Reading, read_deck};
 use drum_flow::{Refusal, Way, accept, flow};
+use drum_texts::{BRANCH_BACK, EITHER, NOTES, ROADS, STORES, TWO_ROADS, TWO_WORDS};
 use drum_times::read_notes;
 use std::alloc::{AllocError, Global};
 use std::process::Abort;
 use std::test::Fail;
 
-const BRANCH_BACK: &str = "0100 +4501000110\n0110 +0100000110\nSTART 0100\n";
-
-const STORES: &str = "0100 +2401060106\n0106 +0100000106\nSTART 0100\n";
-
 const ROUND: &str = "0100 +0100000106\n0106 +0100000100\nSTART 0100\n";
-
-const TWO_ROADS: &str =
-    "0100 +6901500200\n0110 +6901510200\n0120 +0100000120\n0150 +0000000110 +0000000120\n0200 +2402100210\nSTART 0100\n";
-
-const ROADS: &str =
-    "[[list]]\nlocation = 210\npattern = [{ op = 0, d_from = 0, d_to = 0, i = 110 }, { op = 0, d_from = 0, d_to = 0, i = 120 }]\n";
-
-const ANY: &str = "programmed = \"any\"\nload_cards = \"none\"\n";
 
 /// The refusal, as its fault line goes on behind the number.
 fn told(alloc: Global, refusal: &Refusal) -> Result<String, AllocError> {
@@ -84,7 +72,7 @@ fn list(alloc: Global, notes: &str, location: u16, pattern: &str) -> Result<Stri
 fn without_marks_and_lists(rt: HostRuntime) -> Result<(), Fail> {
     for (deck, notes, wanted) in [
         (TWO_WORDS, NOTES, "accepted"),
-        (TWO_WORDS, ANY, "unbounded 0106"),
+        (TWO_WORDS, EITHER, "unbounded 0106"),
         (BRANCH_BACK, NOTES, "unbounded 0100"),
         (STORES, NOTES, "alters 0100 0106"),
         (
@@ -109,7 +97,7 @@ fn without_marks_and_lists(rt: HostRuntime) -> Result<(), Fail> {
             NOTES,
             "alters 1955 1955",
         ),
-        (ROUND, ANY, "unbounded 0100 0106"),
+        (ROUND, EITHER, "unbounded 0100 0106"),
         (
             "0100 +4401020103\n0102 +8400000000\nSTART 0100\n",
             NOTES,
@@ -149,16 +137,16 @@ fn with_marks(rt: HostRuntime) -> Result<(), Fail> {
             [(100, 110, 3), (110, 100, 3)],
             "unbounded 0100",
         ),
-        (ROUND, ANY, [(106, 100, 0), (0, 0, 0)], "accepted"),
+        (ROUND, EITHER, [(106, 100, 0), (0, 0, 0)], "accepted"),
         (
             ROUND,
-            ANY,
+            EITHER,
             [(0, 0, 9999), (0, 1, 9999)],
             "toolarge 200000000",
         ),
         (
             "0100 +2401060106\n0106 +0100000100\nSTART 0100\n",
-            ANY,
+            EITHER,
             [(0, 0, 9999), (0, 1, 9999)],
             "alters 0100 0106",
         ),
@@ -178,7 +166,7 @@ fn with_marks(rt: HostRuntime) -> Result<(), Fail> {
     judged(
         &rt,
         ROUND,
-        marks(alloc, ANY, &eight)?.as_str(),
+        marks(alloc, EITHER, &eight)?.as_str(),
         "toolarge 200000000000000000000000000000000",
     )
 }
@@ -225,7 +213,7 @@ fn with_lists(rt: HostRuntime) -> Result<(), Fail> {
         distributor,
         list(
             alloc,
-            ANY,
+            EITHER,
             8001,
             "op = 1, d_from = 0, d_to = 9999, i = 8001",
         )?
@@ -293,7 +281,7 @@ fn hops(rt: HostRuntime) -> Result<(), Fail> {
     let branch = "0100 +4401060106\n0106 +0100000106\nSTART 0100\n";
     assert_eq!(rt; ways(&rt, branch, NOTES, 100)?.as_str(), "to 0106 to 0106 ");
     assert_eq!(rt; ways(&rt, branch, NOTES, 106)?.as_str(), "late ");
-    assert_eq!(rt; ways(&rt, branch, ANY, 106)?.as_str(), "to 0106 late ");
+    assert_eq!(rt; ways(&rt, branch, EITHER, 106)?.as_str(), "to 0106 late ");
     assert_eq!(rt; ways(&rt, branch, NOTES, 107)?.as_str(), "");
     let deck = "0011 +0100000011\n0049 +0100000049 +0100000050\n0100 +0000000300\nSTART 0100\n";
     let any = "programmed = \"stop\"\nload_cards = \"any\"\n";

@@ -21,8 +21,6 @@ mod straight;
 #[cfg(test)]
 mod support;
 #[cfg(test)]
-mod texts;
-#[cfg(test)]
 mod timings;
 #[cfg(test)]
 mod watched;

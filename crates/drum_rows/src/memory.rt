@@ -6,11 +6,11 @@ ghost use Rattle.std.specs.Prelude.{◌≤◌};
 
 use crate::notes::WHOLE;
 use crate::support::joined;
-use crate::texts::{NOTES, TIMES, TWO_WORDS};
 use drum_core::device::whole::{WholeError, read_whole};
 use drum_core::{DeckFault, Op, Reading, Word, Writing, read_deck};
 use drum_flow::{Refusal, accept, flow};
 use drum_machine::{Machine, Memory, Setup};
+use drum_texts::{NOTES, TIMES, TWO_WORDS};
 use drum_times::{NoteFault, read_notes, read_times};
 use drum_tool::{Status, run_joined};
 use std::io;

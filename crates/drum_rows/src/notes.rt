@@ -1,8 +1,8 @@
 //! Notes: what they answer, and the fault lines of documents that are none.
 
 use crate::support::{joined, run_text};
-use crate::texts::{NOTES, TIMES, TWO_WORDS};
 use drum_core::{Instruction, Location, Word};
+use drum_texts::{NOTES, TIMES, TWO_WORDS};
 use drum_times::{Programmed, read_notes};
 use drum_tool::Status;
 use std::alloc::{AllocError, Global};

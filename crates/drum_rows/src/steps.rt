@@ -1,8 +1,8 @@
 //! Steps of the machine, one at a time. What a register holds is told by the step that fetches it as an instruction.
 
-use crate::texts::TIMES;
 use drum_core::{Location, Reading, Word, read_deck};
 use drum_machine::{Card, Feed, Machine, Setup, Step, Why};
+use drum_texts::TIMES;
 use drum_times::read_times;
 use std::alloc::Global;
 use std::process::Abort;

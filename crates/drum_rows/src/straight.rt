@@ -1,7 +1,7 @@
 //! Straight decks, from the bytes that come in to the line that goes out.
 
 use crate::support::{ended, joined, refused, run_text};
-use crate::texts::{NOTES, TIMES, TWO_WORDS};
+use drum_texts::{NOTES, TIMES, TWO_WORDS};
 use drum_tool::Status;
 use std::test::Fail;
 

@@ -1,7 +1,7 @@
 //! What the tests share.
 
-use crate::texts::NOTES;
 use drum_core::{Reading, Writing};
+use drum_texts::NOTES;
 use drum_tool::{Status, run_joined};
 use std::alloc::{AllocError, Global};
 use std::process::Abort;

@@ -1,7 +1,7 @@
 //! What a timing table that was read answers.
 
-use crate::texts::TIMES;
 use drum_core::{Op, Parity};
+use drum_texts::TIMES;
 use drum_times::read_times;
 use std::test::Fail;
 

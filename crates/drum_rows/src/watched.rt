@@ -1,9 +1,9 @@
 //! Runs of a machine under a monitor: how they end, and when.
 
 use crate::steps::word;
-use crate::texts::{NOTES, TIMES, TWO_WORDS};
 use drum_core::{Location, Reading, read_deck};
 use drum_machine::{Card, Feed, Left, Machine, Monitor, Setup, Step, Why};
+use drum_texts::{NOTES, TIMES, TWO_WORDS};
 use drum_times::{read_notes, read_times};
 use std::alloc::Global;
 use std::process::Abort;

@@ -1,7 +1,7 @@
 //! Bounds that are known from outside, with the entries of their tables and how many ends of hops were made.
 
 use crate::support::{Edge, Subject, analysis_of, listed, marked};
-use crate::texts::{BRANCH_BACK, EITHER, LOOPS, NOTES, ROADS, TIMES, TWO_ROADS, TWO_WORDS};
+use drum_texts::{BRANCH_BACK, EITHER, LOOPS, NOTES, ROADS, TIMES, TWO_ROADS, TWO_WORDS};
 use std::process::Abort;
 use std::test::Fail;
 

@@ -2,8 +2,8 @@
 
 use crate::search::{Search, Steps};
 use crate::support::{Subject, listed, marked};
-use crate::texts::{BRANCH_BACK, EITHER, LOOPS, NOTES, ROADS, TIMES, TWO_ROADS, TWO_WORDS};
 use crate::times::strange_times;
+use drum_texts::{BRANCH_BACK, EITHER, LOOPS, NOTES, ROADS, TIMES, TWO_ROADS, TWO_WORDS};
 use std::process::Abort;
 use std::test::Fail;
 

@@ -15,6 +15,4 @@ mod support;
 #[cfg(test)]
 mod tables;
 #[cfg(test)]
-mod texts;
-#[cfg(test)]
 mod times;

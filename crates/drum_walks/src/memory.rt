@@ -1,9 +1,9 @@
 //! The analysis when memory is wanting. Each test analyses twice, and takes want of memory as the answer of one of the
 //! two: `checks/refuse-memory` runs each with its first allocation refused, with its second, and so on.
 
-use crate::texts::{NOTES, TIMES, TWO_WORDS};
 use drum_bound::{Refusal, analyse};
 use drum_core::{Reading, read_deck};
+use drum_texts::{NOTES, TIMES, TWO_WORDS};
 use drum_times::{read_notes, read_times};
 use std::process::Abort;
 

@@ -1,8 +1,8 @@
 //! What the tests share.
 
-use crate::texts::TIMES;
 use drum_bound::{Analysis, Flow, Way, analyse, flow};
 use drum_core::{Deck, Reading, read_deck};
+use drum_texts::TIMES;
 use drum_times::{Notes, Times, read_notes, read_times};
 use std::alloc::{AllocError, Global};
 use std::process::Abort;

@@ -1,8 +1,8 @@
 //! Tables and walks of two decks, worked out by hand.
 
 use crate::support::{analysis_of, marked};
-use crate::texts::{BRANCH_BACK, NOTES, TWO_WORDS};
 use drum_bound::Analysis;
+use drum_texts::{BRANCH_BACK, NOTES, TWO_WORDS};
 use std::process::Abort;
 use std::test::Fail;
 

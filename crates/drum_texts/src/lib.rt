@@ -1,4 +1,5 @@
-//! Texts that the tests share.
+//! Texts that the tests of several crates share.
+#![tactic(auto)]
 
 /// A timing table to try things with. Its numbers aren't those of a real machine.
 pub const TIMES: &str = "\
@@ -69,3 +70,6 @@ pub const ROADS: &str =
 
 /// Notes of a programmed switch at either, and no load cards.
 pub const EITHER: &str = "programmed = \"any\"\nload_cards = \"none\"\n";
+
+/// A deck that stores the distributor over its own stop.
+pub const STORES: &str = "0100 +2401060106\n0106 +0100000106\nSTART 0100\n";
