@@ -35,8 +35,8 @@ pub(crate) fn run<R: AllocGlobal + Print + Clock>(rt: &R) -> Result<(), Stopped>
     println!(rt; "{taken} steps in {} microseconds", spent.as_micros()).map_err(stop)
 }
 
-/// Takes the steps, and tells how many went on.
-fn take_steps(machine: &mut Machine, times: &Times, feed: &mut Feed) -> u32 {
+/// Takes steps until the machine stops, and tells how many went on: ten million at most.
+pub(crate) fn take_steps(machine: &mut Machine, times: &Times, feed: &mut Feed) -> u32 {
     let mut taken = 0u32;
     for _ in 0..STEPS {
         if machine.used() > 1 << 62 {

@@ -5,6 +5,8 @@
 mod acceptance;
 mod full_deck;
 mod machine_steps;
+mod replay_steps;
+mod report_share;
 mod table;
 mod tables;
 
@@ -26,11 +28,13 @@ fn main(rt: HostRuntime) -> Result<(), Stopped> {
         Some(name) if name.as_str() == "full-deck" => full_deck::run(&rt),
         Some(name) if name.as_str() == "machine-steps" => machine_steps::run(&rt),
         Some(name) if name.as_str() == "acceptance" => acceptance::run(&rt),
+        Some(name) if name.as_str() == "replay" => replay_steps::run(&rt),
+        Some(name) if name.as_str() == "report" => report_share::run(&rt),
         Some(name) if name.as_str() == "table-full" => tables::run_full(&rt),
         Some(name) if name.as_str() == "table-sparse" => tables::run_sparse(&rt),
         Some(name) if name.as_str() == "table-wide" => tables::run_wide(&rt),
         _ => println!(rt;
-            "acceptance full-deck machine-steps table-full table-sparse table-wide"
+            "acceptance full-deck machine-steps replay report table-full table-sparse table-wide"
         ).map_err(stop),
     }
 }

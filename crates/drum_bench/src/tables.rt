@@ -10,7 +10,7 @@ use std::rt::Clock;
 use std::time::Instant;
 
 /// Two thousand words that do nothing: each goes on at the next, and the last at the first.
-fn ring(alloc: Global) -> Result<String, AllocError> {
+pub(crate) fn ring(alloc: Global) -> Result<String, AllocError> {
     let mut text = String::new(alloc);
     for number in 0..2000u16 {
         let next = if number < 1999 { number + 1 } else { 0 };
@@ -32,7 +32,7 @@ fn diamonds(alloc: Global) -> Result<String, AllocError> {
 }
 
 /// Notes with a mark on the edge from the last word of a ring to the first.
-fn back(alloc: Global, most: u16) -> Result<String, AllocError> {
+pub(crate) fn back(alloc: Global, most: u16) -> Result<String, AllocError> {
     let mut text = String::from_str(alloc, "programmed = \"stop\"\nload_cards = \"none\"\n")?;
     write!(text, "[[mark]]\nfrom = 1999\nto = 0\nmost = {most}\n")?;
     Ok(text)
