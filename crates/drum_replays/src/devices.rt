@@ -2,6 +2,7 @@
 
 use crate::reports::OF_TWO_WORDS;
 use crate::support::{Subject, WHOLE};
+use drum_bound::Analysis;
 use drum_core::{Input, Output, Reading, Writing};
 use drum_texts::TWO_WORDS;
 use drum_tool::{InputFault, WriteFault, read_inputs, report};
@@ -107,31 +108,41 @@ fn inputs_without_end(rt: HostRuntime) {
     assert!(rt; reader.calls() <= 804_001);
 }
 
+/// That a report to a writer with so much room, which takes so many bytes a call at most, tells how many bytes went out.
+fn fills(
+    rt: &(impl AllocGlobal + Abort),
+    subject: &Subject,
+    analysis: &Analysis,
+    room: usize,
+    most: usize,
+) -> Result<(), Fail> {
+    let sent = if most == 0 { 0 } else { room };
+    let whole = OF_TWO_WORDS.as_bytes();
+    let front = whole.get(..sent).ok_or("a front")?;
+    let is_whole = sent == whole.len();
+    let wanted = if is_whole {
+        Ok(())
+    } else {
+        Err(WriteFault { sent })
+    };
+    let taken = Vec::new(rt.alloc());
+    let mut out = Writing::new(Full { taken, room, most });
+    let ended = report(analysis, &subject.deck, &subject.notes, &mut out);
+    assert_eq!(rt; ended, wanted, "with {room} bytes, {most} a call");
+    assert_eq!(rt; out.writer.taken.as_slice(), front);
+    assert_eq!(rt; out.failures(), u64::from(!is_whole));
+    Ok(())
+}
+
 #[test]
 fn reports_to_full_devices(rt: HostRuntime) -> Result<(), Fail> {
     let subject = Subject::of(rt.alloc(), TWO_WORDS, "")?;
     let analysis = subject.analysed(rt.alloc())?;
-    let whole = OF_TWO_WORDS.as_bytes();
-    assert_eq!(rt; whole.len(), 84);
-    for (room, most) in (0..=84usize).flat_map(|room| [
-        (room, 84),
-        (room, 3),
-        (room, 1),
-        (room, 0),
-    ]) {
-        let sent = if most == 0 { 0 } else { room };
-        let taken = Vec::new(rt.alloc());
-        let mut out = Writing::new(Full { taken, room, most });
-        let ended = report(&analysis, &subject.deck, &subject.notes, &mut out);
-        let is_whole = sent == whole.len();
-        let wanted = if is_whole {
-            Ok(())
-        } else {
-            Err(WriteFault { sent })
-        };
-        assert_eq!(rt; ended, wanted, "with {room} bytes, {most} a call");
-        assert_eq!(rt; out.writer.taken.as_slice(), &whole[..sent]);
-        assert_eq!(rt; out.failures(), u64::from(!is_whole));
+    assert_eq!(rt; OF_TWO_WORDS.len(), 84);
+    for most in [84usize, 3, 1, 0] {
+        for room in 0..=84usize {
+            fills(&rt, &subject, &analysis, room, most)?;
+        }
     }
     Ok(())
 }
