@@ -1,0 +1,13 @@
+use Rattle.std.proofs.Common.{◌∙◌, ap, Some}
+use Rattle.std.specs.Prelude.{option_map}
+use Rattle.clap.specs.Words.{found_of, rows_of}
+use Rattle.clap.specs.declared.parser.matches.ArgMatches.TheViews.{out-ArgMatches}
+use Rattle.drum_command.specs.Line.{said_in}
+use Rattle.drum_command.proofs.Subcommand.{subcommand_rows-is}
+use Rattle.drum_command.proofs.found.command_in.Goals as goal
+
+pub returns : goal.returns
+returns c =
+    let is = subcommand_rows-is (out-ArgMatches c.args.matches.now).subcommand c.in-Some.name.now (rows_of (found_of c.in-Some.found.now))
+    c.in-Some.ensures.name c.in-Some.ensures.rows in
+    ap (option_map said_in) is ∙ ap Some c.command_of.ensures

@@ -1,0 +1,3 @@
+pub mod Line
+pub mod Refusal
+pub mod Entry

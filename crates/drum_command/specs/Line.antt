@@ -1,0 +1,111 @@
+-- The command line: which commands there are, which files each names, and what words say.
+use Rattle.std.specs.Prelude.{◌≡◌, ◌==◌, ◌&&◌, Bool, true, false, List, [], ◌∷◌, map, Option, Some}
+use Rattle.std.specs.Prelude.{codes, find, is_some, length, not, option_map}
+use Rattle.std.specs.List.{list_all, list_any}
+use Rattle.std.specs.Option.{option_map_or}
+use Rattle.std.specs.Str.{bytes_eq}
+use Rattle.clap.specs.Words.{App, Row, Rule, Shape, Text, first_of, new_rule, subcommand_of}
+use Rattle.clap.specs.Simple.{new_shape}
+use Rattle.clap.specs.Walk.{is_empty}
+use Rattle.clap.specs.declared.builder.action.ArgAction.TheVariants.{Set}
+use Rattle.drum_command.specs.declared.command.Command.{Command}
+use Rattle.drum_command.specs.declared.command.Command.TheVariants.{Bound, Report, Replay}
+use Rattle.drum_command.specs.declared.command.Files.{Files}
+
+-- a command: its name, and what the files that it names are called, in their order
+pub record Verb : Type 0 where
+  pub name : Text
+  pub files : List Text
+
+-- the files that every command works on
+abbrev pub common_files : List Text
+common_files = codes "DECK" ∷ codes "TIMES" ∷ codes "NOTES" ∷ []
+
+abbrev pub bound : Verb
+bound = record { name = codes "bound"; files = common_files }
+
+abbrev pub report : Verb
+report = record { name = codes "report"; files = common_files }
+
+abbrev pub replay : Verb
+replay = record {
+  name = codes "replay";
+  files = codes "DECK" ∷ codes "TIMES" ∷ codes "NOTES" ∷ codes "INPUTS" ∷ [];
+}
+
+-- the commands that there are
+abbrev pub verbs : List Verb
+verbs = bound ∷ report ∷ replay ∷ []
+
+-- ---- the same, as clap's arguments and commands
+
+-- a file, which has to be named
+abbrev pub file_rule : Text → Rule
+file_rule file = record (new_rule file) { action = Some Set; required = true }
+
+-- a command, with its files
+abbrev pub verb_shape : Verb → Shape
+verb_shape verb = record (new_shape verb.name) { rules = map file_rule verb.files }
+
+-- the program with these commands: the words are those after its own name, and the first names one
+abbrev pub program : List Shape → App
+program commands = record {
+  top = record (new_shape (codes "drum650")) {
+    is_leaf = is_empty commands;
+    no_binary_name = true;
+    subcommand_required = true;
+    disable_help_subcommand = true;
+  };
+  subs = commands;
+}
+
+abbrev pub drum650 : App
+drum650 = program (map verb_shape verbs)
+
+-- ---- what is said
+
+-- what the files of the command of this name are called
+abbrev pub files_of : Text → List Text
+files_of name = option_map_or (λ verb. verb.files) (find (λ verb. bytes_eq verb.name name) verbs) []
+
+-- a command's name with the files that clap found, in the order of the command's files
+abbrev pub said_in : Text × List Row → Text × List (Option Text)
+said_in found = (found.0, map (λ file. first_of file found.1) (files_of found.0))
+
+-- what clap finds that the words say: the name of a command, and its files
+abbrev pub said_by_words : List Text → Option (Text × List (Option Text))
+said_by_words words = option_map said_in (subcommand_of drum650 words)
+
+-- the files' names, in their order
+abbrev pub common : Files → List Text
+common files = files.deck.now ∷ files.times.now ∷ files.notes.now ∷ []
+
+-- what a command says: its name, and its files in their order
+abbrev pub said_by : Command → Text × List (Option Text)
+said_by (Bound files) = (codes "bound", map Some (common files))
+said_by (Report files) = (codes "report", map Some (common files))
+said_by (Replay files inputs) = (
+  codes "replay",
+  map Some (files.deck.now ∷ files.times.now ∷ files.notes.now ∷ inputs.now ∷ []),
+)
+
+-- clap found the name of a command, and all of its files
+abbrev pub is_whole : Text × List Row → Bool
+is_whole found = list_any (λ verb. bytes_eq verb.name found.0) verbs
+    && list_all (λ file. is_some (first_of file found.1)) (files_of found.0)
+
+-- ---- lines as they are meant to be written
+
+-- the word is taken for an option
+abbrev pub begins_with_hyphen : Text → Bool
+begins_with_hyphen [] = false
+begins_with_hyphen (c ∷ rest) = c == 45
+
+-- the words name files, as many as the command has, and none is taken for an option
+abbrev pub NamesFilesOf : Verb → List Text → Type 0
+NamesFilesOf verb words = (length words ≡ length verb.files)
+    × (list_all (λ word. not (begins_with_hyphen word)) words ≡ true)
+
+-- the words are the command's name and its files
+abbrev pub IsLineOf : Verb → List Text → List Text → Type 0
+IsLineOf verb files words = (words ≡ verb.name ∷ files) × NamesFilesOf verb files

@@ -1,0 +1,23 @@
+//! What a command line asks for.
+
+/// The files that every command works on.
+#[derive(Clone, Copy, Debug, PartialEq, Eq)]
+pub struct Files<'a> {
+    /// The deck: cards for the drum.
+    pub deck: &'a str,
+    /// The timing table.
+    pub times: &'a str,
+    /// The notes on loops and altered words.
+    pub notes: &'a str,
+}
+
+/// What a command line asks for.
+#[derive(Clone, Copy, Debug, PartialEq, Eq)]
+pub enum Command<'a> {
+    /// The most word times that any run takes that keeps to the notes.
+    Bound(Files<'a>),
+    /// Where the worst walk spends them, by card.
+    Report(Files<'a>),
+    /// The verdict on one run, which is given the inputs of the last file.
+    Replay(Files<'a>, &'a str),
+}

@@ -1,0 +1,70 @@
+//! The commands that there are, each as one entry of a list.
+ghost use Rattle.std.specs.Prelude.{◌≡◌, map};
+ghost use Rattle.drum_command.specs.Entry.{verb_of};
+ghost use Rattle.drum_command.specs.Line.{verbs};
+
+/// A file that a command names.
+#[derive(Clone, Copy)]
+pub(crate) struct FileWord {
+    /// What the help calls it, and what clap finds it by.
+    pub(crate) name: &'static str,
+    /// What it is.
+    pub(crate) help: &'static str,
+}
+
+/// A command: its name, what the help says of it, and the files that it names.
+#[derive(Clone, Copy)]
+pub(crate) struct Entry {
+    pub(crate) name: &'static str,
+    /// What it prints, in a line.
+    pub(crate) about: &'static str,
+    /// A line as an example.
+    pub(crate) example: &'static str,
+    pub(crate) files: &'static [FileWord],
+}
+
+pub(crate) const DECK: FileWord = FileWord {
+    name: "DECK",
+    help: "The deck: cards for the drum of an IBM 650, one on each line",
+};
+
+pub(crate) const TIMES: FileWord = FileWord {
+    name: "TIMES",
+    help: "The timing table: TOML, how many word times each operation takes",
+};
+
+pub(crate) const NOTES: FileWord = FileWord {
+    name: "NOTES",
+    help: "The notes: TOML, bounds on loops, and what altered words may become",
+};
+
+pub(crate) const INPUTS: FileWord = FileWord {
+    name: "INPUTS",
+    help: "The inputs: what the replayed run finds in the machine, and the cards that it reads",
+};
+
+/// Each command that there is.
+pub(crate) fn entries() -> &'static [Entry]
+    ensures { map verb_of result.now ≡ verbs }
+{
+    &[
+        Entry {
+            name: "bound",
+            about: "Prints `bound W`: no run that keeps to the notes takes more than W word times",
+            example: "Example: drum650 bound deck.txt times.toml notes.toml",
+            files: &[DECK, TIMES, NOTES],
+        },
+        Entry {
+            name: "report",
+            about: "Prints where the worst walk spends its word times, card by card",
+            example: "Example: drum650 report deck.txt times.toml notes.toml",
+            files: &[DECK, TIMES, NOTES],
+        },
+        Entry {
+            name: "replay",
+            about: "Lets the deck run once on inputs, and prints the verdict on that run",
+            example: "Example: drum650 replay deck.txt times.toml notes.toml inputs.txt",
+            files: &[DECK, TIMES, NOTES, INPUTS],
+        },
+    ]
+}

@@ -1,0 +1,59 @@
+//! The command that clap's matches stand for.
+ghost use Rattle.std.specs.Prelude.{◌≡◌, true, false, Some, is_some, map, option_map};
+ghost use Rattle.std.specs.List.{list_all};
+ghost use Rattle.std.specs.Option.{option_map_or};
+ghost use Rattle.clap.specs.Words.{first_of, found_of, rows_of, subcommand_rows_of};
+ghost use Rattle.drum_command.specs.Line.{common, common_files, is_whole, said_by, said_in};
+
+use crate::command::{Command, Files};
+use crate::entries::{DECK, FileWord, INPUTS, NOTES, TIMES};
+use clap::ArgMatches;
+
+/// The command that was found, with all of its files.
+pub(crate) fn command_in<'a>(matches: &ArgMatches<'a>) -> Command<'a>
+    requires { option_map_or is_whole (subcommand_rows_of matches.now) false ≡ true }
+    ensures { option_map said_in (subcommand_rows_of matches.now) ≡ Some (said_by result) }
+{
+    let Some((name, found)) = matches.subcommand() else {
+        unreachable!()
+    };
+    command_of(name, found)
+}
+
+/// The command of this name, with the files that were found.
+fn command_of<'a>(name: &str, found: &ArgMatches<'a>) -> Command<'a>
+    requires { is_whole (name.now, rows_of (found_of found.now)) ≡ true }
+    ensures { said_in (name.now, rows_of (found_of found.now)) ≡ said_by result }
+{
+    match name {
+        "bound" => Command::Bound(files_in(found)),
+        "report" => Command::Report(files_in(found)),
+        "replay" => Command::Replay(files_in(found), file_in(found, INPUTS)),
+        _ => unreachable!(),
+    }
+}
+
+/// The files that every command works on.
+fn files_in<'a>(found: &ArgMatches<'a>) -> Files<'a>
+    requires { list_all (λ file. is_some (first_of file (rows_of (found_of found.now))))
+        common_files ≡ true }
+    ensures { map (λ file. first_of file (rows_of (found_of found.now))) common_files
+        ≡ map Some (common result) }
+{
+    Files {
+        deck: file_in(found, DECK),
+        times: file_in(found, TIMES),
+        notes: file_in(found, NOTES),
+    }
+}
+
+/// What was found for the file.
+fn file_in<'a>(found: &ArgMatches<'a>, file: FileWord) -> &'a str
+    requires { is_some (first_of file.name.now (rows_of (found_of found.now))) ≡ true }
+    ensures { first_of file.name.now (rows_of (found_of found.now)) ≡ Some result.now }
+{
+    let Some(text) = found.get_str(file.name) else {
+        unreachable!()
+    };
+    text
+}
