@@ -45,8 +45,8 @@ abbrev pub StandInEarlier : ℕ → List Mark → Type 0
 StandInEarlier place [] = Unit {0}
 StandInEarlier place (mark ∷ marks) = IsEarlier place mark.inside × StandInEarlier (place + 1) marks
 
--- What is so of all notes: at most 8 marks, each with an edge of its own, and inside of an earlier one if of any; lists
--- for locations, each with one of its own, and from 1 to 64 patterns.
+-- What is so of all notes: at most 8 marks, each with an edge of its own, and inside of an earlier
+-- one if of any; lists for locations, each with one of its own, and from 1 to 64 patterns.
 pub record AreSound (notes : Notes) : Type 0 where
   pub few_marks : length notes.marks ≤ 8
   pub own_edges : HaveOwnEdges notes.marks
@@ -87,7 +87,7 @@ abbrev pub listed : Option (List Pattern) → List Instruction
 listed None = []
 listed (Some patterns) = flat_map matching patterns
 
--- What is allowed at a location: the deck's instruction, if the deck loads it, and then, pattern by pattern,
--- every instruction that matches. `loads` says which word the deck loads into a location.
+-- What is allowed at a location: the deck's instruction, if the deck loads it, and then, pattern by
+-- pattern, every instruction that matches. `loads` says which word the deck loads into a location.
 abbrev pub allowed : (ℕ → Option Word) → Notes → ℕ → List Instruction
 allowed loads notes location = loaded (loads location) ++ listed (patterns_of notes location)

@@ -1,5 +1,6 @@
--- What both documents are made of (this project's choice): TOML tables, whose keys are looked at one after the
--- other. Here are the faults of a table, in their order; a document without a fault has none.
+-- What both documents are made of (this project's choice): TOML tables, whose keys are looked at
+-- one after the other. Here are the faults of a table, in their order; a document without a fault
+-- has none.
 use Rattle.std.specs.Prelude.{ℕ, suc, ◌+◌, ◌&&◌, Bool, if◌then◌else◌, nat_le, List, [], ◌∷◌, ◌++◌, flat_map, codes, decimal, pos, negsuc, Option, Some, None, is_some}
 use Rattle.std.specs.List.{list_any}
 use Rattle.drum_core.specs.Location.{is_location}
@@ -23,8 +24,8 @@ in_turn (faults ∷ checks) = faults ++ in_turn checks
 abbrev pub is_among : List ℕ → List (List ℕ) → Bool
 is_among key keys = list_any (λ one. same_key one key) keys
 
--- A fault for each key of the table, in byte order, that isn't among these. `at` is the path of the table: nothing,
--- or it ends in a dot. (A table's fields are in byte order of their keys.)
+-- A fault for each key of the table, in byte order, that isn't among these. `at` is the path of the
+-- table: nothing, or it ends in a dot. (A table's fields are in byte order of their keys.)
 abbrev pub unknown_in : List ℕ → List (List ℕ) → Members → List Fault
 unknown_in at keys no_members = []
 unknown_in at keys (member key value fields) = (if is_among key keys then [] else unknown (at ++ key) ∷ []) ++ unknown_in at keys fields
@@ -86,7 +87,8 @@ abbrev pub is_count : ℕ → Option ℕ → ℕ → Bool
 is_count low None n = nat_le low n
 is_count low (Some high) n = nat_le low n && nat_le n high
 
--- the faults of a value that is to be an array of tables, from low up to high of them, if there is a high
+-- the faults of a value that is to be an array of tables, from low up to high of them, if there is
+-- a high
 abbrev pub array_faults : ℕ → Option ℕ → (ℕ → List ℕ → Members → List Fault) → List ℕ → Data → List Fault
 array_faults low high check path (array items) =
     if is_count low high (count_of items) then elements_faults check path 1 items else range path ∷ []

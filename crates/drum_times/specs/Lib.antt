@@ -4,5 +4,6 @@ pub mod Entries
 pub mod Listed
 pub mod NotesDocument
 pub mod Refused
+pub mod Says
 pub mod TimesDocument
 pub mod Value

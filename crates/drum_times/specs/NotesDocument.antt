@@ -31,7 +31,8 @@ list_keys = codes "location" ∷ codes "pattern" ∷ []
 abbrev pub pattern_keys : List (List ℕ)
 pattern_keys = codes "op" ∷ codes "d_from" ∷ codes "d_to" ∷ codes "i" ∷ []
 
--- the outer mark, by its place: none without the key, which holds the number of an earlier mark, counted from 1
+-- the outer mark, by its place: none without the key, which holds the number of an earlier mark,
+-- counted from 1
 abbrev pub HasInside : ℕ → Members → Option ℕ → Type 0
 HasInside place fields None = get_member (codes "inside") fields ≡ None
 HasInside place fields (Some outer) = HasNumber fields (codes "inside") (outer + 1) × (outer < place)
@@ -72,7 +73,8 @@ AreFound Say (Some value) values = (items : Items) × (value ≡ array items) ×
 abbrev pub HasTables : {A : Type 0} → (ℕ → Members → A → Type 0) → Members → List ℕ → List A → Type 0
 HasTables Say fields key values = AreFound Say (get_member key fields) values
 
--- The table says this list. (How many patterns it has, and that it is for a location, is a fact of sound notes.)
+-- The table says this list. (How many patterns it has, and that it is for a location, is a fact of
+-- sound notes.)
 pub record IsListed (fields : Members) (listed : Listed) : Type 0 where
   pub only : unknown_in [] list_keys fields ≡ []
   pub location : HasNumber fields (codes "location") listed.location
@@ -91,7 +93,8 @@ pub record IsNotes (document : Members) (notes : Notes) : Type 0 where
 abbrev pub inside_faults : ℕ → List ℕ → Members → List Fault
 inside_faults earlier at fields = whole 1 earlier at (codes "inside") fields
 
--- the faults that each check of a mark of this number, from 1, finds: unknown keys, missing keys, and then the values
+-- the faults that each check of a mark of this number, from 1, finds: unknown keys, missing keys,
+-- and then the values
 abbrev pub mark_checks : ℕ → List ℕ → Members → List (List Fault)
 mark_checks number at fields =
     unknown_in at mark_keys fields ∷ missing_in at (codes "from" ∷ codes "to" ∷ codes "most" ∷ []) fields
@@ -167,6 +170,7 @@ notes_checks document =
     ∷ edge_faults [] (map edge_in (tables_at (codes "mark") document))
     ∷ location_faults [] (map (number_at (codes "location")) (tables_at (codes "list") document)) ∷ []
 
--- The faults of a document, in their order. The first is why it is refused, and what follows it has no meaning.
+-- The faults of a document, in their order. The first is why it is refused, and what follows it has
+-- no meaning.
 abbrev pub notes_faults : Members → List Fault
 notes_faults document = in_turn (notes_checks document)

@@ -20,7 +20,8 @@ IsUnread bytes fault = ⊥
 abbrev pub Begin : List Fault → Fault → Type 0
 Begin faults fault = (others : List Fault) × (faults ≡ fault ∷ others)
 
--- This is the first of a table's faults. (Want of memory may come before any, and Toml is no fault of a table.)
+-- This is the first of a table's faults. (Want of memory may come before any, and Toml is no fault
+-- of a table.)
 abbrev pub IsFirst : List Fault → NoteFault → Type 0
 IsFirst faults Toml = ⊥
 IsFirst faults Memory = Unit {0}
@@ -31,8 +32,8 @@ IsFirst faults (Kind path) = Begin faults (kind (string_bytes path.text))
 IsFirst faults (TwoMarks from onto) = Begin faults (two_marks from.number onto.number)
 IsFirst faults (TwoLists location) = Begin faults (two_lists location.number)
 
--- Why bytes are refused, where `faults_of` gives the faults of a document: they are no document, or they are one, and
--- this is its first fault.
+-- Why bytes are refused, where `faults_of` gives the faults of a document: they are no document, or
+-- they are one, and this is its first fault.
 abbrev pub IsRefused : (Members → List Fault) → List ℕ → NoteFault → Type 0
 IsRefused faults_of bytes Memory = Unit {0}
 IsRefused faults_of bytes Toml = (document : Members) → ¬ IsDocument bytes document

@@ -1,4 +1,5 @@
--- The timing table as a document (this project's choice): what it says, and its faults in their order.
+-- The timing table as a document (this project's choice): what it says, and its faults in their
+-- order.
 use Rattle.std.specs.Prelude.{◌≡◌, ℕ, List, [], ◌∷◌, ◌++◌, map, flat_map, codes, pos, Some, None}
 use Rattle.drum_core.specs.declared.op.Op.{Op}
 use Rattle.drum_core.specs.declared.op.Op.TheVariants.{Divide, DivideReset, Multiply, Shift, Read, Punch}
@@ -45,7 +46,8 @@ longest = 1000000
 abbrev pub HasNumber : Members → List ℕ → ℕ → Type 0
 HasNumber fields key n = get_member key fields ≡ Some (integer (pos n))
 
--- the numbers of an entry that not every operation has: per, wait_min and wait_max; without them they are 0
+-- the numbers of an entry that not every operation has: per, wait_min and wait_max; without them
+-- they are 0
 abbrev pub HasRest : Form → Members → ℕ → ℕ → ℕ → Type 0
 HasRest Plain fields per wait_min wait_max = (per ≡ 0) × (wait_min ≡ 0) × (wait_max ≡ 0)
 HasRest Units fields per wait_min wait_max = HasNumber fields (codes "per") per × (wait_min ≡ 0) × (wait_max ≡ 0)
@@ -86,7 +88,8 @@ rest_faults Plain at fields = []
 rest_faults Units at fields = whole 0 longest at (codes "per") fields
 rest_faults Waits at fields = whole 0 longest at (codes "wait_min") fields ++ whole (number_at (codes "wait_min") fields) longest at (codes "wait_max") fields
 
--- The faults of an entry: unknown keys, missing keys, and then the values, each in the order of the keys.
+-- The faults of an entry: unknown keys, missing keys, and then the values, each in the order of the
+-- keys.
 abbrev pub entry_faults : Op → List ℕ → Members → List Fault
 entry_faults op at fields =
     unknown_in at (keys_of (form_of op)) fields ++ missing_in at (keys_of (form_of op)) fields ++ plain_faults at fields ++ rest_faults (form_of op) at fields
@@ -105,7 +108,8 @@ abbrev pub operations_faults : Data → List Fault
 operations_faults (table operations) = unknown_in (codes "op.") (map key_of ops) operations ++ flat_map (operation_faults operations) ops
 operations_faults _ = kind (codes "op") ∷ []
 
--- The faults of a document, in their order. The first is why it is refused, and what follows it has no meaning.
+-- The faults of a document, in their order. The first is why it is refused, and what follows it has
+-- no meaning.
 abbrev pub times_faults : Members → List Fault
 times_faults document =
     unknown_in [] (codes "op" ∷ []) document

@@ -1,5 +1,5 @@
-//! What the readers of both documents share: the document that bytes are, and a TOML table whose keys are looked
-//! for one after the other.
+//! What the readers of both documents share: the document that bytes are, and a TOML table whose
+//! keys are looked for one after the other.
 ghost use Rattle.std.specs.Prelude.{IfOk, IfErr};
 ghost use Rattle.drum_times.specs.Refused.{IsDocument, IsUnread};
 ghost use Rattle.toml.specs.View.{table_view};

@@ -4,9 +4,9 @@ use drum_core::Parity;
 
 /// How long an operation takes, in word times.
 ///
-/// A step that has found its instruction at f is at x = f + `before`; it then waits for its operand, and
-/// for an angle of the parity; from there on it takes `after`, `per` for each unit of its work, and a
-/// wait for the card machine.
+/// A step that has found its instruction at f is at x = f + `before`; it then waits for its
+/// operand, and for an angle of the parity; from there on it takes `after`, `per` for each unit of
+/// its work, and a wait for the card machine.
 #[derive(Clone, Copy, Debug, PartialEq, Eq)]
 pub struct Entry {
     /// From the instruction to the search for its operand; 1 to 1,000,000.
@@ -20,8 +20,8 @@ pub struct Entry {
     pub per: u32,
     /// The shortest wait for the card machine; up to 1,000,000, and 0 for an operation without one.
     pub wait_min: u32,
-    /// The longest wait for the card machine; from `wait_min` to 1,000,000, and 0 for an operation without
-    /// one.
+    /// The longest wait for the card machine; from `wait_min` to 1,000,000, and 0 for an operation
+    /// without one.
     pub wait_max: u32,
     pub ghost some_before: { 1 ≤ before },
     pub ghost short_before: { before ≤ 1000000 },

@@ -2,7 +2,8 @@ ghost use Rattle.std.specs.Prelude.{◌≡◌, ◌^◌, ◌≤◌, ◌↔◌, Is
 
 use std::fmt;
 
-/// The path of a key of a document, with dots, as `op.19.per`. Elements of arrays are numbered from 1.
+/// The path of a key of a document, with dots, as `op.19.per`. Elements of arrays are numbered from
+/// 1.
 #[derive(Debug, Drop, PartialEq, Eq)]
 pub struct KeyPath {
     /// With dots between the keys.

@@ -1,10 +1,18 @@
 -- Definitions evaluated, with answers that were worked out apart from them.
-use Rattle.std.proofs.Common.{◌≡◌, ℕ, false, List, [], ◌∷◌, length, refl}
-use Rattle.std.specs.Prelude.{nat_lt}
+use Rattle.std.proofs.Common.{◌≡◌, true, false, List, [], ◌∷◌, length, flat_map, refl, arith}
+use Rattle.std.specs.Prelude.{codes, nat_lt}
+use Rattle.drum_core.specs.declared.deck.fault.DeckFault.TheVariants as of_deck
+use Rattle.drum_core.specs.declared.location.Location.{Location}
 use Rattle.drum_core.specs.Instruction.{instruction_of}
-use Rattle.drum_core.specs.Word.{word}
+use Rattle.drum_core.specs.Location.{IsLocation}
+use Rattle.drum_core.specs.Word.{spelling, word}
+use Rattle.drum_flow.specs.declared.refusal.Refusal.TheVariants.{Alters, NotInProfile}
 use Rattle.drum_machine.specs.Ways.{to, late}
 use Rattle.drum_bound.specs.Visited.{Visited}
+use Rattle.drum_tool.specs.declared.fault.Fault.TheVariants as fault
+use Rattle.drum_tool.specs.declared.part.Part.TheVariants as part
+use Rattle.drum_tool.specs.declared.part.PartFault.TheVariants as bytes
+use Rattle.drum_tool.specs.FaultText.{fault_text, next_location}
 use Rattle.drum_tool.specs.Report.{time_in, used_after, visits_at}
 
 -- a walk of two words: the first takes 55 word times, the second one
@@ -24,3 +32,32 @@ none_of_it = refl
 
 of_no_hops : (time_in [] ≡ 0) × (used_after 0 [] ≡ 0)
 of_no_hops = (refl, refl)
+
+-- the lines of faults without plain numbers
+of_deck_text : fault_text (fault.Deck of_deck.Read) ≡ codes "fault 1 deck read\n"
+of_deck_text = refl
+
+of_part_text : fault_text (fault.Part part.Inputs bytes.TooLong) ≡ codes "fault 52 inputs toolong\n"
+of_part_text = refl
+
+hundred : IsLocation 100
+hundred = (omega arith, λ past. omega arith)
+
+upper : IsLocation 8003
+upper = (omega arith, λ past. omega arith)
+
+abbrev at_100 : Location
+at_100 = record { number = 100; exists = hundred }
+
+abbrev at_upper : Location
+at_upper = record { number = 8003; exists = upper }
+
+of_locations :
+    (fault_text (fault.Loaded at_100) ≡ codes "fault 47 inputs loaded 0100\n")
+    × (fault_text (fault.Refused (NotInProfile at_100 7)) ≡ codes "fault 32 notinprofile 0100 07\n")
+    × (fault_text (fault.Refused (Alters at_100 at_upper)) ≡ codes "fault 34 alters 0100 8003\n")
+    × (flat_map next_location (at_100 ∷ at_upper ∷ []) ≡ codes " 0100 8003")
+of_locations = (refl, refl, refl, refl)
+
+of_words : (spelling (word true 1968) ≡ codes "-0000001968") × (spelling (word false 6901030106) ≡ codes "+6901030106")
+of_words = (refl, refl)

@@ -38,13 +38,30 @@ written_cut old new fault xs p =
     let all : fault.sent - 0 ≡ fault.sent = omega arith in
     (omega (arith, p.1), subst (λ (n : ℕ). Appends old new (take n xs)) all p.2)
 
--- two numbers with a text between them, piece by piece
-pub two_numbers : (between first first' second second' : List ℕ) → first ≡ first' → second ≡ second'
+-- two texts with one between them, piece by piece
+pub two_texts : (between first first' second second' : List ℕ) → first ≡ first' → second ≡ second'
     → first ++ (between ++ (second ++ codes "\n")) ≡ first' ++ between ++ second' ++ codes "\n"
-two_numbers between first first' second second' p q =
+two_texts between first first' second second' p q =
     ap (λ (xs : List ℕ). xs ++ (between ++ (second ++ codes "\n"))) p
     ∙ ap (λ (xs : List ℕ). first' ++ (between ++ (xs ++ codes "\n"))) q
     ∙ sym (append_assoc (first' ++ between) second' (codes "\n") ∙ append_assoc first' between (second' ++ codes "\n"))
+
+-- and others behind them
+pub three_texts : (between behind first first' second second' third third' : List ℕ) → first ≡ first' → second ≡ second' → third ≡ third'
+    → first ++ (between ++ (second ++ (behind ++ (third ++ codes "\n")))) ≡ first' ++ between ++ second' ++ behind ++ third' ++ codes "\n"
+three_texts between behind first first' second second' third third' p q r =
+    ap (λ (xs : List ℕ). xs ++ (between ++ (second ++ (behind ++ (third ++ codes "\n"))))) p
+    ∙ ap (λ (xs : List ℕ). first' ++ (between ++ xs)) (two_texts behind second second' third third' q r)
+    ∙ sym (simp append_assoc)
+
+pub four_texts : (between behind last first first' second second' third third' fourth fourth' : List ℕ)
+    → first ≡ first' → second ≡ second' → third ≡ third' → fourth ≡ fourth'
+    → first ++ (between ++ (second ++ (behind ++ (third ++ (last ++ (fourth ++ codes "\n"))))))
+    ≡ first' ++ between ++ second' ++ behind ++ third' ++ last ++ fourth' ++ codes "\n"
+four_texts between behind last first first' second second' third third' fourth fourth' p q r s =
+    ap (λ (xs : List ℕ). xs ++ (between ++ (second ++ (behind ++ (third ++ (last ++ (fourth ++ codes "\n"))))))) p
+    ∙ ap (λ (xs : List ℕ). first' ++ (between ++ xs)) (three_texts behind last second second' third third' fourth fourth' q r s)
+    ∙ sym (simp append_assoc)
 
 -- one text more of many, all of it
 pub sent_more : {X : Type 0} (f : X → List ℕ) (xs : List X) (i : ℕ) (d : X) → i < length xs → (old between new : Option (List ℕ)) (begun sent total : ℕ)
@@ -65,6 +82,21 @@ sent_cut f xs i d within old between new begun sent fault p q =
     subst (IsSent old new begun (Err fault)) (sym whole)
     (IsSent-cut old new begun fault (flat_map f (take i xs) ++ f (get_or xs i d)) (flat_map f (drop (i + 1) xs))
     (IsSent-then old between new begun sent (Err fault) (flat_map f (take i xs)) (f (get_or xs i d)) p q))
+
+-- Three texts one behind the other, of which the first or the second is cut, or at most the third.
+pub cut_begin : (old new : Option (List ℕ)) (fault : WriteFault) (xs ys zs : List ℕ)
+    → IsSent old new 0 (Err fault) xs → IsWritten {A = Unit {0}} old new (Err fault) (xs ++ ys ++ zs)
+cut_begin old new fault xs ys zs p = written_cut old new fault (xs ++ ys ++ zs) (IsSent-cut old new 0 fault (xs ++ ys) zs (IsSent-cut old new 0 fault xs ys p))
+
+pub cut_middle : (old new first : Option (List ℕ)) (sent : ℕ) (fault : WriteFault) (xs ys zs : List ℕ)
+    → IsSent old first 0 (Ok sent) xs → IsSent first new sent (Err fault) ys → IsWritten {A = Unit {0}} old new (Err fault) (xs ++ ys ++ zs)
+cut_middle old new first sent fault xs ys zs p q =
+    written_cut old new fault (xs ++ ys ++ zs) (IsSent-cut old new 0 fault (xs ++ ys) zs (IsSent-then old first new 0 sent (Err fault) xs ys p q))
+
+pub all_three : (old new first second : Option (List ℕ)) (sent more : ℕ) (result : Result ℕ WriteFault) (xs ys zs : List ℕ)
+    → IsSent old first 0 (Ok sent) xs → IsSent first second sent (Ok more) ys → IsSent second new more result zs → IsSent old new 0 result (xs ++ ys ++ zs)
+all_three old new first second sent more result xs ys zs p q r =
+    IsSent-then old second new 0 more result (xs ++ ys) zs (IsSent-then old first second 0 sent (Ok more) xs ys p q) r
 
 -- Four texts one behind the other, of which the second, the third or the fourth is cut, or none.
 pub cut_second : (old new : Option (List ℕ)) (first : Option (List ℕ)) (sent : ℕ) (fault : WriteFault) (ws xs ys zs : List ℕ)

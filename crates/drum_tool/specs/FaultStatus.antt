@@ -1,13 +1,15 @@
--- How the program ends after a fault (this project's choice): a reading that failed, an input past its limit and want of
--- memory are failures; all else is a refusal.
+-- How the program ends after a fault (this project's choice): a part whose bytes can't be had, and
+-- want of memory, are failures; all else is a refusal.
 use Rattle.drum_core.specs.declared.deck.fault.DeckFault.{DeckFault}
 use Rattle.drum_core.specs.declared.deck.fault.DeckFault.TheVariants as deck
 use Rattle.drum_flow.specs.declared.refusal.Refusal as refused
 use Rattle.drum_flow.specs.declared.refusal.Refusal.TheVariants as refusal
+use Rattle.drum_inputs.specs.declared.fault.InputFault.{InputFault}
+use Rattle.drum_inputs.specs.declared.fault.InputFault.TheVariants as input
 use Rattle.drum_times.specs.declared.fault.NoteFault.{NoteFault}
 use Rattle.drum_times.specs.declared.fault.NoteFault.TheVariants as note
 use Rattle.drum_tool.specs.declared.fault.Fault.{Fault}
-use Rattle.drum_tool.specs.declared.fault.Fault.TheVariants.{NoPart, InputRead, InputTooLong, Memory, Deck, Times, Notes, Refused, Loaded}
+use Rattle.drum_tool.specs.declared.fault.Fault.TheVariants.{NoPart, Part, Memory, Deck, Times, Notes, Inputs, Refused, Loaded}
 use Rattle.drum_tool.specs.declared.status.Status as status
 use Rattle.drum_tool.specs.declared.status.Status.TheVariants as ends
 
@@ -20,17 +22,22 @@ abbrev pub after_note : NoteFault → status.Status
 after_note note.Memory = ends.Failed
 after_note _ = ends.Refused
 
+abbrev pub after_input : InputFault → status.Status
+after_input input.Read = ends.Failed
+after_input input.Memory = ends.Failed
+after_input _ = ends.Refused
+
 abbrev pub after_refusal : refused.Refusal → status.Status
 after_refusal refusal.Memory = ends.Failed
 after_refusal _ = ends.Refused
 
 abbrev pub status_after : Fault → status.Status
 status_after NoPart = ends.Refused
-status_after InputRead = ends.Failed
-status_after InputTooLong = ends.Failed
+status_after (Part part fault) = ends.Failed
 status_after Memory = ends.Failed
 status_after (Deck fault) = after_deck fault
 status_after (Times fault) = after_note fault
 status_after (Notes fault) = after_note fault
+status_after (Inputs fault) = after_input fault
 status_after (Refused fault) = after_refusal fault
 status_after (Loaded location) = ends.Refused

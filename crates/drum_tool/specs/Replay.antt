@@ -101,8 +101,8 @@ pub record IsReplay (g : Setting) (given : Given) (verdict : Verdict) : Type 0 w
   pub short : step ≤ worst + 1
 
 -- Why there is no replay: a word is given that the deck loads too, of which the first is told; else
--- the deck with its notes is refused; else it is accepted, and the fault is Memory. (That memory was
--- wanting then is tested, not said.)
+-- the deck with its notes is refused; else it is accepted, and the fault is Memory. (That memory
+-- was wanting then is tested, not said.)
 abbrev pub IsReplayFault : Setting → Given → fails.Fault → Type 0
 IsReplayFault g given (fault.Loaded location) =
     first_loaded g.loads given.setup.words.items ≡ Some location

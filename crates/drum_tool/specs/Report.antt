@@ -1,5 +1,5 @@
--- The report of a walk by card (this project's choice): how often the walk visits each card's locations and how long it
--- stays there, how often it passes each mark, and its time.
+-- The report of a walk by card (this project's choice): how often the walk visits each card's
+-- locations and how long it stays there, how often it passes each mark, and its time.
 use Rattle.std.specs.Prelude.{ℕ, ◌-◌, ◌==◌, Bool, false, true, List, [], ◌∷◌, ◌++◌, codes, decimal, filter, flat_map, length, sum_by, Some, None}
 use Rattle.drum_core.specs.declared.deck.Deck.{Deck}
 use Rattle.drum_core.specs.Loads.{card_in, cards_in}
@@ -7,6 +7,7 @@ use Rattle.drum_core.specs.Numeral.{digits_of}
 use Rattle.drum_times.specs.declared.notes.mark.Mark.{Mark}
 use Rattle.drum_times.specs.Allowed.{Notes}
 use Rattle.drum_bound.specs.Visited.{Visited, passes_in}
+use Rattle.drum_tool.specs.BoundText.{bound_text}
 
 -- the card on this line gives the location its word
 abbrev pub is_of_card : Deck → ℕ → ℕ → Bool
@@ -53,10 +54,10 @@ used_after used (visit ∷ visits) = used_after visit.ended visits
 
 -- the line of the walk's time
 abbrev pub bound_line : List Visited → List ℕ
-bound_line walk = codes "bound " ++ decimal (used_after 0 walk) ++ codes "\n"
+bound_line walk = bound_text (used_after 0 walk)
 
--- The report: a line for each card of the deck and one for all other locations, one for each mark of the notes, and the
--- time.
+-- The report: a line for each card of the deck and one for all other locations, one for each mark
+-- of the notes, and the time.
 abbrev pub report_text : Deck → Notes → List Visited → List ℕ
 report_text deck notes walk =
     flat_map (card_line deck walk) (cards_in deck) ++ other_line deck walk

@@ -16,8 +16,8 @@ abbrev pub fails_by : {A : Type 0} → Result A WriteFault → ℕ
 fails_by (Ok done) = 0
 fails_by (Err fault) = 1
 
--- A text was written: all of it; or a write failed, and a front of it has gone out, of so many bytes
--- as the fault tells.
+-- A text was written: all of it; or a write failed, and a front of it has gone out, of so many
+-- bytes as the fault tells.
 abbrev pub IsWritten : {A : Type 0} → Option (List ℕ) → Option (List ℕ) → Result A WriteFault
     → List ℕ → Type 0
 IsWritten before after (Ok done) text = Appends before after text

@@ -1,55 +1,115 @@
-ghost use Rattle.std.specs.Prelude.{◌+◌, ◌^◌, ◌≤◌};
+//! What each command does, with files.
 
-use crate::answer::answer;
+ghost use Rattle.std.specs.Prelude.{◌^◌, ◌≤◌, ℕ, List, Option, IfOk, IfErr};
+ghost use Rattle.drum_bound.specs.AnalysisOf.{visits_of};
+ghost use Rattle.drum_tool.specs.Files.{AreTold};
+ghost use Rattle.drum_tool.specs.Output.{Tells, device};
+ghost use Rattle.drum_tool.specs.Reply.{AnswersCommand, Reply, bound_reply, fault_reply, report_reply, verdict_reply};
+
+use crate::documents::Documents;
 use crate::fault::Fault;
-use crate::print::fault_line::write_fault;
-use crate::print::write_numbered;
+use crate::files::inputs_of;
+use crate::replaying::replay;
+use crate::source::Source;
 use crate::status::Status;
-use drum_core::device::input::Input;
-use drum_core::device::output::Output;
-use drum_core::device::whole::{WholeError, read_whole};
+use crate::telling::{tell_bound, tell_fault, tell_report, tell_verdict};
+use crate::verdict::Verdict;
+use drum_bound::Analysis;
+use drum_command::{Command, Files};
+use drum_core::Output;
 use std::alloc::Global;
 
-/// The most bytes of the joined form.
-const BYTES: usize = 16_777_216;
+/// The bound of documents in files.
+fn bound<S: Source>(alloc: Global, source: &mut S, files: Files<'_>) -> Result<u64, Fault>
+    ensures bound { IfOk result (λ bound. (held : List ℕ → Option (List ℕ))
+        → AreTold (S.file source.old) held
+        → AnswersCommand held (Command.Bound files.entry) (bound_reply bound)) }
+    ensures fault { IfErr result (λ fault. (held : List ℕ → Option (List ℕ))
+        → AreTold (S.file source.old) held
+        → AnswersCommand held (Command.Bound files.entry) (fault_reply fault)) }
+{
+    let documents = Documents::of_files(alloc, source, files)?;
+    documents.bound(alloc)
+}
 
-/// Reads the joined form, a deck, a timing table and notes, and writes the deck's bound to `out`, or the
-/// line of its first fault to `err`.
-///
-/// The whole input is read first, 16,777,217 bytes at most. A failed write of the bound ends with
-/// [`Status::Failed`] and no fault line; a failed write to `err` changes nothing.
-pub fn run_joined<I: Input, O: Output, E: Output>(
+/// The documents in files, and their analysis.
+fn analysis<S: Source>(
     alloc: Global,
-    input: &mut I,
+    source: &mut S,
+    files: Files<'_>,
+) -> Result<(Documents, Analysis), Fault>
+    ensures report { IfOk result (λ done. (held : List ℕ → Option (List ℕ))
+        → AreTold (S.file source.old) held
+        → AnswersCommand held (Command.Report files.entry)
+        (report_reply done.0 (visits_of done.1))) }
+    ensures fault { IfErr result (λ fault. (held : List ℕ → Option (List ℕ))
+        → AreTold (S.file source.old) held
+        → AnswersCommand held (Command.Report files.entry) (fault_reply fault)) }
+{
+    let documents = Documents::of_files(alloc, source, files)?;
+    let analysis = documents.analyse(alloc)?;
+    Ok((documents, analysis))
+}
+
+/// The verdict of a replay from files.
+fn verdict<S: Source>(
+    alloc: Global,
+    source: &mut S,
+    files: Files<'_>,
+    inputs: &str,
+) -> Result<Verdict, Fault>
+    ensures verdict { IfOk result (λ verdict. (held : List ℕ → Option (List ℕ))
+        → AreTold (S.file source.old) held
+        → AnswersCommand held (Command.Replay files.entry inputs.entry) (verdict_reply verdict)) }
+    ensures fault { IfErr result (λ fault. (held : List ℕ → Option (List ℕ))
+        → AreTold (S.file source.old) held
+        → AnswersCommand held (Command.Replay files.entry inputs.entry) (fault_reply fault)) }
+{
+    let documents = Documents::of_files(alloc, source, files)?;
+    let inputs = inputs_of(alloc, source, inputs)?;
+    replay(
+        alloc,
+        &documents.deck,
+        &documents.times,
+        &documents.notes,
+        inputs,
+    )
+}
+
+/// Does what a command says, with files: writes its result to `out`, or the line of the first fault
+/// to `err`.
+///
+/// The files are read and checked in the order of the words. A failed write of a result ends with
+/// [`Status::Failed`] and no fault line; a failed write to `err` changes nothing.
+pub fn obey<S: Source, O: Output, E: Output>(
+    alloc: Global,
+    command: Command<'_>,
+    source: &mut S,
     out: &mut O,
     err: &mut E,
 ) -> Status
-    requires input { I.called input.old ≤ 2 ^ 62 }
     requires out { O.called out.old ≤ 2 ^ 62 }
     requires err { E.called err.old ≤ 2 ^ 62 }
-    ensures asked { I.called input.new ≤ I.called input.old + 16777217 }
+    ensures { (reply : Reply)
+        × Tells reply (device (O.written out.old) (O.failed out.old))
+        (device (O.written out.new) (O.failed out.new))
+        (device (E.written err.old) (E.failed err.old))
+        (device (E.written err.new) (E.failed err.new)) result
+        × ((held : List ℕ → Option (List ℕ))
+        → AreTold (S.file source.old) held → AnswersCommand held command.entry reply) }
 {
-    match bound(alloc, input) {
-        Ok(bound) => match write_numbered(out, b"bound ", bound) {
-            Ok(()) => Status::Done,
-            Err(_) => Status::Failed,
+    match command {
+        Command::Bound(files) => match bound(alloc, source, files) {
+            Ok(bound) => tell_bound(out, bound),
+            Err(fault) => tell_fault(err, &fault),
         },
-        Err(fault) => {
-            let _ = write_fault(err, &fault);
-            fault.status()
-        }
-    }
-}
-
-/// The bound of the joined form that the input gives.
-fn bound<I: Input>(alloc: Global, input: &mut I) -> Result<u64, Fault>
-    requires { I.called input.old ≤ 2 ^ 62 }
-    ensures asked { I.called input.new ≤ I.called input.old + 16777217 }
-{
-    match read_whole(alloc, input, BYTES) {
-        Ok(text) => answer(alloc, &text),
-        Err(WholeError::Read) => Err(Fault::InputRead),
-        Err(WholeError::Memory) => Err(Fault::Memory),
-        Err(WholeError::TooLong) => Err(Fault::InputTooLong),
+        Command::Report(files) => match analysis(alloc, source, files) {
+            Ok((documents, analysis)) => tell_report(out, &documents, &analysis),
+            Err(fault) => tell_fault(err, &fault),
+        },
+        Command::Replay(files, inputs) => match verdict(alloc, source, files, inputs) {
+            Ok(verdict) => tell_verdict(out, &verdict),
+            Err(fault) => tell_fault(err, &fault),
+        },
     }
 }

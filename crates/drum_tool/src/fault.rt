@@ -1,21 +1,21 @@
 ghost use Rattle.std.specs.Prelude.{◌≡◌};
 ghost use Rattle.drum_tool.specs.FaultStatus.{status_after};
 
+use crate::part::{Part, PartFault};
 use crate::status::Status;
 use drum_bound::Refusal;
 use drum_core::{DeckFault, Location};
+use drum_inputs::InputFault;
 use drum_times::NoteFault;
 
-/// Why there is no bound, or no replay.
+/// Why there is no bound, no report or no replay.
 #[derive(Debug, Drop)]
 pub enum Fault {
     /// A line that ends a part is missing.
     NoPart,
-    /// The input couldn't be read.
-    InputRead,
-    /// The input is longer than its limit.
-    InputTooLong,
-    /// There is no memory for the input, or for the machine.
+    /// The bytes of a part can't be had.
+    Part(Part, PartFault),
+    /// There is no memory for the bytes of a part, for the command line or for the machine.
     Memory,
     /// The deck is refused.
     Deck(DeckFault),
@@ -23,6 +23,8 @@ pub enum Fault {
     Times(NoteFault),
     /// The notes are refused.
     Notes(NoteFault),
+    /// The inputs are refused.
+    Inputs(InputFault),
     /// The analysis refuses the deck.
     Refused(Refusal),
     /// The inputs give a word to a location that the deck loads too.
@@ -35,9 +37,10 @@ impl Fault {
         ensures { result ≡ status_after self.now }
     {
         match self {
-            Fault::InputRead | Fault::InputTooLong | Fault::Memory => Status::Failed,
+            Fault::Part(..) | Fault::Memory => Status::Failed,
             Fault::Deck(DeckFault::Read | DeckFault::Memory) => Status::Failed,
             Fault::Times(NoteFault::Memory) | Fault::Notes(NoteFault::Memory) => Status::Failed,
+            Fault::Inputs(InputFault::Read | InputFault::Memory) => Status::Failed,
             Fault::Refused(Refusal::Memory) => Status::Failed,
             _ => Status::Refused,
         }

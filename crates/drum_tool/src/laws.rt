@@ -1,17 +1,27 @@
 //! Laws of the definitions, each the contract of a function that does nothing.
 
-ghost use Rattle.std.specs.Prelude.{◌≡◌, ℕ, ◌+◌, List, length, sum_by, take};
+ghost use Rattle.std.specs.Prelude.{◌≡◌, ℕ, ◌+◌, List, [], ◌∷◌, Option, codes, length, sum_by, take};
+ghost use Rattle.clap.specs.Words.{Text};
 ghost use Rattle.drum_core.specs.declared.deck.Deck.{Deck};
 ghost use Rattle.drum_core.specs.Loads.{cards_in};
 ghost use Rattle.drum_machine.specs.Run.{Turn};
 ghost use Rattle.drum_flow.specs.Walk.{Setting};
 ghost use Rattle.drum_bound.specs.declared.analysis.Analysis.{Analysis};
 ghost use Rattle.drum_bound.specs.AnalysisOf.{bound_of, visits_of};
+ghost use Rattle.drum_tool.specs.declared.status.Status.{Status};
+ghost use Rattle.drum_tool.specs.declared.status.Status.TheVariants.{Done};
 ghost use Rattle.drum_tool.specs.declared.verdict.Verdict.{Verdict};
+ghost use Rattle.drum_tool.specs.BoundText.{bound_text};
 ghost use Rattle.drum_tool.specs.Replay.{Given, IsReplayed, IsVerdict};
+ghost use Rattle.drum_tool.specs.Reply.{says};
 ghost use Rattle.drum_tool.specs.Report.{is_of_card, is_of_none, time_in, used_after, visits_at};
+ghost use Rattle.drum_tool.specs.Told.{AreNames, IsBoundOfFiles, IsBoundOfJoined};
+ghost use Rattle.drum_tool.specs.Words.{Answers};
 
-/// What is given fixes one run: as many of its first turns are the same, and those of fewer are a front of those of more.
+use drum_command::laws::each_line_is_taken;
+
+/// What is given fixes one run: as many of its first turns are the same, and those of fewer are a
+/// front of those of more.
 pub fn one_run()
     ensures same { (g : Setting) (given : Given) (turns others : List Turn)
         → IsReplayed g given turns → IsReplayed g given others → length turns ≡ length others
@@ -27,12 +37,35 @@ pub fn one_verdict()
         → (verdict ≡ other) × (step ≡ last) }
 {}
 
-/// The times that a report tells of the cards and of the other locations add up to the bound, whatever the deck, and the
-/// walk's time, which it tells last, is the bound.
+/// The times that a report tells of the cards and of the other locations add up to the bound,
+/// whatever the deck, and the walk's time, which it tells last, is the bound.
 pub fn report_adds_up()
     ensures times { (analysis : Analysis) (deck : Deck)
         → sum_by (λ line. time_in (visits_at (is_of_card deck line) (visits_of analysis)))
         (cards_in deck)
         + time_in (visits_at (is_of_none deck) (visits_of analysis)) ≡ bound_of analysis }
     ensures bound { (analysis : Analysis) → used_after 0 (visits_of analysis) ≡ bound_of analysis }
+{}
+
+/// A result that `bound` writes, with the names of three files, is the line of their bound, the
+/// worst of what they hold.
+pub fn bound_is_of_the_files()
+    ensures { (deck times notes : Text) (bytes : List ℕ) (failures : ℕ)
+        (held : List ℕ → Option (List ℕ)) (text : List ℕ) (status : Status)
+        → AreNames (deck ∷ times ∷ notes ∷ [])
+        → Answers (codes "bound" ∷ deck ∷ times ∷ notes ∷ []) bytes failures held
+        (says text status)
+        → (bound : ℕ) × IsBoundOfFiles held deck times notes bound
+        × (text ≡ bound_text bound) × (status ≡ Done) }
+{
+    each_line_is_taken();
+}
+
+/// A result that is written with no words is the line of the bound of the joined form.
+pub fn bound_is_of_the_input()
+    ensures { (bytes : List ℕ) (failures : ℕ) (held : List ℕ → Option (List ℕ))
+        (text : List ℕ) (status : Status)
+        → Answers [] bytes failures held (says text status)
+        → (bound : ℕ) × IsBoundOfJoined bytes bound
+        × (text ≡ bound_text bound) × (status ≡ Done) }
 {}

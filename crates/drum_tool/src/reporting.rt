@@ -16,13 +16,15 @@ use drum_times::Notes;
 use sending::{send_bound, send_cards, send_marks, send_other};
 use tallies::Tallies;
 
-/// Writes the report of an analysis: for each data card of the deck how often the walk visits its locations and the word
-/// times that it spends there, the same for all other locations, how often it passes each mark of the notes, and the
-/// bound. All is counted from the analysis's walk, so any deck and notes may be given. It takes no memory.
+/// Writes the report of an analysis: for each data card of the deck how often the walk visits its
+/// locations and the word times that it spends there, the same for all other locations, how often
+/// it passes each mark of the notes, and the bound. All is counted from the analysis's walk, so any
+/// deck and notes may be given. It takes no memory.
 ///
 /// # Errors
 ///
-/// Where a write fails, or takes none of some bytes: then a front of the text has gone out, of so many bytes as it says.
+/// Where a write fails, or takes none of some bytes: then a front of the text has gone out, of so
+/// many bytes as it says.
 pub fn report<O: Output>(
     analysis: &Analysis,
     deck: &Deck,

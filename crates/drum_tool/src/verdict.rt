@@ -1,3 +1,7 @@
+ghost use Rattle.std.specs.Prelude.{◌≡◌};
+ghost use Rattle.drum_tool.specs.Reply.{status_of};
+
+use crate::status::Status;
 use drum_machine::{Left, Why};
 
 /// What a replay found of its run.
@@ -21,4 +25,16 @@ pub enum Verdict {
         /// The word times used before this step.
         used: u64,
     },
+}
+
+impl Verdict {
+    /// How the program ends with it.
+    pub fn status(&self) -> Status
+        ensures { result ≡ status_of self.now }
+    {
+        match self {
+            Verdict::Kept { .. } => Status::Done,
+            Verdict::Left { .. } => Status::Left,
+        }
+    }
 }

@@ -29,7 +29,8 @@ pub trait Element: Sized {
 }
 
 impl Fields<'_> {
-    /// The elements of the array of tables at a key, from `low` to `high` of them; none without the key.
+    /// The elements of the array of tables at a key, from `low` to `high` of them; none without the
+    /// key.
     pub fn tables<T: Element + Drop>(
         &self,
         key: &str,

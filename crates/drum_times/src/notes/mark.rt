@@ -9,8 +9,8 @@ pub struct Mark {
     pub from: Location,
     /// Where that step goes on.
     pub onto: Location,
-    /// How often it is passed at most, 0 to 9999, since the last pass of a mark that it stands inside of,
-    /// directly or through others, or from the beginning.
+    /// How often it is passed at most, 0 to 9999, since the last pass of a mark that it stands
+    /// inside of, directly or through others, or from the beginning.
     pub most: u16,
     /// The earlier mark that it stands inside of, counted from 0.
     pub inside: Option<usize>,

@@ -39,7 +39,8 @@ impl Pattern {
         (self.d_to - self.d_from) as usize + 1
     }
 
-    /// The instruction at a place, from 0, of those that match, D ascending; `None` from [`Pattern::len`] on.
+    /// The instruction at a place, from 0, of those that match, D ascending; `None` from
+    /// [`Pattern::len`] on.
     pub fn at(self, place: usize) -> Option<Instruction>
         ensures { result ≡ slice_get (matching self) place }
     {

@@ -25,7 +25,8 @@ const PROGRAMMED: [(&str, Programmed); 3] = [
 
 const LOAD_CARDS: [(&str, bool); 2] = [("none", false), ("any", true)];
 
-/// Reads notes: a TOML document with the keys `programmed` and `load_cards`, and perhaps `mark` and `list`.
+/// Reads notes: a TOML document with the keys `programmed` and `load_cards`, and perhaps `mark` and
+/// `list`.
 ///
 /// # Errors
 ///

@@ -18,8 +18,8 @@ use drum_core::{Op, Parity};
 use std::alloc::Global;
 use toml::Table;
 
-/// Reads a timing table: a TOML document with the one key `op`, a table with one table for each of the 42
-/// operations, under its two digits.
+/// Reads a timing table: a TOML document with the one key `op`, a table with one table for each of
+/// the 42 operations, under its two digits.
 ///
 /// # Errors
 ///

@@ -50,7 +50,8 @@ const PARITIES: [(&str, Parity); 3] = [
     ("odd", Parity::Odd),
 ];
 
-/// What each operation's entry says, and nothing of what only some have. None of its keys is missing.
+/// What each operation's entry says, and nothing of what only some have. None of its keys is
+/// missing.
 fn read_plain(fields: &Fields<'_>) -> Result<Entry, NoteFault>
     requires { missing_in fields.now.at.now (document.keys_of Form.Plain) (table_view fields.now.table.now) ≡ [] }
     ensures said { IfOk result (document.IsPlain (table_view fields.now.table.now)) }

@@ -1,39 +1,21 @@
 //! The lines of a report, each written behind what has gone out.
 
 ghost use Rattle.std.specs.Prelude.{◌≡◌, ℕ, ◌+◌, ◌*◌, ◌^◌, ◌<◌, ◌≤◌, ◌++◌, List, IfOk, length, codes, decimal, flat_map};
-ghost use Rattle.drum_core.specs.Device.{joined};
 ghost use Rattle.drum_core.specs.Loads.{cards_in};
 ghost use Rattle.drum_bound.specs.Visited.{Visited};
+ghost use Rattle.drum_tool.specs.BoundText.{bound_text};
 ghost use Rattle.drum_tool.specs.Report.{card_line, mark_line};
 ghost use Rattle.drum_tool.specs.Sent.{IsSent, fails_by};
 ghost use Rattle.drum_tool.specs.TalliesOf.{AreByLine, ArePasses, told_of_card, told_of_mark, told_of_others};
 
 use super::tallies::LINES;
 use super::tally::Tally;
-use crate::print::four_digits;
+use crate::print::{four_digits, send};
 use crate::write_fault::WriteFault;
-use drum_core::device::pieces::write_pieces;
 use drum_core::{Deck, Output};
 use drum_machine::passes::MOST_MARKS;
 use drum_times::Mark;
 use itoa::Buffer;
-
-/// Writes pieces behind so many bytes, and tells how many have gone out then.
-fn send<O: Output>(writer: &mut O, sent: usize, pieces: &[&[u8]]) -> Result<usize, WriteFault>
-    requires called { O.called writer.old + length (joined pieces.now) ≤ 2 ^ 63 }
-    requires few { sent + length (joined pieces.now) ≤ 2 ^ 63 }
-    ensures sent { IsSent (O.written writer.old) (O.written writer.new) sent result
-        (joined pieces.now) }
-    ensures failures { O.failed writer.new ≡ O.failed writer.old + fails_by result }
-    ensures calls { O.called writer.new ≤ O.called writer.old + length (joined pieces.now) }
-{
-    match write_pieces(writer, pieces) {
-        Ok(count) => Ok(sent + count),
-        Err(unsent) => Err(WriteFault {
-            sent: sent + unsent.sent,
-        }),
-    }
-}
 
 /// Writes the line of a card.
 fn send_card<O: Output>(
@@ -130,7 +112,7 @@ pub fn send_bound<O: Output>(writer: &mut O, sent: usize, bound: u64) -> Result<
     requires called { O.called writer.old ≤ 2 ^ 62 + 2 ^ 40 }
     requires few { sent ≤ 2 ^ 40 }
     ensures sent { IsSent (O.written writer.old) (O.written writer.new) sent result
-        (codes "bound " ++ decimal bound ++ codes "\n") }
+        (bound_text bound) }
     ensures failures { O.failed writer.new ≡ O.failed writer.old + fails_by result }
     ensures calls { O.called writer.new ≤ O.called writer.old + 120 }
 {

@@ -16,7 +16,8 @@ use drum_times::Mark as NotedMark;
 /// One more than a deck has lines at most.
 pub const LINES: usize = 4001;
 
-/// What a walk spends at the cards of a deck and elsewhere, and how often it passes the marks of notes.
+/// What a walk spends at the cards of a deck and elsewhere, and how often it passes the marks of
+/// notes.
 #[derive(Drop)]
 pub struct Tallies {
     /// By the cards' lines.
@@ -50,7 +51,8 @@ fn count_passes(passed: &mut [u64; MOST_MARKS], marks: &[NotedMark], visit: &Vis
 }
 
 impl Tallies {
-    /// The tallies of a walk, by the cards of a deck and the marks of notes: one pass over the walk.
+    /// The tallies of a walk, by the cards of a deck and the marks of notes: one pass over the
+    /// walk.
     pub fn of(walk: &[Visit], deck: &Deck, marks: &[NotedMark]) -> Tallies
         requires later { All (λ visit. visit.begun ≤ visit.ended) walk.now }
         requires short { time_in (map seen_visit walk.now) < 2 ^ 62 }

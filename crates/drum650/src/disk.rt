@@ -1,0 +1,26 @@
+//! Files of the system, by their names.
+
+ghost use Rattle.std.specs.Prelude.{None};
+
+use drum_core::Reading;
+use drum_tool::Source;
+use std::fs::File;
+
+/// The file system. No contract can tell what a file holds.
+#[derive(Drop)]
+pub struct Disk<'a> {
+    pub rt: &'a HostRuntime,
+}
+
+impl Source for Disk<'_> {
+    type Text = Reading<File>;
+
+    ghost file = { λ _ _. None };
+
+    fn fetch(&mut self, name: &str) -> Option<Reading<File>> {
+        match File::open(self.rt, name) {
+            Ok(file) => Some(Reading::new(file)),
+            Err(_) => None,
+        }
+    }
+}

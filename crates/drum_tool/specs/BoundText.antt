@@ -1,0 +1,5 @@
+-- The line of a bound (this project's choice).
+use Rattle.std.specs.Prelude.{ℕ, List, ◌++◌, codes, decimal}
+
+abbrev pub bound_text : ℕ → List ℕ
+bound_text bound = codes "bound " ++ decimal bound ++ codes "\n"

@@ -1,0 +1,72 @@
+-- The documents of a program, a deck, a timing table and notes: what is known of them, and which
+-- texts say them.
+use Rattle.std.specs.Prelude.{ℕ, List}
+use Rattle.drum_core.specs.declared.deck.Deck.{Deck}
+use Rattle.drum_core.specs.declared.deck.fault.DeckFault.{DeckFault}
+use Rattle.drum_core.specs.declared.deck.fault.DeckFault.TheVariants as of_deck
+use Rattle.drum_core.specs.DeckText as text
+use Rattle.drum_core.specs.Holds.{IsDeckOf}
+use Rattle.drum_core.specs.Loads.{loads_in, start_in}
+use Rattle.drum_times.specs.declared.times.Times.{Times}
+use Rattle.drum_times.specs.Says.{SayTimes, SayNotes, AreNoTimes, AreNoNotes}
+use Rattle.drum_flow.specs.Acceptance.{IsRefusal}
+use Rattle.drum_flow.specs.Walk.{Setting}
+use Rattle.drum_bound.specs.AnalysisOf.{setting}
+use Rattle.drum_bound.specs.Visited.{Visited, IsWalkOf}
+use Rattle.drum_bound.specs.Worst.{IsWorst}
+use Rattle.drum_tool.specs.declared.documents.Documents.{Documents}
+use Rattle.drum_tool.specs.declared.fault.Fault.{Fault}
+use Rattle.drum_tool.specs.declared.fault.Fault.TheVariants as fault
+use Rattle.drum_tool.specs.Following.{IsBounded}
+
+-- what their walks are in
+abbrev pub setting_of : Documents → Setting
+setting_of documents = setting documents.deck documents.times documents.notes
+
+-- Their bound: some walk takes this time and none takes more, and no run that keeps to the notes
+-- ever uses more.
+pub record IsBound (documents : Documents) (bound : ℕ) : Type 0 where
+  pub worst : IsWorst (setting_of documents) bound
+  pub bounded : IsBounded (setting_of documents) bound
+
+-- a walk of this time
+pub record IsWorstWalk (documents : Documents) (bound : ℕ) (walk : List Visited) : Type 0 where
+  pub angle : ℕ
+  pub is_walk : IsWalkOf (setting_of documents) angle bound walk
+
+-- why they have no bound: the deck with its notes is refused
+abbrev pub IsAnalysisFault : Documents → Fault → Type 0
+IsAnalysisFault documents (fault.Refused refusal) =
+    IsRefusal (loads_in documents.deck) documents.notes (start_in documents.deck) refusal
+IsAnalysisFault documents _ = ⊥
+
+-- the text is that of the deck
+abbrev pub SaysDeck : List ℕ → Deck → Type 0
+SaysDeck bytes deck = (lines : List text.Line) × text.IsDeck bytes lines × IsDeckOf deck lines
+
+-- why a text is no deck (that memory was wanting is tested, not said)
+abbrev pub IsNoDeck : List ℕ → DeckFault → Type 0
+IsNoDeck bytes of_deck.Memory = Unit {0}
+IsNoDeck bytes one = text.IsRefused bytes one
+
+-- the texts of documents
+pub record Texts : Type 0 where
+  pub deck : List ℕ
+  pub times : List ℕ
+  pub notes : List ℕ
+
+pub record Say (texts : Texts) (documents : Documents) : Type 0 where
+  pub deck : SaysDeck texts.deck documents.deck
+  pub times : SayTimes texts.times documents.times
+  pub notes : SayNotes texts.notes documents.notes
+
+-- Why texts say no documents: the first of them that is refused, the deck, the timing table or the
+-- notes.
+abbrev pub SayNone : Texts → Fault → Type 0
+SayNone texts (fault.Deck one) = IsNoDeck texts.deck one
+SayNone texts (fault.Times one) =
+    ((deck : Deck) × SaysDeck texts.deck deck) × AreNoTimes texts.times one
+SayNone texts (fault.Notes one) =
+    ((deck : Deck) × SaysDeck texts.deck deck) × ((times : Times) × SayTimes texts.times times)
+    × AreNoNotes texts.notes one
+SayNone texts _ = ⊥

@@ -1,0 +1,110 @@
+-- Files, each by its name (this project's choice): the documents and the inputs that they hold, and
+-- why they hold none.
+use Rattle.std.specs.Prelude.{◌≡◌, ℕ, ◌<◌, ◌≤◌, List, length, Option, Some, None, IsSome, ◌⊎◌}
+use Rattle.drum_command.specs.declared.command.Files.{Files}
+use Rattle.drum_core.specs.declared.deck.Deck.{Deck}
+use Rattle.drum_core.specs.declared.deck.fault.DeckFault.TheVariants as of_deck
+use Rattle.drum_times.specs.declared.times.Times.{Times}
+use Rattle.drum_times.specs.Allowed.{Notes}
+use Rattle.drum_times.specs.Says.{SayTimes, SayNotes, AreNoTimes, AreNoNotes}
+use Rattle.drum_inputs.specs.declared.fault.InputFault.{InputFault}
+use Rattle.drum_inputs.specs.declared.fault.InputFault.TheVariants as of_inputs
+use Rattle.drum_inputs.specs.declared.inputs.Inputs.{Inputs}
+use Rattle.drum_inputs.specs.Inputs.{AreInputsOf}
+use Rattle.drum_inputs.specs.InputsText as text
+use Rattle.drum_tool.specs.declared.documents.Documents.{Documents}
+use Rattle.drum_tool.specs.declared.fault.Fault.{Fault}
+use Rattle.drum_tool.specs.declared.fault.Fault.TheVariants as fault
+use Rattle.drum_tool.specs.declared.part.Part as parts
+use Rattle.drum_tool.specs.declared.part.Part.TheVariants as part
+use Rattle.drum_tool.specs.declared.part.PartFault.TheVariants as what
+use Rattle.drum_tool.specs.Documents.{SaysDeck, IsNoDeck}
+
+-- What a fetch gives by what is told of the file: of an untold one anything, of one that can't be
+-- opened nothing, else its bytes.
+abbrev pub IsFetched : Option (Option (List ℕ)) → Option (Option (List ℕ)) → Type 0
+IsFetched None fetched = Unit {0}
+IsFetched (Some None) fetched = fetched ≡ None
+IsFetched (Some (Some bytes)) fetched = fetched ≡ Some (Some bytes)
+
+-- all files are told: by its name, the bytes of each, and of one that can't be opened none
+abbrev pub AreTold : (List ℕ → Option (Option (List ℕ))) → (List ℕ → Option (List ℕ)) → Type 0
+AreTold file held = (name : List ℕ) → file name ≡ Some (held name)
+
+-- a file's bytes, within the limit of a timing table and of notes
+abbrev pub Holds : Option (List ℕ) → List ℕ → Type 0
+Holds file bytes = (file ≡ Some bytes) × (length bytes ≤ 8388608)
+
+-- Why the bytes of a part can't be had: its file can't be opened; a reading of it failed; it is
+-- past its limit; or memory was wanting.
+abbrev pub HoldsNone : parts.Part → Option (List ℕ) → Fault → Type 0
+HoldsNone of file (fault.Part one what.Open) = (one ≡ of) × (file ≡ None)
+HoldsNone of file (fault.Part one what.Read) = (one ≡ of) × IsSome file
+HoldsNone of file (fault.Part one what.TooLong) =
+    (one ≡ of) × ((bytes : List ℕ) × (file ≡ Some bytes) × (8388608 < length bytes))
+HoldsNone of file fault.Memory = IsSome file
+HoldsNone of file _ = ⊥
+
+-- the file is that of a deck
+abbrev pub HoldsDeck : Option (List ℕ) → Deck → Type 0
+HoldsDeck file deck = (bytes : List ℕ) × (file ≡ Some bytes) × SaysDeck bytes deck
+
+-- why it is that of none: it can't be opened, a reading of it failed, or its text is no deck
+abbrev pub HoldsNoDeck : Option (List ℕ) → Fault → Type 0
+HoldsNoDeck file (fault.Part part.Deck what.Open) = file ≡ None
+HoldsNoDeck file (fault.Deck of_deck.Read) = IsSome file
+HoldsNoDeck file (fault.Deck one) = (bytes : List ℕ) × (file ≡ Some bytes) × IsNoDeck bytes one
+HoldsNoDeck file _ = ⊥
+
+-- the file is that of a timing table
+abbrev pub HoldsTimes : Option (List ℕ) → Times → Type 0
+HoldsTimes file times = (bytes : List ℕ) × Holds file bytes × SayTimes bytes times
+
+-- why it is that of none
+abbrev pub HoldsNoTimes : Option (List ℕ) → Fault → Type 0
+HoldsNoTimes file (fault.Times one) = (bytes : List ℕ) × Holds file bytes × AreNoTimes bytes one
+HoldsNoTimes file one = HoldsNone part.Times file one
+
+-- the file is that of notes
+abbrev pub HoldsNotes : Option (List ℕ) → Notes → Type 0
+HoldsNotes file notes = (bytes : List ℕ) × Holds file bytes × SayNotes bytes notes
+
+-- why it is that of none
+abbrev pub HoldsNoNotes : Option (List ℕ) → Fault → Type 0
+HoldsNoNotes file (fault.Notes one) = (bytes : List ℕ) × Holds file bytes × AreNoNotes bytes one
+HoldsNoNotes file one = HoldsNone part.Notes file one
+
+-- three files are those of documents
+pub record AreHeld (held : List ℕ → Option (List ℕ)) (files : Files) (documents : Documents) :
+    Type 0 where
+  pub deck : HoldsDeck (held files.deck.now) documents.deck
+  pub times : HoldsTimes (held files.times.now) documents.times
+  pub notes : HoldsNotes (held files.notes.now) documents.notes
+
+-- why they are not: the first of them, the deck, the timing table, the notes, that is refused
+abbrev pub AreNotHeld : (List ℕ → Option (List ℕ)) → Files → Fault → Type 0
+AreNotHeld held files one =
+    HoldsNoDeck (held files.deck.now) one
+    ⊎ ((deck : Deck) × HoldsDeck (held files.deck.now) deck
+    × (HoldsNoTimes (held files.times.now) one
+    ⊎ ((times : Times) × HoldsTimes (held files.times.now) times
+    × HoldsNoNotes (held files.notes.now) one)))
+
+-- the file is that of inputs
+abbrev pub HoldsInputs : Option (List ℕ) → Inputs → Type 0
+HoldsInputs file inputs =
+    (bytes : List ℕ) × (file ≡ Some bytes)
+    × (lines : List text.Line) × text.AreInputs bytes lines × AreInputsOf inputs lines
+
+-- why a text is no inputs (that memory was wanting is tested, not said)
+abbrev pub AreNoInputs : List ℕ → InputFault → Type 0
+AreNoInputs bytes of_inputs.Memory = Unit {0}
+AreNoInputs bytes one = text.IsRefused bytes one
+
+-- why a file is that of none: it can't be opened, a reading of it failed, or its text is no inputs
+abbrev pub HoldsNoInputs : Option (List ℕ) → Fault → Type 0
+HoldsNoInputs file (fault.Part part.Inputs what.Open) = file ≡ None
+HoldsNoInputs file (fault.Inputs of_inputs.Read) = IsSome file
+HoldsNoInputs file (fault.Inputs one) =
+    (bytes : List ℕ) × (file ≡ Some bytes) × AreNoInputs bytes one
+HoldsNoInputs file _ = ⊥

@@ -1,0 +1,62 @@
+-- The joined form (this project's choice): a deck, a timing table and notes in one text, told apart
+-- by lines.
+use Rattle.std.specs.Prelude.{◌≡◌, ℕ, ◌<◌, ◌≤◌, List, [], ◌++◌, codes, length, Contains, ◌⊎◌}
+use Rattle.drum_core.specs.Lines.{lines_of}
+use Rattle.drum_tool.specs.declared.documents.Documents.{Documents}
+use Rattle.drum_tool.specs.declared.fault.Fault.{Fault}
+use Rattle.drum_tool.specs.declared.fault.Fault.TheVariants as fault
+use Rattle.drum_tool.specs.declared.part.Part.TheVariants as part
+use Rattle.drum_tool.specs.declared.part.PartFault.TheVariants as what
+use Rattle.drum_tool.specs.Documents.{Texts, Say, SayNone}
+
+-- nothing, or bytes whose last is a line feed
+abbrev pub AreWholeLines : List ℕ → Type 0
+AreWholeLines text = (text ≡ []) ⊎ ((front : List ℕ) × (text ≡ front ++ codes "\n"))
+
+-- the text begins with the line, and a line feed or its end stands behind it
+abbrev pub Begins : List ℕ → List ℕ → Type 0
+Begins line text = ((rest : List ℕ) × (text ≡ line ++ codes "\n" ++ rest)) ⊎ (text ≡ line)
+
+-- A text is cut at its first line that is exactly the mark: what stands before this line, and what
+-- stands behind it and its line feed, which the text's last line may lack.
+pub record IsCut (mark text before behind : List ℕ) : Type 0 where
+  pub whole : AreWholeLines before
+  pub first : ¬ Contains (lines_of before) mark
+  pub spelled :
+      (text ≡ before ++ mark ++ codes "\n" ++ behind) ⊎ ((text ≡ before ++ mark) × (behind ≡ []))
+
+-- The first line `%TIMES` ends the deck, and the first line `%NOTES` behind it the timing table.
+pub record AreParts (text : List ℕ) (parts : Texts) : Type 0 where
+  pub rest : List ℕ
+  pub deck_ends : IsCut (codes "%TIMES") text parts.deck rest
+  pub times_end : IsCut (codes "%NOTES") rest parts.times parts.notes
+
+-- one of these lines is missing
+abbrev pub LacksPart : List ℕ → Type 0
+LacksPart text =
+    (¬ Contains (lines_of text) (codes "%TIMES"))
+    ⊎ ((deck : List ℕ) × (rest : List ℕ) × IsCut (codes "%TIMES") text deck rest
+    × (¬ Contains (lines_of rest) (codes "%NOTES")))
+
+-- the documents that a joined form says, by its parts
+abbrev pub Joins : List ℕ → Documents → Type 0
+Joins text documents = (parts : Texts) × AreParts text parts × Say parts documents
+
+-- why a joined form says none: a part is missing; else the first part that is refused
+abbrev pub JoinsNone : List ℕ → Fault → Type 0
+JoinsNone text fault.NoPart = LacksPart text
+JoinsNone text one = (parts : Texts) × AreParts text parts × SayNone parts one
+
+-- the documents of an input that gives these bytes, where so many reads failed
+abbrev pub Gives : List ℕ → ℕ → Documents → Type 0
+Gives bytes failures documents =
+    (failures ≡ 0) × (length bytes ≤ 16777216) × Joins bytes documents
+
+-- Why an input gives none: a read failed, and it is one; else there are too many bytes, or memory
+-- is wanting (which is tested, not said); else they join none.
+abbrev pub GivesNone : List ℕ → ℕ → Fault → Type 0
+GivesNone bytes failures (fault.Part part.Input what.Read) = failures ≡ 1
+GivesNone bytes failures (fault.Part part.Input what.TooLong) =
+    (failures ≡ 0) × (16777216 < length bytes)
+GivesNone bytes failures fault.Memory = failures ≡ 0
+GivesNone bytes failures one = (failures ≡ 0) × (length bytes ≤ 16777216) × JoinsNone bytes one

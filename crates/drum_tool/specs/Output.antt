@@ -1,0 +1,48 @@
+-- What standard output and standard error get of a reply, and how the program ends.
+use Rattle.std.specs.Prelude.{◌≡◌, ℕ, ◌+◌, ◌<◌, List, length, take, Option, Result, Ok, Err, ◌⊎◌}
+use Rattle.std.specs.Io.KnownBytes.{Appends}
+use Rattle.drum_tool.specs.declared.status.Status.{Status}
+use Rattle.drum_tool.specs.declared.status.Status.TheVariants.{Failed}
+use Rattle.drum_tool.specs.Reply.{Reply, says, complains}
+
+-- what a device was given, where that is known, and how many writes to it failed
+pub record Device : Type 0 where
+  pub written : Option (List ℕ)
+  pub failures : ℕ
+
+abbrev pub device : Option (List ℕ) → ℕ → Device
+device written failures = record { written = written; failures = failures }
+
+-- it gets the whole text, and no write fails
+abbrev pub GetsAll : Device → Device → List ℕ → Type 0
+GetsAll before after text =
+    Appends before.written after.written text × (after.failures ≡ before.failures)
+
+-- a write fails, and it has got a front of the text
+abbrev pub GetsFront : Device → Device → List ℕ → Type 0
+GetsFront before after text =
+    (count : ℕ) × (count < length text) × Appends before.written after.written (take count text)
+    × (after.failures ≡ before.failures + 1)
+
+-- of a complaint it gets all, or a front
+abbrev pub GetsComplaint : Device → Device → List ℕ → Type 0
+GetsComplaint before after text = GetsAll before after text ⊎ GetsFront before after text
+
+-- of a result too, and the program ends as the result says, or it has failed with the write
+abbrev pub GetsResult : Device → Device → List ℕ → Status → Status → Type 0
+GetsResult before after text done status =
+    (GetsAll before after text × (status ≡ done))
+    ⊎ (GetsFront before after text × (status ≡ Failed))
+
+-- how the program ends once a result was written
+abbrev pub ended_with : {A E : Type 0} → Result A E → Status → Status
+ended_with (Ok done) status = status
+ended_with (Err fault) status = Failed
+
+-- A result goes to standard output, and a complaint to standard error, where a write that fails
+-- changes nothing. The other device gets nothing.
+abbrev pub Tells : Reply → Device → Device → Device → Device → Status → Type 0
+Tells (says text done) out out' err err' status =
+    GetsResult out out' text done status × (err' ≡ err)
+Tells (complains text after) out out' err err' status =
+    (out' ≡ out) × GetsComplaint err err' text × (status ≡ after)

@@ -1,0 +1,29 @@
+-- What a line of the program tells of the files and of the bytes that it was given.
+use Rattle.std.specs.Prelude.{◌≡◌, ℕ, true, List, Option, not}
+use Rattle.std.specs.List.{list_all}
+use Rattle.clap.specs.Words.{Text}
+use Rattle.drum_command.specs.Line.{begins_with_hyphen}
+use Rattle.drum_tool.specs.declared.documents.Documents.{Documents}
+use Rattle.drum_tool.specs.Documents.{IsBound}
+use Rattle.drum_tool.specs.Files.{HoldsDeck, HoldsTimes, HoldsNotes}
+use Rattle.drum_tool.specs.Joined.{Joins}
+
+-- none of the words is taken for an option
+abbrev pub AreNames : List Text → Type 0
+AreNames words = list_all (λ word. not (begins_with_hyphen word)) words ≡ true
+
+-- The bound of the deck, the timing table and the notes in the files of these names: some walk
+-- takes this time and none takes more, and no run that keeps to the notes ever uses more.
+pub record IsBoundOfFiles (held : List ℕ → Option (List ℕ)) (deck times notes : Text) (bound : ℕ) :
+    Type 0 where
+  pub documents : Documents
+  pub of_deck : HoldsDeck (held deck) documents.deck
+  pub of_times : HoldsTimes (held times) documents.times
+  pub of_notes : HoldsNotes (held notes) documents.notes
+  pub is_bound : IsBound documents bound
+
+-- the bound of a joined form
+pub record IsBoundOfJoined (text : List ℕ) (bound : ℕ) : Type 0 where
+  pub documents : Documents
+  pub joins : Joins text documents
+  pub is_bound : IsBound documents bound

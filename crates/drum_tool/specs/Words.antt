@@ -1,0 +1,35 @@
+-- What the program says to its words (this project's choice).
+use Rattle.std.specs.Prelude.{◌≡◌, ℕ, true, List, [], ◌∷◌, Option, Some, string_bytes, ◌⊎◌}
+use Rattle.clap.specs.Words.{Text, fault_of, takes}
+use Rattle.drum_command.specs.declared.command.Command.{Command}
+use Rattle.drum_command.specs.declared.refused.Refused.{Refused}
+use Rattle.drum_command.specs.declared.refused.Refused.TheVariants.{Help, Usage, Memory}
+use Rattle.drum_command.specs.Line.{drum650, said_by, said_by_words}
+use Rattle.drum_command.specs.Refusal.{FitsAmong}
+use Rattle.drum_tool.specs.declared.fault.Fault.TheVariants as fault
+use Rattle.drum_tool.specs.declared.status.Status.TheVariants as status
+use Rattle.drum_tool.specs.Reply.{Reply, says, complains, fault_reply, AnswersCommand, AnswersJoined}
+
+-- the reply to words that name no command: help, or what is wrong with them
+abbrev pub refused_reply : Refused → Reply
+refused_reply (Help text) = says (string_bytes text) status.Done
+refused_reply (Usage text) = complains (string_bytes text) status.Usage
+refused_reply Memory = fault_reply fault.Memory
+
+-- Words are refused for a fault that clap states of them, and a command line that it takes is
+-- refused for want of memory alone.
+pub record AreRefused (words : List Text) (refused : Refused) : Type 0 where
+  pub fits : FitsAmong (fault_of drum650 words) refused
+  pub taken : takes drum650 words ≡ true → refused ≡ Memory
+
+-- The reply to words, where the input gives these bytes with so many failures, and files hold
+-- these: with no words that to the joined form; else that to the command that clap finds in them;
+-- else why they are refused.
+abbrev pub Answers :
+    List Text → List ℕ → ℕ → (List ℕ → Option (List ℕ)) → Reply → Type 0
+Answers [] bytes failures held reply = AnswersJoined bytes failures reply
+Answers (word ∷ words) bytes failures held reply =
+    ((command : Command) × (said_by_words (word ∷ words) ≡ Some (said_by command))
+    × AnswersCommand held command reply)
+    ⊎ ((refused : Refused) × AreRefused (word ∷ words) refused
+    × (reply ≡ refused_reply refused))

@@ -1,0 +1,48 @@
+ghost use Rattle.std.specs.Prelude.{IfOk, IfErr};
+ghost use Rattle.drum_bound.specs.AnalysisOf.{bound_of, visits_of};
+ghost use Rattle.drum_tool.specs.Documents.{IsAnalysisFault, IsBound, IsWorstWalk};
+
+use crate::fault::Fault;
+use drum_bound::{Analysis, analyse};
+use drum_core::Deck;
+use drum_times::{Notes, Times};
+use std::alloc::Global;
+
+/// A deck, its timing table and its notes.
+#[derive(Debug, Drop)]
+pub struct Documents {
+    pub deck: Deck,
+    pub times: Times,
+    pub notes: Notes,
+}
+
+impl Documents {
+    /// Their analysis.
+    ///
+    /// # Errors
+    ///
+    /// [`Fault::Refused`] where the deck with its notes isn't accepted, or memory is wanting.
+    pub fn analyse(&self, alloc: Global) -> Result<Analysis, Fault>
+        ensures bound { IfOk result (λ analysis. IsBound self.now (bound_of analysis)) }
+        ensures walk { IfOk result (λ analysis.
+            IsWorstWalk self.now (bound_of analysis) (visits_of analysis)) }
+        ensures fault { IfErr result (IsAnalysisFault self.now) }
+    {
+        match analyse(alloc, &self.deck, &self.times, &self.notes) {
+            Ok(analysis) => Ok(analysis),
+            Err(refusal) => Err(Fault::Refused(refusal)),
+        }
+    }
+
+    /// Their bound.
+    ///
+    /// # Errors
+    ///
+    /// As [`Documents::analyse`].
+    pub fn bound(&self, alloc: Global) -> Result<u64, Fault>
+        ensures bound { IfOk result (IsBound self.now) }
+        ensures fault { IfErr result (IsAnalysisFault self.now) }
+    {
+        Ok(self.analyse(alloc)?.bound())
+    }
+}

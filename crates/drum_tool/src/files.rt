@@ -1,0 +1,152 @@
+//! Files read, each to its limit, and checked one after the other.
+
+ghost use Rattle.std.specs.Prelude.{◌≡◌, ◌+◌, ◌^◌, ◌≤◌, ◌↔◌, ℕ, List, Option, Some, IfOk, IfErr, IfSome, IsErrOf};
+ghost use Rattle.drum_tool.specs.Files.{AreHeld, AreNotHeld, AreTold, Holds, HoldsDeck, HoldsInputs, HoldsNoDeck, HoldsNoInputs, HoldsNone, HoldsNoNotes, HoldsNotes, HoldsNoTimes, HoldsTimes};
+
+use crate::documents::Documents;
+use crate::fault::Fault;
+use crate::part::{Part, PartFault};
+use crate::source::Source;
+use drum_command::Files;
+use drum_core::device::whole::{WholeError, read_whole};
+use drum_core::{Deck, Input, read_deck};
+use drum_inputs::{Inputs, read_inputs};
+use drum_times::{Notes, Times, read_notes, read_times};
+use std::alloc::Global;
+
+/// The most bytes of a timing table and of notes.
+const BYTES: usize = 8_388_608;
+
+/// The bytes of a part, one past the limit at most. That reading it failed is told exactly where a
+/// read did.
+fn bytes_of<I: Input>(alloc: Global, part: Part, text: &mut I) -> Result<Vec<u8>, Fault>
+    requires { I.called text.old ≤ 2 ^ 62 }
+    ensures bytes { IfOk result (λ bytes. IfSome (I.left text.old) (λ all.
+        Holds (Some all) bytes.items)) }
+    ensures fault { IfErr result (λ fault. IfSome (I.left text.old) (λ all.
+        HoldsNone part (Some all) fault)) }
+    ensures read { IsErrOf result (Fault.Part part PartFault.Read)
+        ↔ (I.failed text.new ≡ I.failed text.old + 1) }
+    ensures once { I.failed text.new ≤ I.failed text.old + 1 }
+    ensures asked { I.called text.new ≤ I.called text.old + 8388609 }
+{
+    match read_whole(alloc, text, BYTES) {
+        Ok(bytes) => Ok(bytes),
+        Err(WholeError::Read) => Err(Fault::Part(part, PartFault::Read)),
+        Err(WholeError::Memory) => Err(Fault::Memory),
+        Err(WholeError::TooLong) => Err(Fault::Part(part, PartFault::TooLong)),
+    }
+}
+
+/// The bytes of a part from its file.
+fn read_part<S: Source>(
+    alloc: Global,
+    source: &mut S,
+    part: Part,
+    name: &str,
+) -> Result<Vec<u8>, Fault>
+    ensures stays { S.file source.new ≡ S.file source.old }
+    ensures bytes { IfOk result (λ text. (file : Option (List ℕ))
+        → S.file source.old name.now ≡ Some file → Holds file text.items) }
+    ensures fault { IfErr result (λ fault. (file : Option (List ℕ))
+        → S.file source.old name.now ≡ Some file → HoldsNone part file fault) }
+{
+    match source.fetch(name) {
+        Some(mut text) => bytes_of(alloc, part, &mut text),
+        None => Err(Fault::Part(part, PartFault::Open)),
+    }
+}
+
+/// The deck of a file.
+fn deck_of<S: Source>(alloc: Global, source: &mut S, name: &str) -> Result<Deck, Fault>
+    ensures stays { S.file source.new ≡ S.file source.old }
+    ensures deck { IfOk result (λ deck. (file : Option (List ℕ))
+        → S.file source.old name.now ≡ Some file → HoldsDeck file deck) }
+    ensures fault { IfErr result (λ fault. (file : Option (List ℕ))
+        → S.file source.old name.now ≡ Some file → HoldsNoDeck file fault) }
+{
+    let Some(mut text) = source.fetch(name) else {
+        return Err(Fault::Part(Part::Deck, PartFault::Open));
+    };
+    match read_deck(alloc, &mut text) {
+        Ok(deck) => Ok(deck),
+        Err(fault) => Err(Fault::Deck(fault)),
+    }
+}
+
+/// The timing table of a file.
+fn times_of<S: Source>(alloc: Global, source: &mut S, name: &str) -> Result<Times, Fault>
+    ensures stays { S.file source.new ≡ S.file source.old }
+    ensures times { IfOk result (λ times. (file : Option (List ℕ))
+        → S.file source.old name.now ≡ Some file → HoldsTimes file times) }
+    ensures fault { IfErr result (λ fault. (file : Option (List ℕ))
+        → S.file source.old name.now ≡ Some file → HoldsNoTimes file fault) }
+{
+    let text = read_part(alloc, source, Part::Times, name)?;
+    match read_times(alloc, &text) {
+        Ok(times) => Ok(times),
+        Err(fault) => Err(Fault::Times(fault)),
+    }
+}
+
+/// The notes of a file.
+fn notes_of<S: Source>(alloc: Global, source: &mut S, name: &str) -> Result<Notes, Fault>
+    ensures stays { S.file source.new ≡ S.file source.old }
+    ensures notes { IfOk result (λ notes. (file : Option (List ℕ))
+        → S.file source.old name.now ≡ Some file → HoldsNotes file notes) }
+    ensures fault { IfErr result (λ fault. (file : Option (List ℕ))
+        → S.file source.old name.now ≡ Some file → HoldsNoNotes file fault) }
+{
+    let text = read_part(alloc, source, Part::Notes, name)?;
+    match read_notes(alloc, &text) {
+        Ok(notes) => Ok(notes),
+        Err(fault) => Err(Fault::Notes(fault)),
+    }
+}
+
+/// The inputs of a replay from their file.
+///
+/// # Errors
+///
+/// [`Fault::Part`] where it can't be opened; [`Fault::Inputs`] where it can't be read, or is
+/// refused.
+pub fn inputs_of<S: Source>(alloc: Global, source: &mut S, name: &str) -> Result<Inputs, Fault>
+    ensures stays { S.file source.new ≡ S.file source.old }
+    ensures inputs { IfOk result (λ inputs. (file : Option (List ℕ))
+        → S.file source.old name.now ≡ Some file → HoldsInputs file inputs) }
+    ensures fault { IfErr result (λ fault. (file : Option (List ℕ))
+        → S.file source.old name.now ≡ Some file → HoldsNoInputs file fault) }
+{
+    let Some(mut text) = source.fetch(name) else {
+        return Err(Fault::Part(Part::Inputs, PartFault::Open));
+    };
+    match read_inputs(alloc, &mut text) {
+        Ok(inputs) => Ok(inputs),
+        Err(fault) => Err(Fault::Inputs(fault)),
+    }
+}
+
+impl Documents {
+    /// The documents of three files, read and checked one after the other.
+    ///
+    /// # Errors
+    ///
+    /// The fault of the first file that has one: that it can't be opened or read or is past its
+    /// limit, or why its text is refused.
+    pub fn of_files<S: Source>(
+        alloc: Global,
+        source: &mut S,
+        files: Files<'_>,
+    ) -> Result<Documents, Fault>
+        ensures stays { S.file source.new ≡ S.file source.old }
+        ensures held { IfOk result (λ documents. (held : List ℕ → Option (List ℕ))
+            → AreTold (S.file source.old) held → AreHeld held files.entry documents) }
+        ensures fault { IfErr result (λ fault. (held : List ℕ → Option (List ℕ))
+            → AreTold (S.file source.old) held → AreNotHeld held files.entry fault) }
+    {
+        let deck = deck_of(alloc, source, files.deck)?;
+        let times = times_of(alloc, source, files.times)?;
+        let notes = notes_of(alloc, source, files.notes)?;
+        Ok(Documents { deck, times, notes })
+    }
+}

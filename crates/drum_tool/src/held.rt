@@ -1,0 +1,48 @@
+ghost use Rattle.std.specs.Prelude.{◌≡◌, Some};
+
+use drum_core::{Failed, Input};
+use std::io::Read;
+
+/// Bytes that are held already: reading them never fails.
+#[derive(Drop)]
+pub struct Held<'a> {
+    rest: &'a [u8],
+    calls: u64,
+}
+
+impl<'a> Held<'a> {
+    /// All of these bytes.
+    pub fn new(bytes: &'a [u8]) -> Held<'a>
+        ensures bytes { ⟦<Held<'a> as Input>⟧.left result ≡ Some bytes.now }
+        ensures calls { ⟦<Held<'a> as Input>⟧.called result ≡ 0 }
+    {
+        Held {
+            rest: bytes,
+            calls: 0,
+        }
+    }
+}
+
+impl Input for Held<'_> {
+    ghost left = { λ held. Some held.rest.now };
+
+    ghost called = { λ held. held.calls };
+
+    ghost failed = { λ held. 0 };
+
+    fn read(&mut self, buf: &mut [u8]) -> Result<usize, Failed> {
+        self.calls += 1;
+        match self.rest.read(buf) {
+            Ok(count) => Ok(count),
+            Err(_) => unreachable!(),
+        }
+    }
+
+    fn calls(&self) -> u64 {
+        self.calls
+    }
+
+    fn failures(&self) -> u64 {
+        0
+    }
+}

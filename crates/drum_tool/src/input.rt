@@ -1,0 +1,69 @@
+//! The joined form, read from an input and taken apart.
+
+ghost use Rattle.std.specs.Prelude.{◌≡◌, ◌+◌, ◌^◌, ◌≤◌, ℕ, List, Some, IfOk, IfErr};
+ghost use Rattle.drum_tool.specs.Joined.{Gives, GivesNone, Joins, JoinsNone};
+
+use crate::documents::Documents;
+use crate::fault::Fault;
+use crate::held::Held;
+use crate::joined::Parts;
+use crate::part::{Part, PartFault};
+use drum_core::device::whole::{WholeError, read_whole};
+use drum_core::{Input, read_deck};
+use drum_times::{read_notes, read_times};
+use std::alloc::Global;
+
+/// The most bytes of the joined form.
+const BYTES: usize = 16_777_216;
+
+impl Documents {
+    /// The documents of a joined form. Its parts are checked one after the other.
+    ///
+    /// # Errors
+    ///
+    /// [`Fault::NoPart`] where a part is missing; else the fault of the first part that has one.
+    pub fn of_joined(alloc: Global, text: &[u8]) -> Result<Documents, Fault>
+        ensures joins { IfOk result (Joins text.now) }
+        ensures fault { IfErr result (JoinsNone text.now) }
+    {
+        let Some(parts) = Parts::of(text) else {
+            return Err(Fault::NoPart);
+        };
+        let deck = match read_deck(alloc, &mut Held::new(parts.deck)) {
+            Ok(deck) => deck,
+            Err(fault) => return Err(Fault::Deck(fault)),
+        };
+        let times = match read_times(alloc, parts.times) {
+            Ok(times) => times,
+            Err(fault) => return Err(Fault::Times(fault)),
+        };
+        match read_notes(alloc, parts.notes) {
+            Ok(notes) => Ok(Documents { deck, times, notes }),
+            Err(fault) => Err(Fault::Notes(fault)),
+        }
+    }
+
+    /// The documents of the joined form that an input gives, of 16,777,217 bytes at most.
+    ///
+    /// # Errors
+    ///
+    /// [`Fault::Part`] where the input can't be read, or is past its limit; [`Fault::Memory`]; else
+    /// as [`Documents::of_joined`].
+    pub fn of_input<I: Input>(alloc: Global, input: &mut I) -> Result<Documents, Fault>
+        requires { I.called input.old ≤ 2 ^ 62 }
+        ensures gives { IfOk result (λ documents. (bytes : List ℕ) (failures : ℕ)
+            → I.left input.old ≡ Some bytes → I.failed input.new ≡ I.failed input.old + failures
+            → Gives bytes failures documents) }
+        ensures fault { IfErr result (λ fault. (bytes : List ℕ) (failures : ℕ)
+            → I.left input.old ≡ Some bytes → I.failed input.new ≡ I.failed input.old + failures
+            → GivesNone bytes failures fault) }
+        ensures asked { I.called input.new ≤ I.called input.old + 16777217 }
+    {
+        match read_whole(alloc, input, BYTES) {
+            Ok(text) => Documents::of_joined(alloc, &text),
+            Err(WholeError::Read) => Err(Fault::Part(Part::Input, PartFault::Read)),
+            Err(WholeError::Memory) => Err(Fault::Memory),
+            Err(WholeError::TooLong) => Err(Fault::Part(Part::Input, PartFault::TooLong)),
+        }
+    }
+}

@@ -1,0 +1,119 @@
+//! The program, over its words and devices.
+
+ghost use Rattle.std.specs.Prelude.{◌≡◌, ◌+◌, ◌^◌, ◌<◌, ◌≤◌, ℕ, List, Option, Some, IfOk, IfErr, length};
+ghost use Rattle.clap.specs.Walk.{texts};
+ghost use Rattle.drum_tool.specs.Files.{AreTold};
+ghost use Rattle.drum_tool.specs.Output.{Tells, device};
+ghost use Rattle.drum_tool.specs.Reply.{AnswersJoined, Reply, bound_reply, fault_reply};
+ghost use Rattle.drum_command.specs.Refusal.{IsShort};
+ghost use Rattle.drum_tool.specs.Words.{Answers, refused_reply};
+
+use crate::commands::obey;
+use crate::documents::Documents;
+use crate::fault::Fault;
+use crate::source::Source;
+use crate::status::Status;
+use crate::telling::{tell_bound, tell_fault, tell_help, tell_usage};
+use drum_command::{Refused, read_words};
+use drum_core::{Input, Output};
+use std::alloc::Global;
+
+/// The bound of the joined form that an input gives.
+fn joined_bound<I: Input>(alloc: Global, input: &mut I) -> Result<u64, Fault>
+    requires { I.called input.old ≤ 2 ^ 62 }
+    ensures bound { IfOk result (λ bound. (bytes : List ℕ) (failures : ℕ)
+        → I.left input.old ≡ Some bytes → I.failed input.new ≡ I.failed input.old + failures
+        → AnswersJoined bytes failures (bound_reply bound)) }
+    ensures fault { IfErr result (λ fault. (bytes : List ℕ) (failures : ℕ)
+        → I.left input.old ≡ Some bytes → I.failed input.new ≡ I.failed input.old + failures
+        → AnswersJoined bytes failures (fault_reply fault)) }
+    ensures asked { I.called input.new ≤ I.called input.old + 16777217 }
+{
+    let documents = Documents::of_input(alloc, input)?;
+    documents.bound(alloc)
+}
+
+/// Reads the joined form, a deck, a timing table and notes, and writes the deck's bound to `out`,
+/// or the line of its first fault to `err`.
+///
+/// The whole input is read first, 16,777,217 bytes at most. A failed write of the bound ends with
+/// [`Status::Failed`] and no fault line; a failed write to `err` changes nothing.
+pub fn run_joined<I: Input, O: Output, E: Output>(
+    alloc: Global,
+    input: &mut I,
+    out: &mut O,
+    err: &mut E,
+) -> Status
+    requires input { I.called input.old ≤ 2 ^ 62 }
+    requires out { O.called out.old ≤ 2 ^ 62 }
+    requires err { E.called err.old ≤ 2 ^ 62 }
+    ensures told { (reply : Reply)
+        × Tells reply (device (O.written out.old) (O.failed out.old))
+        (device (O.written out.new) (O.failed out.new))
+        (device (E.written err.old) (E.failed err.old))
+        (device (E.written err.new) (E.failed err.new)) result
+        × ((bytes : List ℕ) (failures : ℕ)
+        → I.left input.old ≡ Some bytes → I.failed input.new ≡ I.failed input.old + failures
+        → AnswersJoined bytes failures reply) }
+    ensures asked { I.called input.new ≤ I.called input.old + 16777217 }
+{
+    match joined_bound(alloc, input) {
+        Ok(bound) => tell_bound(out, bound),
+        Err(fault) => tell_fault(err, &fault),
+    }
+}
+
+/// Writes why words name no command: help to `out`, all else to `err`.
+fn refuse<O: Output, E: Output>(out: &mut O, err: &mut E, refused: &Refused) -> Status
+    requires out { O.called out.old ≤ 2 ^ 62 }
+    requires err { E.called err.old ≤ 2 ^ 62 }
+    requires short { IsShort refused.now }
+    ensures { Tells (refused_reply refused.now)
+        (device (O.written out.old) (O.failed out.old))
+        (device (O.written out.new) (O.failed out.new))
+        (device (E.written err.old) (E.failed err.old))
+        (device (E.written err.new) (E.failed err.new)) result }
+{
+    match refused {
+        Refused::Help(text) => tell_help(out, text.as_bytes()),
+        Refused::Usage(text) => tell_usage(err, text.as_bytes()),
+        Refused::Memory => tell_fault(err, &Fault::Memory),
+    }
+}
+
+/// The program: does what its words say, which are those after its name, and tells how it ends.
+///
+/// With no words it does what [`run_joined`] does; else it reads a command and its files, as
+/// [`obey`] does, or says why the words name none: help goes to `out`, all else to `err`.
+pub fn run<'a, S: Source, I: Input, O: Output, E: Output>(
+    alloc: Global,
+    words: &'a [&'a str],
+    source: &mut S,
+    input: &mut I,
+    out: &mut O,
+    err: &mut E,
+) -> Status
+    requires input { I.called input.old ≤ 2 ^ 62 }
+    requires out { O.called out.old ≤ 2 ^ 62 }
+    requires err { E.called err.old ≤ 2 ^ 62 }
+    ensures told { (reply : Reply)
+        × Tells reply (device (O.written out.old) (O.failed out.old))
+        (device (O.written out.new) (O.failed out.new))
+        (device (E.written err.old) (E.failed err.old))
+        (device (E.written err.new) (E.failed err.new)) result
+        × ((bytes : List ℕ) (failures : ℕ) (held : List ℕ → Option (List ℕ))
+        → I.left input.old ≡ Some bytes → I.failed input.new ≡ I.failed input.old + failures
+        → AreTold (S.file source.old) held
+        → Answers (texts words.entry.now) bytes failures held reply) }
+    ensures asked { I.called input.new ≤ I.called input.old + 16777217 }
+    // Where there are words, the input isn't read.
+    ensures spared { 0 < length words.entry.now → input.new ≡ input.old }
+{
+    if words.is_empty() {
+        return run_joined(alloc, input, out, err);
+    }
+    match read_words(alloc, words) {
+        Ok(command) => obey(alloc, command, source, out, err),
+        Err(refused) => refuse(out, err, &refused),
+    }
+}

@@ -1,0 +1,20 @@
+ghost use Rattle.std.specs.Prelude.{◌≡◌, ℕ, List, Option, IfSome, option_map};
+ghost use Rattle.drum_tool.specs.Files.{IsFetched};
+
+use drum_core::Input;
+
+/// What opens files by their names.
+pub trait Source {
+    /// A file's text.
+    type Text: Input + Drop;
+
+    /// What is told of the file of a name: nothing, that it can't be opened, or its bytes.
+    ghost file: { Self → List ℕ → Option (Option (List ℕ)) };
+
+    /// Opens the file of this name; `None` where it can't be opened, whatever the cause.
+    fn fetch(&mut self, name: &str) -> Option<Self::Text>
+        ensures stays { file self.new ≡ file self.old }
+        ensures bytes { IsFetched (file self.old name.now) (option_map Self.Text.left result) }
+        ensures calls { IfSome result (λ text. Self.Text.called text ≡ 0) }
+        ensures failures { IfSome result (λ text. Self.Text.failed text ≡ 0) };
+}

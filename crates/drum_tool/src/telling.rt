@@ -1,0 +1,100 @@
+//! What goes out of a reply: a result to standard output, a complaint to standard error.
+
+ghost use Rattle.std.specs.Prelude.{◌≡◌, ◌^◌, ◌≤◌, length};
+ghost use Rattle.drum_bound.specs.AnalysisOf.{visits_of};
+ghost use Rattle.drum_tool.specs.BoundText.{bound_text};
+ghost use Rattle.drum_tool.specs.FaultStatus.{status_after};
+ghost use Rattle.drum_tool.specs.FaultText.{fault_text};
+ghost use Rattle.drum_tool.specs.Output.{GetsComplaint, GetsResult, device, ended_with};
+ghost use Rattle.drum_tool.specs.Reply.{status_of};
+ghost use Rattle.drum_tool.specs.Report.{report_text};
+ghost use Rattle.drum_tool.specs.VerdictText.{verdict_text};
+
+use crate::documents::Documents;
+use crate::fault::Fault;
+use crate::print::fault_line::write_fault;
+use crate::print::verdict_line::write_verdict;
+use crate::print::{write_bound, write_text};
+use crate::reporting::report;
+use crate::status::Status;
+use crate::verdict::Verdict;
+use crate::write_fault::WriteFault;
+use drum_bound::Analysis;
+use drum_core::Output;
+
+/// How the program ends once a result was written.
+fn ended(written: Result<(), WriteFault>, done: Status) -> Status
+    ensures { result ≡ ended_with written done }
+{
+    match written {
+        Ok(()) => done,
+        Err(_) => Status::Failed,
+    }
+}
+
+/// Writes a bound.
+pub fn tell_bound<O: Output>(out: &mut O, bound: u64) -> Status
+    requires { O.called out.old ≤ 2 ^ 62 }
+    ensures { GetsResult (device (O.written out.old) (O.failed out.old))
+        (device (O.written out.new) (O.failed out.new)) (bound_text bound) Status.Done result }
+{
+    ended(write_bound(out, bound), Status::Done)
+}
+
+/// Writes the report of an analysis.
+pub fn tell_report<O: Output>(out: &mut O, documents: &Documents, analysis: &Analysis) -> Status
+    requires { O.called out.old ≤ 2 ^ 62 }
+    ensures { GetsResult (device (O.written out.old) (O.failed out.old))
+        (device (O.written out.new) (O.failed out.new))
+        (report_text documents.now.deck documents.now.notes (visits_of analysis.now))
+        Status.Done result }
+{
+    ended(
+        report(analysis, &documents.deck, &documents.notes, out),
+        Status::Done,
+    )
+}
+
+/// Writes a verdict.
+pub fn tell_verdict<O: Output>(out: &mut O, verdict: &Verdict) -> Status
+    requires { O.called out.old ≤ 2 ^ 62 }
+    ensures { GetsResult (device (O.written out.old) (O.failed out.old))
+        (device (O.written out.new) (O.failed out.new)) (verdict_text verdict.now)
+        (status_of verdict.now) result }
+{
+    ended(write_verdict(out, verdict), verdict.status())
+}
+
+/// Writes the line of a fault, and tells how the program ends after it: a write that fails changes
+/// nothing.
+pub fn tell_fault<E: Output>(err: &mut E, fault: &Fault) -> Status
+    requires { E.called err.old ≤ 2 ^ 62 }
+    ensures line { GetsComplaint (device (E.written err.old) (E.failed err.old))
+        (device (E.written err.new) (E.failed err.new)) (fault_text fault.now) }
+    ensures status { result ≡ status_after fault.now }
+{
+    let _ = write_fault(err, fault);
+    fault.status()
+}
+
+/// Writes the help that was asked for.
+pub fn tell_help<O: Output>(out: &mut O, text: &[u8]) -> Status
+    requires out { O.called out.old ≤ 2 ^ 62 }
+    requires short { length text.now ≤ 2 ^ 32 }
+    ensures { GetsResult (device (O.written out.old) (O.failed out.old))
+        (device (O.written out.new) (O.failed out.new)) text.now Status.Done result }
+{
+    ended(write_text(out, text), Status::Done)
+}
+
+/// Writes what is wrong with the command line: a write that fails changes nothing.
+pub fn tell_usage<E: Output>(err: &mut E, text: &[u8]) -> Status
+    requires err { E.called err.old ≤ 2 ^ 62 }
+    requires short { length text.now ≤ 2 ^ 32 }
+    ensures text { GetsComplaint (device (E.written err.old) (E.failed err.old))
+        (device (E.written err.new) (E.failed err.new)) text.now }
+    ensures status { result ≡ Status.Usage }
+{
+    let _ = write_text(err, text);
+    Status::Usage
+}
