@@ -1,5 +1,5 @@
-//! Tests that cross crates: whole inputs through the program's calls, with the answers that are known
-//! from outside.
+//! Tests that cross crates: whole inputs through the program's calls, with the answers that are
+//! known from outside.
 #![tactic(auto)]
 
 #[cfg(test)]
@@ -7,20 +7,12 @@ mod decks;
 #[cfg(test)]
 mod devices;
 #[cfg(test)]
-mod flow;
-#[cfg(test)]
 mod memory;
 #[cfg(test)]
 mod notes;
-#[cfg(test)]
-mod rotation;
-#[cfg(test)]
-mod steps;
 #[cfg(test)]
 mod straight;
 #[cfg(test)]
 mod support;
 #[cfg(test)]
 mod timings;
-#[cfg(test)]
-mod watched;

@@ -14,7 +14,8 @@ use std::test::Fail;
 enum Ended {
     /// It stopped, and had kept to the notes until then.
     Kept(Why, u64),
-    /// It left the notes at the step of this number, from 1, which began at this time; 0 where no step was taken.
+    /// It left the notes at the step of this number, from 1, which began at this time; 0 where no
+    /// step was taken.
     Left(Left, u32, u64),
     /// It didn't end in 20,000 steps.
     Open,

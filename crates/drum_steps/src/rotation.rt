@@ -19,7 +19,8 @@ fn three() -> Option<Then<AtAngle, Then<Delay, AtParity>>> {
     Then::new(AtAngle::new(3)?, delayed)
 }
 
-/// When the waits end that begin at this moment; `None` where there are none, or where they are longer than waits are.
+/// When the waits end that begin at this moment; `None` where there are none, or where they are
+/// longer than waits are.
 fn ended<W: Clockwork + Drop>(waits: Option<W>, clock: u16) -> Option<u64> {
     let waits = waits?;
     (waits.span() <= 1 << 40).then(|| waits.go(clock as u64))

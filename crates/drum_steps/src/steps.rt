@@ -1,4 +1,5 @@
-//! Steps of the machine, one at a time. What a register holds is told by the step that fetches it as an instruction.
+//! Steps of the machine, one at a time. What a register holds is told by the step that fetches it
+//! as an instruction.
 
 use drum_core::{Location, Reading, Word, read_deck};
 use drum_machine::{Card, Feed, Machine, Setup, Step, Why};
@@ -228,8 +229,8 @@ fn addresses_are_stored(rt: HostRuntime) -> Result<(), Fail> {
     Ok(())
 }
 
-/// Each operation once: what it leaves in the lower half, or where it goes on. At 0103 stands -0000000005, the
-/// accumulator is 30000000007, and the distributor +0000000009.
+/// Each operation once: what it leaves in the lower half, or where it goes on. At 0103 stands
+/// -0000000005, the accumulator is 30000000007, and the distributor +0000000009.
 #[test]
 fn each_operation(rt: HostRuntime) -> Result<(), Fail> {
     for (op, lower, upper) in [
