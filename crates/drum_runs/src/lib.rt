@@ -1,0 +1,18 @@
+//! Tests of the program's calls, over words, files, inputs and outputs, with answers that are known from
+//! outside.
+#![tactic(auto)]
+
+#[cfg(test)]
+mod files;
+#[cfg(test)]
+mod joined;
+#[cfg(test)]
+mod memory;
+#[cfg(test)]
+mod readings;
+#[cfg(test)]
+mod support;
+#[cfg(test)]
+mod words;
+#[cfg(test)]
+mod writers;
