@@ -1,4 +1,5 @@
-//! How long it takes to accept a deck of 2004 executed words, each with a list of 10,000 instructions.
+//! How long it takes to accept a deck of 2004 executed words, each with a list of 10,000
+//! instructions.
 
 use crate::{Stopped, stop};
 use drum_core::{Reading, read_deck};
@@ -8,7 +9,8 @@ use std::alloc::{AllocError, Global};
 use std::rt::Clock;
 use std::time::Instant;
 
-/// Notes that list every location: each goes on at the next, whatever its D, and the last one stops.
+/// Notes that list every location: each goes on at the next, whatever its D, and the last one
+/// stops.
 fn all_listed(alloc: Global) -> Result<String, AllocError> {
     let mut text = String::from_str(alloc, "programmed = \"stop\"\nload_cards = \"none\"\n")?;
     for slot in 0..2004u16 {

@@ -9,8 +9,8 @@ use std::time::Instant;
 /// How often the deck is read.
 const ROUNDS: u32 = 1000;
 
-/// A deck of 4000 lines that has a word for each location but the last five: 285 cards of seven words, a
-/// START line, and comments of 100 bytes.
+/// A deck of 4000 lines that has a word for each location but the last five: 285 cards of seven
+/// words, a START line, and comments of 100 bytes.
 fn full_deck(alloc: Global) -> Result<String, AllocError> {
     let mut text = String::new(alloc);
     for card in 0..285u32 {

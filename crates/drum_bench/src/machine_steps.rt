@@ -1,4 +1,5 @@
-//! How long the machine takes over ten million steps, in a loop of four words that adds and branches.
+//! How long the machine takes over ten million steps, in a loop of four words that adds and
+//! branches.
 
 use crate::table::timing_table;
 use crate::{Stopped, stop};
@@ -11,7 +12,8 @@ use std::time::Instant;
 /// How many steps are taken.
 const STEPS: u32 = 10_000_000;
 
-/// A loop that adds one to the lower accumulator, stores it, and branches back, whether or not it is zero.
+/// A loop that adds one to the lower accumulator, stores it, and branches back, whether or not it
+/// is zero.
 const DECK: &str =
     "0000 +1500100001 +2000110002 +4500030003 +0000000000\n0010 +0000000001\nSTART 0000\n";
 

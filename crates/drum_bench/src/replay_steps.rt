@@ -1,4 +1,5 @@
-//! How many steps a second a replay takes, in a loop inside of a loop, without the analysis that it makes first.
+//! How many steps a second a replay takes, in a loop inside of a loop, without the analysis that it
+//! makes first.
 
 use crate::machine_steps::take_steps;
 use crate::table::timing_table;
@@ -15,8 +16,9 @@ use std::time::Instant;
 /// How many replays are made.
 const REPLAYS: u64 = 10;
 
-/// The inner loop, at 0000 to 0003, takes one from the upper accumulator, stores and loads, and goes back until the upper
-/// accumulator is zero. The outer loop then takes one from the lower, and until that is zero adds to the upper anew.
+/// The inner loop, at 0000 to 0003, takes one from the upper accumulator, stores and loads, and
+/// goes back until the upper accumulator is zero. The outer loop then takes one from the lower, and
+/// until that is zero adds to the upper anew.
 const DECK: &str =
     "0000 +1100100001 +2000120002 +6900120003 +4400000004\n0004 +1600100005 +4500060007 +1000110000 +0100000007\n0010 +0000000001 +0000010000\nSTART 0000\n";
 
@@ -86,8 +88,8 @@ fn replay_time<R: AllocGlobal + Clock>(rt: &R, subject: &Subject) -> Result<u128
     }
 }
 
-/// Prints how long the replays take, how long as many analyses take, and how many steps a second the replays take in what
-/// is between.
+/// Prints how long the replays take, how long as many analyses take, and how many steps a second
+/// the replays take in what is between.
 pub(crate) fn run<R: AllocGlobal + Print + Clock>(rt: &R) -> Result<(), Stopped> {
     let subject = read(rt.alloc())?;
     let steps = steps_of(rt.alloc(), &subject)?;

@@ -29,8 +29,8 @@ impl Write for Counting {
     }
 }
 
-/// Prints how long the analysis of a ring of two thousand words takes, with 4,000,000 keys, how long the report of its
-/// walk takes, and how many thousandths the report is of the analysis.
+/// Prints how long the analysis of a ring of two thousand words takes, with 4,000,000 keys, how
+/// long the report of its walk takes, and how many thousandths the report is of the analysis.
 pub(crate) fn run<R: AllocGlobal + Print + Clock>(rt: &R) -> Result<(), Stopped> {
     let deck = ring(rt.alloc()).map_err(stop)?;
     let deck = read_deck(rt.alloc(), &mut Reading::new(deck.as_bytes())).map_err(stop)?;

@@ -20,8 +20,8 @@ pub(crate) fn ring(alloc: Global) -> Result<String, AllocError> {
     Ok(text)
 }
 
-/// Two thousand words in a ring of diamonds: each word goes on at the next or at the one after it, but the last two at
-/// the next alone.
+/// Two thousand words in a ring of diamonds: each word goes on at the next or at the one after it,
+/// but the last two at the next alone.
 fn diamonds(alloc: Global) -> Result<String, AllocError> {
     let mut text = String::new(alloc);
     for number in 0..1998u16 {
@@ -38,7 +38,8 @@ pub(crate) fn back(alloc: Global, most: u16) -> Result<String, AllocError> {
     Ok(text)
 }
 
-/// Prints the entries and the turns of an analysis, and how long it took, in all and for each of the possible keys.
+/// Prints the entries and the turns of an analysis, and how long it took, in all and for each of
+/// the possible keys.
 fn measure<R: AllocGlobal + Print + Clock>(rt: &R, deck: &str, notes: &str) -> Result<(), Stopped> {
     let deck = read_deck(rt.alloc(), &mut Reading::new(deck.as_bytes())).map_err(stop)?;
     let table = timing_table(rt.alloc()).map_err(stop)?;
@@ -60,7 +61,8 @@ fn measure<R: AllocGlobal + Print + Clock>(rt: &R, deck: &str, notes: &str) -> R
     .map_err(stop)
 }
 
-/// Rings of two thousand words, of 10,000, 100,000, 1,000,000 and 4,000,000 keys, all of them reached.
+/// Rings of two thousand words, of 10,000, 100,000, 1,000,000 and 4,000,000 keys, all of them
+/// reached.
 pub(crate) fn run_full<R: AllocGlobal + Print + Clock>(rt: &R) -> Result<(), Stopped> {
     let deck = ring(rt.alloc()).map_err(stop)?;
     for most in [4, 49, 499, 1999] {
@@ -77,8 +79,8 @@ pub(crate) fn run_wide<R: AllocGlobal + Print + Clock>(rt: &R) -> Result<(), Sto
     measure(rt, deck.as_str(), notes.as_str())
 }
 
-/// Two words, and 4,000,000 keys of which 20,000 are reached: the second mark is passed when the loop is left, and so
-/// never more than once.
+/// Two words, and 4,000,000 keys of which 20,000 are reached: the second mark is passed when the
+/// loop is left, and so never more than once.
 pub(crate) fn run_sparse<R: AllocGlobal + Print + Clock>(rt: &R) -> Result<(), Stopped> {
     let deck = "0100 +4501000110\n0110 +0100000110\nSTART 0100\n";
     let notes =

@@ -1,4 +1,5 @@
--- The ends of the hops of a table's entries, and how they raise the entries (this project's choice).
+-- The ends of the hops of a table's entries, and how they raise the entries (this project's
+-- choice).
 use Rattle.std.specs.Prelude.{◌≡◌, ℕ, ◌+◌, ◌%◌, ◌≤◌, ◌⊎◌, List, [], ◌∷◌, slice_get, Some, Contains}
 use Rattle.drum_machine.specs.Counts.{after_pass, AreWithin}
 use Rattle.drum_machine.specs.Ways.{to}
@@ -7,8 +8,8 @@ use Rattle.drum_flow.specs.Walk.{Setting}
 use Rattle.drum_bound.specs.Longest.{longest}
 use Rattle.drum_bound.specs.Table.{number_of, Row}
 
--- the end of a hop: of an entry's place and counts, the number of the hop among those of the place, and the word times
--- used when it begins and when it ends
+-- the end of a hop: of an entry's place and counts, the number of the hop among those of the place,
+-- and the word times used when it begins and when it ends
 pub record HopEnd : Type 0 where
   pub place : ℕ
   pub counts : ℕ
@@ -20,8 +21,8 @@ pub record HopEnd : Type 0 where
 abbrev pub IsHop : Setting → ℕ → ℕ → Hop → Type 0
 IsHop g place number hop = slice_get (hops g.loads g.notes place) number ≡ Some hop
 
--- The end is that of this hop of the entry: it begins at the entry's time and ends as late as it can, from the angle
--- behind the start's.
+-- The end is that of this hop of the entry: it begins at the entry's time and ends as late as it
+-- can, from the angle behind the start's.
 pub record IsHopEnd (g : Setting) (row : Row) (number : ℕ) (hop : Hop) (end : HopEnd) : Type 0 where
   pub place : end.place ≡ row.place
   pub counts : end.counts ≡ row.counts
@@ -42,8 +43,8 @@ pub record AreEnds (g : Setting) (rows : List Row) (ends : List HopEnd) : Type 0
       → (end : HopEnd) × Contains ends end × IsHopEnd g row number hop end
   pub once : AreUnlike ends
 
--- An end leads to an entry: its hop goes on to the entry's place, with the entry's counts after it, none above its
--- mark's most.
+-- An end leads to an entry: its hop goes on to the entry's place, with the entry's counts after it,
+-- none above its mark's most.
 pub record LeadsTo (g : Setting) (end : HopEnd) (row : Row) : Type 0 where
   pub hop : Hop
   pub of : IsHop g end.place end.hop hop
@@ -58,8 +59,8 @@ pub record LeadsTo (g : Setting) (end : HopEnd) (row : Row) : Type 0 where
 abbrev pub start_row : Setting → Row
 start_row g = record { place = g.start; angle = (g.start + 1) % 50; counts = 0; time = 0 }
 
--- The entries are the start's, and of the others each has the time of an end that leads to it; no end that leads to an
--- entry is later than its time.
+-- The entries are the start's, and of the others each has the time of an end that leads to it; no
+-- end that leads to an entry is later than its time.
 pub record AreRaised (g : Setting) (rows : List Row) (ends : List HopEnd) : Type 0 where
   pub start : Contains rows (start_row g)
   pub raised : (row : Row) → Contains rows row → (row ≡ start_row g) ⊎ ((end : HopEnd) × Contains ends end × LeadsTo g end row × (row.time ≡ end.ended))

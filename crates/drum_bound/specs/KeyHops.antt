@@ -4,7 +4,8 @@ use Rattle.drum_bound.specs.declared.cells.end.KeyHop.{KeyHop}
 use Rattle.drum_bound.specs.declared.latest.Latest.{Latest}
 use Rattle.drum_bound.specs.Scanned.{cell_at}
 
--- a hop of a key comes after the last one: of a later key, or of the same key with a greater number; after none, each does
+-- a hop of a key comes after the last one: of a later key, or of the same key with a greater
+-- number; after none, each does
 abbrev pub IsLater : Option KeyHop → KeyHop → Type 0
 IsLater None next = Unit {0}
 IsLater (Some last) next = (last.key < next.key) ⊎ ((last.key ≡ next.key) × (last.hop < next.hop))

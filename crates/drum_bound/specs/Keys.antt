@@ -1,5 +1,6 @@
--- Keys: an index in an order of the executed locations, and counts of the marks, as one number. The counts, read with the
--- first mark's leading, are the whole part of its division by the number of locations, and the index is the rest.
+-- Keys: an index in an order of the executed locations, and counts of the marks, as one number. The
+-- counts, read with the first mark's leading, are the whole part of its division by the number of
+-- locations, and the index is the rest.
 use Rattle.std.specs.Prelude.{◌≡◌, ℕ, ◌*◌, ◌/◌, ◌%◌, ◌<◌, ◌≤◌, List, length, slice_index, Option, Contains}
 use Rattle.drum_core.specs.declared.word.Word.{Word}
 use Rattle.drum_times.specs.declared.notes.mark.Mark.{Mark}
@@ -27,8 +28,9 @@ pub record IsKey (marks : List Mark) (order : List ℕ) (key place : ℕ) (count
   pub at : place_at order key ≡ place
   pub passed : counts_at marks order key ≡ counts
 
--- What is so of the order: it has the start, no location twice, and with each location those that its hops go on at;
--- an edge that no mark stands on leads to a later location; the notes are sound, and the keys few.
+-- What is so of the order: it has the start, no location twice, and with each location those that
+-- its hops go on at; an edge that no mark stands on leads to a later location; the notes are sound,
+-- and the keys few.
 pub record IsOrdered (loads : ℕ → Option Word) (notes : Notes) (start : ℕ) (order : List ℕ) : Type 0 where
   pub starts : Contains order start
   pub different : AreDifferent order

@@ -40,7 +40,8 @@ IsDone scan = IsScanned scan (size_in scan)
 abbrev pub IsAgreed : ℕ → List (Option Latest) → List (Option Latest) → Type 0
 IsAgreed key cells cells' = (other : ℕ) → other < suc key → cell_at cells' other ≡ cell_at cells other
 
--- A hop from a key goes on to a location: what came is kept at the key that it leads to, and of all; or a full mark bars it, and nothing is.
+-- A hop from a key goes on to a location: what came is kept at the key that it leads to, and of
+-- all; or a full mark bars it, and nothing is.
 abbrev pub Goes : Setting → List ℕ → ℕ → ℕ → Latest → List (Option Latest) → Latest → List (Option Latest) → Latest → Type 0
 Goes g order from next new cells last cells' last' =
     let passed = after_pass g.notes.marks (place_at order from) next (counts_at g.notes.marks order from) in

@@ -1,4 +1,5 @@
--- What is known when some of the keys have been taken, the others not yet: the latest end at each key, and of all.
+-- What is known when some of the keys have been taken, the others not yet: the latest end at each
+-- key, and of all.
 use Rattle.std.specs.Prelude.{◌≡◌, ℕ, zero, suc, ◌+◌, ◌*◌, ◌%◌, ◌<◌, ◌≤◌, nat_lt, if◌then◌else◌, List, length, slice_index_or, slice_set, Option, Some, None, Contains, ◌⊎◌}
 use Rattle.drum_times.specs.declared.notes.mark.Mark.{Mark}
 use Rattle.drum_machine.specs.Counts.{after_pass, no_counts, AreWithin}
@@ -62,7 +63,8 @@ IsOpen g order key early = Unit {0}
 IsOpen g order key (to next) = AreWithin g.notes.marks (after_pass g.notes.marks (place_at order key) next (counts_at g.notes.marks order key))
 IsOpen g order key late = Unit {0}
 
--- A clock is the latest end of this hop from what is kept at the origin's key, which is among the first keys.
+-- A clock is the latest end of this hop from what is kept at the origin's key, which is among the
+-- first keys.
 pub record IsEndOf (g : Setting) (order : List ℕ) (first : ℕ) (cells : List (Option Latest)) (origin : Origin) (clock : ℕ) : Type 0 where
   pub below : origin.key < first
   pub kept : Latest

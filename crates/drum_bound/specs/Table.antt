@@ -38,8 +38,8 @@ pub record Row : Type 0 where
   pub counts : ℕ
   pub time : ℕ
 
--- The entry is right: some walk from the angle behind the start's arrives so, at this time and angle, and no walk
--- from any angle arrives so later.
+-- The entry is right: some walk from the angle behind the start's arrives so, at this time and
+-- angle, and no walk from any angle arrives so later.
 pub record IsRow (g : Setting) (row : Row) : Type 0 where
   pub reached : IsReached g ((g.start + 1) % 50) row.place row.counts row.time
   pub most : (angle time : ℕ) → IsReached g angle row.place row.counts time → time ≤ row.time

@@ -17,8 +17,8 @@ abbrev pub IfOn : Stepped → (State → Type 0) → Type 0
 IfOn (on s) Right = Right s
 IfOn (stopped because moment) Right = Unit {0}
 
--- Each of these steps that goes on, with so many passes of the marks before the first, arrives under an entry: at the
--- location that it goes on to, with the passes and the word times used then.
+-- Each of these steps that goes on, with so many passes of the marks before the first, arrives
+-- under an entry: at the location that it goes on to, with the passes and the word times used then.
 abbrev pub ArriveUnder : Notes → List Row → List ℕ → List Turn → Type 0
 ArriveUnder notes rows counts [] = Unit {0}
 ArriveUnder notes rows counts (turn ∷ steps) =

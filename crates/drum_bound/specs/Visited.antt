@@ -37,7 +37,8 @@ pub record IsWalkOf (g : Setting) (angle used : ℕ) (visits : List Visited) : T
   pub time : time_of hops ≡ used
   pub same : map visited hops ≡ visits
 
--- Visits follow one another in time, from one time to another: each begins when the one before has ended.
+-- Visits follow one another in time, from one time to another: each begins when the one before has
+-- ended.
 abbrev pub AreInTime : ℕ → List Visited → ℕ → Type 0
 AreInTime time [] used = time ≡ used
 AreInTime time (visit ∷ visits) used =

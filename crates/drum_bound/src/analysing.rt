@@ -93,12 +93,13 @@ fn analysis_of<'a>(
     analysis_by(alloc, times, &keys)
 }
 
-/// The analysis of a deck with its timing table and notes: the bound, a walk that reaches it, and the table of worst
-/// times.
+/// The analysis of a deck with its timing table and notes: the bound, a walk that reaches it, and
+/// the table of worst times.
 ///
 /// # Errors
 ///
-/// Where the deck with its notes isn't accepted, why ([`accept`]); [`Refusal::Memory`] where memory is wanting.
+/// Where the deck with its notes isn't accepted, why ([`accept`]); [`Refusal::Memory`] where memory
+/// is wanting.
 pub fn analyse(
     alloc: Global,
     deck: &Deck,

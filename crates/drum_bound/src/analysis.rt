@@ -5,8 +5,8 @@ use crate::visit::Visit;
 use crate::worst::Worst;
 use drum_machine::passes::MOST_MARKS;
 
-/// What [`analyse`](crate::analyse) finds for a deck with its timing table and notes. The hops of its walk follow one
-/// another in time, from 0 to the bound.
+/// What [`analyse`](crate::analyse) finds for a deck with its timing table and notes. The hops of
+/// its walk follow one another in time, from 0 to the bound.
 #[derive(Debug, Drop)]
 pub struct Analysis {
     pub(crate) bound: u64,
@@ -27,7 +27,8 @@ impl Analysis {
     ghost use Rattle.drum_bound.specs.AnalysisOf.{angle_of, bound_of, counts_in_all, passed_of, rows_of, turns_of, visits_of, words_of};
     ghost use Rattle.drum_bound.specs.RowOf.{row_in};
 
-    /// The bound, in word times: no run that keeps to the notes uses more, and some walk uses just as many. Below 2^62.
+    /// The bound, in word times: no run that keeps to the notes uses more, and some walk uses just
+    /// as many. Below 2^62.
     pub fn bound(&self) -> u64
         ensures told { result ≡ bound_of self.now }
         ensures below { result < 2 ^ 62 }
@@ -35,7 +36,8 @@ impl Analysis {
         self.bound
     }
 
-    /// The table of worst times: one entry for each location and counts of the marks that some walk arrives at.
+    /// The table of worst times: one entry for each location and counts of the marks that some walk
+    /// arrives at.
     pub fn table(&self) -> &[Worst]
         ensures { map row_in result.now ≡ rows_of self.now }
     {
@@ -49,7 +51,8 @@ impl Analysis {
         self.angle
     }
 
-    /// The hops of a walk that uses as many word times as the bound, in order; none where the bound is 0.
+    /// The hops of a walk that uses as many word times as the bound, in order; none where the bound
+    /// is 0.
     pub fn walk(&self) -> &[Visit]
         ensures told { map seen_visit result.now ≡ visits_of self.now }
         ensures in_time { ∥ AreInTime 0 (visits_of self.now) (bound_of self.now) ∥₁ }
@@ -71,15 +74,16 @@ impl Analysis {
         self.words
     }
 
-    /// How many ends of hops the analysis has made: as many as the locations of the entries have hops, summed over the table.
+    /// How many ends of hops the analysis has made: as many as the locations of the entries have
+    /// hops, summed over the table.
     pub fn turns(&self) -> u64
         ensures { result ≡ turns_of self.now }
     {
         self.turns
     }
 
-    /// How often the walk passes the mark at a place of the notes, from 0, whatever it stands inside of. What it says of a
-    /// place past the last mark means nothing.
+    /// How often the walk passes the mark at a place of the notes, from 0, whatever it stands
+    /// inside of. What it says of a place past the last mark means nothing.
     pub fn passed(&self, mark: usize) -> u64
         requires { mark < 8 }
         ensures { result ≡ slice_index (passed_of self.now) mark }

@@ -18,16 +18,19 @@ use end::Made;
 pub use end::{End, KeyHop};
 use std::alloc::{AllocError, Global};
 
-/// The latest end at each key, of the hops that lead there, or the moment of the start; and the latest of all.
+/// The latest end at each key, of the hops that lead there, or the moment of the start; and the
+/// latest of all.
 ///
-/// An [`End`] alone raises what is kept, and each is made here, of the clock that its key keeps. No end is made twice, since
-/// each is of a later hop than the one before; and what its key keeps stays, since only later keys are raised from then on.
+/// An [`End`] alone raises what is kept, and each is made here, of the clock that its key keeps. No
+/// end is made twice, since each is of a later hop than the one before; and what its key keeps
+/// stays, since only later keys are raised from then on.
 #[derive(Debug, Drop)]
 pub struct Cells {
     kept: Vec<Option<Latest>>,
     last: Latest,
     made: Made,
-    /// How many executed locations there are, and how many counts the marks can have: for the limit alone.
+    /// How many executed locations there are, and how many counts the marks can have: for the limit
+    /// alone.
     words: usize,
     counts: usize,
     /// There are never more cells than locations times counts.
@@ -46,8 +49,8 @@ fn later_of(kept: Latest, end: &End) -> Latest
 }
 
 impl Cells {
-    /// The cells of so many executed locations and counts: the start's key keeps the moment of the start, at this clock, and no
-    /// other keeps anything.
+    /// The cells of so many executed locations and counts: the start's key keeps the moment of the
+    /// start, at this clock, and no other keeps anything.
     pub fn new(
         alloc: Global,
         words: usize,
@@ -103,7 +106,8 @@ impl Cells {
         self.made.count()
     }
 
-    /// Makes the end of a hop of a key, which is at this location and keeps this clock: the latest at which the hop can end.
+    /// Makes the end of a hop of a key, which is at this location and keeps this clock: the latest
+    /// at which the hop can end.
     pub fn end(
         &mut self,
         times: &Times,
@@ -126,8 +130,8 @@ impl Cells {
         self.made.end(times, key_hop, location, hop, clock)
     }
 
-    /// Keeps the end of a hop that goes on at a key, where it is later than what is kept there, and of all. The key is later
-    /// than those whose ends have been made.
+    /// Keeps the end of a hop that goes on at a key, where it is later than what is kept there, and
+    /// of all. The key is later than those whose ends have been made.
     pub fn raise(&mut self, key: usize, end: &End)
         requires there { key < length self.old.kept.items }
         requires onward { IsBefore self.old.made.last key }

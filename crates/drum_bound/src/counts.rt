@@ -12,8 +12,8 @@ use drum_core::Location;
 use drum_machine::passes::{MOST_MARKS, count_pass, mark_on};
 use drum_times::Mark;
 
-/// How often each mark was passed since the last pass of one that it stands inside of, by the marks' places. The counts
-/// past the last mark mean nothing.
+/// How often each mark was passed since the last pass of one that it stands inside of, by the
+/// marks' places. The counts past the last mark mean nothing.
 #[derive(Clone, Copy, Debug)]
 pub struct Counts {
     counts: [u16; MOST_MARKS],
@@ -29,8 +29,8 @@ impl Counts {
         }
     }
 
-    /// The counts that a number below 4,000,000 stands for: the last mark's, and in units of its `most` and one the
-    /// number of the others'.
+    /// The counts that a number below 4,000,000 stands for: the last mark's, and in units of its
+    /// `most` and one the number of the others'.
     pub fn of(marks: &[Mark], number: usize) -> Counts
         requires few { length marks.now ≤ 8 }
         requires below { number < counts_of marks.now }
@@ -61,8 +61,8 @@ impl Counts {
         number
     }
 
-    /// The number of the counts as in the table of worst times: the first mark's, and in units of its `most` and one the
-    /// number of the others'.
+    /// The number of the counts as in the table of worst times: the first mark's, and in units of
+    /// its `most` and one the number of the others'.
     pub fn number(&self, marks: &[Mark]) -> u32
         requires few { length marks.now ≤ 8 }
         requires small { counts_of marks.now ≤ 4000000 }
@@ -76,7 +76,8 @@ impl Counts {
         number
     }
 
-    /// The counts after a hop from one location to another; `None` where that passes a mark more often than it may be.
+    /// The counts after a hop from one location to another; `None` where that passes a mark more
+    /// often than it may be.
     pub fn passed(self, marks: &[Mark], from: Location, onto: Location) -> Option<Counts>
         requires few { length marks.now ≤ 8 }
         requires within { AreWithin marks.now (counts_in self marks.now) }

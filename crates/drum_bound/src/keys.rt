@@ -29,9 +29,9 @@ pub struct Site<'a> {
     pub hops: Hops<'a>,
 }
 
-/// The executed locations, in an order in which each edge free of marks goes on, with the counts that the marks can have.
-/// A key is a number: that of the counts, with the first mark's leading, times the number of the locations, and the index of
-/// one among them.
+/// The executed locations, in an order in which each edge free of marks goes on, with the counts
+/// that the marks can have. A key is a number: that of the counts, with the first mark's leading,
+/// times the number of the locations, and the index of one among them.
 #[derive(Debug, Drop)]
 pub struct Keys<'a> {
     pub flow: &'a Flow<'a>,
@@ -207,7 +207,8 @@ impl<'a> Keys<'a> {
         Some(self.key_of(passed, next))
     }
 
-    /// The key that a hop from a key to a location of the order leads to; `None` where a full mark bars it.
+    /// The key that a hop from a key to a location of the order leads to; `None` where a full mark
+    /// bars it.
     pub fn after(&self, at: &At, next: Location) -> Option<usize>
         requires keys { AreKeys self.now }
         requires at { IsAt self.now at.now }

@@ -1,4 +1,5 @@
-//! How many word times a deck can take at most: the analysis of a deck with its timing table and notes.
+//! How many word times a deck can take at most: the analysis of a deck with its timing table and
+//! notes.
 #![tactic(auto)]
 
 mod analysing;

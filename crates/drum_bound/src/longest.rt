@@ -24,7 +24,8 @@ fn most_units(op: Op, d: u16) -> u64
     }
 }
 
-/// The longest wait for the card machine that the operation may have, in word times; at most 1,000,000.
+/// The longest wait for the card machine that the operation may have, in word times; at most
+/// 1,000,000.
 fn most_wait(op: Op, entry: Entry) -> u32
     ensures value { result ≡ defined.most_wait op entry }
     ensures short { result ≤ 1000000 }
@@ -35,8 +36,9 @@ fn most_wait(op: Op, entry: Entry) -> u32
     }
 }
 
-/// The latest clock at which a hop of the place can end whose search begins at this clock, with the most units and the
-/// longest wait that its operation may have; at most 92,000,099 word times later. The profile has the operation.
+/// The latest clock at which a hop of the place can end whose search begins at this clock, with the
+/// most units and the longest wait that its operation may have; at most 92,000,099 word times
+/// later. The profile has the operation.
 pub fn longest(times: &Times, place: Location, hop: Hop, clock: u64) -> u64
     requires may_end { MayEnd hop.instruction (seen_way hop.way) }
     requires soon { clock ≤ 2 ^ 61 }

@@ -26,7 +26,8 @@ impl<'a> Scan<'a> {
     ghost use Rattle.drum_bound.specs.ScanOf.{setting_in, order_of, size_in, IsScanned, IsDone, Goes, IsAgreed};
     ghost use Rattle.drum_bound.specs.KeyHops.{IsBefore, IsLater, KeepsAt};
 
-    /// The latest ends at all keys, and of all: each key is taken once, after all that can raise what is kept there.
+    /// The latest ends at all keys, and of all: each key is taken once, after all that can raise
+    /// what is kept there.
     pub fn of(alloc: Global, times: &'a Times, keys: &'a Keys<'a>) -> Result<Scan<'a>, AllocError>
         requires { AreKeys keys.now }
         ensures done { IfOk result IsDone }
@@ -84,7 +85,8 @@ impl<'a> Scan<'a> {
         self.cells.raise(key, end);
     }
 
-    /// Takes a hop of a key at which something is kept of this clock: that of this number among the key's.
+    /// Takes a hop of a key at which something is kept of this clock: that of this number among the
+    /// key's.
     fn take_hop(&mut self, at: &At, clock: u64, number: usize, hop: Hop)
         requires keys { AreKeys self.old.keys.now }
         requires at { IsAt self.old.keys.now at.now }

@@ -30,7 +30,8 @@ impl Scan<'_> {
         }
     }
 
-    /// The walk whose end is the latest of all, followed back from it, from the start angle behind the start's.
+    /// The walk whose end is the latest of all, followed back from it, from the start angle behind
+    /// the start's.
     pub fn walk(&self, alloc: Global) -> Result<Vec<Visit>, AllocError>
         requires { IsDone self.now }
         ensures { let angle = start_angle (setting_in self.now).start in

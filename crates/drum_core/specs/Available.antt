@@ -1,5 +1,5 @@
--- The angles at which a word can be had. Of the drum's words: the IBM 650 Manual of Operation; of the
--- other four: this project's choice.
+-- The angles at which a word can be had. Of the drum's words: the IBM 650 Manual of Operation; of
+-- the other four: this project's choice.
 use Rattle.std.specs.Prelude.{ℕ, ◌%◌, Bool, true, ◌==◌}
 use Rattle.drum_core.specs.declared.location.Kind.{Kind}
 use Rattle.drum_core.specs.declared.location.Kind.TheVariants.{Drum, Switches, Distributor, Lower, Upper}

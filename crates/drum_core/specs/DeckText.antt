@@ -1,5 +1,5 @@
--- Deck text (this project's choice): what each line says, which texts are decks, what a deck loads, and why
--- another text is refused.
+-- Deck text (this project's choice): what each line says, which texts are decks, what a deck loads,
+-- and why another text is refused.
 use Rattle.std.specs.Prelude.{◌≡◌, ℕ, ◌+◌, ◌^◌, ◌<◌, ◌≤◌, List, [], ◌∷◌, ◌++◌, length, flat_map, codes, ◌⊎◌, Any, ◌==◌, if◌then◌else◌, Option, Some, None}
 use Rattle.std.specs.List.{AllByRecursion}
 use Rattle.std.specs.Option.{option_map}
@@ -16,8 +16,8 @@ pub data Line : Type 0 where
   start : ℕ → Line
   card : ℕ → List Word → Line
 
--- How each kind of line is spelled: `*` and any bytes; `START` and four digits; four digits, and from one to
--- seven words with a space before each.
+-- How each kind of line is spelled: `*` and any bytes; `START` and four digits; four digits, and
+-- from one to seven words with a space before each.
 abbrev pub IsLine : List ℕ → Line → Type 0
 IsLine text comment = (rest : List ℕ) × (text ≡ 42 ∷ rest)
 IsLine text (start n) = (n < 10 ^ 4) × (text ≡ codes "START " ++ digits_of 4 n)
@@ -104,16 +104,17 @@ pub record AreSound (lines : List Line) : Type 0 where
 abbrev pub IsTooLong : List ℕ → Type 0
 IsTooLong text = (4000 < length (lines_of text)) ⊎ Any (λ line. 100 < length line) (lines_of text)
 
--- The text is a deck, and these are its lines: it isn't too long, every line is a comment, a start or a card,
--- no location is past the drum or given twice, and there is exactly one start.
+-- The text is a deck, and these are its lines: it isn't too long, every line is a comment, a start
+-- or a card, no location is past the drum or given twice, and there is exactly one start.
 pub record IsDeck (text : List ℕ) (lines : List Line) : Type 0 where
   pub short : ¬ IsTooLong text
   pub said : Say (lines_of text) lines
   pub sound : AreSound lines
   pub one_start : length (starts lines) ≡ 1
 
--- Behind sound lines, the line of this number and this text has this fault. On one line PastDrum comes before
--- TwoStarts, and before Twice, which has the lowest location of the card that is given before.
+-- Behind sound lines, the line of this number and this text has this fault. On one line PastDrum
+-- comes before TwoStarts, and before Twice, which has the lowest location of the card that is given
+-- before.
 abbrev pub IsFaultOfLine : List Line → ℕ → List ℕ → DeckFault → Type 0
 IsFaultOfLine before number text (Card n) = (n ≡ number) × ((line : Line) → ¬ IsLine text line)
 IsFaultOfLine before number text (PastDrum n) = (n ≡ number) × ((line : Line) × IsLine text line × IsPastDrum line)
@@ -146,8 +147,8 @@ pub record LacksStart (text : List ℕ) : Type 0 where
   pub sound : AreSound lines
   pub none : starts lines ≡ []
 
--- Why a text is no deck: it is too long; else the fault of the first line with one; else it has no start. (Read
--- and Memory are faults of the reading, not of the text.)
+-- Why a text is no deck: it is too long; else the fault of the first line with one; else it has no
+-- start. (Read and Memory are faults of the reading, not of the text.)
 abbrev pub IsRefused : List ℕ → DeckFault → Type 0
 IsRefused text TooLong = IsTooLong text
 IsRefused text NoStart = ¬ IsTooLong text × LacksStart text

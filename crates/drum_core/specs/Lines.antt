@@ -6,7 +6,8 @@ abbrev pub with_front : ℕ → List (List ℕ) → List (List ℕ)
 with_front byte [] = (byte ∷ []) ∷ []
 with_front byte (line ∷ lines) = (byte ∷ line) ∷ lines
 
--- Its parts between line feeds. The last may lack its line feed, and no empty line follows the last one.
+-- Its parts between line feeds. The last may lack its line feed, and no empty line follows the last
+-- one.
 abbrev pub lines_of : List ℕ → List (List ℕ)
 lines_of [] = []
 lines_of (byte ∷ bytes) = if byte == 10 then [] ∷ lines_of bytes else with_front byte (lines_of bytes)

@@ -1,4 +1,5 @@
--- What a deck loads, from which cards, and where it starts, as it is held. (It is what its lines say: a law.)
+-- What a deck loads, from which cards, and where it starts, as it is held. (It is what its lines
+-- say: a law.)
 use Rattle.std.specs.Prelude.{ℕ, List, slice_get, Option, Some, None}
 use Rattle.std.specs.Option.{option_map}
 use Rattle.drum_core.specs.declared.deck.Given.{Given}

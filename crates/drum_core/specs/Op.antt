@@ -1,4 +1,5 @@
--- The numbers of the operations, and what each wants of its data address (IBM 650 Manual of Operation).
+-- The numbers of the operations, and what each wants of its data address (IBM 650 Manual of
+-- Operation).
 use Rattle.std.specs.Prelude.{ℕ, ◌+◌, ◌==◌, List, [], ◌∷◌, Option, find}
 use Rattle.drum_core.specs.declared.op.Op.{Op}
 use Rattle.drum_core.specs.declared.op.Op.TheVariants.{NoOperation, Stop, Add, ResetAdd, Divide, DivideReset, Multiply, Store, Shift, Branch, LoadDistributor, Read, Punch, BranchOnDigit}

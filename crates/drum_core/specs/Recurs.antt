@@ -1,10 +1,11 @@
--- The laws of the first moment at which the angle has a property, where the property comes again and
--- again: the laws of a clockwork.
+-- The laws of the first moment at which the angle has a property, where the property comes again
+-- and again: the laws of a clockwork.
 use Rattle.std.proofs.Common.{◌≡◌, ℕ, zero, suc, ◌+◌, ◌-◌, ◌%◌, ◌<◌, ◌≤◌, Bool, true, false, cond, refl, ap, sym, ◌∙◌, inl, inr, arith}
 use Rattle.std.proofs.lemmas.Bool.{cases_lt, false≢true}
 use Rattle.drum_core.specs.Moment.{IsFirst, first_among, first}
 
--- at or after the clock, and so many word times later at most, there is a moment whose angle has the property
+-- at or after the clock, and so many word times later at most, there is a moment whose angle has
+-- the property
 pub record Shows (property : ℕ → Bool) (clock most : ℕ) : Type 0 where
   pub moment : ℕ
   pub later : clock ≤ moment

@@ -20,8 +20,8 @@ pub struct Given {
     pub line: u16,
 }
 
-/// A deck: which words it loads onto the drum, from which cards, and where the program starts. Some lines, 4000 at most,
-/// say just that.
+/// A deck: which words it loads onto the drum, from which cards, and where the program starts. Some
+/// lines, 4000 at most, say just that.
 #[derive(Debug, PartialEq, Eq, Drop)]
 pub struct Deck {
     image: Vec<Option<Given>>,

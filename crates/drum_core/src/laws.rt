@@ -40,8 +40,8 @@ pub fn loads_what_is_said()
         → starts lines ≡ start_in deck ∷ [] }
 {}
 
-/// Every deck is what some lines of text say, 4000 at most. The lines of its cards ascend, and the line of each word that it loads
-/// is among them.
+/// Every deck is what some lines of text say, 4000 at most. The lines of its cards ascend, and the
+/// line of each word that it loads is among them.
 pub fn decks_are_of_lines()
     ensures lines { (deck : Deck)
         → ∥ ((texts : List (List ℕ)) × (lines : List Line) × Say texts lines × IsDeckOf deck lines
@@ -51,8 +51,8 @@ pub fn decks_are_of_lines()
         → Contains (cards_in deck) line }
 {}
 
-/// A moment that is found by looking at one after the other is the least at or after the clock whose angle serves: for an
-/// angle, for a parity, and for each location.
+/// A moment that is found by looking at one after the other is the least at or after the clock
+/// whose angle serves: for an angle, for a parity, and for each location.
 pub fn first_is_least()
     ensures angles { (angle clock : ℕ) → angle < 50
         → IsFirst (is_angle angle) clock (first (is_angle angle) clock) }

@@ -1,6 +1,6 @@
-//! The parts of a drum machine that its timing rests on: words and locations, instructions and their
-//! operations, the deck that loads the drum, the rotation of the drum, and the devices that bytes come
-//! from and go to.
+//! The parts of a drum machine that its timing rests on: words and locations, instructions and
+//! their operations, the deck that loads the drum, the rotation of the drum, and the devices that
+//! bytes come from and go to.
 #![tactic(auto)]
 
 pub mod deck;

@@ -12,8 +12,8 @@ pub mod position;
 pub mod shift;
 pub mod store;
 
-/// An operation of this project's profile: those of the basic machine but for 36 (shift and count) and
-/// 84 (table look-up).
+/// An operation of this project's profile: those of the basic machine but for 36 (shift and count)
+/// and 84 (table look-up).
 ///
 /// Source: the IBM 650 Manual of Operation.
 #[derive(Clone, Copy, Debug, PartialEq, Eq)]
@@ -44,7 +44,8 @@ pub enum Op {
     Read,
     /// 71: punches a card from D's band.
     Punch,
-    /// 90 to 99: goes on at D where the distributor has an 8 at a position, at I where it has a 9; else stops.
+    /// 90 to 99: goes on at D where the distributor has an 8 at a position, at I where it has a 9;
+    /// else stops.
     BranchOnDigit(Position),
 }
 

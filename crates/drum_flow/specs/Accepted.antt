@@ -71,19 +71,20 @@ IsFirstIn list Property ins =
 abbrev pub Alters : (ℕ → Option Word) → Notes → ℕ → Instruction → Type 0
 Alters loads notes start ins = (at : ℕ) × Contains (writes ins) at × IsFixed loads notes start at
 
--- NotLoaded: the first location in the order of discovery that isn't good is neither loaded nor listed.
+-- NotLoaded: the first location in the order of discovery that isn't good is neither loaded nor
+-- listed.
 abbrev pub IsNotLoaded : (ℕ → Option Word) → Notes → ℕ → ℕ → Type 0
 IsNotLoaded loads notes start place = IsMet loads notes start place × ¬ IsThere loads notes place
 
--- NotInProfile: the first location in the order of discovery that isn't good is loaded or listed, and this is its first
--- operation outside the profile.
+-- NotInProfile: the first location in the order of discovery that isn't good is loaded or listed,
+-- and this is its first operation outside the profile.
 abbrev pub IsNotInProfile : (ℕ → Option Word) → Notes → ℕ → ℕ → ℕ → Type 0
 IsNotInProfile loads notes start place op =
     IsMet loads notes start place × IsThere loads notes place
     × ((ins : Instruction) × IsFirstIn (allowed loads notes place) (λ one. IsNone (op_of one.op)) ins × (ins.op ≡ op))
 
--- Alters: all executed locations are good, this is the first in the order of discovery with an instruction that
--- alters, and the word is the lowest that its first such instruction alters.
+-- Alters: all executed locations are good, this is the first in the order of discovery with an
+-- instruction that alters, and the word is the lowest that its first such instruction alters.
 pub record IsAltered (loads : ℕ → Option Word) (notes : Notes) (start writer altered : ℕ) : Type 0 where
   pub executed : List ℕ
   pub order : IsOrder loads notes start executed
@@ -114,8 +115,8 @@ abbrev pub IsSmallestFirst : List ℕ → Type 0
 IsSmallestFirst [] = ⊥
 IsSmallestFirst (first ∷ places) = (place : ℕ) → Contains places place → first < place
 
--- Unbounded: nothing above is wrong, and these executed locations, without repeats and the smallest first, lead
--- round by edges free of marks.
+-- Unbounded: nothing above is wrong, and these executed locations, without repeats and the smallest
+-- first, lead round by edges free of marks.
 pub record IsUnbounded (loads : ℕ → Option Word) (notes : Notes) (start : ℕ) (cycle : List ℕ) : Type 0 where
   pub sound : IsSound loads notes start
   pub small : (executed : List ℕ) → IsOrder loads notes start executed → length executed * counts_of notes.marks ≤ 4000000

@@ -24,8 +24,8 @@ executed_in flow = places_of flow.executed
 abbrev pub order_in : Flow → List ℕ
 order_in flow = map (λ location. location.number) flow.order.items
 
--- These are the executed locations in the order of discovery, all of them loaded or listed, with operations in the
--- profile alone.
+-- These are the executed locations in the order of discovery, all of them loaded or listed, with
+-- operations in the profile alone.
 pub record AreExecuted (loads : ℕ → Option Word) (notes : Notes) (start : ℕ) (places : List ℕ) : Type 0 where
   pub order : IsOrder loads notes start places
   pub all : (place : ℕ) → IsExecuted loads notes start place → Contains places place

@@ -1,5 +1,5 @@
--- Graphs of numbered nodes: an order in which every edge goes on, and cycles. `row` says which nodes the edges of a
--- node lead to.
+-- Graphs of numbered nodes: an order in which every edge goes on, and cycles. `row` says which
+-- nodes the edges of a node lead to.
 use Rattle.std.specs.Prelude.{ℕ, ◌<◌, List, [], ◌∷◌, length, Contains}
 use Rattle.drum_flow.specs.declared.graph.Graph.{Graph}
 use Rattle.drum_flow.specs.declared.graph.sorted.Sorted.{Sorted}

@@ -13,8 +13,8 @@ pub record Hop : Type 0 where
 abbrev pub hops_of : Notes → Instruction → List Hop
 hops_of notes ins = map (λ w. record { ins = ins; way = w }) (ways notes ins)
 
--- The hops of a location: the allowed instructions in order, each with its ways. `loads` says which word the deck
--- loads into a location.
+-- The hops of a location: the allowed instructions in order, each with its ways. `loads` says which
+-- word the deck loads into a location.
 abbrev pub hops : (ℕ → Option Word) → Notes → ℕ → List Hop
 hops loads notes place = flat_map (hops_of notes) (allowed loads notes place)
 

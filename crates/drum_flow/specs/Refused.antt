@@ -1,4 +1,5 @@
--- Why a flow isn't made: a location that discovery meets is neither loaded nor listed, or has an operation outside the profile.
+-- Why a flow isn't made: a location that discovery meets is neither loaded nor listed, or has an
+-- operation outside the profile.
 use Rattle.std.specs.Prelude.{◌≡◌, ℕ, IsNone, Option}
 use Rattle.drum_core.specs.declared.instruction.Instruction.{Instruction}
 use Rattle.drum_core.specs.declared.word.Word.{Word}

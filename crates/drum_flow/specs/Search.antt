@@ -20,8 +20,8 @@ AreLinked row (node ∷ nodes) = LeadAlong row node nodes
 abbrev pub last_of : List ℕ → Option ℕ
 last_of nodes = slice_get nodes (length nodes - 1)
 
--- What is so of a search: `passed` nodes of each row are finished, and all edges of a finished node lead to nodes that
--- were finished before it.
+-- What is so of a search: `passed` nodes of each row are finished, and all edges of a finished node
+-- lead to nodes that were finished before it.
 pub record IsSearch (row : ℕ → List ℕ) (size : ℕ) (states : List Progress) (passed path finished : List ℕ) : Type 0 where
   pub states_long : length states ≡ size
   pub passed_long : length passed ≡ size

@@ -14,8 +14,8 @@ use Rattle.drum_machine.specs.Timing.{ready, ended, IsWait}
 use Rattle.drum_machine.specs.Ways.{Way, early, to, late}
 use Rattle.drum_flow.specs.Hops.{hops}
 
--- a hop of a walk: where it begins, its instruction and way, its units and its wait, and the word times used
--- when it begins and when it ends
+-- a hop of a walk: where it begins, its instruction and way, its units and its wait, and the word
+-- times used when it begins and when it ends
 pub record Taken : Type 0 where
   pub place : ℕ
   pub ins : Instruction
@@ -25,7 +25,8 @@ pub record Taken : Type 0 where
   pub begun : ℕ
   pub ended : ℕ
 
--- the units that an operation may have, whatever the data: for 14, 19 and 64 up to 90, for a shift its places
+-- the units that an operation may have, whatever the data: for 14, 19 and 64 up to 90, for a shift
+-- its places
 abbrev pub MayHaveUnits : Op → ℕ → ℕ → Type 0
 MayHaveUnits Divide d units = units ≤ 90
 MayHaveUnits DivideReset d units = units ≤ 90
@@ -56,7 +57,8 @@ pub record Setting : Type 0 where
   -- where the program starts
   pub start : ℕ
 
--- What is so of each setting: the deck loads drum words alone and starts on the drum, and the notes are sound.
+-- What is so of each setting: the deck loads drum words alone and starts on the drum, and the notes
+-- are sound.
 pub record IsProper (g : Setting) : Type 0 where
   pub on_drum : (place : ℕ) (w : Word) → g.loads place ≡ Some w → place < 2000
   pub starts : g.start < 2000
@@ -75,8 +77,8 @@ Follow early Right hops = hops ≡ []
 Follow (to next) Right hops = Right next
 Follow late Right hops = hops ≡ []
 
--- Hops one after the other, from a place, a time and counts on: each but the last is a To, and the next is a hop of
--- its target. No mark is passed more often than it may be.
+-- Hops one after the other, from a place, a time and counts on: each but the last is a To, and the
+-- next is a hop of its target. No mark is passed more often than it may be.
 abbrev pub IsWalkFrom : Setting → ℕ → ℕ → ℕ → List ℕ → List Taken → Type 0
 IsWalkFrom g angle place time counts [] = Unit {0}
 IsWalkFrom g angle place time counts (hop ∷ hops) =
@@ -85,7 +87,8 @@ IsWalkFrom g angle place time counts (hop ∷ hops) =
     let passed = after_pass g.notes.marks place next counts in
     AreWithin g.notes.marks passed × IsWalkFrom g angle next hop.ended passed hops) hops
 
--- A walk: from a start angle, at the deck's start, with nothing used and no mark passed. It may be empty.
+-- A walk: from a start angle, at the deck's start, with nothing used and no mark passed. It may be
+-- empty.
 pub record IsWalk (g : Setting) (angle : ℕ) (hops : List Taken) : Type 0 where
   pub on_drum : angle < 50
   pub from_start : IsWalkFrom g angle g.start 0 (no_counts g.notes.marks) hops

@@ -46,8 +46,8 @@ fn first_altered(flow: &Flow<'_>, fixed: &Fixed, location: Location) -> Option<L
 ///
 /// # Errors
 ///
-/// [`Refusal::Alters`] with the first location in the order of discovery that has an instruction that alters, and the
-/// lowest word that its first such instruction alters.
+/// [`Refusal::Alters`] with the first location in the order of discovery that has an instruction
+/// that alters, and the lowest word that its first such instruction alters.
 pub fn check_unaltered(flow: &Flow<'_>, fixed: &Fixed) -> Result<(), Refusal>
     requires flow { AreExecuted (loads_in flow.now.deck.now) flow.now.notes.now (start_in flow.now.deck.now) (executed_in flow.now) }
     requires fixed { FlagsFixed (loads_in flow.now.deck.now) flow.now.notes.now (start_in flow.now.deck.now) fixed.now }

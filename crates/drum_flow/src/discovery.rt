@@ -16,8 +16,9 @@ use std::alloc::Global;
 ///
 /// # Errors
 ///
-/// [`Refusal::NotLoaded`] or [`Refusal::NotInProfile`] for the first location that discovery meets which is neither
-/// loaded nor listed, or has an operation outside the profile; [`Refusal::Memory`].
+/// [`Refusal::NotLoaded`] or [`Refusal::NotInProfile`] for the first location that discovery meets
+/// which is neither loaded nor listed, or has an operation outside the profile;
+/// [`Refusal::Memory`].
 pub fn flow<'a>(alloc: Global, deck: &'a Deck, notes: &'a Notes) -> Result<Flow<'a>, Refusal>
     ensures deck { IfOk result (λ flow. deck_of flow ≡ deck.now) }
     ensures notes { IfOk result (λ flow. notes_of flow ≡ notes.now) }

@@ -10,7 +10,8 @@ use drum_core::Location;
 use indexmap::IndexSet;
 use std::alloc::{AllocError, Global};
 
-/// Locations without repeats, in the order in which they are found: the executed ones, or the successors of one.
+/// Locations without repeats, in the order in which they are found: the executed ones, or the
+/// successors of one.
 #[derive(Debug, Drop)]
 pub struct Executed {
     locations: IndexSet<Location>,

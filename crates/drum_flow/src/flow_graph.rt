@@ -16,7 +16,8 @@ pub struct Flow<'a> {
     pub(crate) deck: &'a Deck,
     pub(crate) notes: &'a Notes,
     pub(crate) executed: Executed,
-    /// An order in which every edge free of marks goes on, once the deck is accepted; nothing before.
+    /// An order in which every edge free of marks goes on, once the deck is accepted; nothing
+    /// before.
     pub(crate) order: Vec<Location>,
 }
 
@@ -54,7 +55,8 @@ impl<'a> Flow<'a> {
         self.executed.place_of(location)
     }
 
-    /// Of an accepted deck, the executed locations in an order in which every edge free of marks goes on.
+    /// Of an accepted deck, the executed locations in an order in which every edge free of marks
+    /// goes on.
     pub fn order(&self) -> &[Location]
         ensures { map (λ location. location.number) result.now ≡ order_in self.now }
     {

@@ -1,4 +1,5 @@
-//! The edges free of marks between executed locations, as a graph of their places in the order of discovery.
+//! The edges free of marks between executed locations, as a graph of their places in the order of
+//! discovery.
 
 ghost use Rattle.std.specs.Prelude.{◌≡◌, IfOk, length, map};
 ghost use Rattle.drum_core.specs.Loads.{loads_in};

@@ -1,4 +1,5 @@
-//! An order of the executed locations in which every edge free of marks goes on, or a cycle of such edges.
+//! An order of the executed locations in which every edge free of marks goes on, or a cycle of such
+//! edges.
 
 ghost use Rattle.std.specs.Prelude.{◌≡◌, ℕ, ◌<◌, map, length, slice_index, Contains, IfOk, IfErr};
 ghost use Rattle.drum_core.specs.Loads.{loads_in, start_in};

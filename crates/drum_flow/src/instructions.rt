@@ -7,8 +7,8 @@ ghost use Rattle.drum_flow.specs.Instructions.{instructions_left, listed_from};
 use drum_core::{Deck, Instruction, Location};
 use drum_times::{Notes, Pattern};
 
-/// The instructions that are allowed at a location, in order: the deck's, if it loads the location, and then those of
-/// each pattern, D ascending.
+/// The instructions that are allowed at a location, in order: the deck's, if it loads the location,
+/// and then those of each pattern, D ascending.
 #[derive(Clone, Copy, Debug)]
 pub struct Instructions<'a> {
     loaded: Option<Instruction>,

@@ -32,8 +32,8 @@ pub fn one_time()
         → time_of hops ≡ time_of others }
 {}
 
-/// The hops that a run takes, where it keeps to the notes of an accepted deck, are a walk from the same start angle, and its
-/// time is what the run has used. (So the empty run is the empty walk.)
+/// The hops that a run takes, where it keeps to the notes of an accepted deck, are a walk from the
+/// same start angle, and its time is what the run has used. (So the empty run is the empty walk.)
 pub fn kept_run_is_a_walk()
     ensures { (g : Setting) (executed : List ℕ) (s : State) (turns : List Turn) → IsProper g → IsAccepted g.loads g.notes g.start executed
         → IsFirstState g.loads (IsFixed g.loads g.notes g.start) g.start s → IsRun g.times s turns → IsKept g.loads g.notes s turns

@@ -1,5 +1,5 @@
-//! The flow of a deck under its notes: the executed locations, the hops of each, when a deck is accepted, and walks of
-//! the flow graph, of which a run that keeps to the notes is one.
+//! The flow of a deck under its notes: the executed locations, the hops of each, when a deck is
+//! accepted, and walks of the flow graph, of which a run that keeps to the notes is one.
 #![tactic(auto)]
 
 mod acceptance;

@@ -16,7 +16,8 @@ use drum_times::Notes;
 ///
 /// # Errors
 ///
-/// [`Refusal::NotLoaded`], or [`Refusal::NotInProfile`] with the first operation outside the profile.
+/// [`Refusal::NotLoaded`], or [`Refusal::NotInProfile`] with the first operation outside the
+/// profile.
 pub fn check_place(deck: &Deck, notes: &Notes, location: Location) -> Result<(), Refusal>
     ensures good { OnOk result (IsGood (loads_in deck.now) notes.now location.number) }
     ensures wrong { IfErr result (IsWrong (loads_in deck.now) notes.now location.number) }

@@ -8,7 +8,8 @@ pub enum Refusal {
     /// There is no memory for the analysis.
     #[error("there is no memory for the analysis")]
     Memory,
-    /// An operation that is allowed at an executed location, of these two digits, is outside the profile.
+    /// An operation that is allowed at an executed location, of these two digits, is outside the
+    /// profile.
     #[error("operation {1:02} at {0} is outside the profile")]
     NotInProfile(Location, u8),
     /// An executed location is neither loaded nor listed.

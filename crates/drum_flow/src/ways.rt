@@ -11,8 +11,8 @@ use drum_machine::is_operand;
 use drum_times::notes::Notes;
 use drum_times::notes::programmed::Programmed;
 
-/// The ways that are left of an instruction, three at most: Early, the next locations in order, Late. An address that
-/// is no location is a stop at the end.
+/// The ways that are left of an instruction, three at most: Early, the next locations in order,
+/// Late. An address that is no location is a stop at the end.
 #[derive(Clone, Copy, Debug)]
 pub struct Ways {
     stops_early: bool,

@@ -15,8 +15,9 @@ pub record Contents : Type 0 where
   pub distributor : Word
   -- one whole number of twenty digits
   pub accumulator : ℤ
-  -- Whether the dividend was minus, while the remainder's sign stands: after 14, until an operation 10 to 19, 30,
-  -- 31, 35 or 60 to 68 next acts. (That sign and how long it lasts are this project's choice.)
+  -- Whether the dividend was minus, while the remainder's sign stands: after 14, until an operation
+  -- 10 to 19, 30, 31, 35 or 60 to 68 next acts. (That sign and how long it lasts are this project's
+  -- choice.)
   pub remainder : Option Bool
   -- the overflow latch
   pub latch : Bool
@@ -40,7 +41,8 @@ upper a = unsigned_abs a / 10 ^ 10
 abbrev pub lower : ℤ → ℕ
 lower a = unsigned_abs a % 10 ^ 10
 
--- the halves as words: both have the accumulator's sign, but for the upper one while a remainder's stands
+-- the halves as words: both have the accumulator's sign, but for the upper one while a remainder's
+-- stands
 abbrev pub lower_word : Contents → Word
 lower_word c = word (is_minus c.accumulator) (lower c.accumulator)
 

@@ -1,5 +1,5 @@
--- How often marks are passed, counted since the last pass of a mark that they stand inside of (this project's
--- choice).
+-- How often marks are passed, counted since the last pass of a mark that they stand inside of (this
+-- project's choice).
 use Rattle.std.specs.Prelude.{ℕ, zero, suc, ◌+◌, ◌≤◌, ◌==◌, Bool, false, ◌&&◌, ◌||◌, if◌then◌else◌, List, [], ◌∷◌, map, length, slice_get, Option, Some, None}
 use Rattle.drum_times.specs.declared.notes.mark.Mark.{Mark}
 
@@ -26,7 +26,8 @@ is_inside_by zero marks inner outer = false
 is_inside_by (suc more) marks inner outer =
     elim (outer_of (slice_get marks inner)) [ None ↦ false | Some next ↦ next == outer || is_inside_by more marks next outer ]
 
--- directly or through others: a mark stands inside of an earlier one alone, so there are fewer steps than marks
+-- directly or through others: a mark stands inside of an earlier one alone, so there are fewer
+-- steps than marks
 abbrev pub is_inside : List Mark → ℕ → ℕ → Bool
 is_inside marks inner outer = is_inside_by (length marks) marks inner outer
 

@@ -1,7 +1,7 @@
--- What an instruction does (IBM 650 Manual of Operation). This project's choices are: that 0 is plus, also as the
--- number of minus zero; what the accumulator holds after an overflow; that a stored word is also in the distributor;
--- that a product adds the lower half; that 31 with digit 0 shifts by ten places; that a left shift is no overflow;
--- and that 47 turns the latch off.
+-- What an instruction does (IBM 650 Manual of Operation). This project's choices are: that 0 is
+-- plus, also as the number of minus zero; what the accumulator holds after an overflow; that a
+-- stored word is also in the distributor; that a product adds the lower half; that 31 with digit 0
+-- shifts by ten places; that a left shift is no overflow; and that 47 turns the latch off.
 use Rattle.std.specs.Prelude.{ℕ, ◌+◌, ◌-◌, ◌*◌, ◌/◌, ◌%◌, ◌^◌, ◌==◌, Bool, true, false, not, if◌then◌else◌, nat_le, List, [], ◌∷◌, Some, None, ℤ, pos, neg_ℤ, ◌+ℤ◌, ◌*ℤ◌, unsigned_abs, slice_set, slice_range}
 use Rattle.drum_core.specs.declared.op.Op.{Op}
 use Rattle.drum_core.specs.declared.op.Op.TheVariants.{NoOperation, Stop, Add, ResetAdd, Divide, DivideReset, Multiply, Store, Shift, Branch, LoadDistributor, Read, Punch, BranchOnDigit}
@@ -22,8 +22,8 @@ use Rattle.drum_machine.specs.declared.why.Why as whys
 use Rattle.drum_machine.specs.declared.why.Why.TheVariants as why
 use Rattle.drum_machine.specs.Contents.{Contents, is_minus, upper, lower, lower_word, upper_word, word_at}
 
--- An instruction leaves new contents and the number of the next location, or it stops. What is held at a stop isn't
--- said: no later step sees it.
+-- An instruction leaves new contents and the number of the next location, or it stops. What is held
+-- at a stop isn't said: no later step sees it.
 pub data Outcome : Type 0 where
   goes : Contents → ℕ → Outcome
   stops : whys.Why → Outcome
@@ -36,8 +36,8 @@ takes c w = record c { distributor = w }
 abbrev pub becomes : Contents → ℤ → Contents
 becomes c z = record c { accumulator = z; remainder = None }
 
--- It becomes what twenty digits hold of the number. Where more are wanted, that is an overflow: the machine stops
--- if the overflow switch is at STOP, and else the latch goes on.
+-- It becomes what twenty digits hold of the number. Where more are wanted, that is an overflow: the
+-- machine stops if the overflow switch is at STOP, and else the latch goes on.
 abbrev pub keeps : Contents → ℤ → ℕ → Outcome
 keeps c z next =
     if nat_le (10 ^ 20) (unsigned_abs z) then
@@ -150,8 +150,8 @@ reads c (card ∷ cards) d i = goes (record c { drum = with_words c.drum (band d
 abbrev pub punched : Contents → ℕ → List Word
 punched c d = slice_range c.drum (band d + 27) (band d + 37)
 
--- The table: one line for each operation, for an instruction with this D and this I whose D is what the
--- operation wants. The word at D is read before anything changes.
+-- The table: one line for each operation, for an instruction with this D and this I whose D is what
+-- the operation wants. The word at D is read before anything changes.
 abbrev pub effect : Contents → Op → ℕ → ℕ → Outcome
 effect c NoOperation d i = goes c i
 effect c Stop d i = if c.programmed_stops then stops why.Programmed else goes c i

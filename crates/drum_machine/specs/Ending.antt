@@ -36,6 +36,7 @@ abbrev pub declared : Bool → switches.Programmed
 declared true = switch.Stop
 declared false = switch.Run
 
--- Notes that are true of one step: the machine's own switch, and load cards where its next card is one.
+-- Notes that are true of one step: the machine's own switch, and load cards where its next card is
+-- one.
 abbrev pub own_notes : State → Notes
 own_notes s = record { programmed = declared s.contents.programmed_stops; load_cards = is_load s.contents.cards; marks = []; lists = [] }

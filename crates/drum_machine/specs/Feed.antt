@@ -1,5 +1,5 @@
--- What the card machine is fed with: the cards and the waits that are left (how waits are given is this project's
--- choice).
+-- What the card machine is fed with: the cards and the waits that are left (how waits are given is
+-- this project's choice).
 use Rattle.std.specs.Prelude.{ℕ, drop, slice_get, min, max, Bool, true, false, if◌then◌else◌, List, [], ◌∷◌, Option, Some, None}
 use Rattle.std.specs.Vec.Iter.{into_iter_items}
 use Rattle.drum_core.specs.declared.op.Op.{Op}
@@ -35,7 +35,8 @@ has_wait Read = true
 has_wait Punch = true
 has_wait _ = false
 
--- the nearest wait in the entry's range to the next that was given, and the longest where they have run out
+-- the nearest wait in the entry's range to the next that was given, and the longest where they have
+-- run out
 abbrev pub nearest : Entry → List ℕ → ℕ
 nearest entry [] = entry.wait_max
 nearest entry (wait ∷ waits) = max entry.wait_min (min wait entry.wait_max)

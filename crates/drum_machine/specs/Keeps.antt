@@ -68,8 +68,8 @@ pub record IsKept (loads : ℕ → Option Word) (notes : Notes) (s : State) (tur
   pub declared : IsAsDeclared notes.programmed s.contents.programmed_stops
   pub kept : AreKept loads notes (no_counts notes.marks) turns
 
--- How a turn leaves the notes: the first cause in the order Unlisted, LoadCard, TooOften. (Switch is decided before
--- any turn.)
+-- How a turn leaves the notes: the first cause in the order Unlisted, LoadCard, TooOften. (Switch
+-- is decided before any turn.)
 abbrev pub Leaves : (ℕ → Option Word) → Notes → List ℕ → Turn → Left → Type 0
 Leaves loads notes counts turn (Unlisted location w) =
     (location.number ≡ turn.origin.sought) × (w ≡ fetched turn.origin) × ¬ IsAllowed loads notes turn.origin

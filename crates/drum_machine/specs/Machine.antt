@@ -50,16 +50,17 @@ abbrev pub punched_with : Option Op → State → Option (List Word)
 punched_with None s = None
 punched_with (Some op) s = punched_by op s
 
--- What is answered of a step: where it began, the word that was fetched there, where it goes on or why it stops, and
--- the word times used; of one that goes on, whether it read a load card, and what it punched.
+-- What is answered of a step: where it began, the word that was fetched there, where it goes on or
+-- why it stops, and the word times used; of one that goes on, whether it read a load card, and what
+-- it punched.
 abbrev pub Tells : Stepped → Location → Word → Bool → Option (List Word) → Step → Type 0
 Tells (on next) origin word load words (Went from fetch onto used read punch) =
     (from ≡ origin) × (fetch ≡ word) × (onto.number ≡ next.sought) × (used ≡ next.time) × (read ≡ load) × (punch ≡ words)
 Tells (on next) origin word load words (Stopped from fetch why used) = ⊥
 Tells (stopped because moment) origin word load words answer = answer ≡ Stopped origin word because moment
 
--- What the machine is after a step, with these cards left. One that has stopped seeks what it sought, and what its
--- registers hold isn't said.
+-- What the machine is after a step, with these cards left. One that has stopped seeks what it
+-- sought, and what its registers hold isn't said.
 abbrev pub Becomes : Stepped → Location → Word → Machine → List Card → Type 0
 Becomes (on next) origin word m cards = GoesOn m × (state_in m cards ≡ next)
 Becomes (stopped because moment) origin word m cards =
@@ -87,8 +88,8 @@ abbrev pub waits_with : Option Op → State → List ℕ → List ℕ
 waits_with None s waits = waits
 waits_with (Some op) s waits = if goes_past_x op s then waits_after op waits else waits
 
--- A machine takes a step and answers it: a step of the definitions, with the feed's cards as the cards left, and the
--- wait that the feed gives.
+-- A machine takes a step and answers it: a step of the definitions, with the feed's cards as the
+-- cards left, and the wait that the feed gives.
 pub record TakesStep (times : Op → Entry) (before : Machine) (fed : Feed) (answer : Step) (after : Machine) (left : Feed) : Type 0 where
   pub may_wait :
       let s = state_in before (cards_left fed) in MayWait times (op_in s) (wait_with times (op_in s) (waits_left fed))
@@ -106,11 +107,12 @@ abbrev pub way_told : Step → Way
 way_told (Went from fetch onto used read punch) = to onto.number
 way_told (Stopped from fetch why used) = stops_by why
 
--- A step alters no drum word but those that its instruction writes: what the state after it has at another location, the
--- one before had.
+-- A step alters no drum word but those that its instruction writes: what the state after it has at
+-- another location, the one before had.
 abbrev pub WritesAlone : State → State → Type 0
 WritesAlone s next = (place : ℕ) → ¬ Contains (writes (instruction_in s)) place → slice_get next.contents.drum place ≡ slice_get s.contents.drum place
 
--- A step of an operation in the profile ends by one of its instruction's ways, under notes that are true of this step.
+-- A step of an operation in the profile ends by one of its instruction's ways, under notes that are
+-- true of this step.
 abbrev pub EndsByAWay : State → Step → Type 0
 EndsByAWay s answer = (op : Op) → op_in s ≡ Some op → Contains (ways (own_notes s) (instruction_in s)) (way_told answer)

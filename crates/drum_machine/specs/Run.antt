@@ -24,7 +24,8 @@ abbrev pub Follow : Stepped → (State → Type 0) → List Turn → Type 0
 Follow (on next) Right turns = Right next
 Follow (stopped because moment) Right turns = turns ≡ []
 
--- A run from a state: each turn is a step from the state that the one before left, and only the last may stop.
+-- A run from a state: each turn is a step from the state that the one before left, and only the
+-- last may stop.
 abbrev pub IsRun : (Op → Entry) → State → List Turn → Type 0
 IsRun times s [] = Unit {0}
 IsRun times s (turn ∷ turns) = IsTurn times s turn × Follow turn.outcome (λ next. IsRun times next turns) turns
@@ -44,8 +45,8 @@ pub record IsWhole (c : Contents) : Type 0 where
   pub drum : length c.drum ≡ 2000
   pub accumulator : unsigned_abs c.accumulator < 10 ^ 20
 
--- A state in which a run may begin: at time 0, seeking this location from some angle, with the deck's word at each of
--- some locations that the deck loads. All else in it is free.
+-- A state in which a run may begin: at time 0, seeking this location from some angle, with the
+-- deck's word at each of some locations that the deck loads. All else in it is free.
 pub record IsFirstState (loads : ℕ → Option Word) (Agreed : ℕ → Type 0) (start_location : ℕ) (s : State) : Type 0 where
   pub at_once : s.time ≡ 0
   pub seeks : s.sought ≡ start_location

@@ -10,7 +10,8 @@ pub record HaveOwnLocations (words : List (Location × Word)) : Type 0 where
   pub on_drum : All (λ given. given.0.number < 2000) words
   pub once : AllPairs (λ given later. given.0.number ≢ later.0.number) words
 
--- the angle is one of the drum's, the accumulator has twenty digits, each word a location of its own
+-- the angle is one of the drum's, the accumulator has twenty digits, each word a location of its
+-- own
 pub record IsSetup (angle : ℕ) (accumulator : ℤ) (words : List (Location × Word)) : Type 0 where
   pub angle_on_drum : angle < 50
   pub twenty : unsigned_abs accumulator < 10 ^ 20

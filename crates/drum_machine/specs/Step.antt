@@ -1,4 +1,5 @@
--- A step of the machine, and when it ends (IBM 650 Manual of Operation; the moments are this project's choice).
+-- A step of the machine, and when it ends (IBM 650 Manual of Operation; the moments are this
+-- project's choice).
 use Rattle.std.specs.Prelude.{◌≡◌, ℕ, ◌+◌, ◌-◌, Bool, true, false, not, ◌&&◌, if◌then◌else◌, nat_lt, List, [], ◌∷◌, Option, Some, None}
 use Rattle.drum_core.specs.declared.instruction.Instruction.{Instruction}
 use Rattle.drum_core.specs.declared.op.Op.{Op}
@@ -68,8 +69,8 @@ leaves s clock (goes c next) =
     if is_location next then on (record { contents = c; sought = next; time = clock - s.start; start = s.start })
     else stopped why.Next (clock - s.start)
 
--- The step of an operation, with a wait for the card machine: it stops at x if D isn't what the operation wants,
--- or if there is no card; else it ends at e.
+-- The step of an operation, with a wait for the card machine: it stops at x if D isn't what the
+-- operation wants, or if there is no card; else it ends at e.
 abbrev pub step_of : (Op → Entry) → State → ℕ → Op → Stepped
 step_of times s wait op =
     let ins = instruction_in s in

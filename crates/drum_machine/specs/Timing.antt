@@ -1,5 +1,5 @@
--- The moments of a step (this project's choice; that a drum word is had at its angle is the IBM 650 Manual of
--- Operation's). A clock counts word times from a moment of angle 0 on.
+-- The moments of a step (this project's choice; that a drum word is had at its angle is the IBM 650
+-- Manual of Operation's). A clock counts word times from a moment of angle 0 on.
 use Rattle.std.specs.Prelude.{◌≡◌, ℕ, zero, suc, ◌+◌, ◌*◌, ◌/◌, ◌%◌, ◌≤◌, Bool, true, false, if◌then◌else◌}
 use Rattle.drum_core.specs.declared.op.Op.{Op}
 use Rattle.drum_core.specs.declared.op.Op.TheVariants.{Add, ResetAdd, Divide, DivideReset, Multiply, Store, Shift, LoadDistributor, Read, Punch}
@@ -33,7 +33,8 @@ waits_for_operand _ = false
 abbrev pub reached : Op → ℕ → ℕ → ℕ
 reached op d x = if waits_for_operand op then found d x else x
 
--- e: from the first moment of the entry's parity on, what the operation takes, with its units and its wait
+-- e: from the first moment of the entry's parity on, what the operation takes, with its units and
+-- its wait
 abbrev pub ended : Entry → Op → ℕ → ℕ → ℕ → ℕ → ℕ → ℕ
 ended entry op d location units wait clock =
     first (has_parity entry.parity) (reached op d (ready entry location clock)) + entry.after + entry.per * units + wait
@@ -43,7 +44,8 @@ abbrev pub digit_sum : ℕ → ℕ → ℕ
 digit_sum zero n = 0
 digit_sum (suc count) n = n % 10 + digit_sum count (n / 10)
 
--- The units of an operation's work: the places of a shift, the digit sum of the multiplier or of the quotient.
+-- The units of an operation's work: the places of a shift, the digit sum of the multiplier or of
+-- the quotient.
 abbrev pub units_of : Op → ℕ → Contents → ℕ
 units_of Divide d c = let v = number_in (word_at c d) in if is_too_large c.accumulator v then 0 else digit_sum 10 (quotient c.accumulator v)
 units_of DivideReset d c = let v = number_in (word_at c d) in if is_too_large c.accumulator v then 0 else digit_sum 10 (quotient c.accumulator v)

@@ -17,8 +17,8 @@ pub data Way : Type 0 where
   to : ℕ → Way
   late : Way
 
--- Early, then the next locations in order, then Late. A next location that is none is a stop at e, and Late comes
--- once at most.
+-- Early, then the next locations in order, then Late. A next location that is none is a stop at e,
+-- and Late comes once at most.
 abbrev pub in_order : Bool → List ℕ → Bool → List Way
 in_order stops_early nexts stops_late =
     (if stops_early then early ∷ [] else []) ++ map to (filter is_location nexts)
@@ -30,8 +30,8 @@ ways_of_stop switch.Stop i = in_order false [] true
 ways_of_stop switch.Run i = in_order false (i ∷ []) false
 ways_of_stop switch.Any i = in_order false (i ∷ []) true
 
--- The ways of an operation whose D is what it wants. 10 to 19 and 64 may stop for an overflow or a quotient, 90 to
--- 99 for a digit, 70 for want of a card.
+-- The ways of an operation whose D is what it wants. 10 to 19 and 64 may stop for an overflow or a
+-- quotient, 90 to 99 for a digit, 70 for want of a card.
 abbrev pub ways_of : Notes → Op → ℕ → ℕ → List Way
 ways_of notes NoOperation d i = in_order false (i ∷ []) false
 ways_of notes Stop d i = ways_of_stop notes.programmed i

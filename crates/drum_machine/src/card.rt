@@ -4,7 +4,8 @@ use drum_core::Word;
 
 /// A card that the card reader holds: ten words and a load mark.
 ///
-/// Source: the IBM 650 Manual of Operation. That panel wiring isn't modelled is this project's choice.
+/// Source: the IBM 650 Manual of Operation. That panel wiring isn't modelled is this project's
+/// choice.
 #[derive(Clone, Copy, Debug, PartialEq, Eq)]
 pub struct Card {
     /// The words, in order.

@@ -44,8 +44,8 @@ impl Feed {
         }
     }
 
-    /// The wait of an operation: for 70 and 71 the nearest to the next one that is in the entry's range, or the range's
-    /// longest where none is left; for others none.
+    /// The wait of an operation: for 70 and 71 the nearest to the next one that is in the entry's
+    /// range, or the range's longest where none is left; for others none.
     pub(crate) fn take_wait(&mut self, op: Op, entry: Entry) -> u32
         ensures wait { result ≡ wait_for op entry (waits_left self.old) }
         ensures waits { waits_left self.new ≡ waits_after op (waits_left self.old) }

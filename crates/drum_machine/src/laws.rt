@@ -20,15 +20,15 @@ pub fn writes_alone()
         → ¬ Contains (writes (instruction_in s)) place → slice_get next.contents.drum place ≡ slice_get s.contents.drum place }
 {}
 
-/// A step of an operation in the profile ends by one of its instruction's ways under notes with the machine's own
-/// switch, and with load cards where the machine's next card is one.
+/// A step of an operation in the profile ends by one of its instruction's ways under notes with the
+/// machine's own switch, and with load cards where the machine's next card is one.
 pub fn ends_by_a_way()
     ensures { (times : Op → Entry) (s : State) (wait : ℕ) (op : Op) → op_of (instruction_in s).op ≡ Some op
         → Contains (ways (own_notes s) (instruction_in s)) (ended_by (step times s wait)) }
 {}
 
-/// A step of an operation in the profile ends at x if by Early, else at e with the units of its work. (Clocks count from
-/// a moment of angle 0, in word times.)
+/// A step of an operation in the profile ends at x if by Early, else at e with the units of its
+/// work. (Clocks count from a moment of angle 0, in word times.)
 pub fn ends_then()
     ensures { (times : Op → Entry) (s : State) (wait : ℕ) (op : Op) → op_of (instruction_in s).op ≡ Some op
         → let d = (instruction_in s).d in
@@ -37,7 +37,8 @@ pub fn ends_then()
         (ended (times op) op d s.sought (units_of op d s.contents) wait (clock_of s)) }
 {}
 
-/// A step that goes on leaves whole contents whole: 2000 words on the drum, twenty digits in the accumulator.
+/// A step that goes on leaves whole contents whole: 2000 words on the drum, twenty digits in the
+/// accumulator.
 pub fn stays_whole()
     ensures { (times : Op → Entry) (s : State) (wait : ℕ) (next : State) → IsWhole s.contents → step times s wait ≡ on next
         → IsWhole next.contents }

@@ -1,5 +1,5 @@
-//! The timed machine: what a step does and when, what a run is, and the monitor, which tells when a run leaves the
-//! notes.
+//! The timed machine: what a step does and when, what a run is, and the monitor, which tells when a
+//! run leaves the notes.
 #![tactic(auto)]
 
 mod arithmetic;

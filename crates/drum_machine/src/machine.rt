@@ -42,8 +42,9 @@ impl Machine {
     ghost use Rattle.drum_machine.specs.Registers.{contents_with, outcome_of};
     ghost use Rattle.drum_machine.specs.Machine.{GoesOn, HasStopped, sought_by, used_by, Tells, Becomes, TakesStep, WritesAlone, EndsByAWay, state_in, op_in, punched_by};
 
-    /// A machine at time 0: it seeks the deck's start; it has the setup's angle, registers, latch and switches, and no
-    /// remainder's sign; its drum has the deck's words, elsewhere the setup's, else +0.
+    /// A machine at time 0: it seeks the deck's start; it has the setup's angle, registers, latch
+    /// and switches, and no remainder's sign; its drum has the deck's words, elsewhere the setup's,
+    /// else +0.
     pub fn new(alloc: Global, deck: &Deck, setup: &Setup) -> Result<Machine, Memory>
         ensures runs { IfOk result GoesOn }
         ensures set_up { IfOk result (λ machine. (cards : List Card)

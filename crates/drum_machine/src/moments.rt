@@ -52,7 +52,8 @@ pub fn reached(op: Op, d: u16, x: u64) -> u64
     }
 }
 
-/// From x on, the moment at which the step ends, with so many units of work and a wait for the card machine.
+/// From x on, the moment at which the step ends, with so many units of work and a wait for the card
+/// machine.
 pub fn ended(entry: Entry, op: Op, d: u16, units: u64, wait: u32, x: u64) -> u64
     requires operand { is_operand (operand_of op) d ≡ true }
     requires work { entry.per * units + wait ≤ 90000000 }

@@ -60,7 +60,8 @@ impl Monitor {
     ghost use Rattle.drum_machine.specs.Counts.{after_pass, no_counts, AreWithin};
     ghost use Rattle.drum_machine.specs.Monitor.{answer_of, counts_in, counts_over, HasSeen, IsToldOf};
 
-    /// A monitor of a run from this setup. It has answered where the programmed switch isn't as the notes declare it.
+    /// A monitor of a run from this setup. It has answered where the programmed switch isn't as the
+    /// notes declare it.
     pub fn new(notes: &Notes, setup: &Setup) -> Monitor
         ensures declared { MatchOption (answer_of result)
             (IsAsDeclared notes.now.programmed setup.now.programmed)
@@ -133,9 +134,9 @@ impl Monitor {
         }
     }
 
-    /// How the run leaves the notes at this step, or has left them; `None` while it keeps to them. The steps of one run
-    /// are given in order, with one deck and the notes and the setup that the monitor was made for. Once there is an
-    /// answer it stays, and nothing changes.
+    /// How the run leaves the notes at this step, or has left them; `None` while it keeps to them.
+    /// The steps of one run are given in order, with one deck and the notes and the setup that the
+    /// monitor was made for. Once there is an answer it stays, and nothing changes.
     pub fn check(&mut self, notes: &Notes, deck: &Deck, step: &Step) -> Option<Left>
         ensures answered { result ≡ answer_of self.new }
         ensures judged { answer_of self.old ≡ None → (times : Op → Entry) (turns : List Turn) (turn : Turn)

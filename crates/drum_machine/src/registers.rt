@@ -53,7 +53,8 @@ impl Registers {
         make_word(is_minus(self.accumulator), lower(self.accumulator))
     }
 
-    /// The upper ten digits of the accumulator as a word; its sign is the remainder's while that stands.
+    /// The upper ten digits of the accumulator as a word; its sign is the remainder's while that
+    /// stands.
     fn upper_word(&self) -> Word
         ensures { (cards : List Card) → result ≡ upper_in (contents_with self.now cards) }
     {
@@ -82,8 +83,8 @@ impl Registers {
         self.word_at(Location { number: d })
     }
 
-    /// The accumulator becomes what twenty digits hold of the number. Where more are wanted, that is an overflow: a
-    /// stop where the overflow switch is at STOP, and else the latch goes on.
+    /// The accumulator becomes what twenty digits hold of the number. Where more are wanted, that
+    /// is an overflow: a stop where the overflow switch is at STOP, and else the latch goes on.
     fn keep(&mut self, number: i128, next: u16) -> Result<u16, Why>
         requires { unsigned_abs number < 10 ^ 30 }
         ensures { HasEffect (λ c. keeps_in c number next) self.old self.new result }
@@ -271,7 +272,8 @@ impl Registers {
         }
     }
 
-    /// 70: reads a card into words 01 to 10 of D's band; the next location, which is D for a load card.
+    /// 70: reads a card into words 01 to 10 of D's band; the next location, which is D for a load
+    /// card.
     pub fn read_card(&mut self, card: &Card, d: u16, i: u16) -> u16
         requires { d < 2000 }
         ensures { (cards : List Card) → effect (contents_with self.old (card.now ∷ cards)) Op.Read d i ≡ goes (contents_with self.new cards) result }
@@ -291,7 +293,8 @@ impl Registers {
         words
     }
 
-    /// The units of an operation's work: the places of a shift, the digit sum of the multiplier or of the quotient.
+    /// The units of an operation's work: the places of a shift, the digit sum of the multiplier or
+    /// of the quotient.
     pub fn units(&self, op: Op, d: u16) -> u64
         requires { is_operand (operand_of op) d ≡ true }
         ensures value { (cards : List Card) → result ≡ units_of op d (contents_with self.now cards) }
@@ -318,8 +321,8 @@ impl Registers {
         digit_sum(quotient(self.accumulator, by))
     }
 
-    /// What an instruction of this operation does, with the card that it reads: the number of the next location, or the
-    /// stop.
+    /// What an instruction of this operation does, with the card that it reads: the number of the
+    /// next location, or the stop.
     pub fn act(&mut self, op: Op, d: u16, i: u16, card: Option<Card>) -> Result<u16, Why>
         requires operand { is_operand (operand_of op) d ≡ true }
         requires card { is_some card ≡ is_read op }

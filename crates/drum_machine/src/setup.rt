@@ -61,10 +61,10 @@ fn have_own_locations(words: &[(Location, Word)]) -> bool
 impl Setup {
     ghost use Rattle.drum_core.specs.Loads.{loads_in};
 
-    /// A setup: the drum's angle at time 0, the words of the switches and of the distributor, the accumulator, whether
-    /// the overflow latch is on, whether the programmed switch and the overflow switch are at STOP, and words for drum
-    /// locations. `None` for an angle from 50 on, a magnitude from 10^20 on, a word off the drum, or a location that is
-    /// given twice.
+    /// A setup: the drum's angle at time 0, the words of the switches and of the distributor, the
+    /// accumulator, whether the overflow latch is on, whether the programmed switch and the
+    /// overflow switch are at STOP, and words for drum locations. `None` for an angle from 50 on, a
+    /// magnitude from 10^20 on, a word off the drum, or a location that is given twice.
     pub fn new(
         angle: u8,
         switches: Word,
@@ -114,7 +114,8 @@ impl Setup {
         Some(given.1)
     }
 
-    /// The first location of its words, in their order, that the deck loads; `None` where it loads none.
+    /// The first location of its words, in their order, that the deck loads; `None` where it loads
+    /// none.
     pub fn loaded_by(&self, deck: &Deck) -> Option<Location>
         ensures { result ≡ first_loaded (loads_in deck.now) self.now.words.items }
     {

@@ -108,7 +108,8 @@ fn inputs_without_end(rt: HostRuntime) {
     assert!(rt; reader.calls() <= 804_001);
 }
 
-/// That a report to a writer with so much room, which takes so many bytes a call at most, tells how many bytes went out.
+/// That a report to a writer with so much room, which takes so many bytes a call at most, tells how
+/// many bytes went out.
 fn fills(
     rt: &(impl AllocGlobal + Abort),
     subject: &Subject,

@@ -220,7 +220,8 @@ fn is_shorter_line(front: &str) -> bool {
         || front.starts_with("WAIT ") && front.len() > 5
 }
 
-/// That the text that is cut within a line is inputs just where what is left of the line is a line, or nothing.
+/// That the text that is cut within a line is inputs just where what is left of the line is a line,
+/// or nothing.
 fn cut_at(
     rt: &(impl AllocGlobal + Abort),
     before: &str,

@@ -1,5 +1,5 @@
-//! Tests of reports, inputs and replays, with answers that are known from outside, also when devices fail and when memory
-//! is wanting.
+//! Tests of reports, inputs and replays, with answers that are known from outside, also when
+//! devices fail and when memory is wanting.
 #![tactic(auto)]
 
 #[cfg(test)]

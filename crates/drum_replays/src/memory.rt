@@ -1,5 +1,6 @@
-//! Calls that want memory, and one that wants none. Each test makes one call twice, and takes want of memory as the answer
-//! of one of the two: `checks/refuse-memory` runs each test with its first allocation refused, with its second, and so on.
+//! Calls that want memory, and one that wants none. Each test makes one call twice, and takes want
+//! of memory as the answer of one of the two: `checks/refuse-memory` runs each test with its first
+//! allocation refused, with its second, and so on.
 
 ghost use Rattle.std.specs.Prelude.{◌≤◌};
 

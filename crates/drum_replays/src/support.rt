@@ -34,7 +34,8 @@ pub struct Subject {
 }
 
 impl Subject {
-    /// A deck with the timing table that the tests share, and with notes that allow the least and say this beside.
+    /// A deck with the timing table that the tests share, and with notes that allow the least and
+    /// say this beside.
     pub fn of(alloc: Global, deck: &str, more: &str) -> Result<Subject, Fail> {
         let notes = format!(in alloc; "{NOTES}{more}")?;
         Ok(Subject {

@@ -1,4 +1,5 @@
-//! Bounds that are known from outside, with the entries of their tables and how many ends of hops were made.
+//! Bounds that are known from outside, with the entries of their tables and how many ends of hops
+//! were made.
 
 use crate::support::{Edge, Subject, analysis_of, listed, marked};
 use drum_texts::{BRANCH_BACK, EITHER, LOOPS, NOTES, ROADS, TIMES, TWO_ROADS, TWO_WORDS};

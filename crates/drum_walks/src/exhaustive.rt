@@ -10,7 +10,8 @@ use std::test::Fail;
 /// All units and all waits.
 const ALL: Steps = Steps { units: 1, waits: 1 };
 
-/// All units, and each seventh wait with the longest: as seven and fifty have no factor in common, at all angles.
+/// All units, and each seventh wait with the longest: as seven and fifty have no factor in common,
+/// at all angles.
 const SEVENTHS: Steps = Steps { units: 1, waits: 7 };
 
 /// The least and the most units and waits, and a few between.

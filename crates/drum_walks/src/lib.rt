@@ -1,5 +1,6 @@
-//! Tests of the bound: bounds, tables and walks that are known from outside, a slow search through all walks of small
-//! decks that shares nothing with the analysis, and the analysis when memory is wanting.
+//! Tests of the bound: bounds, tables and walks that are known from outside, a slow search through
+//! all walks of small decks that shares nothing with the analysis, and the analysis when memory is
+//! wanting.
 #![tactic(auto)]
 
 #[cfg(test)]

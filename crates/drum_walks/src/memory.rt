@@ -1,5 +1,6 @@
-//! The analysis when memory is wanting. Each test analyses twice, and takes want of memory as the answer of one of the
-//! two: `checks/refuse-memory` runs each with its first allocation refused, with its second, and so on.
+//! The analysis when memory is wanting. Each test analyses twice, and takes want of memory as the
+//! answer of one of the two: `checks/refuse-memory` runs each with its first allocation refused,
+//! with its second, and so on.
 
 use drum_bound::{Refusal, analyse};
 use drum_core::{Reading, read_deck};
@@ -7,8 +8,8 @@ use drum_texts::{NOTES, TIMES, TWO_WORDS};
 use drum_times::{read_notes, read_times};
 use std::process::Abort;
 
-/// A deck of two words of which the first waits for the card machine: its bound is much later than that of the deck
-/// without the wait, and takes no more memory.
+/// A deck of two words of which the first waits for the card machine: its bound is much later than
+/// that of the deck without the wait, and takes no more memory.
 const PUNCHES: &str = "0100 +7100000106\n0106 +0100000106\nSTART 0100\n";
 
 /// That a deck has this bound, or that memory is wanting at most once in two times.

@@ -1,5 +1,5 @@
-//! All walks of a deck, gone through one after the other, and through each hop one word time at a time. It shares
-//! nothing with the analysis but the reading of decks, timing tables and notes.
+//! All walks of a deck, gone through one after the other, and through each hop one word time at a
+//! time. It shares nothing with the analysis but the reading of decks, timing tables and notes.
 
 use crate::support::Subject;
 use drum_core::{Location, Op, Parity};
@@ -14,7 +14,8 @@ struct Order {
     i: u16,
 }
 
-/// Where a walk has come to: it seeks a place, at a clock that began at its start angle, with marks passed so often.
+/// Where a walk has come to: it seeks a place, at a clock that began at its start angle, with marks
+/// passed so often.
 #[derive(Clone, Copy, Debug)]
 struct Stand {
     place: u16,
@@ -39,7 +40,8 @@ struct Ways {
     stop: bool,
 }
 
-/// How long a step may last beyond what is fixed, in word times: from the least to the most, by steps.
+/// How long a step may last beyond what is fixed, in word times: from the least to the most, by
+/// steps.
 #[derive(Clone, Copy, Debug)]
 struct Spread {
     least: u64,
@@ -159,8 +161,8 @@ fn mark_at(marks: &[Mark], from: u16, onto: u16) -> Option<usize> {
     None
 }
 
-/// The counts that a pass of a mark sets back: of the marks that stand inside of it, or of one of those. A mark stands
-/// inside of an earlier one.
+/// The counts that a pass of a mark sets back: of the marks that stand inside of it, or of one of
+/// those. A mark stands inside of an earlier one.
 fn set_back(marks: &[Mark], passed: usize) -> [bool; 8] {
     let mut back = [false; 8];
     for number in 0..8usize {
@@ -235,8 +237,8 @@ impl<'a> Search<'a> {
         self.arrivals.len()
     }
 
-    /// The most word times used when a walk arrives at a place with counts of this number: the first mark's, and in
-    /// units of its `most` and one the number of the others'.
+    /// The most word times used when a walk arrives at a place with counts of this number: the
+    /// first mark's, and in units of its `most` and one the number of the others'.
     pub fn time_at(&self, place: u16, counts: u32) -> Option<u64> {
         for arrival in &self.arrivals {
             if arrival.place == place && self.number(&arrival.counts) == counts {

@@ -8,8 +8,8 @@ use std::alloc::{AllocError, Global};
 use std::process::Abort;
 use std::test::Fail;
 
-/// A mark on an edge: from, onto, how often it may be passed, and the number of the mark that it stands inside of,
-/// from 1, or 0.
+/// A mark on an edge: from, onto, how often it may be passed, and the number of the mark that it
+/// stands inside of, from 1, or 0.
 pub type Edge = (u16, u16, u16, u16);
 
 /// Notes with more marks.
@@ -78,7 +78,8 @@ pub fn analysis_of(
     Subject::of(rt.alloc(), deck, TIMES, notes)?.analysed(rt)
 }
 
-/// That the hops of the walk follow one another, from the start to the bound, and that none follows a stop.
+/// That the hops of the walk follow one another, from the start to the bound, and that none follows
+/// a stop.
 fn holds_together(rt: &impl Abort, subject: &Subject, analysis: &Analysis) {
     let mut sought = Some(subject.deck.start());
     let mut used = 0;

@@ -39,8 +39,8 @@ fn of_two_words(rt: HostRuntime) -> Result<(), Fail> {
     Ok(())
 }
 
-/// The word is found at times 49, 99, 149 and 199, and each search ends three word times later. The stop is found
-/// when the drum's angle is ten.
+/// The word is found at times 49, 99, 149 and 199, and each search ends three word times later. The
+/// stop is found when the drum's angle is ten.
 #[test]
 fn of_three_ways_back(rt: HostRuntime) -> Result<(), Fail> {
     let notes = marked(rt.alloc(), NOTES, &[(100, 100, 3, 0)])?;

@@ -12,8 +12,8 @@ fn parity(number: u32) -> &'static str {
     }
 }
 
-/// A timing table whose numbers differ from operation to operation: some are longer than a revolution, and the waits
-/// for the card machine reach over two.
+/// A timing table whose numbers differ from operation to operation: some are longer than a
+/// revolution, and the waits for the card machine reach over two.
 pub fn strange_times(alloc: Global, seed: u32) -> Result<String, AllocError> {
     let mut text = String::from_str(alloc, "[op]\n")?;
     for op in Op::all() {

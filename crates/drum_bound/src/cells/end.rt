@@ -30,8 +30,8 @@ pub struct KeyHop {
     pub hop: usize,
 }
 
-/// The ends of hops that have been made: how many, and which was the last. Each is of a later hop than the one before it, so
-/// that none is made twice.
+/// The ends of hops that have been made: how many, and which was the last. Each is of a later hop
+/// than the one before it, so that none is made twice.
 #[derive(Debug, Drop)]
 pub struct Made {
     count: u64,
@@ -63,8 +63,8 @@ impl Made {
         self.count
     }
 
-    /// The latest end of a hop of a key, which is at this location and begins its search at this clock; a later hop than the
-    /// last one.
+    /// The latest end of a hop of a key, which is at this location and begins its search at this
+    /// clock; a later hop than the last one.
     pub fn end(
         &mut self,
         times: &Times,

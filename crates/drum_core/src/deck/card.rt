@@ -39,7 +39,8 @@ impl Card {
     ghost use Rattle.std.specs.Prelude.{List, take};
     ghost use Rattle.drum_core.specs.DeckText as text;
 
-    /// The card that a line spells: four digits, and from one to seven words with a space before each.
+    /// The card that a line spells: four digits, and from one to seven words with a space before
+    /// each.
     pub fn read(line: &[u8]) -> Option<Card>
         ensures found { IfSome result (λ card.
             text.IsLine line.now (text.card card.address (take card.len card.words))) }

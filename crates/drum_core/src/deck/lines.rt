@@ -2,8 +2,8 @@ ghost use Rattle.std.specs.Prelude.{◌≡◌, ◌≢◌, ℕ, ◌<◌, ◌↔�
 ghost use Rattle.std.specs.Iterator.{YieldsFirstBy, item_count};
 ghost use Rattle.drum_core.specs.Lines.{lines_of, IsLonger};
 
-/// The lines of a text: its parts between line feeds. The last may lack its line feed, and a text that
-/// ends with one has no empty line after it.
+/// The lines of a text: its parts between line feeds. The last may lack its line feed, and a text
+/// that ends with one has no empty line after it.
 #[derive(Clone, Copy, Debug)]
 pub struct Lines<'a> {
     /// The bytes of the lines that are left.

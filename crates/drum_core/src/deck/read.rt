@@ -20,13 +20,13 @@ const LINE: usize = 100;
 /// The most bytes of a deck.
 const BYTES: usize = LINES * (LINE + 1);
 
-/// Reads a deck. The whole text is read first, 404,001 bytes at most, so that a reader without end is
-/// too long.
+/// Reads a deck. The whole text is read first, 404,001 bytes at most, so that a reader without end
+/// is too long.
 ///
 /// # Errors
 ///
-/// Read where a read failed; Memory; TooLong before any line is looked at; then the first line with a
-/// fault, Card before PastDrum before TwoStarts before Twice; NoStart last.
+/// Read where a read failed; Memory; TooLong before any line is looked at; then the first line with
+/// a fault, Card before PastDrum before TwoStarts before Twice; NoStart last.
 pub fn read_deck<I: Input>(alloc: Global, reader: &mut I) -> Result<Deck, DeckFault>
     requires { I.called reader.old ≤ 2 ^ 62 }
     ensures deck { IfOk result (λ deck. IfSome (I.left reader.old) (λ bytes.

@@ -15,8 +15,8 @@ pub trait Input {
     /// How many reads failed.
     ghost failed: { Self → ℕ };
 
-    /// Reads some bytes into the front of the buffer and says how many: none only at the end, or where
-    /// the buffer has no room.
+    /// Reads some bytes into the front of the buffer and says how many: none only at the end, or
+    /// where the buffer has no room.
     ///
     /// # Errors
     ///

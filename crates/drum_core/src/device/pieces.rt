@@ -32,7 +32,8 @@ pub fn write_whole<O: Output>(output: &mut O, bytes: &[u8]) -> Result<(), Unsent
     Ok(())
 }
 
-/// Writes pieces one after the other, as many times as the output asks for, and tells how many bytes they have.
+/// Writes pieces one after the other, as many times as the output asks for, and tells how many
+/// bytes they have.
 pub fn write_pieces<O: Output>(output: &mut O, pieces: &[&[u8]]) -> Result<usize, Unsent>
     requires { O.called output.old + length (joined pieces.now) ≤ 2 ^ 63 }
     ensures all { OnOk result

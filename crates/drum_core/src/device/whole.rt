@@ -18,8 +18,8 @@ pub enum WholeError {
 /// How many bytes are asked for at a time.
 const CHUNK: usize = 4096;
 
-/// All bytes of an input, of which there may be `limit`; one more is asked for at most, so that an input
-/// without end is too long.
+/// All bytes of an input, of which there may be `limit`; one more is asked for at most, so that an
+/// input without end is too long.
 pub fn read_whole<I: Input>(
     alloc: Global,
     input: &mut I,

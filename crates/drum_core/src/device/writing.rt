@@ -4,7 +4,8 @@ use super::Failed;
 use super::output::Output;
 use std::io::Write;
 
-/// An output made of any writer of `std`. It tells the bytes that it was given where the writer does.
+/// An output made of any writer of `std`. It tells the bytes that it was given where the writer
+/// does.
 #[derive(Debug, Drop)]
 pub struct Writing<W: Write> {
     /// The writer.

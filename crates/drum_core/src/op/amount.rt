@@ -20,7 +20,8 @@ pub enum Amount {
 impl Amount {
     ghost use Rattle.drum_core.specs.Amount.{number_of};
 
-    /// The amount that the operation of this number adds, for those that don't reset the accumulator.
+    /// The amount that the operation of this number adds, for those that don't reset the
+    /// accumulator.
     pub fn of(number: u8) -> Option<Amount>
         ensures found { IfSome result (λ amount. number_of amount ≡ number) }
         ensures none { IfNone result ((amount : Amount) → number_of amount ≢ number) }

@@ -1,5 +1,5 @@
-//! Laws of chains of waits, over the laws of [`Clockwork`] alone: each is the contract of a function that
-//! does nothing.
+//! Laws of chains of waits, over the laws of [`Clockwork`] alone: each is the contract of a
+//! function that does nothing.
 
 ghost use Rattle.std.specs.Prelude.{ℕ, ◌+◌, ◌≤◌};
 

@@ -6,8 +6,8 @@ use super::clockwork::Clockwork;
 use super::parity::Parity;
 use crate::location::{Kind, Location};
 
-/// The wait until the word at a location can be had: a drum word at its angle, 8000 and 8001 at once,
-/// 8002 at even angles, 8003 at odd ones.
+/// The wait until the word at a location can be had: a drum word at its angle, 8000 and 8001 at
+/// once, 8002 at even angles, 8003 at odd ones.
 ///
 /// Source: of drum words the IBM 650 Manual of Operation, of the others this project's choice.
 #[derive(Clone, Copy, Debug, PartialEq, Eq)]

@@ -103,7 +103,8 @@ impl Search {
         Vec::from_slice(alloc, &self.path[at..])
     }
 
-    /// Follows the next edge of the path's last node, or finishes it; a cycle where the edge closes one.
+    /// Follows the next edge of the path's last node, or finishes it; a cycle where the edge closes
+    /// one.
     fn step(
         &mut self,
         alloc: Global,
@@ -214,7 +215,8 @@ fn node_at(row: &[usize], at: usize) -> Option<usize>
     row.get(at).copied()
 }
 
-/// The place of the first node of a row, from a place on, that isn't finished; the row's length where all are.
+/// The place of the first node of a row, from a place on, that isn't finished; the row's length
+/// where all are.
 fn first_unfinished(states: &[Progress], row: &[usize], from: usize) -> usize
     requires within { (next : ℕ) → Contains row.now next → next < length states.now }
     ensures finished { (k next : ℕ) → from ≤ k → k < result → slice_get row.now k ≡ Some next → slice_get states.now next ≡ Some Finished }
