@@ -2,7 +2,7 @@
 
 ghost use Rattle.std.specs.Prelude.{None};
 
-use drum_core::Reading;
+use drum_core::{Input, Reading};
 use drum_tool::Source;
 use std::fs::File;
 
@@ -10,6 +10,8 @@ use std::fs::File;
 #[derive(Drop)]
 pub struct Disk<'a> {
     pub rt: &'a HostRuntime,
+    /// How many reads failed.
+    pub failures: u64,
 }
 
 impl Source for Disk<'_> {
@@ -17,10 +19,16 @@ impl Source for Disk<'_> {
 
     ghost file = { λ _ _. None };
 
+    ghost failed = { λ disk. disk.failures };
+
     fn fetch(&mut self, name: &str) -> Option<Reading<File>> {
         match File::open(self.rt, name) {
             Ok(file) => Some(Reading::new(file)),
             Err(_) => None,
         }
+    }
+
+    fn close(&mut self, text: Reading<File>) {
+        self.failures += text.failures();
     }
 }

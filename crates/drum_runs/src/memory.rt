@@ -61,7 +61,7 @@ impl Write for Page {
 
 /// Whether words end so, and not for want of memory, which leaves nothing on standard output.
 fn ends(rt: &(impl AllocGlobal + Abort), words: &[&str], status: Status, out: &str) -> bool {
-    let mut source = Shelf { files: FILES };
+    let mut source = Shelf::of(FILES);
     let mut input = Reading::new(b"".as_slice());
     let mut to_out = Writing::new(Page::new());
     let mut to_err = Writing::new(Page::new());

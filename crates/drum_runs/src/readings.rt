@@ -3,7 +3,7 @@
 ghost use Rattle.std.specs.Prelude.{None};
 
 use crate::support::{FILES, Shelf, run_words};
-use drum_core::Reading;
+use drum_core::{Input, Reading};
 use drum_tool::{Source, Status};
 use std::io;
 use std::io::{ErrorKind, Read};
@@ -46,6 +46,8 @@ struct OddShelf<'a> {
     odd: &'a str,
     more: usize,
     fails: bool,
+    /// How many reads failed.
+    failures: u64,
 }
 
 impl Source for OddShelf<'_> {
@@ -53,8 +55,10 @@ impl Source for OddShelf<'_> {
 
     ghost file = { λ _ _. None };
 
+    ghost failed = { λ shelf. shelf.failures };
+
     fn fetch(&mut self, name: &str) -> Option<Reading<Lines<'static>>> {
-        let Some(text) = (Shelf { files: FILES }).text(name) else {
+        let Some(text) = Shelf::of(FILES).text(name) else {
             return None;
         };
         let is_odd = name == self.odd;
@@ -63,6 +67,10 @@ impl Source for OddShelf<'_> {
             left: if is_odd { self.more } else { 0 },
             fails: is_odd && self.fails,
         }))
+    }
+
+    fn close(&mut self, text: Reading<Lines<'static>>) {
+        self.failures += text.failures();
     }
 }
 
@@ -74,11 +82,17 @@ fn readings_that_fail(rt: HostRuntime) -> Result<(), Fail> {
         ("notes", "fault 52 notes read\n"),
         ("inputs", "fault 41 inputs read\n"),
     ] {
-        let (more, fails) = (0, true);
-        let mut source = OddShelf { odd, more, fails };
+        let (more, fails, failures) = (0, true, 0);
+        let mut source = OddShelf {
+            odd,
+            more,
+            fails,
+            failures,
+        };
         let words = ["replay", "deck", "times", "notes", "inputs"];
         let ran = run_words(rt.alloc(), &words, &mut source, "")?;
         assert!(rt; ran.is(Status::Failed, "", line), "{odd} gives {ran:?}");
+        assert_eq!(rt; source.failures, 1);
     }
     Ok(())
 }
@@ -89,11 +103,17 @@ fn times_of_many_bytes(rt: HostRuntime) -> Result<(), Fail> {
         (MOST, Status::Refused, "fault 13 times missing op\n"),
         (MOST + 1, Status::Failed, "fault 52 times toolong\n"),
     ] {
-        let (odd, fails) = ("empty", false);
-        let mut source = OddShelf { odd, more, fails };
+        let (odd, fails, failures) = ("empty", false, 0);
+        let mut source = OddShelf {
+            odd,
+            more,
+            fails,
+            failures,
+        };
         let words = ["bound", "deck", odd, "notes"];
         let ran = run_words(rt.alloc(), &words, &mut source, "")?;
         assert!(rt; ran.is(status, "", line), "{more} bytes give {ran:?}");
+        assert_eq!(rt; source.failures, 0);
     }
     Ok(())
 }

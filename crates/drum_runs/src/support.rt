@@ -1,6 +1,6 @@
 //! What the tests share.
 
-ghost use Rattle.std.specs.Prelude.{None};
+ghost use Rattle.std.specs.Prelude.{◌≡◌, ◌^◌, ◌≤◌, None};
 
 use drum_core::{Input, Reading, Writing};
 use drum_texts::{BRANCH_BACK, NOTES, STORES, TIMES, TWO_WORDS};
@@ -58,9 +58,18 @@ pub const FILES: &[(&str, &str)] = &[
 #[derive(Drop)]
 pub struct Shelf<'a> {
     pub files: &'a [(&'a str, &'a str)],
+    /// How many reads failed.
+    pub failures: u64,
 }
 
 impl<'a> Shelf<'a> {
+    /// These files, of which nothing was read.
+    pub(crate) fn of(files: &'a [(&'a str, &'a str)]) -> Shelf<'a>
+        ensures { result.failures ≡ 0 }
+    {
+        Shelf { files, failures: 0 }
+    }
+
     /// The text of the file of this name.
     pub(crate) fn text(&self, name: &str) -> Option<&'a str> {
         for (known, text) in self.files {
@@ -77,11 +86,17 @@ impl<'a> Source for Shelf<'a> {
 
     ghost file = { λ _ _. None };
 
+    ghost failed = { λ shelf. shelf.failures };
+
     fn fetch(&mut self, name: &str) -> Option<Reading<&'a [u8]>> {
         match self.text(name) {
             Some(text) => Some(Reading::new(text.as_bytes())),
             None => None,
         }
+    }
+
+    fn close(&mut self, text: Reading<&'a [u8]>) {
+        self.failures += text.failures();
     }
 }
 
@@ -113,7 +128,9 @@ pub(crate) fn run_words<S: Source>(
     words: &[&str],
     source: &mut S,
     text: &str,
-) -> Result<Ran, AllocError> {
+) -> Result<Ran, AllocError>
+    requires { S.failed source.old ≤ 2 ^ 61 }
+{
     let mut input = Reading::new(text.as_bytes());
     let mut out = Writing::new(Vec::new(alloc));
     let mut err = Writing::new(Vec::new(alloc));
@@ -142,7 +159,7 @@ pub(crate) fn run_text(alloc: Global, text: &[u8]) -> Result<Ran, AllocError> {
 
 /// Runs the program over words and the files that there are, with no need of its standard input.
 pub(crate) fn run_line(rt: &(impl AllocGlobal + Abort), words: &[&str]) -> Result<Ran, AllocError> {
-    let ran = run_words(rt.alloc(), words, &mut Shelf { files: FILES }, "x")?;
+    let ran = run_words(rt.alloc(), words, &mut Shelf::of(FILES), "x")?;
     assert_eq!(rt; ran.reads, 0);
     Ok(ran)
 }

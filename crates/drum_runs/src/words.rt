@@ -10,7 +10,7 @@ use std::test::Fail;
 #[test]
 fn no_words(rt: HostRuntime) -> Result<(), Fail> {
     let text = joined(rt.alloc(), TWO_WORDS)?;
-    let ran = run_words(rt.alloc(), &[], &mut Shelf { files: &[] }, &text)?;
+    let ran = run_words(rt.alloc(), &[], &mut Shelf::of(&[]), &text)?;
     assert!(rt; ran.is(Status::Done, "bound 56\n", ""), "{ran:?}");
     Ok(())
 }

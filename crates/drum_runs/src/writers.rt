@@ -79,7 +79,7 @@ fn run_to(
     requires out { ⟦<Writing<Full> as Output>⟧.called out.old ≤ 2 ^ 62 }
     requires err { ⟦<Writing<Full> as Output>⟧.called err.old ≤ 2 ^ 62 }
 {
-    let mut source = Shelf { files: FILES };
+    let mut source = Shelf::of(FILES);
     let mut input = Reading::new(b"".as_slice());
     run(rt.alloc(), words, &mut source, &mut input, out, err)
 }

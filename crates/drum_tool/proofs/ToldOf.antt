@@ -27,11 +27,11 @@ status_in (says text status) = status
 status_in (complains text status) = status
 
 -- a result to `bound` is the line of documents that are given
-pub result_of_bound : (Are : Documents → Type 0) (No : Fault → Type 0) (text : List ℕ) (status : statuses.Status) → AnswersBound Are No (says text status)
+pub result_of_bound : (Are : Documents → Type 0) (No : Fault → Type 0) (failures : ℕ) (text : List ℕ) (status : statuses.Status) → AnswersBound Are No failures (says text status)
     → (documents : Documents) × Are documents × (bound : ℕ) × IsBound documents bound × (text ≡ bound_text bound) × (status ≡ Done)
-result_of_bound Are No text status (inl (documents, are, bound, is, reply)) =
+result_of_bound Are No failures text status (inl (documents, are, bound, is, none, reply)) =
     (documents, are, bound, is, ap text_in reply, ap status_in reply)
-result_of_bound Are No text status (inr (fault, is, reply)) = absurd (let bad = reply in cc)
+result_of_bound Are No failures text status (inr (fault, is, none, reply)) = absurd (let bad = reply in cc)
 
 -- what a command says, by its parts
 abbrev name_in : Option (Text × List (Option Text)) → Text
@@ -62,12 +62,12 @@ no_result words refused text status are taken reply =
     let bad : says text status ≡ refused_reply Memory = reply ∙ ap refused_reply memory in cc
 
 -- the command of these words is `bound`, with these names
-pub of_files : (held : List ℕ → Option (List ℕ)) (deck times notes : Text) (command : Command) (text : List ℕ) (status : statuses.Status)
+pub of_files : (held : List ℕ → Option (List ℕ)) (deck times notes : Text) (command : Command) (failures : ℕ) (text : List ℕ) (status : statuses.Status)
     → Some (said_by command) ≡ Some (codes "bound", Some deck ∷ Some times ∷ Some notes ∷ [])
-    → AnswersCommand held command (says text status)
+    → AnswersCommand held command failures (says text status)
     → (bound : ℕ) × IsBoundOfFiles held deck times notes bound × (text ≡ bound_text bound) × (status ≡ Done)
-of_files held deck times notes (Bound files) text status said answers =
-    let found = result_of_bound (AreHeld held files) _ text status answers in
+of_files held deck times notes (Bound files) failures text status said answers =
+    let found = result_of_bound (AreHeld held files) _ failures text status answers in
     let names = ap files_in said in
     let deck_is : files.deck.now ≡ deck = ap file_in names in
     let times_is : files.times.now ≡ times = ap (λ (files : List (Option Text)). file_in (behind_file files)) names in
@@ -83,7 +83,7 @@ of_files held deck times notes (Bound files) text status said answers =
       found.4,
       found.5,
     )
-of_files held deck times notes (Report files) text status said answers =
+of_files held deck times notes (Report files) failures text status said answers =
     let bad : 114 ≡ 98 = ap (λ (s : Option (Text × List (Option Text))). first_byte (name_in s)) said in absurd (omega (arith, bad))
-of_files held deck times notes (Replay files inputs) text status said answers =
+of_files held deck times notes (Replay files inputs) failures text status said answers =
     let bad : 114 ≡ 98 = ap (λ (s : Option (Text × List (Option Text))). first_byte (name_in s)) said in absurd (omega (arith, bad))

@@ -16,12 +16,12 @@ without_words bytes failures held reply (word ∷ words) none is = absurd (let z
 
 pub with_command : (bytes : List ℕ) (failures : ℕ) (held : List ℕ → Option (List ℕ)) (reply : Reply) (words : List (Bor Text))
     → false ≡ (length words == 0) → (command : Command) → said_by_words (texts words) ≡ Some (said_by command)
-    → AnswersCommand held command reply → Answers (texts words) bytes failures held reply
+    → AnswersCommand held command failures reply → Answers (texts words) bytes failures held reply
 with_command bytes failures held reply [] some command said is = absurd (let bad : false ≡ true = some in cc)
 with_command bytes failures held reply (word ∷ words) some command said is = inl (command, said, is)
 
 pub with_refused : (bytes : List ℕ) (failures : ℕ) (held : List ℕ → Option (List ℕ)) (reply : Reply) (words : List (Bor Text))
-    → false ≡ (length words == 0) → (refused : Refused) → AreRefused (texts words) refused → reply ≡ refused_reply refused
+    → false ≡ (length words == 0) → (refused : Refused) → AreRefused (texts words) refused → failures ≡ 0 → reply ≡ refused_reply refused
     → Answers (texts words) bytes failures held reply
-with_refused bytes failures held reply [] some refused are is = absurd (let bad : false ≡ true = some in cc)
-with_refused bytes failures held reply (word ∷ words) some refused are is = inr (refused, are, is)
+with_refused bytes failures held reply [] some refused are none is = absurd (let bad : false ≡ true = some in cc)
+with_refused bytes failures held reply (word ∷ words) some refused are none is = inr (refused, are, none, is)

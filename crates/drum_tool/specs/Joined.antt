@@ -47,16 +47,14 @@ abbrev pub JoinsNone : List ℕ → Fault → Type 0
 JoinsNone text fault.NoPart = LacksPart text
 JoinsNone text one = (parts : Texts) × AreParts text parts × SayNone parts one
 
--- the documents of an input that gives these bytes, where so many reads failed
-abbrev pub Gives : List ℕ → ℕ → Documents → Type 0
-Gives bytes failures documents =
-    (failures ≡ 0) × (length bytes ≤ 16777216) × Joins bytes documents
+-- the documents of an input that gives these bytes
+abbrev pub Gives : List ℕ → Documents → Type 0
+Gives bytes documents = (length bytes ≤ 16777216) × Joins bytes documents
 
--- Why an input gives none: a read failed, and it is one; else there are too many bytes, or memory
--- is wanting (which is tested, not said); else they join none.
-abbrev pub GivesNone : List ℕ → ℕ → Fault → Type 0
-GivesNone bytes failures (fault.Part part.Input what.Read) = failures ≡ 1
-GivesNone bytes failures (fault.Part part.Input what.TooLong) =
-    (failures ≡ 0) × (16777216 < length bytes)
-GivesNone bytes failures fault.Memory = failures ≡ 0
-GivesNone bytes failures one = (failures ≡ 0) × (length bytes ≤ 16777216) × JoinsNone bytes one
+-- Why an input gives none: a read failed; there are too many bytes; memory is wanting (which is
+-- tested, not said); else they join none.
+abbrev pub GivesNone : List ℕ → Fault → Type 0
+GivesNone bytes (fault.Part part.Input what.Read) = Unit {0}
+GivesNone bytes (fault.Part part.Input what.TooLong) = 16777216 < length bytes
+GivesNone bytes fault.Memory = Unit {0}
+GivesNone bytes one = (length bytes ≤ 16777216) × JoinsNone bytes one

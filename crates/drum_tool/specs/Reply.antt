@@ -12,7 +12,7 @@ use Rattle.drum_tool.specs.declared.verdict.Verdict.{Verdict}
 use Rattle.drum_tool.specs.declared.verdict.Verdict.TheVariants as verdicts
 use Rattle.drum_tool.specs.BoundText.{bound_text}
 use Rattle.drum_tool.specs.Documents.{IsAnalysisFault, IsBound, IsWorstWalk, setting_of}
-use Rattle.drum_tool.specs.FaultStatus.{status_after}
+use Rattle.drum_tool.specs.FaultStatus.{reads_failed, status_after}
 use Rattle.drum_tool.specs.FaultText.{fault_text}
 use Rattle.drum_tool.specs.Files.{AreHeld, AreNotHeld, HoldsInputs, HoldsNoInputs}
 use Rattle.drum_tool.specs.Given.{given}
@@ -49,21 +49,23 @@ abbrev pub IsFault : (Documents → Type 0) → (Fault → Type 0) → Fault →
 IsFault Are None fault =
     None fault ⊎ ((documents : Documents) × Are documents × IsAnalysisFault documents fault)
 
--- To `bound`: the bound of the documents, or why there is none.
-abbrev pub AnswersBound : (Documents → Type 0) → (Fault → Type 0) → Reply → Type 0
-AnswersBound Are None reply =
+-- To `bound`, where so many reads failed: the bound of the documents, or why there is none.
+abbrev pub AnswersBound : (Documents → Type 0) → (Fault → Type 0) → ℕ → Reply → Type 0
+AnswersBound Are None failures reply =
     ((documents : Documents) × Are documents
-    × (bound : ℕ) × IsBound documents bound × (reply ≡ bound_reply bound))
-    ⊎ ((fault : Fault) × IsFault Are None fault × (reply ≡ fault_reply fault))
+    × (bound : ℕ) × IsBound documents bound × (failures ≡ 0) × (reply ≡ bound_reply bound))
+    ⊎ ((fault : Fault) × IsFault Are None fault
+    × (failures ≡ reads_failed fault) × (reply ≡ fault_reply fault))
 
 -- To `report`: the report of a walk that takes as long as the bound, or why there is none.
-abbrev pub AnswersReport : (Documents → Type 0) → (Fault → Type 0) → Reply → Type 0
-AnswersReport Are None reply =
+abbrev pub AnswersReport : (Documents → Type 0) → (Fault → Type 0) → ℕ → Reply → Type 0
+AnswersReport Are None failures reply =
     ((documents : Documents) × Are documents
     × (bound : ℕ) × IsBound documents bound
     × (walk : List Visited) × IsWorstWalk documents bound walk
-    × (reply ≡ report_reply documents walk))
-    ⊎ ((fault : Fault) × IsFault Are None fault × (reply ≡ fault_reply fault))
+    × (failures ≡ 0) × (reply ≡ report_reply documents walk))
+    ⊎ ((fault : Fault) × IsFault Are None fault
+    × (failures ≡ reads_failed fault) × (reply ≡ fault_reply fault))
 
 -- a fault of a replay: of the documents; else of the inputs; else of both
 abbrev pub IsFaultWith : (Documents → Type 0) → (Fault → Type 0) → (Inputs → Type 0)
@@ -76,20 +78,20 @@ IsFaultWith Are None AreInputs NoInputs fault =
 
 -- To `replay`: the verdict on the run that the inputs fix, or why there is none.
 abbrev pub AnswersReplay : (Documents → Type 0) → (Fault → Type 0) → (Inputs → Type 0)
-    → (Fault → Type 0) → Reply → Type 0
-AnswersReplay Are None AreInputs NoInputs reply =
+    → (Fault → Type 0) → ℕ → Reply → Type 0
+AnswersReplay Are None AreInputs NoInputs failures reply =
     ((documents : Documents) × Are documents × (inputs : Inputs) × AreInputs inputs
     × (verdict : Verdict) × IsReplay (setting_of documents) (given inputs) verdict
-    × (reply ≡ verdict_reply verdict))
+    × (failures ≡ 0) × (reply ≡ verdict_reply verdict))
     ⊎ ((fault : Fault) × IsFaultWith Are None AreInputs NoInputs fault
-    × (reply ≡ fault_reply fault))
+    × (failures ≡ reads_failed fault) × (reply ≡ fault_reply fault))
 
--- the reply to a joined form, where reading it failed so often
+-- the reply to a joined form, where so many reads failed
 abbrev pub AnswersJoined : List ℕ → ℕ → Reply → Type 0
-AnswersJoined bytes failures = AnswersBound (Gives bytes failures) (GivesNone bytes failures)
+AnswersJoined bytes = AnswersBound (Gives bytes) (GivesNone bytes)
 
--- the reply to a command, where files hold these bytes
-abbrev pub AnswersCommand : (List ℕ → Option (List ℕ)) → Command → Reply → Type 0
+-- the reply to a command, where files hold these bytes and so many reads failed
+abbrev pub AnswersCommand : (List ℕ → Option (List ℕ)) → Command → ℕ → Reply → Type 0
 AnswersCommand held (Bound files) = AnswersBound (AreHeld held files) (AreNotHeld held files)
 AnswersCommand held (Report files) = AnswersReport (AreHeld held files) (AreNotHeld held files)
 AnswersCommand held (Replay files inputs) =

@@ -1,7 +1,8 @@
 //! What each command does, with files.
 
-ghost use Rattle.std.specs.Prelude.{◌^◌, ◌≤◌, ℕ, List, Option, IfOk, IfErr};
+ghost use Rattle.std.specs.Prelude.{◌≡◌, ◌+◌, ◌^◌, ◌≤◌, ℕ, List, Option, IfOk, IfErr};
 ghost use Rattle.drum_bound.specs.AnalysisOf.{visits_of};
+ghost use Rattle.drum_tool.specs.FaultStatus.{failed_by, reads_failed};
 ghost use Rattle.drum_tool.specs.Files.{AreTold};
 ghost use Rattle.drum_tool.specs.Output.{Tells, device};
 ghost use Rattle.drum_tool.specs.Reply.{AnswersCommand, Reply, bound_reply, fault_reply, report_reply, verdict_reply};
@@ -21,12 +22,15 @@ use std::alloc::Global;
 
 /// The bound of documents in files.
 fn bound<S: Source>(alloc: Global, source: &mut S, files: Files<'_>) -> Result<u64, Fault>
+    requires { S.failed source.old ≤ 2 ^ 61 }
     ensures bound { IfOk result (λ bound. (held : List ℕ → Option (List ℕ))
         → AreTold (S.file source.old) held
-        → AnswersCommand held (Command.Bound files.entry) (bound_reply bound)) }
+        → AnswersCommand held (Command.Bound files.entry) 0 (bound_reply bound)) }
     ensures fault { IfErr result (λ fault. (held : List ℕ → Option (List ℕ))
         → AreTold (S.file source.old) held
-        → AnswersCommand held (Command.Bound files.entry) (fault_reply fault)) }
+        → AnswersCommand held (Command.Bound files.entry) (reads_failed fault)
+        (fault_reply fault)) }
+    ensures counted { S.failed source.new ≡ S.failed source.old + failed_by result }
 {
     let documents = Documents::of_files(alloc, source, files)?;
     documents.bound(alloc)
@@ -38,13 +42,16 @@ fn analysis<S: Source>(
     source: &mut S,
     files: Files<'_>,
 ) -> Result<(Documents, Analysis), Fault>
+    requires { S.failed source.old ≤ 2 ^ 61 }
     ensures report { IfOk result (λ done. (held : List ℕ → Option (List ℕ))
         → AreTold (S.file source.old) held
-        → AnswersCommand held (Command.Report files.entry)
+        → AnswersCommand held (Command.Report files.entry) 0
         (report_reply done.0 (visits_of done.1))) }
     ensures fault { IfErr result (λ fault. (held : List ℕ → Option (List ℕ))
         → AreTold (S.file source.old) held
-        → AnswersCommand held (Command.Report files.entry) (fault_reply fault)) }
+        → AnswersCommand held (Command.Report files.entry) (reads_failed fault)
+        (fault_reply fault)) }
+    ensures counted { S.failed source.new ≡ S.failed source.old + failed_by result }
 {
     let documents = Documents::of_files(alloc, source, files)?;
     let analysis = documents.analyse(alloc)?;
@@ -58,12 +65,16 @@ fn verdict<S: Source>(
     files: Files<'_>,
     inputs: &str,
 ) -> Result<Verdict, Fault>
+    requires { S.failed source.old ≤ 2 ^ 61 }
     ensures verdict { IfOk result (λ verdict. (held : List ℕ → Option (List ℕ))
         → AreTold (S.file source.old) held
-        → AnswersCommand held (Command.Replay files.entry inputs.entry) (verdict_reply verdict)) }
+        → AnswersCommand held (Command.Replay files.entry inputs.entry) 0
+        (verdict_reply verdict)) }
     ensures fault { IfErr result (λ fault. (held : List ℕ → Option (List ℕ))
         → AreTold (S.file source.old) held
-        → AnswersCommand held (Command.Replay files.entry inputs.entry) (fault_reply fault)) }
+        → AnswersCommand held (Command.Replay files.entry inputs.entry) (reads_failed fault)
+        (fault_reply fault)) }
+    ensures counted { S.failed source.new ≡ S.failed source.old + failed_by result }
 {
     let documents = Documents::of_files(alloc, source, files)?;
     let inputs = inputs_of(alloc, source, inputs)?;
@@ -88,6 +99,7 @@ pub fn obey<S: Source, O: Output, E: Output>(
     out: &mut O,
     err: &mut E,
 ) -> Status
+    requires source { S.failed source.old ≤ 2 ^ 61 }
     requires out { O.called out.old ≤ 2 ^ 62 }
     requires err { E.called err.old ≤ 2 ^ 62 }
     ensures { (reply : Reply)
@@ -95,8 +107,10 @@ pub fn obey<S: Source, O: Output, E: Output>(
         (device (O.written out.new) (O.failed out.new))
         (device (E.written err.old) (E.failed err.old))
         (device (E.written err.new) (E.failed err.new)) result
-        × ((held : List ℕ → Option (List ℕ))
-        → AreTold (S.file source.old) held → AnswersCommand held command.entry reply) }
+        × ((held : List ℕ → Option (List ℕ)) (failures : ℕ)
+        → AreTold (S.file source.old) held
+        → S.failed source.new ≡ S.failed source.old + failures
+        → AnswersCommand held command.entry failures reply) }
 {
     match command {
         Command::Bound(files) => match bound(alloc, source, files) {

@@ -1,6 +1,7 @@
 //! Files read, each to its limit, and checked one after the other.
 
 ghost use Rattle.std.specs.Prelude.{◌≡◌, ◌+◌, ◌^◌, ◌≤◌, ◌↔◌, ℕ, List, Option, Some, IfOk, IfErr, IfSome, IsErrOf};
+ghost use Rattle.drum_tool.specs.FaultStatus.{failed_by};
 ghost use Rattle.drum_tool.specs.Files.{AreHeld, AreNotHeld, AreTold, Holds, HoldsDeck, HoldsInputs, HoldsNoDeck, HoldsNoInputs, HoldsNone, HoldsNoNotes, HoldsNotes, HoldsNoTimes, HoldsTimes};
 
 use crate::documents::Documents;
@@ -27,7 +28,7 @@ fn bytes_of<I: Input>(alloc: Global, part: Part, text: &mut I) -> Result<Vec<u8>
         HoldsNone part (Some all) fault)) }
     ensures read { IsErrOf result (Fault.Part part PartFault.Read)
         ↔ (I.failed text.new ≡ I.failed text.old + 1) }
-    ensures once { I.failed text.new ≤ I.failed text.old + 1 }
+    ensures counted { I.failed text.old ≡ 0 → I.failed text.new ≡ failed_by result }
     ensures asked { I.called text.new ≤ I.called text.old + 8388609 }
 {
     match read_whole(alloc, text, BYTES) {
@@ -45,21 +46,27 @@ fn read_part<S: Source>(
     part: Part,
     name: &str,
 ) -> Result<Vec<u8>, Fault>
+    requires few { S.failed source.old ≤ 2 ^ 62 }
     ensures stays { S.file source.new ≡ S.file source.old }
+    ensures counted { S.failed source.new ≡ S.failed source.old + failed_by result }
     ensures bytes { IfOk result (λ text. (file : Option (List ℕ))
         → S.file source.old name.now ≡ Some file → Holds file text.items) }
     ensures fault { IfErr result (λ fault. (file : Option (List ℕ))
         → S.file source.old name.now ≡ Some file → HoldsNone part file fault) }
 {
-    match source.fetch(name) {
-        Some(mut text) => bytes_of(alloc, part, &mut text),
-        None => Err(Fault::Part(part, PartFault::Open)),
-    }
+    let Some(mut text) = source.fetch(name) else {
+        return Err(Fault::Part(part, PartFault::Open));
+    };
+    let bytes = bytes_of(alloc, part, &mut text);
+    source.close(text);
+    bytes
 }
 
 /// The deck of a file.
 fn deck_of<S: Source>(alloc: Global, source: &mut S, name: &str) -> Result<Deck, Fault>
+    requires few { S.failed source.old ≤ 2 ^ 62 }
     ensures stays { S.file source.new ≡ S.file source.old }
+    ensures counted { S.failed source.new ≡ S.failed source.old + failed_by result }
     ensures deck { IfOk result (λ deck. (file : Option (List ℕ))
         → S.file source.old name.now ≡ Some file → HoldsDeck file deck) }
     ensures fault { IfErr result (λ fault. (file : Option (List ℕ))
@@ -68,7 +75,9 @@ fn deck_of<S: Source>(alloc: Global, source: &mut S, name: &str) -> Result<Deck,
     let Some(mut text) = source.fetch(name) else {
         return Err(Fault::Part(Part::Deck, PartFault::Open));
     };
-    match read_deck(alloc, &mut text) {
+    let deck = read_deck(alloc, &mut text);
+    source.close(text);
+    match deck {
         Ok(deck) => Ok(deck),
         Err(fault) => Err(Fault::Deck(fault)),
     }
@@ -76,7 +85,9 @@ fn deck_of<S: Source>(alloc: Global, source: &mut S, name: &str) -> Result<Deck,
 
 /// The timing table of a file.
 fn times_of<S: Source>(alloc: Global, source: &mut S, name: &str) -> Result<Times, Fault>
+    requires few { S.failed source.old ≤ 2 ^ 62 }
     ensures stays { S.file source.new ≡ S.file source.old }
+    ensures counted { S.failed source.new ≡ S.failed source.old + failed_by result }
     ensures times { IfOk result (λ times. (file : Option (List ℕ))
         → S.file source.old name.now ≡ Some file → HoldsTimes file times) }
     ensures fault { IfErr result (λ fault. (file : Option (List ℕ))
@@ -91,7 +102,9 @@ fn times_of<S: Source>(alloc: Global, source: &mut S, name: &str) -> Result<Time
 
 /// The notes of a file.
 fn notes_of<S: Source>(alloc: Global, source: &mut S, name: &str) -> Result<Notes, Fault>
+    requires few { S.failed source.old ≤ 2 ^ 62 }
     ensures stays { S.file source.new ≡ S.file source.old }
+    ensures counted { S.failed source.new ≡ S.failed source.old + failed_by result }
     ensures notes { IfOk result (λ notes. (file : Option (List ℕ))
         → S.file source.old name.now ≡ Some file → HoldsNotes file notes) }
     ensures fault { IfErr result (λ fault. (file : Option (List ℕ))
@@ -111,7 +124,9 @@ fn notes_of<S: Source>(alloc: Global, source: &mut S, name: &str) -> Result<Note
 /// [`Fault::Part`] where it can't be opened; [`Fault::Inputs`] where it can't be read, or is
 /// refused.
 pub fn inputs_of<S: Source>(alloc: Global, source: &mut S, name: &str) -> Result<Inputs, Fault>
+    requires few { S.failed source.old ≤ 2 ^ 62 }
     ensures stays { S.file source.new ≡ S.file source.old }
+    ensures counted { S.failed source.new ≡ S.failed source.old + failed_by result }
     ensures inputs { IfOk result (λ inputs. (file : Option (List ℕ))
         → S.file source.old name.now ≡ Some file → HoldsInputs file inputs) }
     ensures fault { IfErr result (λ fault. (file : Option (List ℕ))
@@ -120,7 +135,9 @@ pub fn inputs_of<S: Source>(alloc: Global, source: &mut S, name: &str) -> Result
     let Some(mut text) = source.fetch(name) else {
         return Err(Fault::Part(Part::Inputs, PartFault::Open));
     };
-    match read_inputs(alloc, &mut text) {
+    let inputs = read_inputs(alloc, &mut text);
+    source.close(text);
+    match inputs {
         Ok(inputs) => Ok(inputs),
         Err(fault) => Err(Fault::Inputs(fault)),
     }
@@ -138,7 +155,9 @@ impl Documents {
         source: &mut S,
         files: Files<'_>,
     ) -> Result<Documents, Fault>
+        requires few { S.failed source.old ≤ 2 ^ 61 }
         ensures stays { S.file source.new ≡ S.file source.old }
+        ensures counted { S.failed source.new ≡ S.failed source.old + failed_by result }
         ensures held { IfOk result (λ documents. (held : List ℕ → Option (List ℕ))
             → AreTold (S.file source.old) held → AreHeld held files.entry documents) }
         ensures fault { IfErr result (λ fault. (held : List ℕ → Option (List ℕ))

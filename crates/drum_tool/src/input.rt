@@ -1,6 +1,7 @@
 //! The joined form, read from an input and taken apart.
 
-ghost use Rattle.std.specs.Prelude.{◌≡◌, ◌+◌, ◌^◌, ◌≤◌, ℕ, List, Some, IfOk, IfErr};
+ghost use Rattle.std.specs.Prelude.{◌≡◌, ◌+◌, ◌^◌, ◌≤◌, ℕ, IfOk, IfErr, IfSome};
+ghost use Rattle.drum_tool.specs.FaultStatus.{failed_by};
 ghost use Rattle.drum_tool.specs.Joined.{Gives, GivesNone, Joins, JoinsNone};
 
 use crate::documents::Documents;
@@ -51,12 +52,12 @@ impl Documents {
     /// as [`Documents::of_joined`].
     pub fn of_input<I: Input>(alloc: Global, input: &mut I) -> Result<Documents, Fault>
         requires { I.called input.old ≤ 2 ^ 62 }
-        ensures gives { IfOk result (λ documents. (bytes : List ℕ) (failures : ℕ)
-            → I.left input.old ≡ Some bytes → I.failed input.new ≡ I.failed input.old + failures
-            → Gives bytes failures documents) }
-        ensures fault { IfErr result (λ fault. (bytes : List ℕ) (failures : ℕ)
-            → I.left input.old ≡ Some bytes → I.failed input.new ≡ I.failed input.old + failures
-            → GivesNone bytes failures fault) }
+        ensures gives { IfOk result (λ documents.
+            IfSome (I.left input.old) (λ bytes. Gives bytes documents)) }
+        ensures fault { IfErr result (λ fault.
+            IfSome (I.left input.old) (λ bytes. GivesNone bytes fault)) }
+        ensures counted { (failures : ℕ) → I.failed input.new ≡ I.failed input.old + failures
+            → failures ≡ failed_by result }
         ensures asked { I.called input.new ≤ I.called input.old + 16777217 }
     {
         match read_whole(alloc, input, BYTES) {

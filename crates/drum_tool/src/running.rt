@@ -1,7 +1,8 @@
 //! The program, over its words and devices.
 
-ghost use Rattle.std.specs.Prelude.{◌≡◌, ◌+◌, ◌^◌, ◌<◌, ◌≤◌, ℕ, List, Option, Some, IfOk, IfErr, length};
+ghost use Rattle.std.specs.Prelude.{◌≡◌, ◌+◌, ◌^◌, ◌<◌, ◌≤◌, ℕ, List, Option, Some, IfOk, IfErr, IfSome, length};
 ghost use Rattle.clap.specs.Walk.{texts};
+ghost use Rattle.drum_tool.specs.FaultStatus.{failed_by, reads_failed};
 ghost use Rattle.drum_tool.specs.Files.{AreTold};
 ghost use Rattle.drum_tool.specs.Output.{Tells, device};
 ghost use Rattle.drum_tool.specs.Reply.{AnswersJoined, Reply, bound_reply, fault_reply};
@@ -21,12 +22,12 @@ use std::alloc::Global;
 /// The bound of the joined form that an input gives.
 fn joined_bound<I: Input>(alloc: Global, input: &mut I) -> Result<u64, Fault>
     requires { I.called input.old ≤ 2 ^ 62 }
-    ensures bound { IfOk result (λ bound. (bytes : List ℕ) (failures : ℕ)
-        → I.left input.old ≡ Some bytes → I.failed input.new ≡ I.failed input.old + failures
-        → AnswersJoined bytes failures (bound_reply bound)) }
-    ensures fault { IfErr result (λ fault. (bytes : List ℕ) (failures : ℕ)
-        → I.left input.old ≡ Some bytes → I.failed input.new ≡ I.failed input.old + failures
-        → AnswersJoined bytes failures (fault_reply fault)) }
+    ensures bound { IfOk result (λ bound. IfSome (I.left input.old) (λ bytes.
+        AnswersJoined bytes 0 (bound_reply bound))) }
+    ensures fault { IfErr result (λ fault. IfSome (I.left input.old) (λ bytes.
+        AnswersJoined bytes (reads_failed fault) (fault_reply fault))) }
+    ensures counted { (failures : ℕ) → I.failed input.new ≡ I.failed input.old + failures
+        → failures ≡ failed_by result }
     ensures asked { I.called input.new ≤ I.called input.old + 16777217 }
 {
     let documents = Documents::of_input(alloc, input)?;
@@ -93,6 +94,7 @@ pub fn run<'a, S: Source, I: Input, O: Output, E: Output>(
     out: &mut O,
     err: &mut E,
 ) -> Status
+    requires source { S.failed source.old ≤ 2 ^ 61 }
     requires input { I.called input.old ≤ 2 ^ 62 }
     requires out { O.called out.old ≤ 2 ^ 62 }
     requires err { E.called err.old ≤ 2 ^ 62 }
@@ -102,8 +104,9 @@ pub fn run<'a, S: Source, I: Input, O: Output, E: Output>(
         (device (E.written err.old) (E.failed err.old))
         (device (E.written err.new) (E.failed err.new)) result
         × ((bytes : List ℕ) (failures : ℕ) (held : List ℕ → Option (List ℕ))
-        → I.left input.old ≡ Some bytes → I.failed input.new ≡ I.failed input.old + failures
-        → AreTold (S.file source.old) held
+        → I.left input.old ≡ Some bytes → AreTold (S.file source.old) held
+        → I.failed input.new + S.failed source.new
+        ≡ I.failed input.old + S.failed source.old + failures
         → Answers (texts words.entry.now) bytes failures held reply) }
     ensures asked { I.called input.new ≤ I.called input.old + 16777217 }
     // Where there are words, the input isn't read.

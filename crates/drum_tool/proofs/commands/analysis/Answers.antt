@@ -26,4 +26,5 @@ returns-clause-report g c held told =
       visits_of analysis,
       c.in_ok-analysis.ensures.walk,
       refl,
+      refl,
     )

@@ -6,7 +6,7 @@ use Rattle.drum_tool.proofs.commands.verdict.Goals as goal
 pub returns-in_err-documents-clause-fault : goal.returns-in_err-documents-clause-fault
 returns-in_err-documents-clause-fault g c =
     let p = err_from_is_err_and c.from_residual.result c.from_residual.ensures.1 in
-    rw (p.1, p.2) (λ held told. inr (c.in_err-documents.field-0.0, inl (c.in_err-documents.ensures.fault held told), refl))
+    rw (p.1, p.2) (λ held told. inr (c.in_err-documents.field-0.0, inl (c.in_err-documents.ensures.fault held told), refl, refl))
 
 pub returns-in_err-inputs-clause-fault : goal.returns-in_err-inputs-clause-fault
 returns-in_err-inputs-clause-fault g c =
@@ -19,6 +19,7 @@ returns-in_err-inputs-clause-fault g c =
         c.in_ok-documents.ensures.held held told,
         inl (c.in_err-inputs.ensures.fault (held c.args.inputs.now) (file c.args.inputs.now ∙ told c.args.inputs.now)),
       ),
+      refl,
       refl,
     ))
 
@@ -33,6 +34,7 @@ returns-clause-verdict g c =
       c.in_ok-inputs.ensures.inputs (held c.args.inputs.now) (file c.args.inputs.now ∙ told c.args.inputs.now),
       verdict,
       is,
+      refl,
       refl,
     ))
 
@@ -51,5 +53,6 @@ returns-clause-fault g c =
           is,
         ),
       ),
+      refl,
       refl,
     ))

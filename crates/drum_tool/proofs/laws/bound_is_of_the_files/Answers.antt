@@ -10,6 +10,6 @@ returns c deck times notes bytes failures held text status names answers =
     let taken = c.each_line_is_taken.ensures.taken 0 bound (omega arith) files (refl, names) in
     let said = c.each_line_is_taken.ensures.said 0 bound (omega arith) files (refl, names) in
     elim answers [
-      | inl (command, found, is) ↦ of_files held deck times notes command text status (sym found ∙ said) is
-      | inr (refused, are, reply) ↦ absurd (no_result (codes "bound" ∷ files) refused text status are taken reply)
+      | inl (command, found, is) ↦ of_files held deck times notes command failures text status (sym found ∙ said) is
+      | inr (refused, are, none, reply) ↦ absurd (no_result (codes "bound" ∷ files) refused text status are taken reply)
     ]

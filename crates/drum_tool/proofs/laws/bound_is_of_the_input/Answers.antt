@@ -4,5 +4,5 @@ use Rattle.drum_tool.proofs.laws.bound_is_of_the_input.Goals as goal
 
 pub returns : goal.returns
 returns c bytes failures held text status answers =
-    let found = result_of_bound (Gives bytes failures) (GivesNone bytes failures) text status answers in
-    (found.2, record { documents = found.0; joins = found.1.2; is_bound = found.3 }, found.4, found.5)
+    let found = result_of_bound (Gives bytes) (GivesNone bytes) failures text status answers in
+    (found.2, record { documents = found.0; joins = found.1.1; is_bound = found.3 }, found.4, found.5)

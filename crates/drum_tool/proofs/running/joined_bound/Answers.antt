@@ -1,18 +1,32 @@
+use Rattle.std.proofs.Common.{sym, ◌∙◌}
 use Rattle.std.proofs.lemmas.Result.{err_from_is_err_and}
-use Rattle.drum_tool.proofs.Replies.{bound_refused, bound_with, bound_without, err_map, ok_map}
+use Rattle.drum_tool.proofs.Replies.{analysed_unread, bound_refused, bound_with, bound_without, err_map, ok_map, some_map}
 use Rattle.drum_tool.proofs.running.joined_bound.Goals as goal
 
 pub returns-in_err-documents-clause-fault : goal.returns-in_err-documents-clause-fault
 returns-in_err-documents-clause-fault g c =
     let p = err_from_is_err_and c.from_residual.result c.from_residual.ensures.1 in
-    rw (p.1, p.2) (λ bytes failures left failed. bound_without c.in_err-documents.field-0.0 (c.in_err-documents.ensures.fault bytes failures left failed))
+    rw (p.1, p.2) (some_map (g.I.Input.left c.args.input.now) _ _ c.in_err-documents.ensures.fault
+    (λ bytes none. bound_without c.in_err-documents.field-0.0 none))
 
 pub returns-clause-bound : goal.returns-clause-bound
 returns-clause-bound g c =
-    ok_map _ _ c.bound.result c.bound.ensures.bound
-    (λ bound is bytes failures left failed. bound_with c.in_ok-documents.documents (c.in_ok-documents.ensures.gives bytes failures left failed) bound is)
+    ok_map _ _ c.bound.result c.bound.ensures.bound (λ bound is.
+    some_map (g.I.Input.left c.args.input.now) _ _ c.in_ok-documents.ensures.gives
+    (λ bytes gives. bound_with c.in_ok-documents.documents gives bound is))
 
 pub returns-clause-fault : goal.returns-clause-fault
 returns-clause-fault g c =
-    err_map _ _ c.bound.result c.bound.ensures.fault
-    (λ fault is bytes failures left failed. bound_refused c.in_ok-documents.documents (c.in_ok-documents.ensures.gives bytes failures left failed) fault is)
+    err_map _ _ c.bound.result c.bound.ensures.fault (λ fault is.
+    some_map (g.I.Input.left c.args.input.now) _ _ c.in_ok-documents.ensures.gives
+    (λ bytes gives. bound_refused c.in_ok-documents.documents gives fault is))
+
+pub returns-in_err-documents-clause-counted : goal.returns-in_err-documents-clause-counted
+returns-in_err-documents-clause-counted g c =
+    let p = err_from_is_err_and c.from_residual.result c.from_residual.ensures.1 in
+    rw (p.1, p.2) (λ failures failed. c.in_err-documents.ensures.counted failures failed)
+
+pub returns-clause-counted : goal.returns-clause-counted
+returns-clause-counted g c failures failed =
+    c.in_ok-documents.ensures.counted failures failed
+    ∙ sym (analysed_unread c.in_ok-documents.documents c.bound.result c.bound.ensures.fault)
