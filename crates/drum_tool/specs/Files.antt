@@ -35,8 +35,9 @@ AreTold file held = (name : List ℕ) → file name ≡ Some (held name)
 abbrev pub Holds : Option (List ℕ) → List ℕ → Type 0
 Holds file bytes = (file ≡ Some bytes) × (length bytes ≤ 8388608)
 
--- Why the bytes of a part can't be had: its file can't be opened; a reading of it failed; it is
--- past its limit; or memory was wanting.
+-- Why the bytes of a part can't be had: its file can't be opened; a reading of it failed (that one
+-- did is said by the number of failed reads, `reads_failed`); it is past its limit; or memory was
+-- wanting (which is tested, not said).
 abbrev pub HoldsNone : parts.Part → Option (List ℕ) → Fault → Type 0
 HoldsNone of file (fault.Part one what.Open) = (one ≡ of) × (file ≡ None)
 HoldsNone of file (fault.Part one what.Read) = (one ≡ of) × IsSome file
