@@ -19,8 +19,8 @@ FitsAmong kinds (Usage text) =
     (kind : ErrorKind) × IsAmong kind kinds × (kind ≢ DisplayHelp) × (kind ≢ OutOfMemory)
 FitsAmong kinds Memory = Unit {0}
 
--- its text has at most 2^32 bytes
+-- its text has at most 2^61 bytes
 abbrev pub IsShort : Refused → Type 0
-IsShort (Help text) = string_len text ≤ 2 ^ 32
-IsShort (Usage text) = string_len text ≤ 2 ^ 32
+IsShort (Help text) = string_len text ≤ 2 ^ 61
+IsShort (Usage text) = string_len text ≤ 2 ^ 61
 IsShort Memory = Unit {0}

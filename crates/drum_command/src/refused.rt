@@ -5,10 +5,10 @@ ghost use Rattle.drum_command.specs.Refusal.{FitsKind, IsShort};
 use clap::error::ErrorKind;
 use std::alloc::Global;
 
-/// The most bytes of a text.
-const BYTES: usize = 1 << 32;
+/// The most bytes of a text. No machine has addresses for more.
+const BYTES: usize = 1 << 61;
 
-/// Why a command line has no command. The texts are for the user, and have at most 2^32 bytes.
+/// Why a command line has no command. The texts are for the user, and have at most 2^61 bytes.
 #[derive(Debug, Drop)]
 pub enum Refused {
     /// Help was asked for: the text is the help.

@@ -1,16 +1,16 @@
 -- What a device tells of its calls (this project's choice).
 use Rattle.std.specs.Borrow.{Bor}
-use Rattle.std.specs.Prelude.{ℕ, ◌+◌, ◌≤◌, ◌==◌, ◌&&◌, Bool, true, List, flat_map, length, not, IfSome, Option, Result, Ok, Err}
+use Rattle.std.specs.Prelude.{ℕ, ◌==◌, ◌&&◌, Bool, true, List, flat_map, length, not, Result, Ok, Err}
 
 -- a write that failed, or that took none of some bytes
 abbrev pub took_none : {E : Type 0} → Result ℕ E → List ℕ → Bool
 took_none (Ok n) bytes = n == 0 && not (length bytes == 0)
 took_none (Err e) bytes = true
 
--- so many bytes at most were taken, where those that are left are known
-abbrev pub TakesAtMost : Option (List ℕ) → Option (List ℕ) → ℕ → Type 0
-TakesAtMost before after most =
-    IfSome before (λ bytes. IfSome after (λ rest. length bytes ≤ length rest + most))
+-- how many bytes a read gave
+abbrev pub given_by : {E : Type 0} → Result ℕ E → ℕ
+given_by (Ok n) = n
+given_by (Err e) = 0
 
 -- the bytes of pieces, one after the other
 abbrev pub joined : List (Bor (List ℕ)) → List ℕ

@@ -1,5 +1,4 @@
 ghost use Rattle.std.specs.Prelude.{◌≡◌, ◌≢◌, ◌+◌, ◌^◌, ◌≤◌, ◌↔◌, List, IsErrOf, IfOk, IfErr, IfSome};
-ghost use Rattle.drum_core.specs.Device.{TakesAtMost};
 ghost use Rattle.drum_inputs.specs.Inputs.{AreInputsOf};
 ghost use Rattle.drum_inputs.specs.InputsText.{Line, IsTooLong, AreInputs, IsRefused};
 
@@ -37,7 +36,9 @@ pub fn read_inputs<I: Input>(alloc: Global, reader: &mut I) -> Result<Inputs, In
         ↔ (I.failed reader.new ≡ I.failed reader.old + 1) }
     ensures once { I.failed reader.new ≤ I.failed reader.old + 1 }
     ensures asked { I.called reader.new ≤ I.called reader.old + 804001 }
-    ensures taken { TakesAtMost (I.left reader.old) (I.left reader.new) 804001 }
+    ensures taken { I.given reader.new ≤ I.given reader.old + 804001 }
+    ensures each { I.called reader.new + I.given reader.old
+        ≤ I.called reader.old + I.given reader.new + 1 }
 {
     let text = match read_whole(alloc, reader, BYTES) {
         Ok(text) => text,

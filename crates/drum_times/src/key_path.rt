@@ -8,26 +8,26 @@ use std::fmt;
 pub struct KeyPath {
     /// With dots between the keys.
     pub text: String,
-    pub ghost short: { string_len text ≤ 2 ^ 32 },
+    pub ghost short: { string_len text ≤ 2 ^ 61 },
 }
 
 impl KeyPath {
-    /// The path of this text; `None` past 2^32 bytes, which no document under the limits holds.
+    /// The path of this text; `None` past 2^61 bytes, for which no machine has the addresses.
     pub fn new(text: String) -> Option<KeyPath>
-        ensures valid { IsSome result ↔ (string_len text ≤ 2 ^ 32) }
+        ensures valid { IsSome result ↔ (string_len text ≤ 2 ^ 61) }
         ensures value { IfSome result (λ path. path.text ≡ text) }
     {
-        if text.len() <= 1 << 32 {
+        if text.len() <= 1 << 61 {
             Some(KeyPath { text })
         } else {
             None
         }
     }
 
-    /// Its text, of at most 2^32 bytes.
+    /// Its text, of at most 2^61 bytes.
     pub fn as_bytes(&self) -> &[u8]
         ensures value { result.now ≡ string_bytes self.now.text }
-        ensures short { length result.now ≤ 2 ^ 32 }
+        ensures short { length result.now ≤ 2 ^ 61 }
     {
         self.text.as_bytes()
     }

@@ -1,4 +1,4 @@
-ghost use Rattle.std.specs.Prelude.{◌≡◌, Some};
+ghost use Rattle.std.specs.Prelude.{◌≡◌, ◌*◌, ◌^◌, ◌≤◌, Some};
 
 use drum_core::{Failed, Input};
 use std::io::Read;
@@ -8,6 +8,8 @@ use std::io::Read;
 pub struct Held<'a> {
     rest: &'a [u8],
     calls: u64,
+    bytes: u128,
+    ghost counted: { bytes ≤ calls * 2 ^ 64 },
 }
 
 impl<'a> Held<'a> {
@@ -19,6 +21,7 @@ impl<'a> Held<'a> {
         Held {
             rest: bytes,
             calls: 0,
+            bytes: 0,
         }
     }
 }
@@ -30,10 +33,15 @@ impl Input for Held<'_> {
 
     ghost failed = { λ held. 0 };
 
+    ghost given = { λ held. held.bytes };
+
     fn read(&mut self, buf: &mut [u8]) -> Result<usize, Failed> {
         self.calls += 1;
         match self.rest.read(buf) {
-            Ok(count) => Ok(count),
+            Ok(count) => {
+                self.bytes += count as u128;
+                Ok(count)
+            }
             Err(_) => unreachable!(),
         }
     }
@@ -44,5 +52,9 @@ impl Input for Held<'_> {
 
     fn failures(&self) -> u64 {
         0
+    }
+
+    fn bytes(&self) -> u128 {
+        self.bytes
     }
 }

@@ -59,6 +59,9 @@ impl Documents {
         ensures counted { (failures : ℕ) → I.failed input.new ≡ I.failed input.old + failures
             → failures ≡ failed_by result }
         ensures asked { I.called input.new ≤ I.called input.old + 16777217 }
+        ensures taken { I.given input.new ≤ I.given input.old + 16777217 }
+        ensures each { I.called input.new + I.given input.old
+            ≤ I.called input.old + I.given input.new + 1 }
     {
         match read_whole(alloc, input, BYTES) {
             Ok(text) => Documents::of_joined(alloc, &text),

@@ -29,6 +29,9 @@ fn joined_bound<I: Input>(alloc: Global, input: &mut I) -> Result<u64, Fault>
     ensures counted { (failures : ℕ) → I.failed input.new ≡ I.failed input.old + failures
         → failures ≡ failed_by result }
     ensures asked { I.called input.new ≤ I.called input.old + 16777217 }
+    ensures taken { I.given input.new ≤ I.given input.old + 16777217 }
+    ensures each { I.called input.new + I.given input.old
+        ≤ I.called input.old + I.given input.new + 1 }
 {
     let documents = Documents::of_input(alloc, input)?;
     documents.bound(alloc)
@@ -37,7 +40,8 @@ fn joined_bound<I: Input>(alloc: Global, input: &mut I) -> Result<u64, Fault>
 /// Reads the joined form, a deck, a timing table and notes, and writes the deck's bound to `out`,
 /// or the line of its first fault to `err`.
 ///
-/// The whole input is read first, 16,777,217 bytes at most. A failed write of the bound ends with
+/// The whole input is read first, 16,777,217 bytes at most, and each read but the last gives some: an
+/// end that is met isn't asked for again. A failed write of the bound ends with
 /// [`Status::Failed`] and no fault line; a failed write to `err` changes nothing.
 pub fn run_joined<I: Input, O: Output, E: Output>(
     alloc: Global,
@@ -57,6 +61,9 @@ pub fn run_joined<I: Input, O: Output, E: Output>(
         → I.left input.old ≡ Some bytes → I.failed input.new ≡ I.failed input.old + failures
         → AnswersJoined bytes failures reply) }
     ensures asked { I.called input.new ≤ I.called input.old + 16777217 }
+    ensures taken { I.given input.new ≤ I.given input.old + 16777217 }
+    ensures each { I.called input.new + I.given input.old
+        ≤ I.called input.old + I.given input.new + 1 }
 {
     match joined_bound(alloc, input) {
         Ok(bound) => tell_bound(out, bound),
@@ -109,6 +116,9 @@ pub fn run<'a, S: Source, I: Input, O: Output, E: Output>(
         ≡ I.failed input.old + S.failed source.old + failures
         → Answers (texts words.entry.now) bytes failures held reply) }
     ensures asked { I.called input.new ≤ I.called input.old + 16777217 }
+    ensures taken { I.given input.new ≤ I.given input.old + 16777217 }
+    ensures each { I.called input.new + I.given input.old
+        ≤ I.called input.old + I.given input.new + 1 }
     // Where there are words, the input isn't read.
     ensures spared { 0 < length words.entry.now → input.new ≡ input.old }
 {

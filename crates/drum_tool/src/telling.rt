@@ -80,7 +80,7 @@ pub fn tell_fault<E: Output>(err: &mut E, fault: &Fault) -> Status
 /// Writes the help that was asked for.
 pub fn tell_help<O: Output>(out: &mut O, text: &[u8]) -> Status
     requires out { O.called out.old ≤ 2 ^ 62 }
-    requires short { length text.now ≤ 2 ^ 32 }
+    requires short { length text.now ≤ 2 ^ 61 }
     ensures { GetsResult (device (O.written out.old) (O.failed out.old))
         (device (O.written out.new) (O.failed out.new)) text.now Status.Done result }
 {
@@ -90,7 +90,7 @@ pub fn tell_help<O: Output>(out: &mut O, text: &[u8]) -> Status
 /// Writes what is wrong with the command line: a write that fails changes nothing.
 pub fn tell_usage<E: Output>(err: &mut E, text: &[u8]) -> Status
     requires err { E.called err.old ≤ 2 ^ 62 }
-    requires short { length text.now ≤ 2 ^ 32 }
+    requires short { length text.now ≤ 2 ^ 61 }
     ensures text { GetsComplaint (device (E.written err.old) (E.failed err.old))
         (device (E.written err.new) (E.failed err.new)) text.now }
     ensures status { result ≡ Status.Usage }

@@ -1,5 +1,4 @@
 ghost use Rattle.std.specs.Prelude.{◌≡◌, ◌≢◌, ◌+◌, ◌^◌, ◌≤◌, ◌↔◌, List, IsTrue, IsErrOf, IfOk, IfErr, IfSome};
-ghost use Rattle.drum_core.specs.Device.{TakesAtMost};
 ghost use Rattle.drum_core.specs.DeckText.{Line, IsTooLong, IsDeck, IsRefused};
 ghost use Rattle.drum_core.specs.Holds.{IsDeckOf};
 
@@ -36,7 +35,9 @@ pub fn read_deck<I: Input>(alloc: Global, reader: &mut I) -> Result<Deck, DeckFa
     ensures read { IsErrOf result DeckFault.Read ↔ (I.failed reader.new ≡ I.failed reader.old + 1) }
     ensures once { I.failed reader.new ≤ I.failed reader.old + 1 }
     ensures asked { I.called reader.new ≤ I.called reader.old + 404001 }
-    ensures taken { TakesAtMost (I.left reader.old) (I.left reader.new) 404001 }
+    ensures taken { I.given reader.new ≤ I.given reader.old + 404001 }
+    ensures each { I.called reader.new + I.given reader.old
+        ≤ I.called reader.old + I.given reader.new + 1 }
 {
     let text = match read_whole(alloc, reader, BYTES) {
         Ok(text) => text,

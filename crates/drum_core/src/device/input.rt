@@ -1,6 +1,7 @@
 ghost use Rattle.std.specs.Prelude.{◌≡◌, ℕ, ◌+◌, ◌^◌, ◌≤◌, List, Option, is_err, if◌then◌else◌};
 ghost use Rattle.std.specs.Io.{ReadsAtMost};
 ghost use Rattle.std.specs.Io.KnownBytes.{ReadConsumes};
+ghost use Rattle.drum_core.specs.Device.{given_by};
 
 use super::Failed;
 
@@ -15,6 +16,9 @@ pub trait Input {
     /// How many reads failed.
     ghost failed: { Self → ℕ };
 
+    /// How many bytes its reads gave, in all.
+    ghost given: { Self → ℕ };
+
     /// Reads some bytes into the front of the buffer and says how many: none only at the end, or
     /// where the buffer has no room.
     ///
@@ -26,7 +30,8 @@ pub trait Input {
         ensures bound { ReadsAtMost result buf.new }
         ensures bytes { ReadConsumes (left self.old) (left self.new) result buf.new }
         ensures calls { called self.new ≡ called self.old + 1 }
-        ensures failures { failed self.new ≡ failed self.old + (if is_err result then 1 else 0) };
+        ensures failures { failed self.new ≡ failed self.old + (if is_err result then 1 else 0) }
+        ensures given { given self.new ≡ given self.old + given_by result };
 
     /// How often it was read.
     fn calls(&self) -> u64
@@ -35,4 +40,8 @@ pub trait Input {
     /// How many reads failed.
     fn failures(&self) -> u64
         ensures { result ≡ failed self.now };
+
+    /// How many bytes its reads gave, in all.
+    fn bytes(&self) -> u128
+        ensures { result ≡ given self.now };
 }

@@ -1,4 +1,4 @@
-ghost use Rattle.std.specs.Prelude.{◌≡◌, ◌≤◌};
+ghost use Rattle.std.specs.Prelude.{◌≡◌, ◌*◌, ◌^◌, ◌≤◌};
 
 use super::Failed;
 use super::input::Input;
@@ -11,20 +11,24 @@ pub struct Reading<R: Read> {
     pub reader: R,
     calls: u64,
     failures: u64,
+    bytes: u128,
     ghost within: { failures ≤ calls },
+    ghost counted: { bytes ≤ calls * 2 ^ 64 },
 }
 
 impl<R: Read> Reading<R> {
-    /// The input of a reader, with both counts 0.
+    /// The input of a reader, with all counts 0.
     pub fn new(reader: R) -> Reading<R>
         ensures reader { result.reader ≡ reader }
         ensures calls { ⟦<Reading<R> as Input>⟧.called result ≡ 0 }
         ensures failures { ⟦<Reading<R> as Input>⟧.failed result ≡ 0 }
+        ensures given { ⟦<Reading<R> as Input>⟧.given result ≡ 0 }
     {
         Reading {
             reader,
             calls: 0,
             failures: 0,
+            bytes: 0,
         }
     }
 }
@@ -36,10 +40,15 @@ impl<R: Read> Input for Reading<R> {
 
     ghost failed = { λ reading. reading.failures };
 
+    ghost given = { λ reading. reading.bytes };
+
     fn read(&mut self, buf: &mut [u8]) -> Result<usize, Failed> {
         self.calls += 1;
         match self.reader.read(buf) {
-            Ok(count) => Ok(count),
+            Ok(count) => {
+                self.bytes += count as u128;
+                Ok(count)
+            }
             Err(_) => {
                 self.failures += 1;
                 Err(Failed)
@@ -53,5 +62,9 @@ impl<R: Read> Input for Reading<R> {
 
     fn failures(&self) -> u64 {
         self.failures
+    }
+
+    fn bytes(&self) -> u128 {
+        self.bytes
     }
 }

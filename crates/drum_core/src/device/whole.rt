@@ -1,5 +1,4 @@
 ghost use Rattle.std.specs.Prelude.{◌≡◌, ◌+◌, ◌^◌, ◌<◌, ◌≤◌, ◌↔◌, IfOk, IfSome, IsErrOf, vec_len, length};
-ghost use Rattle.drum_core.specs.Device.{TakesAtMost};
 
 use super::input::Input;
 use std::alloc::Global;
@@ -19,7 +18,8 @@ pub enum WholeError {
 const CHUNK: usize = 4096;
 
 /// All bytes of an input, of which there may be `limit`; one more is asked for at most, so that an
-/// input without end is too long.
+/// input without end is too long. Each read but the last gives a byte at least: the end, once it is
+/// met, isn't asked for again.
 pub fn read_whole<I: Input>(
     alloc: Global,
     input: &mut I,
@@ -33,7 +33,9 @@ pub fn read_whole<I: Input>(
     ensures read { IsErrOf result WholeError.Read ↔ (I.failed input.new ≡ I.failed input.old + 1) }
     ensures once { I.failed input.new ≤ I.failed input.old + 1 }
     ensures asked { I.called input.new ≤ I.called input.old + limit + 1 }
-    ensures taken { TakesAtMost (I.left input.old) (I.left input.new) (limit + 1) }
+    ensures taken { I.given input.new ≤ I.given input.old + limit + 1 }
+    ensures each { I.called input.new + I.given input.old
+        ≤ I.called input.old + I.given input.new + 1 }
 {
     let mut text = Vec::new(alloc);
     let mut chunk = [0; CHUNK];

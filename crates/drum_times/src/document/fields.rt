@@ -19,8 +19,8 @@ pub struct Fields<'a> {
 }
 
 impl Fields<'_> {
-    /// The path of one of its keys. One past the limit of a path, for which no document has room,
-    /// is refused as for want of memory.
+    /// The path of one of its keys. One past the limit of a path, for which no machine has room, is
+    /// refused as for want of memory.
     pub fn path(&self, key: &str) -> Result<KeyPath, AllocError>
         ensures { IfOk result (λ path. string_bytes path.text ≡ self.now.at.now ++ key.now) }
     {

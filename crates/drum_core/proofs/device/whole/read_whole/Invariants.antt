@@ -10,4 +10,5 @@ invariant-loop g l = record {
   calls : g.I.Input.called l.input ≡ g.I.Input.called l.fn.input + l.counter;
   each : l.counter ≤ vec_len l.text;
   failed : g.I.Input.failed l.input ≡ g.I.Input.failed l.fn.input;
+  given : g.I.Input.given l.input ≡ g.I.Input.given l.fn.input + vec_len l.text;
 }
