@@ -21,7 +21,7 @@ use Rattle.drum_machine.specs.Monitor.{HasSeen, IsToldOf, counts_over}
 use Rattle.drum_machine.specs.Run.{Turn, IsFirstState, time_of, used_from}
 use Rattle.drum_machine.specs.Step.{State, Stepped, on, stopped, fetched}
 use Rattle.drum_flow.specs.Walk.{Setting}
-use Rattle.drum_tool.specs.declared.verdict.Verdict.TheVariants.{Kept, Left}
+use Rattle.drum_lines.specs.declared.verdict.Verdict.TheVariants.{Kept, Left}
 use Rattle.drum_tool.specs.Following.{IsBounded, CanBegin, AreGiven, IsFollowed}
 use Rattle.drum_tool.specs.Replay.{Given, AreFed, IsReplayed, LeavesAt, IsLeft}
 use Rattle.drum_tool.proofs.Leading.{Lead, turn_at, lead_run, lead_fed, lead_more, lead_used, used_more}

@@ -2,9 +2,9 @@
 use Rattle.std.proofs.Common.{◌≡◌, ℕ, ◌+◌, ◌≤◌, suc, zero, List, Option, Some, None, Result, Ok, Err, IfErr, IfSome, length, refl, subst, arith}
 use Rattle.drum_core.specs.declared.deck.fault.DeckFault.TheVariants as deck
 use Rattle.drum_tool.specs.declared.documents.Documents.{Documents}
-use Rattle.drum_tool.specs.declared.fault.Fault.{Fault}
-use Rattle.drum_tool.specs.declared.fault.Fault.TheVariants.{NoPart, Part, Memory, Deck, Times, Notes, Inputs, Refused, Loaded}
-use Rattle.drum_tool.specs.FaultStatus.{failed_by, reads_failed}
+use Rattle.drum_lines.specs.declared.fault.Fault.{Fault}
+use Rattle.drum_lines.specs.declared.fault.Fault.TheVariants.{NoPart, Part, Memory, Deck, Times, Notes, Inputs, Refused, Loaded}
+use Rattle.drum_lines.specs.FaultStatus.{failed_by, reads_failed}
 use Rattle.drum_tool.specs.Joined.{Gives, GivesNone, Joins, JoinsNone}
 
 given_none : (bytes : List ℕ) (fault : Fault) → length bytes ≤ 16777216 → JoinsNone bytes fault → GivesNone bytes fault

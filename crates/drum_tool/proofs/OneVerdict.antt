@@ -12,8 +12,8 @@ use Rattle.drum_machine.specs.Monitor.{counts_over}
 use Rattle.drum_machine.specs.Run.{Turn, IsRun, Follow, used_from}
 use Rattle.drum_machine.specs.Step.{State, Stepped, on, stopped}
 use Rattle.drum_flow.specs.Walk.{Setting}
-use Rattle.drum_tool.specs.declared.verdict.Verdict.{Verdict}
-use Rattle.drum_tool.specs.declared.verdict.Verdict.TheVariants.{Kept, Left}
+use Rattle.drum_lines.specs.declared.verdict.Verdict.{Verdict}
+use Rattle.drum_lines.specs.declared.verdict.Verdict.TheVariants.{Kept, Left}
 use Rattle.drum_tool.specs.Replay.{Given, AreFed, IsReplayed, StopsAt, LeavesAt, IsLeft, IsVerdict}
 use Rattle.drum_tool.proofs.OneRun.{one_first, one_turn}
 

@@ -1,11 +1,11 @@
 -- Replies to documents that may be given, or to a fault of theirs.
 use Rattle.std.proofs.Common.{◌≡◌, ℕ, ◌+◌, List, Option, Some, None, Result, Ok, Err, IfOk, IfErr, IfSome, refl, inl, inr, subst, arith}
 use Rattle.drum_tool.specs.declared.documents.Documents.{Documents}
-use Rattle.drum_tool.specs.declared.fault.Fault.{Fault}
-use Rattle.drum_tool.specs.declared.fault.Fault.TheVariants as faults
+use Rattle.drum_lines.specs.declared.fault.Fault.{Fault}
+use Rattle.drum_lines.specs.declared.fault.Fault.TheVariants as faults
 use Rattle.drum_flow.specs.Walk.{Setting}
 use Rattle.drum_tool.specs.Replay.{Given, IsReplayFault}
-use Rattle.drum_tool.specs.FaultStatus.{failed_by, reads_failed}
+use Rattle.drum_lines.specs.FaultStatus.{failed_by, reads_failed}
 use Rattle.drum_tool.specs.Documents.{IsAnalysisFault, IsBound}
 use Rattle.drum_tool.specs.Reply.{AnswersBound, AnswersReport, bound_reply, fault_reply}
 

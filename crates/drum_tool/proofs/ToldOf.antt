@@ -8,10 +8,10 @@ use Rattle.drum_command.specs.declared.refused.Refused.{Refused}
 use Rattle.drum_command.specs.declared.refused.Refused.TheVariants.{Memory}
 use Rattle.drum_command.specs.Line.{drum650, said_by}
 use Rattle.drum_tool.specs.declared.documents.Documents.{Documents}
-use Rattle.drum_tool.specs.declared.fault.Fault.{Fault}
-use Rattle.drum_tool.specs.declared.status.Status as statuses
-use Rattle.drum_tool.specs.declared.status.Status.TheVariants.{Done}
-use Rattle.drum_tool.specs.BoundText.{bound_text}
+use Rattle.drum_lines.specs.declared.fault.Fault.{Fault}
+use Rattle.drum_lines.specs.declared.status.Status as statuses
+use Rattle.drum_lines.specs.declared.status.Status.TheVariants.{Done}
+use Rattle.drum_lines.specs.BoundText.{bound_text}
 use Rattle.drum_tool.specs.Documents.{IsBound}
 use Rattle.drum_tool.specs.Files.{AreHeld, HoldsDeck, HoldsTimes, HoldsNotes}
 use Rattle.drum_tool.specs.Reply.{Reply, says, complains, AnswersBound, AnswersCommand}

@@ -15,8 +15,8 @@ use Rattle.drum_bound.specs.AnalysisOf.{setting}
 use Rattle.drum_bound.specs.Visited.{Visited, IsWalkOf}
 use Rattle.drum_bound.specs.Worst.{IsWorst}
 use Rattle.drum_tool.specs.declared.documents.Documents.{Documents}
-use Rattle.drum_tool.specs.declared.fault.Fault.{Fault}
-use Rattle.drum_tool.specs.declared.fault.Fault.TheVariants as fault
+use Rattle.drum_lines.specs.declared.fault.Fault.{Fault}
+use Rattle.drum_lines.specs.declared.fault.Fault.TheVariants as fault
 use Rattle.drum_tool.specs.Following.{IsBounded}
 
 -- what their walks are in

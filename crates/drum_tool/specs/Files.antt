@@ -13,11 +13,11 @@ use Rattle.drum_inputs.specs.declared.inputs.Inputs.{Inputs}
 use Rattle.drum_inputs.specs.Inputs.{AreInputsOf}
 use Rattle.drum_inputs.specs.InputsText as text
 use Rattle.drum_tool.specs.declared.documents.Documents.{Documents}
-use Rattle.drum_tool.specs.declared.fault.Fault.{Fault}
-use Rattle.drum_tool.specs.declared.fault.Fault.TheVariants as fault
-use Rattle.drum_tool.specs.declared.part.Part as parts
-use Rattle.drum_tool.specs.declared.part.Part.TheVariants as part
-use Rattle.drum_tool.specs.declared.part.PartFault.TheVariants as what
+use Rattle.drum_lines.specs.declared.fault.Fault.{Fault}
+use Rattle.drum_lines.specs.declared.fault.Fault.TheVariants as fault
+use Rattle.drum_lines.specs.declared.part.Part as parts
+use Rattle.drum_lines.specs.declared.part.Part.TheVariants as part
+use Rattle.drum_lines.specs.declared.part.PartFault.TheVariants as what
 use Rattle.drum_tool.specs.Documents.{SaysDeck, IsNoDeck}
 
 -- What a fetch gives by what is told of the file: of an untold one anything, of one that can't be

@@ -6,7 +6,7 @@ use Rattle.drum_machine.specs.Run.{Turn, IsRun, IsFirstState, used_from}
 use Rattle.drum_machine.specs.Step.{State}
 use Rattle.drum_flow.specs.Accepted.{IsFixed}
 use Rattle.drum_flow.specs.Walk.{Setting}
-use Rattle.drum_tool.specs.declared.verdict.Verdict.{Verdict}
+use Rattle.drum_lines.specs.declared.verdict.Verdict.{Verdict}
 use Rattle.drum_tool.specs.Replay.{Given, IsVerdict, used_in}
 
 -- each run that keeps to the notes uses so many word times at most

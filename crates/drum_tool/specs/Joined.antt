@@ -3,10 +3,10 @@
 use Rattle.std.specs.Prelude.{◌≡◌, ℕ, ◌<◌, ◌≤◌, List, [], ◌++◌, codes, length, Contains, ◌⊎◌}
 use Rattle.drum_core.specs.Lines.{lines_of}
 use Rattle.drum_tool.specs.declared.documents.Documents.{Documents}
-use Rattle.drum_tool.specs.declared.fault.Fault.{Fault}
-use Rattle.drum_tool.specs.declared.fault.Fault.TheVariants as fault
-use Rattle.drum_tool.specs.declared.part.Part.TheVariants as part
-use Rattle.drum_tool.specs.declared.part.PartFault.TheVariants as what
+use Rattle.drum_lines.specs.declared.fault.Fault.{Fault}
+use Rattle.drum_lines.specs.declared.fault.Fault.TheVariants as fault
+use Rattle.drum_lines.specs.declared.part.Part.TheVariants as part
+use Rattle.drum_lines.specs.declared.part.PartFault.TheVariants as what
 use Rattle.drum_tool.specs.Documents.{Texts, Say, SayNone}
 
 -- nothing, or bytes whose last is a line feed

@@ -1,7 +1,4 @@
-pub mod BoundText
 pub mod Documents
-pub mod FaultStatus
-pub mod FaultText
 pub mod Files
 pub mod Following
 pub mod Given
@@ -10,10 +7,5 @@ pub mod Output
 pub mod PartsOf
 pub mod Replay
 pub mod Reply
-pub mod Report
-pub mod Sent
-pub mod Status
-pub mod TalliesOf
 pub mod Told
-pub mod VerdictText
 pub mod Words

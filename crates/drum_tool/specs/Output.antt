@@ -1,8 +1,8 @@
 -- What standard output and standard error get of a reply, and how the program ends.
 use Rattle.std.specs.Prelude.{◌≡◌, ℕ, ◌+◌, ◌<◌, List, length, take, Option, Result, Ok, Err, ◌⊎◌}
 use Rattle.std.specs.Io.KnownBytes.{Appends}
-use Rattle.drum_tool.specs.declared.status.Status.{Status}
-use Rattle.drum_tool.specs.declared.status.Status.TheVariants.{Failed}
+use Rattle.drum_lines.specs.declared.status.Status.{Status}
+use Rattle.drum_lines.specs.declared.status.Status.TheVariants.{Failed}
 use Rattle.drum_tool.specs.Reply.{Reply, says, complains}
 
 -- what a device was given, where that is known, and how many writes to it failed

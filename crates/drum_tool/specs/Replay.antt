@@ -19,10 +19,10 @@ use Rattle.drum_flow.specs.Acceptance.{IsRefusal}
 use Rattle.drum_flow.specs.Accepted.{IsAccepted}
 use Rattle.drum_flow.specs.Walk.{Setting}
 use Rattle.drum_bound.specs.Worst.{IsWorst}
-use Rattle.drum_tool.specs.declared.fault.Fault as fails
-use Rattle.drum_tool.specs.declared.fault.Fault.TheVariants as fault
-use Rattle.drum_tool.specs.declared.verdict.Verdict.{Verdict}
-use Rattle.drum_tool.specs.declared.verdict.Verdict.TheVariants.{Kept, Left}
+use Rattle.drum_lines.specs.declared.fault.Fault as fails
+use Rattle.drum_lines.specs.declared.fault.Fault.TheVariants as fault
+use Rattle.drum_lines.specs.declared.verdict.Verdict.{Verdict}
+use Rattle.drum_lines.specs.declared.verdict.Verdict.TheVariants.{Kept, Left}
 
 -- what a machine is set up with and fed with
 pub record Given : Type 0 where

@@ -5,21 +5,21 @@ use Rattle.drum_command.specs.declared.command.Command.{Command}
 use Rattle.drum_command.specs.declared.command.Command.TheVariants.{Bound, Report, Replay}
 use Rattle.drum_inputs.specs.declared.inputs.Inputs.{Inputs}
 use Rattle.drum_tool.specs.declared.documents.Documents.{Documents}
-use Rattle.drum_tool.specs.declared.fault.Fault.{Fault}
-use Rattle.drum_tool.specs.declared.status.Status.{Status}
-use Rattle.drum_tool.specs.declared.status.Status.TheVariants.{Done, Left}
-use Rattle.drum_tool.specs.declared.verdict.Verdict.{Verdict}
-use Rattle.drum_tool.specs.declared.verdict.Verdict.TheVariants as verdicts
-use Rattle.drum_tool.specs.BoundText.{bound_text}
+use Rattle.drum_lines.specs.declared.fault.Fault.{Fault}
+use Rattle.drum_lines.specs.declared.status.Status.{Status}
+use Rattle.drum_lines.specs.declared.status.Status.TheVariants.{Done}
+use Rattle.drum_lines.specs.declared.verdict.Verdict.{Verdict}
+use Rattle.drum_lines.specs.BoundText.{bound_text}
 use Rattle.drum_tool.specs.Documents.{IsAnalysisFault, IsBound, IsWorstWalk, setting_of}
-use Rattle.drum_tool.specs.FaultStatus.{reads_failed, status_after}
-use Rattle.drum_tool.specs.FaultText.{fault_text}
+use Rattle.drum_lines.specs.FaultStatus.{reads_failed, status_after}
+use Rattle.drum_lines.specs.FaultText.{fault_text}
+use Rattle.drum_lines.specs.Status.{status_of}
 use Rattle.drum_tool.specs.Files.{AreHeld, AreNotHeld, HoldsInputs, HoldsNoInputs}
 use Rattle.drum_tool.specs.Given.{given}
 use Rattle.drum_tool.specs.Joined.{Gives, GivesNone}
 use Rattle.drum_tool.specs.Replay.{IsReplay, IsReplayFault}
-use Rattle.drum_tool.specs.Report.{report_text}
-use Rattle.drum_tool.specs.VerdictText.{verdict_text}
+use Rattle.drum_report.specs.Report.{report_text}
+use Rattle.drum_lines.specs.VerdictText.{verdict_text}
 
 -- a text, for standard output or for standard error, and how the program ends
 pub data Reply : Type 0 where
@@ -35,11 +35,6 @@ report_reply documents walk = says (report_text documents.deck documents.notes w
 
 abbrev pub fault_reply : Fault → Reply
 fault_reply fault = complains (fault_text fault) (status_after fault)
-
--- a replay that leaves the notes has a status of its own
-abbrev pub status_of : Verdict → Status
-status_of (verdicts.Kept used bound why) = Done
-status_of (verdicts.Left what step used) = Left
 
 abbrev pub verdict_reply : Verdict → Reply
 verdict_reply verdict = says (verdict_text verdict) (status_of verdict)

@@ -6,8 +6,8 @@ use Rattle.drum_command.specs.declared.refused.Refused.{Refused}
 use Rattle.drum_command.specs.declared.refused.Refused.TheVariants.{Help, Usage, Memory}
 use Rattle.drum_command.specs.Line.{drum650, said_by, said_by_words}
 use Rattle.drum_command.specs.Refusal.{FitsAmong}
-use Rattle.drum_tool.specs.declared.fault.Fault.TheVariants as fault
-use Rattle.drum_tool.specs.declared.status.Status.TheVariants as status
+use Rattle.drum_lines.specs.declared.fault.Fault.TheVariants as fault
+use Rattle.drum_lines.specs.declared.status.Status.TheVariants as status
 use Rattle.drum_tool.specs.Reply.{Reply, says, complains, fault_reply, AnswersCommand, AnswersJoined}
 
 -- the reply to words that name no command: help, or what is wrong with them

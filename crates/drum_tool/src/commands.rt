@@ -2,22 +2,20 @@
 
 ghost use Rattle.std.specs.Prelude.{◌≡◌, ◌+◌, ◌^◌, ◌≤◌, ℕ, List, Option, IfOk, IfErr};
 ghost use Rattle.drum_bound.specs.AnalysisOf.{visits_of};
-ghost use Rattle.drum_tool.specs.FaultStatus.{failed_by, reads_failed};
+ghost use Rattle.drum_lines.specs.FaultStatus.{failed_by, reads_failed};
 ghost use Rattle.drum_tool.specs.Files.{AreTold};
 ghost use Rattle.drum_tool.specs.Output.{Tells, device};
 ghost use Rattle.drum_tool.specs.Reply.{AnswersCommand, Reply, bound_reply, fault_reply, report_reply, verdict_reply};
 
 use crate::documents::Documents;
-use crate::fault::Fault;
 use crate::files::inputs_of;
 use crate::replaying::replay;
 use crate::source::Source;
-use crate::status::Status;
 use crate::telling::{tell_bound, tell_fault, tell_report, tell_verdict};
-use crate::verdict::Verdict;
 use drum_bound::Analysis;
 use drum_command::{Command, Files};
 use drum_core::Output;
+use drum_lines::{Fault, Status, Verdict};
 use std::alloc::Global;
 
 /// The bound of documents in files.

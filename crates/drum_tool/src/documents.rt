@@ -2,9 +2,9 @@ ghost use Rattle.std.specs.Prelude.{IfOk, IfErr};
 ghost use Rattle.drum_bound.specs.AnalysisOf.{bound_of, visits_of};
 ghost use Rattle.drum_tool.specs.Documents.{IsAnalysisFault, IsBound, IsWorstWalk};
 
-use crate::fault::Fault;
 use drum_bound::{Analysis, analyse};
 use drum_core::Deck;
+use drum_lines::Fault;
 use drum_times::{Notes, Times};
 use std::alloc::Global;
 

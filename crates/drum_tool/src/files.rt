@@ -1,17 +1,16 @@
 //! Files read, each to its limit, and checked one after the other.
 
 ghost use Rattle.std.specs.Prelude.{◌≡◌, ◌+◌, ◌^◌, ◌≤◌, ◌↔◌, ℕ, List, Option, Some, IfOk, IfErr, IfSome, IsErrOf};
-ghost use Rattle.drum_tool.specs.FaultStatus.{failed_by};
+ghost use Rattle.drum_lines.specs.FaultStatus.{failed_by};
 ghost use Rattle.drum_tool.specs.Files.{AreHeld, AreNotHeld, AreTold, Holds, HoldsDeck, HoldsInputs, HoldsNoDeck, HoldsNoInputs, HoldsNone, HoldsNoNotes, HoldsNotes, HoldsNoTimes, HoldsTimes};
 
 use crate::documents::Documents;
-use crate::fault::Fault;
-use crate::part::{Part, PartFault};
 use crate::source::Source;
 use drum_command::Files;
 use drum_core::device::whole::{WholeError, read_whole};
 use drum_core::{Deck, Input, read_deck};
 use drum_inputs::{Inputs, read_inputs};
+use drum_lines::{Fault, Part, PartFault};
 use drum_times::{Notes, Times, read_notes, read_times};
 use std::alloc::Global;
 

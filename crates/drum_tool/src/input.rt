@@ -1,16 +1,15 @@
 //! The joined form, read from an input and taken apart.
 
 ghost use Rattle.std.specs.Prelude.{◌≡◌, ◌+◌, ◌^◌, ◌≤◌, ℕ, IfOk, IfErr, IfSome};
-ghost use Rattle.drum_tool.specs.FaultStatus.{failed_by};
+ghost use Rattle.drum_lines.specs.FaultStatus.{failed_by};
 ghost use Rattle.drum_tool.specs.Joined.{Gives, GivesNone, Joins, JoinsNone};
 
 use crate::documents::Documents;
-use crate::fault::Fault;
 use crate::held::Held;
 use crate::joined::Parts;
-use crate::part::{Part, PartFault};
 use drum_core::device::whole::{WholeError, read_whole};
 use drum_core::{Input, read_deck};
+use drum_lines::{Fault, Part, PartFault};
 use drum_times::{read_notes, read_times};
 use std::alloc::Global;
 

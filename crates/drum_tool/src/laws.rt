@@ -8,13 +8,13 @@ ghost use Rattle.drum_machine.specs.Run.{Turn};
 ghost use Rattle.drum_flow.specs.Walk.{Setting};
 ghost use Rattle.drum_bound.specs.declared.analysis.Analysis.{Analysis};
 ghost use Rattle.drum_bound.specs.AnalysisOf.{bound_of, visits_of};
-ghost use Rattle.drum_tool.specs.declared.status.Status.{Status};
-ghost use Rattle.drum_tool.specs.declared.status.Status.TheVariants.{Done};
-ghost use Rattle.drum_tool.specs.declared.verdict.Verdict.{Verdict};
-ghost use Rattle.drum_tool.specs.BoundText.{bound_text};
+ghost use Rattle.drum_lines.specs.declared.status.Status.{Status};
+ghost use Rattle.drum_lines.specs.declared.status.Status.TheVariants.{Done};
+ghost use Rattle.drum_lines.specs.declared.verdict.Verdict.{Verdict};
+ghost use Rattle.drum_lines.specs.BoundText.{bound_text};
 ghost use Rattle.drum_tool.specs.Replay.{Given, IsReplayed, IsVerdict};
 ghost use Rattle.drum_tool.specs.Reply.{says};
-ghost use Rattle.drum_tool.specs.Report.{is_of_card, is_of_none, time_in, used_after, visits_at};
+ghost use Rattle.drum_report.specs.Report.{is_of_card, is_of_none, time_in, used_after, visits_at};
 ghost use Rattle.drum_tool.specs.Told.{AreNames, IsBoundOfFiles, IsBoundOfJoined};
 ghost use Rattle.drum_tool.specs.Words.{Answers};
 
@@ -35,16 +35,6 @@ pub fn one_verdict()
     ensures { (g : Setting) (given : Given) (worst step last : ℕ) (verdict other : Verdict)
         → IsVerdict g given worst step verdict → IsVerdict g given worst last other
         → (verdict ≡ other) × (step ≡ last) }
-{}
-
-/// The times that a report tells of the cards and of the other locations add up to the bound,
-/// whatever the deck, and the walk's time, which it tells last, is the bound.
-pub fn report_adds_up()
-    ensures times { (analysis : Analysis) (deck : Deck)
-        → sum_by (λ line. time_in (visits_at (is_of_card deck line) (visits_of analysis)))
-        (cards_in deck)
-        + time_in (visits_at (is_of_none deck) (visits_of analysis)) ≡ bound_of analysis }
-    ensures bound { (analysis : Analysis) → used_after 0 (visits_of analysis) ≡ bound_of analysis }
 {}
 
 /// A result that `bound` writes, with the names of three files, is the line of their bound, the

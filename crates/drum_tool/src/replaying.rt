@@ -9,11 +9,10 @@ ghost use Rattle.drum_tool.specs.Following.{CanBegin, IsBounded, IsFollowed};
 ghost use Rattle.drum_tool.specs.Given.{given};
 ghost use Rattle.drum_tool.specs.Replay.{IsReplay, IsReplayFault};
 
-use crate::fault::Fault;
-use crate::verdict::Verdict;
 use drum_bound::analyse;
 use drum_core::Deck;
 use drum_inputs::Inputs;
+use drum_lines::{Fault, Verdict};
 use drum_machine::{Feed, Machine, Monitor, Step};
 use drum_times::{Notes, Times};
 use std::alloc::Global;

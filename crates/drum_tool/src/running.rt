@@ -2,7 +2,7 @@
 
 ghost use Rattle.std.specs.Prelude.{◌≡◌, ◌+◌, ◌^◌, ◌<◌, ◌≤◌, ℕ, List, Option, Some, IfOk, IfErr, IfSome, length};
 ghost use Rattle.clap.specs.Walk.{texts};
-ghost use Rattle.drum_tool.specs.FaultStatus.{failed_by, reads_failed};
+ghost use Rattle.drum_lines.specs.FaultStatus.{failed_by, reads_failed};
 ghost use Rattle.drum_tool.specs.Files.{AreTold};
 ghost use Rattle.drum_tool.specs.Output.{Tells, device};
 ghost use Rattle.drum_tool.specs.Reply.{AnswersJoined, Reply, bound_reply, fault_reply};
@@ -11,12 +11,11 @@ ghost use Rattle.drum_tool.specs.Words.{Answers, refused_reply};
 
 use crate::commands::obey;
 use crate::documents::Documents;
-use crate::fault::Fault;
 use crate::source::Source;
-use crate::status::Status;
 use crate::telling::{tell_bound, tell_fault, tell_help, tell_usage};
 use drum_command::{Refused, read_words};
 use drum_core::{Input, Output};
+use drum_lines::{Fault, Status};
 use std::alloc::Global;
 
 /// The bound of the joined form that an input gives.

@@ -2,25 +2,21 @@
 
 ghost use Rattle.std.specs.Prelude.{◌≡◌, ◌^◌, ◌≤◌, length};
 ghost use Rattle.drum_bound.specs.AnalysisOf.{visits_of};
-ghost use Rattle.drum_tool.specs.BoundText.{bound_text};
-ghost use Rattle.drum_tool.specs.FaultStatus.{status_after};
-ghost use Rattle.drum_tool.specs.FaultText.{fault_text};
+ghost use Rattle.drum_lines.specs.BoundText.{bound_text};
+ghost use Rattle.drum_lines.specs.FaultStatus.{status_after};
+ghost use Rattle.drum_lines.specs.FaultText.{fault_text};
 ghost use Rattle.drum_tool.specs.Output.{GetsComplaint, GetsResult, device, ended_with};
-ghost use Rattle.drum_tool.specs.Reply.{status_of};
-ghost use Rattle.drum_tool.specs.Report.{report_text};
-ghost use Rattle.drum_tool.specs.VerdictText.{verdict_text};
+ghost use Rattle.drum_lines.specs.Status.{status_of};
+ghost use Rattle.drum_report.specs.Report.{report_text};
+ghost use Rattle.drum_lines.specs.VerdictText.{verdict_text};
 
 use crate::documents::Documents;
-use crate::fault::Fault;
-use crate::print::fault_line::write_fault;
-use crate::print::verdict_line::write_verdict;
-use crate::print::{write_bound, write_text};
-use crate::reporting::report;
-use crate::status::Status;
-use crate::verdict::Verdict;
-use crate::write_fault::WriteFault;
 use drum_bound::Analysis;
 use drum_core::Output;
+use drum_lines::{
+    Fault, Status, Verdict, WriteFault, write_bound, write_fault, write_text, write_verdict,
+};
+use drum_report::report;
 
 /// How the program ends once a result was written.
 fn ended(written: Result<(), WriteFault>, done: Status) -> Status

@@ -1,6 +1,6 @@
 use Rattle.std.proofs.Common.{ℕ, refl}
 use Rattle.drum_bound.specs.AnalysisOf.{visits_of}
-use Rattle.drum_tool.specs.FaultStatus.{reads_failed}
+use Rattle.drum_lines.specs.FaultStatus.{reads_failed}
 use Rattle.drum_tool.specs.Reply.{AnswersCommand, bound_reply, fault_reply, report_reply, verdict_reply}
 use Rattle.drum_tool.proofs.Replies.{counted}
 use Rattle.drum_tool.proofs.commands.obey.Goals as goal

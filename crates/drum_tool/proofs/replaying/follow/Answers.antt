@@ -5,7 +5,7 @@ use Rattle.drum_machine.specs.Feed.{cards_left, waits_left}
 use Rattle.drum_machine.specs.Machine.{TakesStep, state_in, used_by}
 use Rattle.drum_machine.specs.Monitor.{HasSeen}
 use Rattle.drum_bound.specs.AnalysisOf.{setting}
-use Rattle.drum_tool.specs.declared.verdict.Verdict.TheVariants.{Left}
+use Rattle.drum_lines.specs.declared.verdict.Verdict.TheVariants.{Left}
 use Rattle.drum_tool.specs.Following.{IsFollowed}
 use Rattle.drum_tool.proofs.Followed.{none_yet, turn_of, told, goes_on, stops_here, leaves_here}
 use Rattle.drum_tool.proofs.replaying.follow.Goals as goal

@@ -1,5 +1,5 @@
 use Rattle.std.proofs.Common.{ℕ, List, refl, sym, subst}
-use Rattle.drum_tool.specs.FaultStatus.{reads_failed}
+use Rattle.drum_lines.specs.FaultStatus.{reads_failed}
 use Rattle.drum_tool.specs.Reply.{AnswersJoined, bound_reply, fault_reply}
 use Rattle.drum_tool.proofs.Replies.{known}
 use Rattle.drum_tool.proofs.running.run_joined.Goals as goal

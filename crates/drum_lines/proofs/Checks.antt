@@ -1,0 +1,41 @@
+-- Definitions evaluated, with answers that were worked out apart from them.
+use Rattle.std.proofs.Common.{◌≡◌, true, false, [], ◌∷◌, flat_map, refl, arith}
+use Rattle.std.specs.Prelude.{codes}
+use Rattle.drum_core.specs.declared.deck.fault.DeckFault.TheVariants as of_deck
+use Rattle.drum_core.specs.declared.location.Location.{Location}
+use Rattle.drum_core.specs.Location.{IsLocation}
+use Rattle.drum_core.specs.Word.{spelling, word}
+use Rattle.drum_flow.specs.declared.refusal.Refusal.TheVariants.{Alters, NotInProfile}
+use Rattle.drum_lines.specs.declared.fault.Fault.TheVariants as fault
+use Rattle.drum_lines.specs.declared.part.Part.TheVariants as part
+use Rattle.drum_lines.specs.declared.part.PartFault.TheVariants as bytes
+use Rattle.drum_lines.specs.FaultText.{fault_text, next_location}
+
+-- the lines of faults without plain numbers
+of_deck_text : fault_text (fault.Deck of_deck.Read) ≡ codes "fault 1 deck read\n"
+of_deck_text = refl
+
+of_part_text : fault_text (fault.Part part.Inputs bytes.TooLong) ≡ codes "fault 52 inputs toolong\n"
+of_part_text = refl
+
+hundred : IsLocation 100
+hundred = (omega arith, λ past. omega arith)
+
+upper : IsLocation 8003
+upper = (omega arith, λ past. omega arith)
+
+abbrev at_100 : Location
+at_100 = record { number = 100; exists = hundred }
+
+abbrev at_upper : Location
+at_upper = record { number = 8003; exists = upper }
+
+of_locations :
+    (fault_text (fault.Loaded at_100) ≡ codes "fault 47 inputs loaded 0100\n")
+    × (fault_text (fault.Refused (NotInProfile at_100 7)) ≡ codes "fault 32 notinprofile 0100 07\n")
+    × (fault_text (fault.Refused (Alters at_100 at_upper)) ≡ codes "fault 34 alters 0100 8003\n")
+    × (flat_map next_location (at_100 ∷ at_upper ∷ []) ≡ codes " 0100 8003")
+of_locations = (refl, refl, refl, refl)
+
+of_words : (spelling (word true 1968) ≡ codes "-0000001968") × (spelling (word false 6901030106) ≡ codes "+6901030106")
+of_words = (refl, refl)

@@ -1,0 +1,57 @@
+-- How the program ends after a fault (this project's choice): a part whose bytes can't be had, and
+-- want of memory, are failures; all else is a refusal.
+use Rattle.std.specs.Prelude.{ℕ, Result, Ok, Err}
+use Rattle.drum_core.specs.declared.deck.fault.DeckFault.{DeckFault}
+use Rattle.drum_core.specs.declared.deck.fault.DeckFault.TheVariants as deck
+use Rattle.drum_flow.specs.declared.refusal.Refusal as refused
+use Rattle.drum_flow.specs.declared.refusal.Refusal.TheVariants as refusal
+use Rattle.drum_inputs.specs.declared.fault.InputFault.{InputFault}
+use Rattle.drum_inputs.specs.declared.fault.InputFault.TheVariants as input
+use Rattle.drum_times.specs.declared.fault.NoteFault.{NoteFault}
+use Rattle.drum_times.specs.declared.fault.NoteFault.TheVariants as note
+use Rattle.drum_lines.specs.declared.fault.Fault.{Fault}
+use Rattle.drum_lines.specs.declared.fault.Fault.TheVariants.{NoPart, Part, Memory, Deck, Times, Notes, Inputs, Refused, Loaded}
+use Rattle.drum_lines.specs.declared.part.PartFault.TheVariants as what
+use Rattle.drum_lines.specs.declared.status.Status as status
+use Rattle.drum_lines.specs.declared.status.Status.TheVariants as ends
+
+abbrev pub after_deck : DeckFault → status.Status
+after_deck deck.Read = ends.Failed
+after_deck deck.Memory = ends.Failed
+after_deck _ = ends.Refused
+
+abbrev pub after_note : NoteFault → status.Status
+after_note note.Memory = ends.Failed
+after_note _ = ends.Refused
+
+abbrev pub after_input : InputFault → status.Status
+after_input input.Read = ends.Failed
+after_input input.Memory = ends.Failed
+after_input _ = ends.Refused
+
+abbrev pub after_refusal : refused.Refusal → status.Status
+after_refusal refusal.Memory = ends.Failed
+after_refusal _ = ends.Refused
+
+-- how many failed reads a fault tells: one, or none
+abbrev pub reads_failed : Fault → ℕ
+reads_failed (Part part what.Read) = 1
+reads_failed (Deck deck.Read) = 1
+reads_failed (Inputs input.Read) = 1
+reads_failed _ = 0
+
+-- and what comes of reading: none where there is no fault
+abbrev pub failed_by : {A : Type 0} → Result A Fault → ℕ
+failed_by (Ok found) = 0
+failed_by (Err fault) = reads_failed fault
+
+abbrev pub status_after : Fault → status.Status
+status_after NoPart = ends.Refused
+status_after (Part part fault) = ends.Failed
+status_after Memory = ends.Failed
+status_after (Deck fault) = after_deck fault
+status_after (Times fault) = after_note fault
+status_after (Notes fault) = after_note fault
+status_after (Inputs fault) = after_input fault
+status_after (Refused fault) = after_refusal fault
+status_after (Loaded location) = ends.Refused

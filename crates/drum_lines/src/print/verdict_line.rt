@@ -1,0 +1,181 @@
+ghost use Rattle.std.specs.Prelude.{◌≡◌, ◌+◌, ◌^◌, ◌≤◌, ◌++◌, codes, decimal, length};
+ghost use Rattle.drum_core.specs.Word.{spelling};
+ghost use Rattle.drum_machine.specs.declared.left.Left.TheVariants.{Unlisted, TooOften};
+ghost use Rattle.drum_lines.specs.Sent.{IsWritten, fails_by};
+ghost use Rattle.drum_lines.specs.declared.verdict.Verdict.TheVariants.{Kept};
+ghost use Rattle.drum_lines.specs.VerdictText.{left_text, verdict_text, why_name};
+
+use super::{four_digits, write_line};
+use crate::failed_write::WriteFault;
+use crate::verdict::Verdict;
+use drum_core::{Location, Output, Word};
+use drum_machine::{Left, Why};
+use itoa::Buffer;
+
+/// Writes the line of a verdict.
+pub fn write_verdict<O: Output>(output: &mut O, verdict: &Verdict) -> Result<(), WriteFault>
+    requires { O.called output.old ≤ 2 ^ 62 }
+    ensures written { IsWritten (O.written output.old) (O.written output.new) result
+        (verdict_text verdict.now) }
+    ensures failures { O.failed output.new ≡ O.failed output.old + fails_by result }
+{
+    match *verdict {
+        Verdict::Kept { used, bound, why } => write_kept(output, used, bound, why),
+        Verdict::Left { what, step, used } => write_left(output, what, step, used),
+    }
+}
+
+/// Writes the line of a run that keeps to the notes.
+fn write_kept<O: Output>(output: &mut O, used: u64, bound: u64, why: Why) -> Result<(), WriteFault>
+    requires { O.called output.old ≤ 2 ^ 62 }
+    ensures written { IsWritten (O.written output.old) (O.written output.new) result
+        (verdict_text (Kept used bound why)) }
+    ensures failures { O.failed output.new ≡ O.failed output.old + fails_by result }
+{
+    let mut spent = Buffer::new();
+    let mut limit = Buffer::new();
+    let pieces: [&[u8]; 7] = [
+        b"kept used ",
+        spent.format(used).as_bytes(),
+        b" bound ",
+        limit.format(bound).as_bytes(),
+        b" stop ",
+        name_of(why),
+        b"\n",
+    ];
+    write_line(output, &pieces)
+}
+
+/// What the reason of a stop is called.
+fn name_of(why: Why) -> &'static [u8]
+    ensures name { result.now ≡ why_name why }
+    ensures short { length result.now ≤ 10 }
+{
+    match why {
+        Why::Operation => b"operation",
+        Why::Operand => b"operand",
+        Why::Card => b"card",
+        Why::Quotient => b"quotient",
+        Why::Overflow => b"overflow",
+        Why::Digit => b"digit",
+        Why::Programmed => b"programmed",
+        Why::Next => b"next",
+    }
+}
+
+/// Writes the line of a run that leaves the notes so at this step, with so many word times used
+/// before it.
+fn write_left<O: Output>(output: &mut O, what: Left, step: u64, used: u64) -> Result<(), WriteFault>
+    requires { O.called output.old ≤ 2 ^ 62 }
+    ensures written { IsWritten (O.written output.old) (O.written output.new) result
+        (left_text what step used) }
+    ensures failures { O.failed output.new ≡ O.failed output.old + fails_by result }
+{
+    match what {
+        Left::Unlisted(location, word) => write_unlisted(output, location, word, step, used),
+        Left::TooOften(from, onto) => write_too_often(output, from, onto, step, used),
+        Left::Switch => write_at_step(output, b"left switch step ", step, used),
+        Left::LoadCard => write_at_step(output, b"left loadcard step ", step, used),
+    }
+}
+
+/// Writes the line of a word that isn't allowed at its location.
+fn write_unlisted<O: Output>(
+    output: &mut O,
+    location: Location,
+    word: Word,
+    step: u64,
+    used: u64,
+) -> Result<(), WriteFault>
+    requires { O.called output.old ≤ 2 ^ 62 }
+    ensures written { IsWritten (O.written output.old) (O.written output.new) result
+        (left_text (Unlisted location word) step used) }
+    ensures failures { O.failed output.new ≡ O.failed output.old + fails_by result }
+{
+    let at = four_digits(location.number());
+    let spelled = spelling_of(word);
+    let mut number = Buffer::new();
+    let mut spent = Buffer::new();
+    let pieces: [&[u8]; 9] = [
+        b"left unlisted ",
+        &at,
+        b" ",
+        &spelled,
+        b" step ",
+        number.format(step).as_bytes(),
+        b" used ",
+        spent.format(used).as_bytes(),
+        b"\n",
+    ];
+    write_line(output, &pieces)
+}
+
+/// Writes the line of a mark that is passed too often.
+fn write_too_often<O: Output>(
+    output: &mut O,
+    from: Location,
+    onto: Location,
+    step: u64,
+    used: u64,
+) -> Result<(), WriteFault>
+    requires { O.called output.old ≤ 2 ^ 62 }
+    ensures written { IsWritten (O.written output.old) (O.written output.new) result
+        (left_text (TooOften from onto) step used) }
+    ensures failures { O.failed output.new ≡ O.failed output.old + fails_by result }
+{
+    let from = four_digits(from.number());
+    let onto = four_digits(onto.number());
+    let mut number = Buffer::new();
+    let mut spent = Buffer::new();
+    let pieces: [&[u8]; 9] = [
+        b"left toooften ",
+        &from,
+        b" ",
+        &onto,
+        b" step ",
+        number.format(step).as_bytes(),
+        b" used ",
+        spent.format(used).as_bytes(),
+        b"\n",
+    ];
+    write_line(output, &pieces)
+}
+
+/// Writes a line of a text, a step and the word times used before it.
+fn write_at_step<O: Output>(
+    output: &mut O,
+    text: &[u8],
+    step: u64,
+    used: u64,
+) -> Result<(), WriteFault>
+    requires called { O.called output.old ≤ 2 ^ 62 }
+    requires short { length text.now ≤ 100 }
+    ensures written { IsWritten (O.written output.old) (O.written output.new) result
+        (text.now ++ decimal step ++ codes " used " ++ decimal used ++ codes "\n") }
+    ensures failures { O.failed output.new ≡ O.failed output.old + fails_by result }
+{
+    let mut number = Buffer::new();
+    let mut spent = Buffer::new();
+    let pieces: [&[u8]; 5] = [
+        text,
+        number.format(step).as_bytes(),
+        b" used ",
+        spent.format(used).as_bytes(),
+        b"\n",
+    ];
+    write_line(output, &pieces)
+}
+
+/// The text of a word: its sign and its ten digits.
+fn spelling_of(word: Word) -> [u8; 11]
+    ensures { result ≡ spelling word }
+{
+    let sign = if word.minus() { b'-' } else { b'+' };
+    let mut text = [sign; 11];
+    let mut rest = word.digits();
+    for place in 0..10 {
+        text[10 - place] = b'0' + (rest % 10) as u8;
+        rest /= 10;
+    }
+    text
+}

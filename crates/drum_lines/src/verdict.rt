@@ -1,0 +1,40 @@
+ghost use Rattle.std.specs.Prelude.{◌≡◌};
+ghost use Rattle.drum_lines.specs.Status.{status_of};
+
+use crate::status::Status;
+use drum_machine::{Left, Why};
+
+/// What a replay found of its run.
+#[derive(Clone, Copy, Debug, PartialEq, Eq)]
+pub enum Verdict {
+    /// The run keeps to the notes until it stops.
+    Kept {
+        /// The word times that it used, up to the stop.
+        used: u64,
+        /// The word times that a run of this deck can use at most.
+        bound: u64,
+        /// Why it stopped.
+        why: Why,
+    },
+    /// The run leaves the notes.
+    Left {
+        /// How it leaves them.
+        what: Left,
+        /// The step with which it does, from 1; 0 for the programmed switch.
+        step: u64,
+        /// The word times used before this step.
+        used: u64,
+    },
+}
+
+impl Verdict {
+    /// How the program ends with it.
+    pub fn status(&self) -> Status
+        ensures { result ≡ status_of self.now }
+    {
+        match self {
+            Verdict::Kept { .. } => Status::Done,
+            Verdict::Left { .. } => Status::Left,
+        }
+    }
+}

@@ -1,0 +1,26 @@
+-- Definitions evaluated, with answers that were worked out apart from them.
+use Rattle.std.proofs.Common.{◌≡◌, false, List, [], ◌∷◌, length, refl}
+use Rattle.std.specs.Prelude.{nat_lt}
+use Rattle.drum_core.specs.Instruction.{instruction_of}
+use Rattle.drum_core.specs.Word.{word}
+use Rattle.drum_machine.specs.Ways.{to, late}
+use Rattle.drum_bound.specs.Visited.{Visited}
+use Rattle.drum_report.specs.Report.{time_in, used_after, visits_at}
+
+-- a walk of two words: the first takes 55 word times, the second one
+abbrev walk : List Visited
+walk =
+    record { place = 100; ins = instruction_of (word false 6901030106); way = to 106; begun = 0; ended = 55 }
+    ∷ record { place = 106; ins = instruction_of (word false 100000106); way = late; begun = 55; ended = 56 } ∷ []
+
+below_106 : (length (visits_at (λ place. nat_lt place 106) walk) ≡ 1) × (time_in (visits_at (λ place. nat_lt place 106) walk) ≡ 55)
+below_106 = (refl, refl)
+
+all_of_it : (length walk ≡ 2) × (time_in walk ≡ 56) × (used_after 0 walk ≡ 56)
+all_of_it = (refl, refl, refl)
+
+none_of_it : visits_at (λ place. false) walk ≡ []
+none_of_it = refl
+
+of_no_hops : (time_in [] ≡ 0) × (used_after 0 [] ≡ 0)
+of_no_hops = (refl, refl)

@@ -1,0 +1,3 @@
+mod Checks
+pub mod Spending
+pub mod Tallying
