@@ -1,13 +1,11 @@
 //! Tests of reports, inputs and replays, with answers that are known from outside, also when
-//! devices fail and when memory is wanting.
+//! devices fail.
 #![tactic(auto)]
 
 #[cfg(test)]
 mod devices;
 #[cfg(test)]
 mod inputs;
-#[cfg(test)]
-mod memory;
 #[cfg(test)]
 mod replays;
 #[cfg(test)]

@@ -4,7 +4,7 @@ use crate::support::{Subject, location, word};
 use drum_bound::Refusal;
 use drum_core::{Location, Reading};
 use drum_machine::{Left, Why};
-use drum_texts::{BRANCH_BACK, LOOPS, STORES, TWO_WORDS};
+use drum_texts::{BACK, BRANCH_BACK, LOOPS, NESTED, STORES, TWO_WORDS};
 use drum_tool::{Fault, Verdict, read_inputs, replay};
 use std::alloc::Global;
 use std::process::Abort;
@@ -21,16 +21,9 @@ const READS: &str = "0100 +7000490011\n0011 +0100000011\nSTART 0100\n";
 const BLANK: &str =
     "+0000000000 +0000000000 +0000000000 +0000000000 +0000000000 +0000000000 +0000000000 +0000000000 +0000000000 +0000000000\n";
 
-/// A mark on the branch back.
-const BACK: &str = "[[mark]]\nfrom = 100\nto = 100\nmost = 3\n";
-
 /// Marks on the branch back, passed as often as a mark may be, and on the way out.
 const LONG: &str =
     "[[mark]]\nfrom = 100\nto = 100\nmost = 9999\n[[mark]]\nfrom = 100\nto = 110\nmost = 3\n";
-
-/// A mark on the edge back of the outer loop, and one inside of it on that of the inner loop.
-const NESTED: &str =
-    "[[mark]]\nfrom = 110\nto = 100\nmost = 1\n[[mark]]\nfrom = 100\nto = 100\nmost = 2\ninside = 1\n";
 
 /// An accumulator that isn't zero, so that branches are taken.
 const ONE: &str = "ANGLE 01\nACCUMULATOR +00000000000000000001\n";

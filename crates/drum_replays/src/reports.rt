@@ -3,22 +3,11 @@
 use crate::support::Subject;
 use drum_bound::Analysis;
 use drum_core::{Deck, Output, Writing};
-use drum_texts::{BRANCH_BACK, LOOPS, ROADS, TWO_ROADS, TWO_WORDS};
+use drum_texts::{BACK, BOTH_ROADS, BRANCH_BACK, LOOPS, NESTED, ROADS, TWO_ROADS, TWO_WORDS};
 use drum_times::Notes;
 use drum_tool::report;
 use std::process::Abort;
 use std::test::Fail;
-
-/// A mark on the branch back, passed three times at most.
-const BACK: &str = "[[mark]]\nfrom = 100\nto = 100\nmost = 3\n";
-
-/// A mark on the edge back of the outer loop, and one inside of it on that of the inner loop.
-const NESTED: &str =
-    "[[mark]]\nfrom = 110\nto = 100\nmost = 1\n[[mark]]\nfrom = 100\nto = 100\nmost = 2\ninside = 1\n";
-
-/// Marks on both edges that leave the altered word.
-const BOTH_ROADS: &str =
-    "[[mark]]\nfrom = 210\nto = 110\nmost = 1\n[[mark]]\nfrom = 210\nto = 120\nmost = 1\n";
 
 /// The report of the deck of two words.
 pub const OF_TWO_WORDS: &str =

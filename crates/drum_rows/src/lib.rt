@@ -7,8 +7,6 @@ mod decks;
 #[cfg(test)]
 mod devices;
 #[cfg(test)]
-mod memory;
-#[cfg(test)]
 mod notes;
 #[cfg(test)]
 mod straight;

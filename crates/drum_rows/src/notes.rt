@@ -9,7 +9,7 @@ use std::alloc::{AllocError, Global};
 use std::test::Fail;
 
 /// Notes with marks, one of them nested, and two lists.
-pub const WHOLE: &str = "\
+const WHOLE: &str = "\
 load_cards = \"any\"\n\
 programmed = \"run\"\n\
 [[mark]]\n\

@@ -7,8 +7,6 @@ mod files;
 #[cfg(test)]
 mod joined;
 #[cfg(test)]
-mod memory;
-#[cfg(test)]
 mod readings;
 #[cfg(test)]
 mod support;

@@ -57,8 +57,15 @@ pub const TWO_WORDS: &str = "0100 +6901030106\n0106 +0100000106\nSTART 0100\n";
 /// A loop that goes back to its own word until it stops.
 pub const BRANCH_BACK: &str = "0100 +4501000110\n0110 +0100000110\nSTART 0100\n";
 
+/// A mark on its branch back, passed three times at most.
+pub const BACK: &str = "[[mark]]\nfrom = 100\nto = 100\nmost = 3\n";
+
 /// A loop inside of a loop.
 pub const LOOPS: &str = "0100 +4501000110\n0110 +4501000120\n0120 +0100000120\nSTART 0100\n";
+
+/// A mark on the edge back of the outer loop, and one inside of it on that of the inner loop.
+pub const NESTED: &str =
+    "[[mark]]\nfrom = 110\nto = 100\nmost = 1\n[[mark]]\nfrom = 100\nto = 100\nmost = 2\ninside = 1\n";
 
 /// A deck that alters the word at 0210, by which it goes on at 0110 or at 0120.
 pub const TWO_ROADS: &str =
@@ -67,6 +74,10 @@ pub const TWO_ROADS: &str =
 /// Its list.
 pub const ROADS: &str =
     "[[list]]\nlocation = 210\npattern = [{ op = 0, d_from = 0, d_to = 0, i = 110 }, { op = 0, d_from = 0, d_to = 0, i = 120 }]\n";
+
+/// Marks on both edges that leave the altered word.
+pub const BOTH_ROADS: &str =
+    "[[mark]]\nfrom = 210\nto = 110\nmost = 1\n[[mark]]\nfrom = 210\nto = 120\nmost = 1\n";
 
 /// Notes of a programmed switch at either, and no load cards.
 pub const EITHER: &str = "programmed = \"any\"\nload_cards = \"none\"\n";

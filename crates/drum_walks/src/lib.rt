@@ -1,14 +1,11 @@
-//! Tests of the bound: bounds, tables and walks that are known from outside, a slow search through
-//! all walks of small decks that shares nothing with the analysis, and the analysis when memory is
-//! wanting.
+//! Tests of the bound: bounds, tables and walks that are known from outside, and a slow search
+//! through all walks of small decks that shares nothing with the analysis.
 #![tactic(auto)]
 
 #[cfg(test)]
 mod bounds;
 #[cfg(test)]
 mod exhaustive;
-#[cfg(test)]
-mod memory;
 #[cfg(test)]
 mod search;
 #[cfg(test)]

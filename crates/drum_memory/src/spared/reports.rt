@@ -1,0 +1,32 @@
+//! Whole reports.
+
+use crate::page::Page;
+use crate::subjects::{SUBJECTS, Subject};
+use crate::window::{close_spared, open};
+use drum_bound::analyse;
+use drum_core::Writing;
+use drum_tool::report;
+use std::process::Abort;
+use std::test::Fail;
+
+/// That the report of a subject is as it is known.
+fn reports(rt: &(impl AllocGlobal + Abort), subject: &Subject) -> Result<(), Fail> {
+    let documents = subject.documents(rt.alloc())?;
+    let (deck, times, notes) = (&documents.deck, &documents.times, &documents.notes);
+    let analysis = analyse(rt.alloc(), deck, times, notes)?;
+    open(rt);
+    let mut out = Writing::new(Page::new());
+    let ended = report(&analysis, deck, notes, &mut out);
+    close_spared(rt);
+    assert_eq!(rt; ended, Ok(()));
+    assert_eq!(rt; out.writer.text(), subject.report.as_bytes());
+    Ok(())
+}
+
+#[test]
+fn of_subjects(rt: HostRuntime) -> Result<(), Fail> {
+    for subject in &SUBJECTS {
+        reports(&rt, subject)?;
+    }
+    Ok(())
+}
