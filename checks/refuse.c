@@ -4,6 +4,8 @@
  * A test opens a window by asking for a block of OPENS bytes, and closes it by asking for one of
  * CLOSES bytes. The latter is refused where a request in the window was, so that the test knows.
  *
+ * Where REFUSE_WHOLE is set, the whole run of a program is one window.
+ *
  * REFUSE_REQUESTS has four numbers: the window, from 1, or 0 for all; the first and the last
  * request in it to refuse, from 1; and one more of them, or 0. For each window that is closed, a
  * line goes to the file descriptor REFUSE_REPORT: how many requests it held, and how many of them
@@ -31,6 +33,8 @@ __attribute__((constructor)) static void begin(void) {
     if (sscanf(numbers, "%ld %ld %ld %ld", &chosen, &first, &last, &another) != 4)
         _exit(98);
     report = atoi(file);
+    if (getenv("REFUSE_WHOLE"))
+        is_open = window = 1;
 }
 
 static void open_window(void) {
@@ -49,6 +53,11 @@ static int close_window(void) {
         _exit(96);
     is_open = 0;
     return refused > 0;
+}
+
+__attribute__((destructor)) static void end(void) {
+    if (is_open)
+        close_window();
 }
 
 /* Whether this request is to be refused. */
