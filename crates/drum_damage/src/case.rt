@@ -104,7 +104,7 @@ impl Case {
         if let Some(line) = chance.choose(LINES) {
             case.words = words_by(alloc, &mut chance, line)?;
         }
-        for _ in 0..=chance.below(3) {
+        for _ in 0..=chance.below(2) {
             case.damage_file(alloc, &mut chance, &other)?;
         }
         case.joined = case.held().joined(alloc)?;
@@ -128,7 +128,7 @@ impl Case {
             _ => &other.inputs,
         };
         // The timing table is the longest by far, and any damage to it is likely to be refused.
-        match chance.below(7) {
+        match chance.below(8) {
             0..=2 => self.deck = damaged(alloc, chance, &self.deck, piece)?,
             3 => self.times = damaged(alloc, chance, &self.times, piece)?,
             4 | 5 => self.notes = damaged(alloc, chance, &self.notes, piece)?,

@@ -19,6 +19,13 @@ const NESTED: &str = "\
 [[mark]]\nfrom = 100\nto = 100\nmost = 2\ninside = 1\n\
 ";
 
+/// Marks whose counts, multiplied by the words, come within a damage or two of the limit.
+const MANY_COUNTS: &str = "\
+[[mark]]\nfrom = 110\nto = 100\nmost = 9\n\
+[[mark]]\nfrom = 100\nto = 100\nmost = 9\ninside = 1\n\
+[[mark]]\nfrom = 120\nto = 120\nmost = 39\n\
+";
+
 /// Marks on the edges behind the word that is altered.
 const ROAD_MARKS: &str = "\
 [[mark]]\nfrom = 210\nto = 110\nmost = 1\n\
@@ -31,12 +38,13 @@ const STOPS: &str = "\
 [[list.pattern]]\nop = 1\nd_from = 0\nd_to = 9999\ni = 106\n\
 ";
 
-/// A deck that reads a card, punches one and stops, with a comment and a full card of words.
+/// A deck that reads a card, punches one and stops, and at 0049 stops too, where a load card leads.
 const CARDS: &str = "\
 * reads, punches, stops\n\
 0100 +7000490011\n\
 0011 +7100770012\n\
 0012 +0100000012\n\
+0049 +0100000049\n\
 0300 +0000000001 -0000000002 +0000000003 +0000000004 +0000000005 +0000000006 +0000000007\n\
 START 0100\n\
 ";
@@ -48,8 +56,15 @@ const SUMS: &str = "\
 START 0000\n\
 ";
 
-/// Notes of a programmed switch at either, and of load cards.
-const ANY: &str = "programmed = \"any\"\nload_cards = \"any\"\n";
+/// Notes of a programmed switch at either, of load cards, and of a mark behind each stop.
+const ANY: &str = "\
+programmed = \"any\"\nload_cards = \"any\"\n\
+[[mark]]\nfrom = 12\nto = 12\nmost = 1\n\
+[[mark]]\nfrom = 49\nto = 49\nmost = 1\n\
+";
+
+/// A mark behind the stop.
+const RESTARTS: &str = "[[mark]]\nfrom = 106\nto = 106\nmost = 2\n";
 
 /// A line of each kind, two cards and two waits.
 const WHOLE: &str = "\
@@ -88,6 +103,12 @@ pub const EXAMPLES: &[Example] = &[
         inputs: &["ANGLE 01\n"],
     },
     Example {
+        deck: &[TWO_WORDS],
+        times: &[TIMES],
+        notes: &[EITHER, RESTARTS],
+        inputs: &["ANGLE 49\nPROGRAMMED RUN\n"],
+    },
+    Example {
         deck: &[BRANCH_BACK],
         times: &[TIMES],
         notes: &[NOTES, BACK],
@@ -98,6 +119,12 @@ pub const EXAMPLES: &[Example] = &[
         times: &[TIMES],
         notes: &[NOTES, NESTED],
         inputs: &["ANGLE 01\n"],
+    },
+    Example {
+        deck: &[LOOPS],
+        times: &[TIMES],
+        notes: &[NOTES, MANY_COUNTS],
+        inputs: &["ACCUMULATOR +00000000010000000000\n"],
     },
     Example {
         deck: &[STORES],
@@ -120,7 +147,7 @@ pub const EXAMPLES: &[Example] = &[
     Example {
         deck: &[SUMS],
         times: &[TIMES],
-        notes: &[EITHER],
+        notes: &[NOTES],
         inputs: &["LATCH OFF\nONOVERFLOW STOP\nSWITCHES +0000000000\n"],
     },
 ];

@@ -19,11 +19,18 @@ pub enum About {
 /// What stands behind the words of a fault's line.
 #[derive(Clone, Copy, Debug, PartialEq, Eq)]
 pub enum Ending {
-    Nothing,
+    /// Nothing: a part is missing.
+    NoPart,
     /// Nothing: its file can't be opened.
     Unopened,
     /// Nothing: a device or the memory failed.
     Failure,
+    /// Nothing: its text is no TOML document.
+    NoDocument,
+    /// Nothing: it has no START line.
+    NoStart,
+    /// Nothing: it has too many lines, or one that is too long.
+    TooLong,
     /// The number of a line of the text.
     Line,
     /// The number of a START line.
@@ -65,12 +72,12 @@ const LINES: &[(&str, About, Ending)] = &[
     ("2 deck memory", About::Deck, Ending::Failure),
     ("3 deck card ", About::Deck, Ending::Line),
     ("4 deck twice ", About::Deck, Ending::Twice),
-    ("5 deck nostart", About::Deck, Ending::Nothing),
+    ("5 deck nostart", About::Deck, Ending::NoStart),
     ("6 deck twostarts ", About::Deck, Ending::Start),
     ("7 deck pastdrum ", About::Deck, Ending::Line),
-    ("8 deck toolong", About::Deck, Ending::Nothing),
-    ("11 times toml", About::Times, Ending::Nothing),
-    ("11 notes toml", About::Notes, Ending::Nothing),
+    ("8 deck toolong", About::Deck, Ending::TooLong),
+    ("11 times toml", About::Times, Ending::NoDocument),
+    ("11 notes toml", About::Notes, Ending::NoDocument),
     ("12 times memory", About::Times, Ending::Failure),
     ("12 notes memory", About::Notes, Ending::Failure),
     ("13 times missing ", About::Times, Ending::Missing),
@@ -94,9 +101,9 @@ const LINES: &[(&str, About, Ending)] = &[
     ("43 inputs line ", About::Inputs, Ending::Line),
     ("44 inputs repeated ", About::Inputs, Ending::Line),
     ("45 inputs pastdrum ", About::Inputs, Ending::Line),
-    ("46 inputs toolong", About::Inputs, Ending::Nothing),
+    ("46 inputs toolong", About::Inputs, Ending::TooLong),
     ("47 inputs loaded ", About::Inputs, Ending::Loaded),
-    ("51 nopart", About::Joined, Ending::Nothing),
+    ("51 nopart", About::Joined, Ending::NoPart),
     ("52 deck open", About::Deck, Ending::Unopened),
     ("52 times open", About::Times, Ending::Unopened),
     ("52 notes open", About::Notes, Ending::Unopened),
@@ -122,7 +129,12 @@ impl Ending {
     /// Whether a text has this ending's form.
     fn fits(self, rest: &str) -> bool {
         match self {
-            Ending::Nothing | Ending::Unopened | Ending::Failure => rest.is_empty(),
+            Ending::NoPart
+            | Ending::Unopened
+            | Ending::Failure
+            | Ending::NoDocument
+            | Ending::NoStart
+            | Ending::TooLong => rest.is_empty(),
             Ending::Line | Ending::Start | Ending::Product => is_decimal(rest),
             Ending::Twice | Ending::Loaded | Ending::NotLoaded | Ending::Location => {
                 location(rest).is_some()

@@ -101,7 +101,7 @@ pub fn judged<'a>(alloc: Global, case: &Case, ran: &'a Ran) -> Result<Told<'a>, 
     if let Told::Fault(line) = told {
         hold(
             "names what is there",
-            names_what_is_there(&line, &asked.parts),
+            names_what_is_there(alloc, &line, &asked.parts),
         )?;
     }
     let agrees = agrees_with_other_commands(alloc, asked, ran, told)?;

@@ -4,12 +4,16 @@ use crate::fault_line::{About, Ending, FaultLine};
 use crate::keys::{is_in_times, is_known_in_notes, is_wanted_in_notes, stands_in};
 use crate::numerals::{decimal, four_digits, is_operation, location};
 use crate::parts::{Parts, line_count, line_of};
+use std::alloc::Global;
 
 /// The most words that may be executed at all counts of the marks.
 const MOST_KEYS: u64 = 4_000_000;
 
+/// The most lines of a deck and of inputs.
+const MOST_LINES: usize = 4000;
+
 /// Whether the text that a fault's line is of has what the line names.
-pub fn names_what_is_there(line: &FaultLine<'_>, parts: &Parts<'_>) -> bool {
+pub fn names_what_is_there(alloc: Global, line: &FaultLine<'_>, parts: &Parts<'_>) -> bool {
     let text = match line.about {
         About::Times => parts.times,
         About::Notes => parts.notes,
@@ -28,11 +32,24 @@ pub fn names_what_is_there(line: &FaultLine<'_>, parts: &Parts<'_>) -> bool {
         Ending::Missing => is_wanted(line.about, line.rest),
         Ending::Known => is_known(line.about, line.rest) && is_in(line.rest, text),
         Ending::Unknown => is_in(line.rest, text),
-        // All of the parts are there.
-        Ending::Nothing => line.about != About::Joined,
-        Ending::Unopened | Ending::Failure => false,
+        // All of the parts are there, and nothing fails.
+        Ending::NoPart | Ending::Unopened | Ending::Failure => false,
+        Ending::NoDocument => toml::table_from_slice(alloc, text).is_err(),
+        Ending::NoStart => !text
+            .split(|byte| *byte == b'\n')
+            .any(|line| line.starts_with(b"START ")),
+        Ending::TooLong => is_too_long(line.about, text),
         Ending::Location | Ending::TwoLocations => true,
     }
+}
+
+/// Whether a deck or inputs have too many lines, or one that is too long.
+fn is_too_long(about: About, text: &[u8]) -> bool {
+    let most = if about == About::Deck { 100 } else { 200 };
+    line_count(text) > MOST_LINES
+        || text
+            .split(|byte| *byte == b'\n')
+            .any(|line| line.len() > most)
 }
 
 /// Whether a number is that of a line of a text which begins so, and is no comment.
