@@ -4,10 +4,8 @@ ghost use Rattle.std.specs.Prelude.{◌^◌, ◌≤◌};
 
 use crate::support::{FILES, Shelf};
 use drum_core::{Output, Reading, Writing};
+use drum_texts::devices::Full;
 use drum_tool::{Status, run};
-use std::alloc::Global;
-use std::io;
-use std::io::{ErrorKind, Write};
 use std::process::Abort;
 use std::test::Fail;
 
@@ -35,39 +33,6 @@ const REPLAY_WORDS: [&str; 5] = ["replay", "stores", "times", "stops", "stop"];
 
 /// Room for each text that is written.
 const AMPLE: usize = 4096;
-
-/// A writer that takes so many bytes a call at most, and fails where it has no room.
-#[derive(Drop)]
-struct Full {
-    taken: Vec<u8>,
-    room: usize,
-    most: usize,
-}
-
-impl Full {
-    fn new(alloc: Global, room: usize, most: usize) -> Full {
-        let taken = Vec::new(alloc);
-        Full { taken, room, most }
-    }
-}
-
-impl Write for Full {
-    fn write(&mut self, buf: &[u8]) -> io::Result<usize> {
-        if self.room == 0 {
-            return Err(io::Error::from(ErrorKind::StorageFull));
-        }
-        let count = buf.len().min(self.most).min(self.room);
-        if self.taken.extend_from_slice(&buf[..count]).is_err() {
-            return Err(io::Error::from(ErrorKind::OutOfMemory));
-        }
-        self.room -= count;
-        Ok(count)
-    }
-
-    fn flush(&mut self) -> io::Result<()> {
-        Ok(())
-    }
-}
 
 /// Runs words over the files, to such outputs.
 fn run_to(

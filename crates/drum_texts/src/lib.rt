@@ -1,5 +1,7 @@
-//! Texts that the tests of several crates share.
+//! Texts and devices that the tests of several crates share.
 #![tactic(auto)]
+
+pub mod devices;
 
 /// A timing table to try things with. Its numbers aren't those of a real machine.
 pub const TIMES: &str = "\
