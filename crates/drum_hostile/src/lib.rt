@@ -11,6 +11,8 @@ mod keys;
 #[cfg(test)]
 mod lengths;
 #[cfg(test)]
+mod numbers;
+#[cfg(test)]
 mod readers;
 #[cfg(test)]
 mod refusals;

@@ -39,6 +39,10 @@ const ROUND: &str = "0100 +0100000106\n0106 +0100000100\nSTART 0100\n";
 const TWO_MARKS: &str =
     "mark = [{ from = 0, to = 0, most = 9999 }, { from = 0, to = 1, most = 9999 }]\n";
 
+/// Two marks on one edge.
+const ONE_EDGE: &str =
+    "mark = [{ from = 100, to = 100, most = 1 }, { from = 100, to = 100, most = 2 }]\n";
+
 /// Eight marks on edges that there aren't.
 const EIGHT_MARKS: &str = "\
 mark = [\n\
@@ -88,6 +92,12 @@ const CASES: &[(&str, &str, &str, &str)] = &[
         "any",
         EIGHT_MARKS,
         "fault 36 toolarge 200000000000000000000000000000000\n",
+    ),
+    (
+        ROUND,
+        "any",
+        ONE_EDGE,
+        "fault 17 notes twomarks 0100 0100\n",
     ),
     // What is altered is told before both.
     (

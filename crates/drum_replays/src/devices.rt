@@ -5,91 +5,25 @@ use crate::support::{Subject, WHOLE};
 use drum_bound::Analysis;
 use drum_core::{Input, Output, Reading, Writing};
 use drum_texts::TWO_WORDS;
+use drum_texts::devices::{Full, Tap};
 use drum_tool::{InputFault, WriteFault, read_inputs, report};
-use std::io;
-use std::io::{ErrorKind, Read, Write};
 use std::process::Abort;
 use std::test::Fail;
-
-/// A reader that gives one byte a call for some calls, and then fails.
-#[derive(Drop)]
-struct Failing<'a> {
-    bytes: &'a [u8],
-    calls: usize,
-}
-
-impl Read for Failing<'_> {
-    fn read(&mut self, buf: &mut [u8]) -> io::Result<usize> {
-        if self.calls == 0 {
-            return Err(io::Error::from(ErrorKind::Interrupted));
-        }
-        self.calls -= 1;
-        match (self.bytes.split_first(), buf.is_empty()) {
-            (Some((first, rest)), false) => {
-                buf[0] = *first;
-                self.bytes = rest;
-                Ok(1)
-            }
-            _ => Ok(0),
-        }
-    }
-}
-
-/// A reader that never ends.
-#[derive(Drop)]
-struct Endless;
-
-impl Read for Endless {
-    fn read(&mut self, buf: &mut [u8]) -> io::Result<usize> {
-        for byte in buf.iter_mut() {
-            *byte = b'*';
-        }
-        Ok(buf.len())
-    }
-}
-
-/// A writer that takes so many bytes a call at most, and fails where it has no room.
-#[derive(Drop)]
-struct Full {
-    taken: Vec<u8>,
-    room: usize,
-    most: usize,
-}
-
-impl Write for Full {
-    fn write(&mut self, buf: &[u8]) -> io::Result<usize> {
-        if self.room == 0 {
-            return Err(io::Error::from(ErrorKind::StorageFull));
-        }
-        let count = buf.len().min(self.most).min(self.room);
-        if self.taken.extend_from_slice(&buf[..count]).is_err() {
-            return Err(io::Error::from(ErrorKind::OutOfMemory));
-        }
-        self.room -= count;
-        Ok(count)
-    }
-
-    fn flush(&mut self) -> io::Result<()> {
-        Ok(())
-    }
-}
 
 #[test]
 fn inputs_byte_by_byte(rt: HostRuntime) -> Result<(), Fail> {
     let bytes = WHOLE.as_bytes();
-    let calls = bytes.len();
-    for calls in 0..=calls {
-        let mut reader = Reading::new(Failing { bytes, calls });
+    // One more call finds the end.
+    let enough = (bytes.len() as u64).saturating_add(1);
+    for calls in 0..enough {
+        let mut reader = Reading::new(Tap::failing(bytes, calls));
         match read_inputs(rt.alloc(), &mut reader) {
             Ok(_) => assert!(rt; false, "with {calls} calls"),
             Err(fault) => assert_eq!(rt; fault, InputFault::Read),
         }
         assert_eq!(rt; reader.failures(), 1);
     }
-    let mut reader = Reading::new(Failing {
-        bytes,
-        calls: calls.saturating_add(1),
-    });
+    let mut reader = Reading::new(Tap::failing(bytes, enough));
     let inputs = read_inputs(rt.alloc(), &mut reader)?;
     assert_eq!(rt; inputs.setup.angle, 17);
     assert_eq!(rt; inputs.setup.words.len(), 3);
@@ -99,7 +33,7 @@ fn inputs_byte_by_byte(rt: HostRuntime) -> Result<(), Fail> {
 
 #[test]
 fn inputs_without_end(rt: HostRuntime) {
-    let mut reader = Reading::new(Endless);
+    let mut reader = Reading::new(Tap::endless(usize::MAX));
     match read_inputs(rt.alloc(), &mut reader) {
         Ok(_) => assert!(rt; false, "inputs without end"),
         Err(fault) => assert_eq!(rt; fault, InputFault::TooLong),
@@ -126,8 +60,7 @@ fn fills(
     } else {
         Err(WriteFault { sent })
     };
-    let taken = Vec::new(rt.alloc());
-    let mut out = Writing::new(Full { taken, room, most });
+    let mut out = Writing::new(Full::new(rt.alloc(), room, most));
     let ended = report(analysis, &subject.deck, &subject.notes, &mut out);
     assert_eq!(rt; ended, wanted, "with {room} bytes, {most} a call");
     assert_eq!(rt; out.writer.taken.as_slice(), front);
