@@ -8,7 +8,7 @@ use crate::told::Told;
 use std::alloc::{AllocError, Global};
 
 /// Whether what a run told agrees with what the other commands tell of the same parts.
-pub fn agrees_with_other_commands(
+pub(crate) fn agrees_with_other_commands(
     alloc: Global,
     asked: Asked<'_>,
     ran: &Ran,

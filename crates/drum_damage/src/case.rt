@@ -97,7 +97,7 @@ impl Case {
     }
 
     /// The case of a seed.
-    pub fn of(alloc: Global, seed: u64) -> Result<Case, AllocError> {
+    pub(crate) fn of(alloc: Global, seed: u64) -> Result<Case, AllocError> {
         let mut chance = Chance::of(seed);
         let mut case = Case::whole(alloc, chance.choose(EXAMPLES).unwrap_or(&NONE))?;
         let other = Case::whole(alloc, chance.choose(EXAMPLES).unwrap_or(&NONE))?;
@@ -138,7 +138,7 @@ impl Case {
     }
 
     /// What its files hold.
-    pub fn held(&self) -> Parts<'_> {
+    pub(crate) fn held(&self) -> Parts<'_> {
         Parts {
             deck: &self.deck,
             times: &self.times,
@@ -148,26 +148,26 @@ impl Case {
     }
 
     /// Whether a byte stands in one of its files.
-    pub fn files_contain(&self, byte: u8) -> bool {
+    pub(crate) fn files_contain(&self, byte: u8) -> bool {
         [&self.deck, &self.times, &self.notes, &self.inputs]
             .iter()
             .any(|text| text.contains(&byte))
     }
 
     /// Runs the program over it.
-    pub fn run(&self, alloc: Global) -> Ran {
+    pub(crate) fn run(&self, alloc: Global) -> Ran {
         run_words(alloc, &self.words, self.held(), &self.joined)
     }
 
     /// Whether one of its words asks for help.
-    pub fn asks_for_help(&self) -> bool {
+    pub(crate) fn asks_for_help(&self) -> bool {
         self.words
             .iter()
             .any(|word| matches!(*word, "--help" | "-h"))
     }
 
     /// What its words ask for, where they are a command with files that there are.
-    pub fn asked(&self) -> Option<Asked<'_>> {
+    pub(crate) fn asked(&self) -> Option<Asked<'_>> {
         let held = self.held();
         let (command, parts) = match self.words.as_slice() {
             [] => (

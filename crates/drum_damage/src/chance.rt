@@ -13,14 +13,14 @@ pub struct Chance {
 
 impl Chance {
     /// The choices of this seed.
-    pub fn of(seed: u64) -> Chance {
+    pub(crate) fn of(seed: u64) -> Chance {
         Chance {
             words: SplitMix64::seed_from_u64(seed),
         }
     }
 
     /// A number below `count`, or 0 where that is 0.
-    pub fn below(&mut self, count: usize) -> usize
+    pub(crate) fn below(&mut self, count: usize) -> usize
         ensures below { 0 < count → result < count }
         ensures within { result ≤ count }
     {
@@ -28,12 +28,12 @@ impl Chance {
     }
 
     /// Whether one of so many times has come.
-    pub fn is_one_of(&mut self, count: usize) -> bool {
+    pub(crate) fn is_one_of(&mut self, count: usize) -> bool {
         self.below(count) == 0
     }
 
     /// One of the items, and none only where there are none.
-    pub fn choose<'a, T>(&mut self, items: &'a [T]) -> Option<&'a T> {
+    pub(crate) fn choose<'a, T>(&mut self, items: &'a [T]) -> Option<&'a T> {
         items.get(self.below(items.len()))
     }
 }

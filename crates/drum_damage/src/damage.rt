@@ -42,7 +42,7 @@ fn piece(text: &[u8], from: usize, to: usize) -> &[u8] {
 }
 
 /// Pieces as one text.
-pub fn glued(alloc: Global, pieces: &[&[u8]]) -> Result<Vec<u8>, AllocError> {
+pub(crate) fn glued(alloc: Global, pieces: &[&[u8]]) -> Result<Vec<u8>, AllocError> {
     let mut text = Vec::new(alloc);
     for piece in pieces {
         text.extend_from_slice(piece)?;
@@ -150,7 +150,7 @@ fn renumbered(
 }
 
 /// The text with one damage, for which a piece of another text is at hand.
-pub fn damaged(
+pub(crate) fn damaged(
     alloc: Global,
     chance: &mut Chance,
     text: &[u8],

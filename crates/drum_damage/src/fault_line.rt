@@ -162,7 +162,7 @@ fn is_located_operation(text: &str) -> bool {
 
 impl<'a> FaultLine<'a> {
     /// A line, without its line feed, that goes with a status.
-    pub fn of(line: &'a str, status: Status) -> Option<FaultLine<'a>> {
+    pub(crate) fn of(line: &'a str, status: Status) -> Option<FaultLine<'a>> {
         let said = line.strip_prefix("fault ")?;
         for (words, about, ending) in LINES {
             if let Some(rest) = said.strip_prefix(*words) {

@@ -67,22 +67,22 @@ fn is_of(key: &str, forms: &[&str]) -> bool {
 }
 
 /// Whether a timing table may have this key, and has to.
-pub fn is_in_times(key: &str) -> bool {
+pub(crate) fn is_in_times(key: &str) -> bool {
     is_of(key, TIMES)
 }
 
 /// Whether notes have to have this key, or their elements do.
-pub fn is_wanted_in_notes(key: &str) -> bool {
+pub(crate) fn is_wanted_in_notes(key: &str) -> bool {
     is_of(key, NOTES)
 }
 
 /// Whether notes may have this key or element.
-pub fn is_known_in_notes(key: &str) -> bool {
+pub(crate) fn is_known_in_notes(key: &str) -> bool {
     is_of(key, NOTES) || is_of(key, MORE_NOTES)
 }
 
 /// Whether each part of a key stands in a text, or numbers an element for which the text has room.
-pub fn stands_in(key: &str, text: &str) -> bool {
+pub(crate) fn stands_in(key: &str, text: &str) -> bool {
     key.split('.').all(|part| {
         text.contains(part) || decimal(part).is_some_and(|number| number <= text.len() as u64)
     })

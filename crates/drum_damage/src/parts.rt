@@ -13,12 +13,12 @@ pub struct Parts<'a> {
 }
 
 /// How many lines a text has. Nothing behind its last line feed is a line.
-pub fn line_count(text: &[u8]) -> usize {
+pub(crate) fn line_count(text: &[u8]) -> usize {
     text.split_inclusive(|byte| *byte == b'\n').count()
 }
 
 /// A line of a text, without its line feed, by its number from 1.
-pub fn line_of(text: &[u8], number: usize) -> Option<&[u8]> {
+pub(crate) fn line_of(text: &[u8], number: usize) -> Option<&[u8]> {
     if number > line_count(text) {
         return None;
     }
@@ -41,7 +41,7 @@ fn cut<'a>(text: &'a [u8], mark: &[u8]) -> Option<(&'a [u8], &'a [u8])> {
 
 impl<'a> Parts<'a> {
     /// The parts of a joined form, with these inputs.
-    pub fn of_joined(text: &'a [u8], inputs: &'a [u8]) -> Option<Parts<'a>> {
+    pub(crate) fn of_joined(text: &'a [u8], inputs: &'a [u8]) -> Option<Parts<'a>> {
         let (deck, rest) = cut(text, b"%TIMES")?;
         let (times, notes) = cut(rest, b"%NOTES")?;
         Some(Parts {
@@ -53,7 +53,7 @@ impl<'a> Parts<'a> {
     }
 
     /// The joined form.
-    pub fn joined(&self, alloc: Global) -> Result<Vec<u8>, AllocError> {
+    pub(crate) fn joined(&self, alloc: Global) -> Result<Vec<u8>, AllocError> {
         glued(
             alloc,
             &[self.deck, b"%TIMES\n", self.times, b"%NOTES\n", self.notes],

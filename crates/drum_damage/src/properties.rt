@@ -76,7 +76,7 @@ fn hold(property: &'static str, is_kept: bool) -> Result<(), Broken> {
 }
 
 /// What a run told, where it keeps to every property.
-pub fn judged<'a>(alloc: Global, case: &Case, ran: &'a Ran) -> Result<Told<'a>, Broken> {
+pub(crate) fn judged<'a>(alloc: Global, case: &Case, ran: &'a Ran) -> Result<Told<'a>, Broken> {
     hold(
         "writes where its status says",
         writes_where_its_status_says(ran),

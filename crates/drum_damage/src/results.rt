@@ -25,12 +25,12 @@ pub struct Kept {
 }
 
 /// The bound that a line says.
-pub fn bound_of(line: &str) -> Option<u64> {
+pub(crate) fn bound_of(line: &str) -> Option<u64> {
     decimal(line.strip_prefix("bound ")?)
 }
 
 /// The verdict of a line on a run that keeps to the notes, and so never passes the bound.
-pub fn kept_of(line: &str) -> Option<Kept> {
+pub(crate) fn kept_of(line: &str) -> Option<Kept> {
     let (used, rest) = line.strip_prefix("kept used ")?.split_once(" bound ")?;
     let (bound, why) = rest.split_once(" stop ")?;
     let kept = Kept {
@@ -45,7 +45,7 @@ pub fn kept_of(line: &str) -> Option<Kept> {
 }
 
 /// The word times used before a run leaves the notes, of the line that says so.
-pub fn left_of(line: &str) -> Option<u64> {
+pub(crate) fn left_of(line: &str) -> Option<u64> {
     let (how, rest) = line.strip_prefix("left ")?.split_once(" step ")?;
     let (step, used) = rest.split_once(" used ")?;
     let (step, used) = (decimal(step)?, decimal(used)?);
@@ -137,7 +137,7 @@ fn behind_marks<'a>(mut text: &'a str, notes: &Table) -> Option<&'a str> {
 }
 
 /// The bound that ends a report of these parts, to which its times add up.
-pub fn reported_bound(alloc: Global, text: &str, parts: &Parts<'_>) -> Option<u64> {
+pub(crate) fn reported_bound(alloc: Global, text: &str, parts: &Parts<'_>) -> Option<u64> {
     let notes = toml::table_from_slice(alloc, parts.notes).ok()?;
     let (cards, text) = cards_time(text, parts.deck)?;
     let (other, text) = text.split_once('\n')?;

@@ -18,7 +18,7 @@ pub const INPUTS: &str = "inputs";
 
 impl<'a> Parts<'a> {
     /// The part whose file has this name.
-    pub fn file(&self, name: &str) -> Option<&'a [u8]> {
+    pub(crate) fn file(&self, name: &str) -> Option<&'a [u8]> {
         match name {
             DECK => Some(self.deck),
             TIMES => Some(self.times),
@@ -29,7 +29,13 @@ impl<'a> Parts<'a> {
     }
 
     /// The parts that files of these names make.
-    pub fn named(&self, deck: &str, times: &str, notes: &str, inputs: &str) -> Option<Parts<'a>> {
+    pub(crate) fn named(
+        &self,
+        deck: &str,
+        times: &str,
+        notes: &str,
+        inputs: &str,
+    ) -> Option<Parts<'a>> {
         Some(Parts {
             deck: self.file(deck)?,
             times: self.file(times)?,
@@ -75,7 +81,7 @@ pub struct Ran {
 }
 
 /// Runs the program over words, files of these parts and a standard input of this text.
-pub fn run_words(alloc: Global, words: &[&str], parts: Parts<'_>, text: &[u8]) -> Ran {
+pub(crate) fn run_words(alloc: Global, words: &[&str], parts: Parts<'_>, text: &[u8]) -> Ran {
     let mut shelf = Shelf { parts, failures: 0 };
     let mut input = Reading::new(text);
     let mut out = Writing::new(Vec::new(alloc));
@@ -89,7 +95,7 @@ pub fn run_words(alloc: Global, words: &[&str], parts: Parts<'_>, text: &[u8]) -
 }
 
 /// Runs a joined text.
-pub fn run_text(alloc: Global, text: &[u8]) -> Ran {
+pub(crate) fn run_text(alloc: Global, text: &[u8]) -> Ran {
     let mut input = Reading::new(text);
     let mut out = Writing::new(Vec::new(alloc));
     let mut err = Writing::new(Vec::new(alloc));

@@ -26,7 +26,7 @@ fn count(number: &mut u64) {
 
 impl Tally {
     /// Counts a case: what it told, and nothing where it broke a property.
-    pub fn add(&mut self, told: Option<Told<'_>>) {
+    pub(crate) fn add(&mut self, told: Option<Told<'_>>) {
         count(&mut self.cases);
         count(match told {
             Some(Told::Bound(_)) => &mut self.bound,

@@ -13,7 +13,7 @@ const MOST_KEYS: u64 = 4_000_000;
 const MOST_LINES: usize = 4000;
 
 /// Whether the text that a fault's line is of has what the line names.
-pub fn names_what_is_there(alloc: Global, line: &FaultLine<'_>, parts: &Parts<'_>) -> bool {
+pub(crate) fn names_what_is_there(alloc: Global, line: &FaultLine<'_>, parts: &Parts<'_>) -> bool {
     let text = match line.about {
         About::Times => parts.times,
         About::Notes => parts.notes,

@@ -23,7 +23,7 @@ pub enum Told<'a> {
 impl<'a> Told<'a> {
     /// What a run told that was asked for this, or for no command over files that there are. None
     /// where it is nothing that may be told then.
-    pub fn of(alloc: Global, asked: Option<Asked<'_>>, ran: &'a Ran) -> Option<Told<'a>> {
+    pub(crate) fn of(alloc: Global, asked: Option<Asked<'_>>, ran: &'a Ran) -> Option<Told<'a>> {
         let out = std::str::from_utf8(&ran.out).ok()?;
         let err = std::str::from_utf8(&ran.err).ok()?;
         match (ran.status, asked) {
@@ -42,7 +42,7 @@ impl<'a> Told<'a> {
     }
 
     /// The line of a fault.
-    pub fn fault(self) -> Option<FaultLine<'a>> {
+    pub(crate) fn fault(self) -> Option<FaultLine<'a>> {
         match self {
             Told::Fault(line) => Some(line),
             _ => None,

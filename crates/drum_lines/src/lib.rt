@@ -1,5 +1,5 @@
-//! The lines that go out of the program: a bound, a verdict, or why there is none, and the status with
-//! which the program ends after it. They take no memory.
+//! The lines that go out of the program: a bound, a verdict, or why there is none, and the status
+//! with which the program ends after it. They take no memory.
 #![tactic(auto)]
 
 mod failed_write;

@@ -1,5 +1,5 @@
-//! Tests of the program's calls, over words, files, inputs and outputs, with answers that are known from
-//! outside.
+//! Tests of the program's calls, over words, files, inputs and outputs, with answers that are known
+//! from outside.
 #![tactic(auto)]
 
 #[cfg(test)]

@@ -49,8 +49,8 @@ fn run_to(
     run(rt.alloc(), words, &mut source, &mut input, out, err)
 }
 
-/// That words put a front of this text on an output that takes so many bytes a call, the whole where it
-/// has the room, and nothing on standard error.
+/// That words put a front of this text on an output that takes so many bytes a call, the whole where
+/// it has the room, and nothing on standard error.
 fn fills(
     rt: &(impl AllocGlobal + Abort),
     words: &[&str],

@@ -22,9 +22,9 @@ pub record AreRefused (words : List Text) (refused : Refused) : Type 0 where
   pub fits : FitsAmong (fault_of drum650 words) refused
   pub taken : takes drum650 words ≡ true → refused ≡ Memory
 
--- The reply to words, where the input gives these bytes, files hold these, and so many reads of them
--- failed: with no words that to the joined form; else that to the command that clap finds in them;
--- else why they are refused.
+-- The reply to words, where the input gives these bytes, files hold these, and so many reads of
+-- them failed: with no words that to the joined form; else that to the command that clap finds in
+-- them; else why they are refused.
 abbrev pub Answers :
     List Text → List ℕ → ℕ → (List ℕ → Option (List ℕ)) → Reply → Type 0
 Answers [] bytes failures held reply = AnswersJoined bytes failures reply

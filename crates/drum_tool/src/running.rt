@@ -39,8 +39,8 @@ fn joined_bound<I: Input>(alloc: Global, input: &mut I) -> Result<u64, Fault>
 /// Reads the joined form, a deck, a timing table and notes, and writes the deck's bound to `out`,
 /// or the line of its first fault to `err`.
 ///
-/// The whole input is read first, 16,777,217 bytes at most, and each read but the last gives some: an
-/// end that is met isn't asked for again. A failed write of the bound ends with
+/// The whole input is read first, 16,777,217 bytes at most, and each read but the last gives some:
+/// an end that is met isn't asked for again. A failed write of the bound ends with
 /// [`Status::Failed`] and no fault line; a failed write to `err` changes nothing.
 pub fn run_joined<I: Input, O: Output, E: Output>(
     alloc: Global,

@@ -29,7 +29,8 @@ pub fn read_whole<I: Input>(
     requires calls { I.called input.old ≤ 2 ^ 62 }
     ensures all { IfOk result (λ text. IfSome (I.left input.old) (λ bytes. text.items ≡ bytes)) }
     ensures within { IfOk result (λ text. vec_len text ≤ limit) }
-    ensures long { IsErrOf result WholeError.TooLong → IfSome (I.left input.old) (λ bytes. limit < length bytes) }
+    ensures long { IsErrOf result WholeError.TooLong
+        → IfSome (I.left input.old) (λ bytes. limit < length bytes) }
     ensures read { IsErrOf result WholeError.Read ↔ (I.failed input.new ≡ I.failed input.old + 1) }
     ensures once { I.failed input.new ≤ I.failed input.old + 1 }
     ensures asked { I.called input.new ≤ I.called input.old + limit + 1 }

@@ -41,15 +41,18 @@ impl Fields<'_> {
 
     /// The value at a key, if there is one.
     pub fn get(&self, key: &str) -> Option<&Value>
-        ensures { option_map (λ value. view value.now) result ≡ get_member key.now (table_view self.now.table.now) }
+        ensures { option_map (λ value. view value.now) result
+            ≡ get_member key.now (table_view self.now.table.now) }
     {
         self.table.get(key)
     }
 
     /// That each of its keys is known; else the first in byte order that isn't.
     pub fn only(&self, known: &[&str]) -> Result<(), NoteFault>
-        ensures none { IfOk result (λ _. document.unknown_in self.now.at.now (map (λ key. key.now) known.now) (table_view self.now.table.now) ≡ []) }
-        ensures first { IfErr result (IsFirst (document.unknown_in self.now.at.now (map (λ key. key.now) known.now) (table_view self.now.table.now))) }
+        ensures none { IfOk result (λ _. document.unknown_in self.now.at.now
+            (map (λ key. key.now) known.now) (table_view self.now.table.now) ≡ []) }
+        ensures first { IfErr result (IsFirst (document.unknown_in self.now.at.now
+            (map (λ key. key.now) known.now) (table_view self.now.table.now))) }
     {
         for (key, _) in self.table.iter() {
             if !is_among(key.as_str(), known) {
@@ -61,8 +64,10 @@ impl Fields<'_> {
 
     /// That each of some keys is there; else the first that isn't.
     pub fn all(&self, wanted: &[&str]) -> Result<(), NoteFault>
-        ensures none { IfOk result (λ _. document.missing_in self.now.at.now (map (λ key. key.now) wanted.now) (table_view self.now.table.now) ≡ []) }
-        ensures first { IfErr result (IsFirst (document.missing_in self.now.at.now (map (λ key. key.now) wanted.now) (table_view self.now.table.now))) }
+        ensures none { IfOk result (λ _. document.missing_in self.now.at.now
+            (map (λ key. key.now) wanted.now) (table_view self.now.table.now) ≡ []) }
+        ensures first { IfErr result (IsFirst (document.missing_in self.now.at.now
+            (map (λ key. key.now) wanted.now) (table_view self.now.table.now))) }
     {
         for key in wanted {
             if self.get(key).is_none() {
@@ -74,8 +79,10 @@ impl Fields<'_> {
 
     /// The value at a key.
     pub fn value(&self, key: &str) -> Result<&Value, NoteFault>
-        ensures found { IfOk result (λ value. get_member key.now (table_view self.now.table.now) ≡ Some (view value.now)) }
-        ensures first { IfErr result (IsFirst (document.missing_in self.now.at.now (key.now ∷ []) (table_view self.now.table.now))) }
+        ensures found { IfOk result (λ value.
+            get_member key.now (table_view self.now.table.now) ≡ Some (view value.now)) }
+        ensures first { IfErr result (IsFirst (document.missing_in self.now.at.now
+            (key.now ∷ []) (table_view self.now.table.now))) }
     {
         match self.get(key) {
             Some(value) => Ok(value),
