@@ -68,4 +68,4 @@ pub record IsAnalysis (g : Setting) (words : ℕ) (analysis : Analysis) : Type 0
   pub turns : turns_of analysis ≡ sum (map (λ row. length (hops g.loads g.notes row.place)) (rows_of analysis))
   pub ends : (ends : List HopEnd) × AreEnds g (rows_of analysis) ends × AreRaised g (rows_of analysis) ends × (turns_of analysis ≡ length ends)
   pub passed : ArePasses g.notes.marks (visits_of analysis) (passed_of analysis)
-  pub below : bound_of analysis < 2 ^ 62
+  pub below : bound_of analysis < 2 ^ 50

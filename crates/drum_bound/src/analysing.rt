@@ -129,7 +129,7 @@ pub fn analyse(
         × AreRaised (setting deck.now times.now notes.now) (rows_of analysis) ends × (turns_of analysis ≡ length ends)) }
     ensures passed { IfOk result (λ analysis. (k : ℕ) (mark : Mark) → slice_get notes.now.marks k ≡ Some mark
         → slice_index (passed_of analysis) k ≡ passes_in mark (visits_of analysis)) }
-    ensures below { IfOk result (λ analysis. bound_of analysis < 2 ^ 62) }
+    ensures below { IfOk result (λ analysis. bound_of analysis < 2 ^ 50) }
     ensures refused { IfErr result (IsRefusal (loads_in deck.now) notes.now (start_in deck.now)) }
 {
     let _marks = notes.marks();

@@ -1,4 +1,4 @@
-ghost use Rattle.std.specs.Prelude.{◌≡◌, ◌^◌, ◌<◌, map};
+ghost use Rattle.std.specs.Prelude.{◌≡◌, ◌^◌, ◌<◌, ◌≤◌, length, map};
 ghost use Rattle.drum_bound.specs.Visited.{AreInTime, seen_visit};
 
 use crate::visit::Visit;
@@ -6,7 +6,7 @@ use crate::worst::Worst;
 use drum_machine::passes::MOST_MARKS;
 
 /// What [`analyse`](crate::analyse) finds for a deck with its timing table and notes. The hops of
-/// its walk follow one another in time, from 0 to the bound.
+/// its walk follow one another in time, from 0 to the bound, and are 4,000,000 at most.
 #[derive(Debug, Drop)]
 pub struct Analysis {
     pub(crate) bound: u64,
@@ -19,7 +19,8 @@ pub struct Analysis {
     /// By the marks' places in the notes; what stands past the last mark means nothing.
     pub(crate) passed: [u64; MOST_MARKS],
     ghost in_time: { ∥ AreInTime 0 (map seen_visit walk.items) bound ∥₁ },
-    ghost below: { bound < 2 ^ 62 },
+    ghost below: { bound < 2 ^ 50 },
+    ghost few: { length walk.items ≤ 4000000 },
 }
 
 impl Analysis {
@@ -28,10 +29,10 @@ impl Analysis {
     ghost use Rattle.drum_bound.specs.RowOf.{row_in};
 
     /// The bound, in word times: no run that keeps to the notes uses more, and some walk uses just
-    /// as many. Below 2^62.
+    /// as many. Below 2^50.
     pub fn bound(&self) -> u64
         ensures told { result ≡ bound_of self.now }
-        ensures below { result < 2 ^ 62 }
+        ensures below { result < 2 ^ 50 }
     {
         self.bound
     }
@@ -52,10 +53,11 @@ impl Analysis {
     }
 
     /// The hops of a walk that uses as many word times as the bound, in order; none where the bound
-    /// is 0.
+    /// is 0; 4,000,000 at most.
     pub fn walk(&self) -> &[Visit]
         ensures told { map seen_visit result.now ≡ visits_of self.now }
         ensures in_time { ∥ AreInTime 0 (visits_of self.now) (bound_of self.now) ∥₁ }
+        ensures few { length result.now ≤ 4000000 }
     {
         &self.walk
     }

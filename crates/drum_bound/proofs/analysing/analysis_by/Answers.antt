@@ -10,9 +10,10 @@ use Rattle.drum_bound.specs.AnalysisOf.{ArePasses}
 use Rattle.drum_bound.specs.KeysOf.{setting_of}
 use Rattle.drum_bound.specs.RowOf.{row_in}
 use Rattle.drum_bound.specs.Scanned.{start_angle}
-use Rattle.drum_bound.specs.Visited.{AreInTime, seen_visit}
+use Rattle.drum_bound.specs.Visited.{AreInTime, seen_visit, visited}
 use Rattle.drum_bound.proofs.Analyses.{IsFound, is_found, is_analysis}
 use Rattle.drum_bound.proofs.InTime.{walk_in_time}
+use Rattle.drum_bound.proofs.ShortWalks.{short_walk}
 use Rattle.drum_bound.proofs.analysing.analysis_by.Goals as goal
 
 pub returns : goal.returns
@@ -54,4 +55,12 @@ invariant_of-result c =
     record {
       in_time = merely (subst (AreInTime 0 visits) (sym bound) (walk_in_time g (start_angle g.start) (scan.cells.last.clock - start_angle g.start) visits found.walk));
       below = omega (arith, bound, found.scanned.last_near, c.requires.ordered.0.few);
+      few = omega (
+        arith,
+        c.requires.ordered.0.few,
+        short_walk g (order_in keys.flow.now) c.requires.ordered.0 (start_angle g.start) found.walk.hops found.walk.walk,
+        length-map found.walk.hops visited,
+        ap length found.walk.same,
+        length-map c.in-Ok-walk.walk.items seen_visit,
+      );
     }
