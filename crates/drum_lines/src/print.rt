@@ -112,3 +112,10 @@ pub fn four_digits(number: u16) -> [u8; 4]
         b'0' + (number % 10) as u8,
     ]
 }
+
+/// The two decimal digits of a number.
+pub fn two_digits(number: u8) -> [u8; 2]
+    ensures { result ≡ digits_of 2 number }
+{
+    [b'0' + number / 10 % 10, b'0' + number % 10]
+}

@@ -1,10 +1,9 @@
 ghost use Rattle.std.specs.Prelude.{◌≡◌, ◌+◌, ◌*◌, ◌^◌, ◌≤◌, IfOk, flat_map, length};
-ghost use Rattle.drum_core.specs.Numeral.{digits_of};
 ghost use Rattle.drum_flow.specs.declared.refusal.Refusal.TheVariants.{Unbounded};
 ghost use Rattle.drum_lines.specs.FaultText.{next_location, refusal_text};
 ghost use Rattle.drum_lines.specs.Sent.{IsSent, IsWritten, fails_by};
 
-use super::{four_digits, send, write_line, write_located, write_text};
+use super::{four_digits, send, two_digits, write_line, write_located, write_text};
 use crate::failed_write::WriteFault;
 use drum_core::{Location, Output};
 use drum_flow::{Cycle, Refusal};
@@ -40,13 +39,6 @@ pub fn write_refusal<O: Output>(output: &mut O, refusal: &Refusal) -> Result<(),
             write_line(output, &pieces)
         }
     }
-}
-
-/// The two decimal digits of a number.
-fn two_digits(number: u8) -> [u8; 2]
-    ensures { result ≡ digits_of 2 number }
-{
-    [b'0' + number / 10 % 10, b'0' + number % 10]
 }
 
 /// Writes the line of a cycle.

@@ -14,7 +14,7 @@ use itoa::Buffer;
 
 /// Writes the line of a verdict.
 pub fn write_verdict<O: Output>(output: &mut O, verdict: &Verdict) -> Result<(), WriteFault>
-    requires { O.called output.old ≤ 2 ^ 62 }
+    requires { O.called output.old ≤ 2 ^ 62 + 2 ^ 60 }
     ensures written { IsWritten (O.written output.old) (O.written output.new) result
         (verdict_text verdict.now) }
     ensures failures { O.failed output.new ≡ O.failed output.old + fails_by result }
@@ -27,7 +27,7 @@ pub fn write_verdict<O: Output>(output: &mut O, verdict: &Verdict) -> Result<(),
 
 /// Writes the line of a run that keeps to the notes.
 fn write_kept<O: Output>(output: &mut O, used: u64, bound: u64, why: Why) -> Result<(), WriteFault>
-    requires { O.called output.old ≤ 2 ^ 62 }
+    requires { O.called output.old ≤ 2 ^ 62 + 2 ^ 60 }
     ensures written { IsWritten (O.written output.old) (O.written output.new) result
         (verdict_text (Kept used bound why)) }
     ensures failures { O.failed output.new ≡ O.failed output.old + fails_by result }
@@ -66,7 +66,7 @@ fn name_of(why: Why) -> &'static [u8]
 /// Writes the line of a run that leaves the notes so at this step, with so many word times used
 /// before it.
 fn write_left<O: Output>(output: &mut O, what: Left, step: u64, used: u64) -> Result<(), WriteFault>
-    requires { O.called output.old ≤ 2 ^ 62 }
+    requires { O.called output.old ≤ 2 ^ 62 + 2 ^ 60 }
     ensures written { IsWritten (O.written output.old) (O.written output.new) result
         (left_text what step used) }
     ensures failures { O.failed output.new ≡ O.failed output.old + fails_by result }
@@ -87,7 +87,7 @@ fn write_unlisted<O: Output>(
     step: u64,
     used: u64,
 ) -> Result<(), WriteFault>
-    requires { O.called output.old ≤ 2 ^ 62 }
+    requires { O.called output.old ≤ 2 ^ 62 + 2 ^ 60 }
     ensures written { IsWritten (O.written output.old) (O.written output.new) result
         (left_text (Unlisted location word) step used) }
     ensures failures { O.failed output.new ≡ O.failed output.old + fails_by result }
@@ -118,7 +118,7 @@ fn write_too_often<O: Output>(
     step: u64,
     used: u64,
 ) -> Result<(), WriteFault>
-    requires { O.called output.old ≤ 2 ^ 62 }
+    requires { O.called output.old ≤ 2 ^ 62 + 2 ^ 60 }
     ensures written { IsWritten (O.written output.old) (O.written output.new) result
         (left_text (TooOften from onto) step used) }
     ensures failures { O.failed output.new ≡ O.failed output.old + fails_by result }
@@ -148,7 +148,7 @@ fn write_at_step<O: Output>(
     step: u64,
     used: u64,
 ) -> Result<(), WriteFault>
-    requires called { O.called output.old ≤ 2 ^ 62 }
+    requires called { O.called output.old ≤ 2 ^ 62 + 2 ^ 60 }
     requires short { length text.now ≤ 100 }
     ensures written { IsWritten (O.written output.old) (O.written output.new) result
         (text.now ++ decimal step ++ codes " used " ++ decimal used ++ codes "\n") }
@@ -167,7 +167,7 @@ fn write_at_step<O: Output>(
 }
 
 /// The text of a word: its sign and its ten digits.
-fn spelling_of(word: Word) -> [u8; 11]
+pub fn spelling_of(word: Word) -> [u8; 11]
     ensures { result ≡ spelling word }
 {
     let sign = if word.minus() { b'-' } else { b'+' };
