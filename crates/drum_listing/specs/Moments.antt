@@ -1,0 +1,35 @@
+-- When an instruction is found, is ready and has its data, in word times used (this project's
+-- choice; the moments are those of the machine's steps).
+use Rattle.std.specs.Prelude.{ℕ, ◌+◌, ◌-◌, Bool, true, false, ◌||◌, not, if◌then◌else◌, Option, Some, None}
+use Rattle.drum_core.specs.declared.instruction.Instruction.{Instruction}
+use Rattle.drum_core.specs.declared.op.Op.{Op}
+use Rattle.drum_core.specs.Op.{op_of, operand_of}
+use Rattle.drum_times.specs.declared.entry.Entry.{Entry}
+use Rattle.drum_machine.specs.Step.{is_operand}
+use Rattle.drum_machine.specs.Timing.{found, ready, reached}
+use Rattle.drum_machine.specs.Ways.{Way, early, to, late}
+use Rattle.drum_listing.specs.declared.moments.Moments.{Moments}
+
+-- the step stops before its operation acts
+abbrev pub is_early : Way → Bool
+is_early early = true
+is_early (to next) = false
+is_early late = false
+
+-- The moments of an operation: one that stops early, or whose D isn't what it wants, has no data.
+abbrev pub moments_with : (Op → Entry) → ℕ → ℕ → ℕ → Way → ℕ → Option Op → Moments
+moments_with times angle place d way begun None =
+    record { found = found place (angle + begun) - angle; ready = None; operand = None }
+moments_with times angle place d way begun (Some op) =
+    let x = ready (times op) place (angle + begun) in
+    record {
+      found = found place (angle + begun) - angle;
+      ready = Some (x - angle);
+      operand = if is_early way || not (is_operand (operand_of op) d) then None else Some (reached op d x - angle);
+    }
+
+-- Those of an instruction at a place, sought when so many word times are used, on a drum with this
+-- angle at time 0, whose step ends in this way.
+abbrev pub moments_of : (Op → Entry) → ℕ → ℕ → Instruction → Way → ℕ → Moments
+moments_of times angle place ins way begun =
+    moments_with times angle place ins.d way begun (op_of ins.op)

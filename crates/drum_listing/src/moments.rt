@@ -1,0 +1,67 @@
+//! When an instruction is found, is ready and has its data.
+
+use drum_bound::{Visit, Way};
+use drum_core::Op;
+use drum_machine::is_operand;
+use drum_machine::moments::{found, reached};
+use drum_times::Times;
+
+/// When an instruction is found, is ready and has its data, in word times used.
+#[derive(Clone, Copy, Debug, PartialEq, Eq)]
+pub struct Moments {
+    /// When its location comes under the heads.
+    pub found: u64,
+    /// When its operation can begin; none where the profile doesn't have it.
+    pub ready: Option<u64>,
+    /// When its operation has its data; none where it stops before it acts.
+    pub operand: Option<u64>,
+}
+
+impl Moments {
+    ghost use Rattle.std.specs.Prelude.{◌≡◌, ◌+◌, ◌-◌, ◌^◌, ◌≤◌, ◌||◌, Some, None, not, if◌then◌else◌};
+    ghost use Rattle.drum_core.specs.Op.{operand_of};
+    ghost use Rattle.drum_times.specs.Entries.{entry_in};
+    ghost use Rattle.drum_machine.specs.Step.{is_operand as operand_is};
+    ghost use Rattle.drum_machine.specs.Timing.{reached as reached_at};
+    ghost use Rattle.drum_flow.specs.Seen.{seen_way};
+    ghost use Rattle.drum_listing.specs.Moments.{is_early, moments_of};
+
+    /// The moments of a visit, on a drum with this angle at time 0.
+    pub fn of(visit: &Visit, times: &Times, angle: u8) -> Moments
+        requires { visit.now.begun ≤ 2 ^ 62 }
+        ensures { result ≡ moments_of (entry_in times.now) angle visit.now.place.number
+            visit.now.instruction (seen_way visit.now.way) visit.now.begun }
+    {
+        let start = u64::from(angle);
+        let clock = found(visit.place, start + visit.begun);
+        let Some(op) = Op::of(visit.instruction.op()) else {
+            return Moments {
+                found: clock - start,
+                ready: None,
+                operand: None,
+            };
+        };
+        let x = clock + u64::from(times.entry(op).before);
+        Moments {
+            found: clock - start,
+            ready: Some(x - start),
+            operand: Moments::operand_from(x, visit, op, start),
+        }
+    }
+
+    /// From the clock x on, the word times used when the operation has its data.
+    fn operand_from(x: u64, visit: &Visit, op: Op, start: u64) -> Option<u64>
+        requires soon { x ≤ 2 ^ 62 + 2 ^ 39 }
+        requires later { start ≤ x }
+        ensures { let d = visit.now.instruction.d in result
+            ≡ (if is_early (seen_way visit.now.way) || not (operand_is (operand_of op) d) then None
+            else Some (reached_at op d x - start)) }
+    {
+        let d = visit.instruction.d();
+        if matches!(visit.way, Way::Early) || !is_operand(op.operand(), d) {
+            None
+        } else {
+            Some(reached(op, d, x) - start)
+        }
+    }
+}
