@@ -1,0 +1,3 @@
+pub mod Begun
+pub mod Lines
+pub mod Turns

@@ -1,1 +1,4 @@
 pub mod Moments
+pub mod MomentsText
+pub mod TraceText
+pub mod WalkText

@@ -3,5 +3,11 @@
 #![tactic(auto)]
 
 mod moments;
+mod moments_text;
+mod step_line;
+mod visit_line;
+mod walk;
 
 pub use moments::Moments;
+pub use step_line::send_step;
+pub use walk::list_walk;

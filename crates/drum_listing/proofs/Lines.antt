@@ -1,0 +1,81 @@
+-- Lines, put together of their pieces.
+use Rattle.std.proofs.Common.{◌≡◌, ℕ, List, [], ◌∷◌, ◌++◌, flat_map, map, refl, ap, sym, ◌∙◌, append_assoc}
+use Rattle.std.proofs.lemmas.List.{append-nil}
+use Rattle.std.specs.Prelude.{codes, decimal}
+use Rattle.drum_core.specs.declared.op.Op.{Op}
+use Rattle.drum_core.specs.declared.word.Word.{Word}
+use Rattle.drum_core.specs.Numeral.{digits_of}
+use Rattle.drum_core.specs.Word.{spelling}
+use Rattle.drum_times.specs.declared.entry.Entry.{Entry}
+use Rattle.drum_machine.specs.Ending.{ended_by}
+use Rattle.drum_machine.specs.Run.{Turn, time_of}
+use Rattle.drum_machine.specs.Step.{fetched, instruction_in}
+use Rattle.drum_flow.specs.RunHops.{hop_of}
+use Rattle.drum_bound.specs.Visited.{Visited, visited}
+use Rattle.drum_listing.specs.declared.moments.Moments.{Moments}
+use Rattle.drum_listing.specs.Moments.{moments_of}
+use Rattle.drum_listing.specs.MomentsText.{digits_with, moments_text, name_with, times_text}
+use Rattle.drum_listing.specs.TraceText.{fetch_text, turn_line}
+use Rattle.drum_listing.specs.WalkText.{hop_text, onto_digits, visit_line, way_name}
+
+-- the end of a line
+pub times_told : (moments : Moments) (ended : ℕ) (found ready ready' operand operand' end : List ℕ)
+    → found ≡ decimal moments.found → ready ≡ name_with (codes " ready ") moments.ready → ready' ≡ digits_with moments.ready
+    → operand ≡ name_with (codes " data ") moments.operand → operand' ≡ digits_with moments.operand → end ≡ decimal ended
+    → codes " found " ++ (found ++ (ready ++ (ready' ++ (operand ++ (operand' ++ (codes " ended " ++ (end ++ codes "\n"))))))) ≡ times_text moments ended
+times_told moments ended found ready ready' operand operand' end p q r s t u = rw (p, q, r, s, t, u) (simp append_assoc)
+
+-- texts with a gap between, grouped otherwise
+three_grouped : (begin gap first second third : List ℕ)
+    → begin ++ (first ++ (gap ++ (second ++ (gap ++ third)))) ≡ begin ++ first ++ gap ++ second ++ gap ++ third
+three_grouped begin gap first second third = simp append_assoc
+
+-- and the end of a line behind them
+line_grouped : (begin gap first second third moments behind ended last : List ℕ)
+    → (begin ++ first ++ gap ++ second ++ gap ++ third) ++ (moments ++ behind ++ ended ++ last)
+    ≡ begin ++ first ++ gap ++ second ++ gap ++ third ++ moments ++ behind ++ ended ++ last
+line_grouped begin gap first second third moments behind ended last = simp append_assoc
+
+-- what a step has fetched
+pub fetch_told : (number place : ℕ) (word : Word) (digits at spelled : List ℕ)
+    → digits ≡ decimal number → at ≡ digits_of 4 place → spelled ≡ spelling word
+    → codes "step " ++ (digits ++ (codes " " ++ (at ++ (codes " " ++ (spelled ++ []))))) ≡ fetch_text number place word
+fetch_told number place word digits at spelled p q r =
+    simp append-nil (ap (λ (xs : List ℕ). codes "step " ++ (xs ++ (codes " " ++ (at ++ (codes " " ++ spelled))))) p
+    ∙ ap (λ (xs : List ℕ). codes "step " ++ (decimal number ++ (codes " " ++ (xs ++ (codes " " ++ spelled))))) q
+    ∙ ap (λ (xs : List ℕ). codes "step " ++ (decimal number ++ (codes " " ++ (digits_of 4 place ++ (codes " " ++ xs))))) r
+    ∙ three_grouped (codes "step ") (codes " ") (decimal number) (digits_of 4 place) (spelling word))
+
+-- a hop
+pub hop_told : (visit : Visited) (place op d i way onto begun : List ℕ)
+    → place ≡ digits_of 4 visit.place → op ≡ digits_of 2 visit.ins.op → d ≡ digits_of 4 visit.ins.d → i ≡ digits_of 4 visit.ins.i
+    → way ≡ way_name visit.way → onto ≡ onto_digits visit.way → begun ≡ decimal visit.begun
+    → place ++ (codes " " ++ (op ++ (codes " " ++ (d ++ (codes " " ++ (i ++ (codes " " ++ (way ++ (onto ++ (codes " begun " ++ (begun ++ []))))))))))) ≡ hop_text visit
+hop_told visit place op d i way onto begun p q r s t u v = rw (p, q, r, s, t, u, v) (simp (append_assoc, append-nil))
+
+-- the line of a hop
+pub visit_told : (times : Op → Entry) (angle : ℕ) (visit : Visited) (moments : Moments)
+    → moments ≡ moments_of times angle visit.place visit.ins visit.way visit.begun
+    → hop_text visit ++ times_text moments visit.ended ≡ visit_line times angle visit
+visit_told times angle visit moments told = ap (λ (some : Moments). hop_text visit ++ times_text some visit.ended) told ∙ simp append_assoc
+
+-- the line of a turn
+pub turn_told : (times : Op → Entry) (number angle : ℕ) (turn : Turn) (visit : Visited) (word : Word) (moments : Moments)
+    → visit ≡ visited (hop_of turn) → word ≡ fetched turn.origin → turn.origin.start ≡ angle
+    → moments ≡ moments_of times angle visit.place visit.ins visit.way visit.begun
+    → fetch_text number visit.place word ++ times_text moments visit.ended ≡ turn_line times number turn
+turn_told times number angle turn visit word moments same is start told =
+    let s = turn.origin in
+    let at_start : moments ≡ moments_of times s.start s.sought (instruction_in s) (ended_by turn.outcome) s.time =
+    told ∙ ap (λ (v : Visited). moments_of times angle v.place v.ins v.way v.begun) same
+    ∙ ap (λ (a : ℕ). moments_of times a s.sought (instruction_in s) (ended_by turn.outcome) s.time) (sym start) in
+    ap (λ (v : Visited). fetch_text number v.place word ++ times_text moments v.ended) same
+    ∙ ap (λ (w : Word). fetch_text number s.sought w ++ times_text moments (time_of turn.outcome)) is
+    ∙ ap (λ (some : Moments). fetch_text number s.sought (fetched s) ++ times_text some (time_of turn.outcome)) at_start
+    ∙ line_grouped (codes "step ") (codes " ") (decimal number) (digits_of 4 s.sought) (spelling (fetched s))
+    (moments_text (moments_of times s.start s.sought (instruction_in s) (ended_by turn.outcome) s.time)) (codes " ended ") (decimal (time_of turn.outcome)) (codes "\n")
+
+-- texts of things that are seen otherwise
+pub flat_map_map : {X Y : Type 0} (f : Y → List ℕ) (g : X → Y) (xs : List X) → flat_map (λ x. f (g x)) xs ≡ flat_map f (map g xs)
+flat_map_map f g [] = refl
+flat_map_map f g (x ∷ xs) = ap (λ (rest : List ℕ). f (g x) ++ rest) (flat_map_map f g xs)

@@ -1,0 +1,66 @@
+//! The end of a line: the moments of an instruction, and when its step ends.
+
+ghost use Rattle.std.specs.Prelude.{◌≡◌, ◌+◌, ◌^◌, ◌≤◌, length};
+ghost use Rattle.drum_lines.specs.Sent.{IsSent, fails_by};
+ghost use Rattle.drum_listing.specs.MomentsText.{digits_with as digits_at, name_with as name_at, times_text};
+
+use crate::moments::Moments;
+use drum_core::Output;
+use drum_lines::{WriteFault, send};
+use itoa::Buffer;
+
+/// The name of a moment; nothing where there is no moment.
+fn name_with<'a>(name: &'a [u8], moment: Option<u64>) -> &'a [u8]
+    ensures name { result.now ≡ name_at name.now moment }
+    ensures short { length result.now ≤ length name.now }
+{
+    match moment {
+        Some(_) => name,
+        None => b"",
+    }
+}
+
+/// The digits of a moment, which the buffer holds; none where there is no moment.
+fn digits_with(buffer: &mut Buffer, moment: Option<u64>) -> &[u8]
+    ensures digits { result.now ≡ digits_at moment }
+    ensures short { length result.now ≤ 20 }
+{
+    match moment {
+        Some(moment) => buffer.format(moment).as_bytes(),
+        None => b"",
+    }
+}
+
+/// Writes the moments of an instruction, and when its step ends, behind so many bytes, and tells
+/// how many have gone out then.
+pub fn send_times<O: Output>(
+    writer: &mut O,
+    sent: usize,
+    moments: &Moments,
+    ended: u64,
+) -> Result<usize, WriteFault>
+    requires called { O.called writer.old ≤ 2 ^ 62 + 2 ^ 61 }
+    requires few { sent ≤ 2 ^ 61 }
+    ensures sent { IsSent (O.written writer.old) (O.written writer.new) sent result
+        (times_text moments.now ended) }
+    ensures failures { O.failed writer.new ≡ O.failed writer.old + fails_by result }
+    ensures calls { O.called writer.new ≤ O.called writer.old + 120 }
+    ensures short { length (times_text moments.now ended) ≤ 120 }
+{
+    let mut found = Buffer::new();
+    let mut ready = Buffer::new();
+    let mut operand = Buffer::new();
+    let mut end = Buffer::new();
+    let pieces: [&[u8]; 9] = [
+        b" found ",
+        found.format(moments.found).as_bytes(),
+        name_with(b" ready ", moments.ready),
+        digits_with(&mut ready, moments.ready),
+        name_with(b" data ", moments.operand),
+        digits_with(&mut operand, moments.operand),
+        b" ended ",
+        end.format(ended).as_bytes(),
+        b"\n",
+    ];
+    send(writer, sent, &pieces)
+}

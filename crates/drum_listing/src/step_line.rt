@@ -1,0 +1,143 @@
+//! The line of a step.
+
+ghost use Rattle.std.specs.Prelude.{◌≡◌, ◌+◌, ◌^◌, ◌≤◌, IfOk, length};
+ghost use Rattle.drum_core.specs.declared.op.Op.{Op};
+ghost use Rattle.drum_times.specs.declared.entry.Entry.{Entry};
+ghost use Rattle.drum_times.specs.Entries.{entry_in};
+ghost use Rattle.drum_machine.specs.Ending.{stops_by};
+ghost use Rattle.drum_machine.specs.Monitor.{IsToldOf};
+ghost use Rattle.drum_machine.specs.Run.{Turn};
+ghost use Rattle.drum_machine.specs.Step.{fetched};
+ghost use Rattle.drum_flow.specs.RunHops.{hop_of};
+ghost use Rattle.drum_flow.specs.Seen.{seen_way};
+ghost use Rattle.drum_bound.specs.Visited.{seen_visit, visited};
+ghost use Rattle.drum_lines.specs.Sent.{IsSent, fails_by};
+ghost use Rattle.drum_listing.specs.TraceText.{fetch_text, turn_line};
+
+use crate::moments::Moments;
+use crate::moments_text::send_times;
+use drum_bound::{Visit, Way};
+use drum_core::{Instruction, Location, Output, Word};
+use drum_lines::{WriteFault, four_digits, send, spelling_of};
+use drum_machine::{Step, Why};
+use drum_times::Times;
+use itoa::Buffer;
+
+/// How a step that stops ends.
+fn way_of(why: Why) -> Way
+    ensures { seen_way result ≡ stops_by why }
+{
+    match why {
+        Why::Operand | Why::Card => Way::Early,
+        _ => Way::Late,
+    }
+}
+
+/// The word that a step has fetched.
+fn word_of(step: &Step) -> Word
+    ensures { (times : Op → Entry) (turn : Turn) → IsToldOf times turn step.now
+        → result ≡ fetched turn.origin }
+{
+    match *step {
+        Step::Went { word, .. } | Step::Stopped { word, .. } => word,
+    }
+}
+
+/// A step as a visit of the location where it begins, with so many word times used before it.
+fn visit_of(step: &Step, before: u64) -> Visit
+    ensures visit { (times : Op → Entry) (turn : Turn) → IsToldOf times turn step.now
+        → turn.origin.time ≡ before → seen_visit result ≡ visited (hop_of turn) }
+    ensures begun { result.begun ≡ before }
+{
+    match *step {
+        Step::Went {
+            origin,
+            word,
+            next,
+            used,
+            ..
+        } => Visit {
+            place: origin,
+            instruction: Instruction::of(word),
+            way: Way::To(next),
+            begun: before,
+            ended: used,
+        },
+        Step::Stopped {
+            origin,
+            word,
+            why,
+            used,
+        } => Visit {
+            place: origin,
+            instruction: Instruction::of(word),
+            way: way_of(why),
+            begun: before,
+            ended: used,
+        },
+    }
+}
+
+/// Writes the number of a step, where it begins, and the word that it has fetched there.
+fn send_fetch<O: Output>(
+    writer: &mut O,
+    sent: usize,
+    number: u64,
+    origin: Location,
+    word: Word,
+) -> Result<usize, WriteFault>
+    requires called { O.called writer.old ≤ 2 ^ 62 + 2 ^ 60 }
+    requires few { sent ≤ 2 ^ 60 }
+    ensures sent { IsSent (O.written writer.old) (O.written writer.new) sent result
+        (fetch_text number origin.number word) }
+    ensures failures { O.failed writer.new ≡ O.failed writer.old + fails_by result }
+    ensures calls { O.called writer.new ≤ O.called writer.old + 50 }
+    ensures short { length (fetch_text number origin.number word) ≤ 50 }
+{
+    let mut digits = Buffer::new();
+    let at = four_digits(origin.number());
+    let spelled = spelling_of(word);
+    let pieces: [&[u8]; 6] = [
+        b"step ",
+        digits.format(number).as_bytes(),
+        b" ",
+        &at,
+        b" ",
+        &spelled,
+    ];
+    send(writer, sent, &pieces)
+}
+
+/// Writes the line of a step behind so many bytes, and tells how many have gone out then. The step
+/// is the one of this number, on a drum with this angle at time 0, with so many word times used
+/// before it.
+///
+/// # Errors
+///
+/// Where a write fails, or takes none of some bytes: then a front of the line has gone out, which
+/// ends where it says.
+pub fn send_step<O: Output>(
+    writer: &mut O,
+    sent: usize,
+    times: &Times,
+    angle: u8,
+    number: u64,
+    before: u64,
+    step: &Step,
+) -> Result<usize, WriteFault>
+    requires called { O.called writer.old ≤ 2 ^ 62 + 2 ^ 60 }
+    requires few { sent ≤ 2 ^ 60 }
+    requires early { before ≤ 2 ^ 62 }
+    ensures sent { (turn : Turn) → IsToldOf (entry_in times.now) turn step.now
+        → turn.origin.start ≡ angle → turn.origin.time ≡ before
+        → IsSent (O.written writer.old) (O.written writer.new) sent result
+        (turn_line (entry_in times.now) number turn) }
+    ensures failures { O.failed writer.new ≡ O.failed writer.old + fails_by result }
+    ensures calls { O.called writer.new ≤ O.called writer.old + 200 }
+    ensures few { IfOk result (λ total. total ≤ sent + 200) }
+{
+    let visit = visit_of(step, before);
+    let moments = Moments::of(&visit, times, angle);
+    let sent = send_fetch(writer, sent, number, visit.place, word_of(step))?;
+    send_times(writer, sent, &moments, visit.ended)
+}

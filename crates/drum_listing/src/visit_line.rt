@@ -1,0 +1,97 @@
+//! The line of a visit.
+
+ghost use Rattle.std.specs.Prelude.{◌≡◌, ◌+◌, ◌^◌, ◌≤◌, IfOk, length};
+ghost use Rattle.drum_times.specs.Entries.{entry_in};
+ghost use Rattle.drum_flow.specs.Seen.{seen_way};
+ghost use Rattle.drum_bound.specs.Visited.{seen_visit};
+ghost use Rattle.drum_lines.specs.Sent.{IsSent, fails_by};
+ghost use Rattle.drum_listing.specs.WalkText.{hop_text, onto_digits, visit_line, way_name as name_of};
+
+use crate::moments::Moments;
+use crate::moments_text::send_times;
+use drum_bound::{Visit, Way};
+use drum_core::Output;
+use drum_lines::{WriteFault, four_digits, send, two_digits};
+use drum_times::Times;
+use itoa::Buffer;
+
+/// How a hop ends, up to the location where it goes on.
+fn way_name(way: Way) -> &'static [u8]
+    ensures name { result.now ≡ name_of (seen_way way) }
+    ensures short { length result.now ≤ 5 }
+{
+    match way {
+        Way::Early => b"early",
+        Way::To(_) => b"to ",
+        Way::Late => b"late",
+    }
+}
+
+/// The digits of the location where a hop goes on, which these bytes hold; none where it stops.
+fn onto_with(digits: &mut [u8; 4], way: Way) -> &[u8]
+    ensures digits { result.now ≡ onto_digits (seen_way way) }
+    ensures short { length result.now ≤ 4 }
+{
+    match way {
+        Way::To(onto) => {
+            *digits = four_digits(onto.number());
+            digits
+        }
+        Way::Early | Way::Late => b"",
+    }
+}
+
+/// Writes where a hop begins, its instruction, how it ends, and when it begins.
+fn send_hop<O: Output>(writer: &mut O, sent: usize, visit: &Visit) -> Result<usize, WriteFault>
+    requires called { O.called writer.old ≤ 2 ^ 62 + 2 ^ 60 }
+    requires few { sent ≤ 2 ^ 60 }
+    ensures sent { IsSent (O.written writer.old) (O.written writer.new) sent result
+        (hop_text (seen_visit visit.now)) }
+    ensures failures { O.failed writer.new ≡ O.failed writer.old + fails_by result }
+    ensures calls { O.called writer.new ≤ O.called writer.old + 60 }
+    ensures short { length (hop_text (seen_visit visit.now)) ≤ 60 }
+{
+    let place = four_digits(visit.place.number());
+    let op = two_digits(visit.instruction.op());
+    let d = four_digits(visit.instruction.d());
+    let i = four_digits(visit.instruction.i());
+    let mut onto = [0; 4];
+    let mut begun = Buffer::new();
+    let pieces: [&[u8]; 12] = [
+        &place,
+        b" ",
+        &op,
+        b" ",
+        &d,
+        b" ",
+        &i,
+        b" ",
+        way_name(visit.way),
+        onto_with(&mut onto, visit.way),
+        b" begun ",
+        begun.format(visit.begun).as_bytes(),
+    ];
+    send(writer, sent, &pieces)
+}
+
+/// Writes the line of a visit behind so many bytes, and tells how many have gone out then.
+pub fn send_visit<O: Output>(
+    writer: &mut O,
+    sent: usize,
+    visit: &Visit,
+    times: &Times,
+    angle: u8,
+) -> Result<usize, WriteFault>
+    requires called { O.called writer.old ≤ 2 ^ 62 + 2 ^ 60 }
+    requires few { sent ≤ 2 ^ 60 }
+    requires early { visit.now.begun ≤ 2 ^ 62 }
+    ensures sent { IsSent (O.written writer.old) (O.written writer.new) sent result
+        (visit_line (entry_in times.now) angle (seen_visit visit.now)) }
+    ensures failures { O.failed writer.new ≡ O.failed writer.old + fails_by result }
+    ensures calls { O.called writer.new ≤ O.called writer.old + 200 }
+    ensures few { IfOk result (λ total. total ≤ sent + 200) }
+{
+    let moments = Moments::of(visit, times, angle);
+    let sent = send_hop(writer, sent, visit)?;
+    send_times(writer, sent, &moments, visit.ended)
+}

@@ -1,0 +1,77 @@
+//! The worst walk of an analysis, visit by visit.
+
+ghost use Rattle.std.specs.Prelude.{◌≡◌, ◌+◌, ◌^◌, ◌≤◌, All, IfOk, flat_map, length};
+ghost use Rattle.drum_times.specs.Entries.{entry_in};
+ghost use Rattle.drum_bound.specs.AnalysisOf.{angle_of, bound_of, visits_of};
+ghost use Rattle.drum_bound.specs.Visited.{seen_visit};
+ghost use Rattle.drum_lines.specs.BoundText.{bound_text};
+ghost use Rattle.drum_lines.specs.Sent.{IsSent, IsWritten, fails_by};
+ghost use Rattle.drum_listing.specs.WalkText.{visit_line, walk_text};
+
+use crate::visit_line::send_visit;
+use drum_bound::{Analysis, Visit};
+use drum_core::Output;
+use drum_lines::{WriteFault, send};
+use drum_times::Times;
+use itoa::Buffer;
+
+/// Writes the lines of a walk.
+fn send_visits<O: Output>(
+    writer: &mut O,
+    walk: &[Visit],
+    times: &Times,
+    angle: u8,
+) -> Result<usize, WriteFault>
+    requires called { O.called writer.old ≤ 2 ^ 62 }
+    requires few { length walk.now ≤ 4000000 }
+    requires early { All (λ visit. visit.begun ≤ 2 ^ 62) walk.now }
+    ensures sent { IsSent (O.written writer.old) (O.written writer.new) 0 result
+        (flat_map (λ visit. visit_line (entry_in times.now) angle (seen_visit visit)) walk.now) }
+    ensures failures { O.failed writer.new ≡ O.failed writer.old + fails_by result }
+    ensures calls { O.called writer.new ≤ O.called writer.old + 800000000 }
+    ensures few { IfOk result (λ total. total ≤ 800000000) }
+{
+    let mut sent = 0;
+    for visit in walk {
+        sent = send_visit(writer, sent, visit, times, angle)?;
+    }
+    Ok(sent)
+}
+
+/// Writes the line of the bound behind so many bytes.
+fn send_bound<O: Output>(writer: &mut O, sent: usize, bound: u64) -> Result<usize, WriteFault>
+    requires called { O.called writer.old ≤ 2 ^ 62 + 2 ^ 40 }
+    requires few { sent ≤ 2 ^ 40 }
+    ensures sent { IsSent (O.written writer.old) (O.written writer.new) sent result
+        (bound_text bound) }
+    ensures failures { O.failed writer.new ≡ O.failed writer.old + fails_by result }
+{
+    let mut number = Buffer::new();
+    let pieces: [&[u8]; 3] = [b"bound ", number.format(bound).as_bytes(), b"\n"];
+    send(writer, sent, &pieces)
+}
+
+/// Writes the worst walk of an analysis, visit by visit, and the bound. The timing table is the one
+/// of the analysis, and the moments are those of a drum with the angle of the walk. It takes no
+/// memory.
+///
+/// # Errors
+///
+/// Where a write fails, or takes none of some bytes: then a front of the text has gone out, of so
+/// many bytes as it says.
+pub fn list_walk<O: Output>(
+    analysis: &Analysis,
+    times: &Times,
+    writer: &mut O,
+) -> Result<(), WriteFault>
+    requires { O.called writer.old ≤ 2 ^ 62 }
+    ensures written { IsWritten (O.written writer.old) (O.written writer.new) result
+        (walk_text (entry_in times.now) (angle_of analysis.now) (visits_of analysis.now)
+        (bound_of analysis.now)) }
+    ensures failures { O.failed writer.new ≡ O.failed writer.old + fails_by result }
+{
+    let bound = analysis.bound();
+    let sent = send_visits(writer, analysis.walk(), times, analysis.angle())?;
+    send_bound(writer, sent, bound)?;
+    Ok(())
+}
