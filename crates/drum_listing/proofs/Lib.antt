@@ -1,3 +1,4 @@
+mod Checks
 pub mod Begun
 pub mod Lines
 pub mod Turns

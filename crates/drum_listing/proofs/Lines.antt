@@ -1,5 +1,5 @@
 -- Lines, put together of their pieces.
-use Rattle.std.proofs.Common.{◌≡◌, ℕ, List, [], ◌∷◌, ◌++◌, flat_map, map, refl, ap, sym, ◌∙◌, append_assoc}
+use Rattle.std.proofs.Common.{◌≡◌, ℕ, List, [], ◌∷◌, ◌++◌, flat_map, map, refl, ap, sym, ◌∙◌, append_assoc, Option, Some, None}
 use Rattle.std.proofs.lemmas.List.{append-nil}
 use Rattle.std.specs.Prelude.{codes, decimal}
 use Rattle.drum_core.specs.declared.op.Op.{Op}
@@ -10,20 +10,49 @@ use Rattle.drum_times.specs.declared.entry.Entry.{Entry}
 use Rattle.drum_machine.specs.Ending.{ended_by}
 use Rattle.drum_machine.specs.Run.{Turn, time_of}
 use Rattle.drum_machine.specs.Step.{fetched, instruction_in}
+use Rattle.drum_machine.specs.Ways.{Way, early, to, late}
 use Rattle.drum_flow.specs.RunHops.{hop_of}
 use Rattle.drum_bound.specs.Visited.{Visited, visited}
 use Rattle.drum_listing.specs.declared.moments.Moments.{Moments}
 use Rattle.drum_listing.specs.Moments.{moments_of}
-use Rattle.drum_listing.specs.MomentsText.{digits_with, moments_text, name_with, times_text}
-use Rattle.drum_listing.specs.TraceText.{fetch_text, turn_line}
-use Rattle.drum_listing.specs.WalkText.{hop_text, onto_digits, visit_line, way_name}
+use Rattle.drum_listing.specs.MomentsText.{moment_text, moments_text}
+use Rattle.drum_listing.specs.Pieces.{digits_with, fetch_text, name_with, onto_digits, times_text, way_name}
+use Rattle.drum_listing.specs.TraceText.{turn_line}
+use Rattle.drum_listing.specs.WalkText.{hop_text, visit_line, way_text}
+
+-- a moment is its two pieces, and so is a way
+moment_pieces : (name : List ℕ) (moment : Option ℕ) → moment_text name moment ≡ name_with name moment ++ digits_with moment
+moment_pieces name None = refl
+moment_pieces name (Some moment) = refl
+
+way_pieces : (way : Way) → way_text way ≡ way_name way ++ onto_digits way
+way_pieces early = refl
+way_pieces (to next) = refl
+way_pieces late = refl
+
+-- texts one behind the other, grouped otherwise
+times_grouped : (begin found ready ready' operand operand' behind ended last : List ℕ)
+    → begin ++ (found ++ (ready ++ (ready' ++ (operand ++ (operand' ++ (behind ++ (ended ++ last)))))))
+    ≡ (begin ++ found ++ (ready ++ ready') ++ (operand ++ operand')) ++ behind ++ ended ++ last
+times_grouped begin found ready ready' operand operand' behind ended last = simp append_assoc
+
+hop_grouped : (hop moments behind ended last : List ℕ) → hop ++ (moments ++ behind ++ ended ++ last) ≡ hop ++ moments ++ behind ++ ended ++ last
+hop_grouped hop moments behind ended last = simp append_assoc
 
 -- the end of a line
 pub times_told : (moments : Moments) (ended : ℕ) (found ready ready' operand operand' end : List ℕ)
     → found ≡ decimal moments.found → ready ≡ name_with (codes " ready ") moments.ready → ready' ≡ digits_with moments.ready
     → operand ≡ name_with (codes " data ") moments.operand → operand' ≡ digits_with moments.operand → end ≡ decimal ended
     → codes " found " ++ (found ++ (ready ++ (ready' ++ (operand ++ (operand' ++ (codes " ended " ++ (end ++ codes "\n"))))))) ≡ times_text moments ended
-times_told moments ended found ready ready' operand operand' end p q r s t u = rw (p, q, r, s, t, u) (simp append_assoc)
+times_told moments ended found ready ready' operand operand' end p q r s t u =
+    rw (p, q, r, s, t, u) (
+    times_grouped (codes " found ") (decimal moments.found) (name_with (codes " ready ") moments.ready) (digits_with moments.ready)
+    (name_with (codes " data ") moments.operand) (digits_with moments.operand) (codes " ended ") (decimal ended) (codes "\n")
+    ∙ ap (λ (xs : List ℕ). (codes " found " ++ decimal moments.found ++ xs ++ (name_with (codes " data ") moments.operand ++ digits_with moments.operand)) ++ codes " ended " ++ decimal ended ++ codes "\n")
+    (sym (moment_pieces (codes " ready ") moments.ready))
+    ∙ ap (λ (xs : List ℕ). (codes " found " ++ decimal moments.found ++ moment_text (codes " ready ") moments.ready ++ xs) ++ codes " ended " ++ decimal ended ++ codes "\n")
+    (sym (moment_pieces (codes " data ") moments.operand))
+    )
 
 -- texts with a gap between, grouped otherwise
 three_grouped : (begin gap first second third : List ℕ)
@@ -51,13 +80,15 @@ pub hop_told : (visit : Visited) (place op d i way onto begun : List ℕ)
     → place ≡ digits_of 4 visit.place → op ≡ digits_of 2 visit.ins.op → d ≡ digits_of 4 visit.ins.d → i ≡ digits_of 4 visit.ins.i
     → way ≡ way_name visit.way → onto ≡ onto_digits visit.way → begun ≡ decimal visit.begun
     → place ++ (codes " " ++ (op ++ (codes " " ++ (d ++ (codes " " ++ (i ++ (codes " " ++ (way ++ (onto ++ (codes " begun " ++ (begun ++ []))))))))))) ≡ hop_text visit
-hop_told visit place op d i way onto begun p q r s t u v = rw (p, q, r, s, t, u, v) (simp (append_assoc, append-nil))
+hop_told visit place op d i way onto begun p q r s t u v = rw (p, q, r, s, t, u, v, way_pieces visit.way) (simp (append_assoc, append-nil))
 
 -- the line of a hop
 pub visit_told : (times : Op → Entry) (angle : ℕ) (visit : Visited) (moments : Moments)
     → moments ≡ moments_of times angle visit.place visit.ins visit.way visit.begun
     → hop_text visit ++ times_text moments visit.ended ≡ visit_line times angle visit
-visit_told times angle visit moments told = ap (λ (some : Moments). hop_text visit ++ times_text some visit.ended) told ∙ simp append_assoc
+visit_told times angle visit moments told =
+    ap (λ (some : Moments). hop_text visit ++ times_text some visit.ended) told
+    ∙ hop_grouped (hop_text visit) (moments_text (moments_of times angle visit.place visit.ins visit.way visit.begun)) (codes " ended ") (decimal visit.ended) (codes "\n")
 
 -- the line of a turn
 pub turn_told : (times : Op → Entry) (number angle : ℕ) (turn : Turn) (visit : Visited) (word : Word) (moments : Moments)

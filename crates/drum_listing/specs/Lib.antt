@@ -1,4 +1,5 @@
 pub mod Moments
 pub mod MomentsText
+pub mod Pieces
 pub mod TraceText
 pub mod WalkText

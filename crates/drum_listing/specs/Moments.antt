@@ -25,7 +25,9 @@ moments_with times angle place d way begun (Some op) =
     record {
       found = found place (angle + begun) - angle;
       ready = Some (x - angle);
-      operand = if is_early way || not (is_operand (operand_of op) d) then None else Some (reached op d x - angle);
+      operand =
+          if is_early way || not (is_operand (operand_of op) d) then None
+          else Some (reached op d x - angle);
     }
 
 -- Those of an instruction at a place, sought when so many word times are used, on a drum with this

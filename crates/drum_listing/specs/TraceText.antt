@@ -2,7 +2,6 @@
 -- and ten, and other numbers are plain decimal.
 use Rattle.std.specs.Prelude.{ℕ, suc, List, [], ◌∷◌, ◌++◌, codes, decimal}
 use Rattle.drum_core.specs.declared.op.Op.{Op}
-use Rattle.drum_core.specs.declared.word.Word.{Word}
 use Rattle.drum_core.specs.Numeral.{digits_of}
 use Rattle.drum_core.specs.Word.{spelling}
 use Rattle.drum_times.specs.declared.entry.Entry.{Entry}
@@ -12,19 +11,14 @@ use Rattle.drum_machine.specs.Step.{fetched, instruction_in}
 use Rattle.drum_listing.specs.Moments.{moments_of}
 use Rattle.drum_listing.specs.MomentsText.{moments_text}
 
--- the number of a step, where it begins, and the word that it has fetched there
-abbrev pub fetch_text : ℕ → ℕ → Word → List ℕ
-fetch_text number place word =
-    codes "step " ++ decimal number ++ codes " " ++ digits_of 4 place
-    ++ codes " " ++ spelling word
-
 -- the line of a turn of a run, which is the one of this number
 abbrev pub turn_line : (Op → Entry) → ℕ → Turn → List ℕ
 turn_line times number turn =
     let s = turn.origin in
     codes "step " ++ decimal number ++ codes " " ++ digits_of 4 s.sought
     ++ codes " " ++ spelling (fetched s)
-    ++ moments_text (moments_of times s.start s.sought (instruction_in s) (ended_by turn.outcome) s.time)
+    ++ moments_text
+    (moments_of times s.start s.sought (instruction_in s) (ended_by turn.outcome) s.time)
     ++ codes " ended " ++ decimal (time_of turn.outcome) ++ codes "\n"
 
 -- the lines of turns, of which the first has this number

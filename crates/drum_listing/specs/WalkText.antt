@@ -1,6 +1,6 @@
 -- The lines of the worst walk (this project's choice). A location has four digits, an operation
 -- two, and other numbers are plain decimal.
-use Rattle.std.specs.Prelude.{ℕ, List, [], ◌++◌, codes, decimal, flat_map}
+use Rattle.std.specs.Prelude.{ℕ, List, ◌++◌, codes, decimal, flat_map}
 use Rattle.drum_core.specs.declared.op.Op.{Op}
 use Rattle.drum_core.specs.Numeral.{digits_of}
 use Rattle.drum_times.specs.declared.entry.Entry.{Entry}
@@ -10,19 +10,11 @@ use Rattle.drum_lines.specs.BoundText.{bound_text}
 use Rattle.drum_listing.specs.Moments.{moments_of}
 use Rattle.drum_listing.specs.MomentsText.{moments_text}
 
--- how a hop ends, and where it goes on
-abbrev pub way_name : Way → List ℕ
-way_name early = codes "early"
-way_name (to next) = codes "to "
-way_name late = codes "late"
-
-abbrev pub onto_digits : Way → List ℕ
-onto_digits early = []
-onto_digits (to next) = digits_of 4 next
-onto_digits late = []
-
+-- how a hop ends, or where it goes on
 abbrev pub way_text : Way → List ℕ
-way_text way = way_name way ++ onto_digits way
+way_text early = codes "early"
+way_text (to next) = codes "to " ++ digits_of 4 next
+way_text late = codes "late"
 
 -- where a hop begins, its instruction, how it ends, and when it begins
 abbrev pub hop_text : Visited → List ℕ

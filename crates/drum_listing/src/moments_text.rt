@@ -1,8 +1,8 @@
 //! The end of a line: the moments of an instruction, and when its step ends.
 
-ghost use Rattle.std.specs.Prelude.{◌≡◌, ◌+◌, ◌^◌, ◌≤◌, length};
+ghost use Rattle.std.specs.Prelude.{◌≡◌, ◌+◌, ◌^◌, ◌≤◌, IfOk, length};
 ghost use Rattle.drum_lines.specs.Sent.{IsSent, fails_by};
-ghost use Rattle.drum_listing.specs.MomentsText.{digits_with as digits_at, name_with as name_at, times_text};
+ghost use Rattle.drum_listing.specs.Pieces.{digits_with as digits_at, name_with as name_at, times_text};
 
 use crate::moments::Moments;
 use drum_core::Output;
@@ -45,7 +45,7 @@ pub fn send_times<O: Output>(
         (times_text moments.now ended) }
     ensures failures { O.failed writer.new ≡ O.failed writer.old + fails_by result }
     ensures calls { O.called writer.new ≤ O.called writer.old + 120 }
-    ensures short { length (times_text moments.now ended) ≤ 120 }
+    ensures few { IfOk result (λ total. total ≤ sent + 120) }
 {
     let mut found = Buffer::new();
     let mut ready = Buffer::new();

@@ -12,7 +12,8 @@ ghost use Rattle.drum_flow.specs.RunHops.{hop_of};
 ghost use Rattle.drum_flow.specs.Seen.{seen_way};
 ghost use Rattle.drum_bound.specs.Visited.{seen_visit, visited};
 ghost use Rattle.drum_lines.specs.Sent.{IsSent, fails_by};
-ghost use Rattle.drum_listing.specs.TraceText.{fetch_text, turn_line};
+ghost use Rattle.drum_listing.specs.Pieces.{fetch_text};
+ghost use Rattle.drum_listing.specs.TraceText.{turn_line};
 
 use crate::moments::Moments;
 use crate::moments_text::send_times;

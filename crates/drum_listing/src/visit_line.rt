@@ -5,7 +5,8 @@ ghost use Rattle.drum_times.specs.Entries.{entry_in};
 ghost use Rattle.drum_flow.specs.Seen.{seen_way};
 ghost use Rattle.drum_bound.specs.Visited.{seen_visit};
 ghost use Rattle.drum_lines.specs.Sent.{IsSent, fails_by};
-ghost use Rattle.drum_listing.specs.WalkText.{hop_text, onto_digits, visit_line, way_name as name_of};
+ghost use Rattle.drum_listing.specs.Pieces.{onto_digits, way_name as name_of};
+ghost use Rattle.drum_listing.specs.WalkText.{hop_text, visit_line};
 
 use crate::moments::Moments;
 use crate::moments_text::send_times;
@@ -49,7 +50,7 @@ fn send_hop<O: Output>(writer: &mut O, sent: usize, visit: &Visit) -> Result<usi
         (hop_text (seen_visit visit.now)) }
     ensures failures { O.failed writer.new ≡ O.failed writer.old + fails_by result }
     ensures calls { O.called writer.new ≤ O.called writer.old + 60 }
-    ensures short { length (hop_text (seen_visit visit.now)) ≤ 60 }
+    ensures few { IfOk result (λ total. total ≤ sent + 60) }
 {
     let place = four_digits(visit.place.number());
     let op = two_digits(visit.instruction.op());

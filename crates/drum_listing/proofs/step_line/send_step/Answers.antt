@@ -4,8 +4,7 @@ use Rattle.drum_times.specs.Entries.{entry_in}
 use Rattle.drum_bound.specs.Visited.{seen_visit}
 use Rattle.drum_lines.specs.Sent.{IsSent}
 use Rattle.drum_lines.proofs.Sending.{IsSent-cut, IsSent-then}
-use Rattle.drum_listing.specs.MomentsText.{times_text}
-use Rattle.drum_listing.specs.TraceText.{fetch_text}
+use Rattle.drum_listing.specs.Pieces.{fetch_text, times_text}
 use Rattle.drum_listing.proofs.Lines.{turn_told}
 use Rattle.drum_listing.proofs.step_line.send_step.Goals as goal
 

@@ -4,7 +4,7 @@ use Rattle.drum_times.specs.Entries.{entry_in}
 use Rattle.drum_bound.specs.Visited.{seen_visit}
 use Rattle.drum_lines.specs.Sent.{IsSent}
 use Rattle.drum_lines.proofs.Sending.{IsSent-cut, IsSent-then}
-use Rattle.drum_listing.specs.MomentsText.{times_text}
+use Rattle.drum_listing.specs.Pieces.{times_text}
 use Rattle.drum_listing.specs.WalkText.{hop_text}
 use Rattle.drum_listing.proofs.Lines.{visit_told}
 use Rattle.drum_listing.proofs.visit_line.send_visit.Goals as goal
