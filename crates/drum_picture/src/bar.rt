@@ -1,0 +1,79 @@
+use crate::scale::scaled;
+use crate::shares::Shares;
+use std::alloc::AllocError;
+
+/// How wide the bar is, in pixels.
+const WIDTH: u64 = 1180;
+
+/// One part of the bar.
+#[derive(Clone, Copy, Debug)]
+struct Share {
+    class: &'static str,
+    name: &'static str,
+    time: u64,
+}
+
+/// The parts of the bar, from left to right.
+fn parts_of(shares: Shares) -> [Share; 4] {
+    [
+        Share {
+            class: "work",
+            name: "work",
+            time: shares.work,
+        },
+        Share {
+            class: "seek",
+            name: "waiting for instructions",
+            time: shares.instructions,
+        },
+        Share {
+            class: "data",
+            name: "waiting for data",
+            time: shares.data,
+        },
+        Share {
+            class: "cards",
+            name: "waiting for cards",
+            time: shares.cards,
+        },
+    ]
+}
+
+/// Writes what a part is, below the bar.
+fn draw_name(text: &mut String, share: Share, bound: u64, x: u64) -> Result<(), AllocError> {
+    let Share { class, name, time } = share;
+    let thousandths = scaled(time, bound, 1000);
+    let (whole, tenths) = (thousandths / 10, thousandths % 10);
+    let beside = x.saturating_add(18);
+    write!(
+        text,
+        "<rect class='{class}' x='{x}' y='38' width='11' height='11'/>"
+    )?;
+    write!(text, "<text x='{beside}' y='48'>{name}</text>")?;
+    write!(
+        text,
+        "<text x='{beside}' y='66'>{time} ({whole}.{tenths} %)</text>\n"
+    )
+}
+
+/// Draws where the word times of a walk go: a bar, with its parts' names and numbers.
+pub fn draw_bar(text: &mut String, shares: Shares, bound: u64) -> Result<(), AllocError> {
+    text.push_str("<g transform='translate(30 742)'>")?;
+    write!(
+        text,
+        "<text class='title' x='-2' y='-10'>Where all {bound} word times go</text>\n"
+    )?;
+    let (mut left, mut column) = (0u64, 0u64);
+    for share in parts_of(shares) {
+        let (class, x) = (share.class, scaled(left, bound, WIDTH));
+        left = left.saturating_add(share.time);
+        let width = scaled(left, bound, WIDTH).saturating_sub(x);
+        write!(
+            text,
+            "<rect class='{class}' x='{x}' width='{width}' height='24'/>"
+        )?;
+        draw_name(text, share, bound, column)?;
+        column = column.saturating_add(300);
+    }
+    text.push_str("</g>\n")
+}

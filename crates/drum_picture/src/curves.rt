@@ -1,0 +1,62 @@
+use crate::beside::{beside_top, is_beside};
+use crate::hops::{MOST_HOPS, TakenHop};
+use crate::point::Point;
+use crate::rings::{Ring, ring_of};
+use crate::scale::scaled;
+use std::alloc::AllocError;
+
+/// With more ways than this arrows only hide them.
+const MOST_ARROWS: usize = 150;
+
+/// Where the curve of a way ends at a word.
+fn end_at(rings: &[Ring], number: u16) -> Option<Point> {
+    if is_beside(number) {
+        return Some(beside_top(number));
+    }
+    let ring = ring_of(rings, number)?;
+    Some(Point::at(number % 50, ring.inner))
+}
+
+/// Draws a way between two words as a curve, this wide in tenths of a pixel.
+fn draw_curve(
+    text: &mut String,
+    rings: &[Ring],
+    hop: TakenHop,
+    width: u64,
+) -> Result<(), AllocError> {
+    let (from, onto, taken) = (hop.ends.from, hop.ends.onto, hop.taken);
+    let (Some(start), Some(end)) = (end_at(rings, from), end_at(rings, onto)) else {
+        return Ok(());
+    };
+    let between = start.inward(end);
+    let (x, y) = (start.x, start.y);
+    write!(text, "<path d='M{x} {y}")?;
+    let (x, y) = (between.x, between.y);
+    write!(text, "Q{x} {y}")?;
+    let (x, y) = (end.x, end.y);
+    write!(text, " {x} {y}' stroke-width='{width}'>")?;
+    write!(
+        text,
+        "<title>{from:04} to {onto:04}: {taken} times</title></path>\n"
+    )
+}
+
+/// Draws the ways between words that the walk takes most, those that it takes more often wider.
+pub fn draw_curves(text: &mut String, rings: &[Ring], hops: &[TakenHop]) -> Result<(), AllocError> {
+    let class = if hops.len() > MOST_ARROWS {
+        "hops"
+    } else {
+        "hops tipped"
+    };
+    write!(text, "<g class='{class}'>\n")?;
+    let most = hops.first().map_or(1, |hop| hop.taken);
+    for hop in hops.iter().take(MOST_HOPS) {
+        draw_curve(
+            text,
+            rings,
+            *hop,
+            scaled(hop.taken, most, 28).saturating_add(8),
+        )?;
+    }
+    text.push_str("</g>\n")
+}

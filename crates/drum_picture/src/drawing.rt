@@ -1,0 +1,71 @@
+use crate::bar::draw_bar;
+use crate::beside::draw_beside;
+use crate::curves::draw_curves;
+use crate::drum::{draw_rim, draw_rings, draw_words};
+use crate::hops::taken_hops;
+use crate::page::{begin, draw_drum_title, draw_rows_key};
+use crate::revolutions::{draw_revolutions, draw_revolutions_title};
+use crate::rings::rings_of;
+use crate::shares::Shares;
+use crate::tallies::Tallies;
+use crate::walk::Walk;
+use drum_bound::Analysis;
+use drum_core::Deck;
+use drum_times::Times;
+use std::alloc::{AllocError, Global};
+
+/// Draws the drum: its words, and the ways of the walk between them.
+fn draw_drum(
+    alloc: Global,
+    text: &mut String,
+    walk: Walk<'_>,
+    tallies: &Tallies,
+) -> Result<(), AllocError> {
+    let rings = rings_of(alloc, tallies)?;
+    let hops = taken_hops(alloc, walk)?;
+    draw_drum_title(text, hops.len())?;
+    text.push_str("<g class='drum' transform='translate(310 396) scale(.1)'>\n")?;
+    draw_rings(text, &rings)?;
+    draw_rim(text)?;
+    draw_curves(text, &rings, &hops)?;
+    draw_words(text, &rings, tallies)?;
+    draw_beside(text, tallies)?;
+    text.push_str("</g>\n")
+}
+
+/// Draws the walk: its first revolutions, and where its word times go.
+fn draw_walk(text: &mut String, walk: Walk<'_>, times: &Times) -> Result<(), AllocError> {
+    if walk.visits.is_empty() {
+        return text.push_str(
+            "<text class='title' x='690' y='112'>The worst walk has no hop</text>\n",
+        );
+    }
+    draw_revolutions_title(text, walk)?;
+    draw_rows_key(text)?;
+    draw_revolutions(text, walk, times)?;
+    draw_bar(text, Shares::of(walk, times), walk.bound)
+}
+
+/// The picture of an analysis, an SVG document: the drum with the words of the deck and the ways of
+/// the worst walk between them, the walk's first revolutions, and where all its word times go. It
+/// is well-formed and has some hundred thousand bytes at most, whatever analysis, deck and timing
+/// table are handed in; it means something where the analysis is of this deck and timing table.
+///
+/// # Errors
+///
+/// Where memory is wanting.
+pub fn picture(
+    alloc: Global,
+    analysis: &Analysis,
+    deck: &Deck,
+    times: &Times,
+) -> Result<String, AllocError> {
+    let walk = Walk::of(analysis);
+    let tallies = Tallies::of(alloc, walk, analysis.table(), deck)?;
+    let mut text = String::new(alloc);
+    begin(&mut text, walk)?;
+    draw_drum(alloc, &mut text, walk, &tallies)?;
+    draw_walk(&mut text, walk, times)?;
+    text.push_str("</svg>\n")?;
+    Ok(text)
+}

@@ -1,0 +1,100 @@
+use crate::hops::MOST_HOPS;
+use crate::walk::Walk;
+use std::alloc::AllocError;
+
+/// How the picture begins. The colours can be told apart by people who don't see red from green.
+const HEAD: &str = "<svg xmlns='http://www.w3.org/2000/svg' viewBox='0 0 1240 830' \
+font-family='system-ui, sans-serif' role='img'>
+<style>
+:root { color: #1b1b1b; --page: #ffffff; --track: #f0f1f4; --faint: #5d6470; --line: #c3c7cf }
+:root { --work: #0072b2; --seek: #e69f00; --data: #b35f96; --cards: #2f8f6f; --rest: #9aa1ad }
+@media (prefers-color-scheme: dark) {
+:root { color: #e8e8e8; --page: #16181c; --track: #23262d; --faint: #a3aab6; --line: #4a505c }
+:root { --work: #3391d6; --seek: #e8a917; --data: #cf7fb2; --cards: #45b08c; --rest: #717886 }
+}
+text { fill: currentColor; font-size: 12px } .head { font-size: 27px; font-weight: 600 }
+.title { font-size: 15px; font-weight: 600 } .faint { fill: var(--faint) } .page { fill: var(--page) }
+.track { fill: none; stroke: var(--track) } .row { fill: var(--track) } .left { text-anchor: end }
+.work { fill: var(--work) } .seek { fill: var(--seek) } .data { fill: var(--data) }
+.cards { fill: var(--cards) } .stroke { fill: currentColor } .rows text { font-size: 9px }
+.other { fill: var(--track); stroke: var(--work); stroke-width: 8 }
+.place { fill: var(--data); fill-opacity: .35 } .rest { fill: var(--rest); fill-opacity: .35 }
+.drum text { text-anchor: middle; pointer-events: none } .drum .angle { font-size: 115px }
+.drum .large { font-size: 102px } .drum .small { font-size: 78px } .drum .white { fill: #ffffff }
+.hops { fill: none; stroke: currentColor; opacity: .42 } .tipped path { marker-end: url(#tip) }
+.key rect { stroke-width: 1 }
+</style>
+<defs><marker id='tip' viewBox='0 0 10 10' refX='9' refY='5' markerWidth='110' \
+markerHeight='110' markerUnits='userSpaceOnUse' orient='auto'>\
+<path d='M0 1L10 5L0 9Z' fill='context-stroke' stroke='none'/></marker></defs>
+<rect class='page' width='1240' height='830'/>
+";
+
+/// What the colours of the rows mean.
+const ROWS_KEY: &str = "<g class='key' transform='translate(690 124)'>
+<rect class='stroke' x='2' width='2' height='11'/><text x='10' y='10'>instruction found</text>
+<rect class='work' x='122' width='11' height='11'/><text x='138' y='10'>at work</text>
+<rect class='seek' x='194' width='11' height='11'/>\
+<text x='210' y='10'>waiting for the instruction</text>
+<rect class='data' x='366' width='11' height='11'/><text x='382' y='10'>for its data</text>
+<rect class='cards' x='458' width='11' height='11'/><text x='474' y='10'>for cards</text>
+</g>
+";
+
+/// What the colours of the drum mean.
+const DRUM_KEY: &str = "<g class='key' transform='translate(30 686)'>
+<rect class='work' width='11' height='11' fill-opacity='.25'/>\
+<rect class='work' x='11' width='11' height='11' fill-opacity='.6'/>\
+<rect class='work' x='22' width='11' height='11'/>
+<text x='40' y='10'>executed: the darker, the more word times</text>
+<rect class='place' x='296' width='11' height='11'/><text x='312' y='10'>data</text>
+<rect class='other' x='352' width='11' height='11'/>\
+<text x='368' y='10'>executed by other walks</text>
+<rect class='rest' x='514' width='11' height='11'/><text x='530' y='10'>other words</text>
+</g>
+";
+
+/// Begins the picture, with its heading.
+pub fn begin(text: &mut String, walk: Walk<'_>) -> Result<(), AllocError> {
+    let bound = walk.bound;
+    text.push_str(HEAD)?;
+    write!(text, "<title>The worst walk: {bound} word times</title>\n")?;
+    write!(
+        text,
+        "<text class='head' x='28' y='46'>bound {bound} word times</text>\n"
+    )?;
+    // 96 microseconds are 12 of 125 milliseconds
+    let (whole, rest) = (
+        bound / 125 * 12 + bound % 125 * 12 / 125,
+        bound % 125 * 12 % 125,
+    );
+    let tenths = rest * 10 / 125;
+    write!(
+        text,
+        "<text class='faint' x='29' y='70'>{whole}.{tenths} milliseconds at 96 "
+    )?;
+    let (turns, tenths) = (bound / 50, bound % 50 / 5);
+    write!(
+        text,
+        "microseconds a word time, {turns}.{tenths} revolutions of the drum</text>\n"
+    )
+}
+
+/// Writes what the drawing of the drum shows.
+pub fn draw_drum_title(text: &mut String, hops: usize) -> Result<(), AllocError> {
+    text.push_str("<text class='title' x='28' y='112'>The drum, seen from its end</text>\n")?;
+    text.push_str("<text class='faint' x='28' y='131'>A ring is a band")?;
+    if hops > MOST_HOPS {
+        write!(
+            text,
+            "; {MOST_HOPS} of {hops} hops are drawn, those taken most"
+        )?;
+    }
+    text.push_str("</text>\n")?;
+    text.push_str(DRUM_KEY)
+}
+
+/// Writes what the colours of the rows mean.
+pub fn draw_rows_key(text: &mut String) -> Result<(), AllocError> {
+    text.push_str(ROWS_KEY)
+}

@@ -1,0 +1,91 @@
+use drum_bound::{Visit, Way};
+use drum_core::{Location, Op};
+use drum_machine::{is_operand, moments};
+use drum_times::{Entry, Times};
+
+/// The latest clock that is looked at: a walk takes fewer word times.
+const LATEST: u64 = 1 << 62;
+
+/// When the parts of a hop begin and end, as clocks: word times since a moment of angle 0. Where a
+/// hop isn't of the timing table, they need not ascend.
+#[derive(Clone, Copy, Debug)]
+pub struct Parts {
+    /// Its instruction is looked for.
+    pub begun: u64,
+    /// The instruction is found.
+    pub found: u64,
+    /// Its data is looked for.
+    pub ready: u64,
+    /// The data is found.
+    pub reached: u64,
+    /// Its work is done, and a card machine waited for.
+    pub worked: u64,
+    /// It ends.
+    pub ended: u64,
+}
+
+/// Where the instruction has its data, for which it waits; `None` where it waits for none.
+pub fn data_of(visit: &Visit) -> Option<Location> {
+    match Op::of(visit.instruction.op())? {
+        Op::Add(_)
+        | Op::ResetAdd(_)
+        | Op::Divide
+        | Op::DivideReset
+        | Op::Multiply
+        | Op::Store(_)
+        | Op::LoadDistributor => Location::new(visit.instruction.d()),
+        _ => None,
+    }
+}
+
+/// The longest wait for the card machine of an operation that has ended, in word times.
+fn card_wait(op: Op, entry: Entry, way: Way) -> u64 {
+    match (op, way) {
+        (_, Way::Early) => 0,
+        (Op::Read | Op::Punch, _) => u64::from(entry.wait_max),
+        _ => 0,
+    }
+}
+
+impl Parts {
+    /// The parts of a hop of a walk from this angle.
+    pub fn of(visit: &Visit, angle: u64, times: &Times) -> Parts {
+        let angle = angle.min(50);
+        let begun = visit.begun.min(LATEST) + angle;
+        let ended = visit.ended.min(LATEST) + angle;
+        let found = moments::found(visit.place, begun);
+        match Op::of(visit.instruction.op()) {
+            Some(op) => Parts::of_op(visit, op, times.entry(op), [begun, found, ended]),
+            None => Parts {
+                begun,
+                found,
+                ready: ended,
+                reached: ended,
+                worked: ended,
+                ended,
+            },
+        }
+    }
+
+    /// The parts of a hop with this operation, of which these are known: when it begins, is found
+    /// and ends.
+    fn of_op(visit: &Visit, op: Op, entry: Entry, known: [u64; 3]) -> Parts {
+        let [begun, found, ended] = known;
+        let ready = found.saturating_add(u64::from(entry.before)).min(ended);
+        let d = visit.instruction.d();
+        let reached = if is_operand(op.operand(), d) && ready <= LATEST {
+            moments::reached(op, d, ready).min(ended)
+        } else {
+            ready
+        };
+        let wait = card_wait(op, entry, visit.way);
+        Parts {
+            begun,
+            found,
+            ready,
+            reached,
+            worked: ended.saturating_sub(wait).max(reached),
+            ended,
+        }
+    }
+}

@@ -1,0 +1,74 @@
+use crate::tallies::Tallies;
+use std::alloc::{AllocError, Global};
+
+/// The radius of the drum, in tenths of a pixel.
+pub const RIM: i64 = 2400;
+
+/// What there is for rings between the rim and the hole.
+const ROOM: i64 = 1650;
+
+/// The height of a ring where there are few.
+const HIGHEST: i64 = 420;
+
+/// A band in use, drawn as a ring.
+#[derive(Clone, Copy, Debug, PartialEq, Eq)]
+pub struct Ring {
+    /// The band: its locations are from 50 times this on.
+    pub band: u16,
+    /// The ring's radius at its outer side, in tenths of a pixel.
+    pub outer: i64,
+    /// At its inner side.
+    pub inner: i64,
+}
+
+impl Ring {
+    /// The radius of its middle.
+    pub fn middle(self) -> i64 {
+        self.outer.saturating_add(self.inner) / 2
+    }
+
+    /// How high it is.
+    pub fn height(self) -> i64 {
+        self.outer.saturating_sub(self.inner)
+    }
+}
+
+/// The numbers of the bands in use.
+fn bands_in_use(alloc: Global, tallies: &Tallies) -> Result<Vec<u16>, AllocError> {
+    let mut bands = Vec::new(alloc);
+    for band in 0..40u16 {
+        if tallies.any_used(band * 50, band * 50 + 49) {
+            bands.push(band)?;
+        }
+    }
+    Ok(bands)
+}
+
+/// A ring for each band in use, the lowest at the rim.
+pub fn rings_of(alloc: Global, tallies: &Tallies) -> Result<Vec<Ring>, AllocError> {
+    let bands = bands_in_use(alloc, tallies)?;
+    let count = i64::try_from(bands.len()).unwrap_or(40).max(1);
+    let height = (ROOM / count).min(HIGHEST);
+    let mut rings = Vec::new(alloc);
+    let mut outer = RIM;
+    for band in bands.iter() {
+        let next = outer.saturating_sub(height);
+        rings.push(Ring {
+            band: *band,
+            outer,
+            inner: next.saturating_add(height / 20),
+        })?;
+        outer = next;
+    }
+    Ok(rings)
+}
+
+/// The ring of a location on the drum.
+pub fn ring_of(rings: &[Ring], number: u16) -> Option<Ring> {
+    for ring in rings {
+        if ring.band == number / 50 {
+            return Some(*ring);
+        }
+    }
+    None
+}

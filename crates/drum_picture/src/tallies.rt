@@ -1,0 +1,131 @@
+use crate::parts::data_of;
+use crate::walk::Walk;
+use drum_bound::{Visit, Worst};
+use drum_core::{Deck, Location};
+use std::alloc::{AllocError, Global};
+
+/// How many locations there are: those of the drum, then 8000 to 8003.
+const LOCATIONS: usize = 2004;
+
+/// What a walk and a deck have to do with a location.
+#[derive(Clone, Copy, Debug, PartialEq, Eq)]
+pub struct Tally {
+    /// Whether the deck gives it a word.
+    pub loaded: bool,
+    /// Whether some walk executes it.
+    pub executed: bool,
+    /// How often the walk executes it.
+    pub visits: u64,
+    /// The word times that the walk spends at it.
+    pub time: u64,
+    /// How often the walk waits for it as data.
+    pub data: u64,
+}
+
+impl Tally {
+    /// Of a location that nothing is known of.
+    pub const NONE: Tally = Tally {
+        loaded: false,
+        executed: false,
+        visits: 0,
+        time: 0,
+        data: 0,
+    };
+
+    /// Whether the location is drawn.
+    pub fn is_used(self) -> bool {
+        self.loaded || self.executed || self.visits > 0 || self.data > 0
+    }
+}
+
+/// The tallies of all locations.
+#[derive(Debug, Drop)]
+pub struct Tallies {
+    all: Vec<Tally>,
+}
+
+/// The place of a location's tally.
+fn place_of(location: Location) -> usize {
+    let number = usize::from(location.number());
+    if number < 2000 {
+        number
+    } else {
+        number.saturating_sub(6000)
+    }
+}
+
+impl Tallies {
+    /// The tallies of a walk, of the locations that a table of worst times has, and of a deck.
+    pub fn of(
+        alloc: Global,
+        walk: Walk<'_>,
+        table: &[Worst],
+        deck: &Deck,
+    ) -> Result<Tallies, AllocError> {
+        let mut tallies = Tallies {
+            all: vec![in alloc; Tally::NONE; LOCATIONS]?,
+        };
+        for visit in walk.visits {
+            tallies.count(visit);
+        }
+        tallies.note_executed(table);
+        tallies.note_loaded(deck);
+        Ok(tallies)
+    }
+
+    /// Counts a hop.
+    fn count(&mut self, visit: &Visit) {
+        if let Some(tally) = self.all.get_mut(place_of(visit.place)) {
+            let time = visit.ended.saturating_sub(visit.begun);
+            tally.visits = tally.visits.saturating_add(1);
+            tally.time = tally.time.saturating_add(time);
+        }
+        let Some(data) = data_of(visit) else {
+            return;
+        };
+        if let Some(tally) = self.all.get_mut(place_of(data)) {
+            tally.data = tally.data.saturating_add(1);
+        }
+    }
+
+    fn note_executed(&mut self, table: &[Worst]) {
+        for worst in table {
+            if let Some(tally) = self.all.get_mut(place_of(worst.place)) {
+                tally.executed = true;
+            }
+        }
+    }
+
+    fn note_loaded(&mut self, deck: &Deck) {
+        for (number, tally) in (0..2000u16).zip(self.all.iter_mut()) {
+            let word = Location::new(number).and_then(|location| deck.word(location));
+            tally.loaded = word.is_some();
+        }
+    }
+
+    /// The tally of the location of this number.
+    pub fn at(&self, number: u16) -> Tally {
+        match Location::new(number) {
+            Some(location) => self
+                .all
+                .get(place_of(location))
+                .copied()
+                .unwrap_or(Tally::NONE),
+            None => Tally::NONE,
+        }
+    }
+
+    /// Whether a location from the first to the last is drawn.
+    pub fn any_used(&self, first: u16, last: u16) -> bool {
+        (first..=last).any(|number| self.at(number).is_used())
+    }
+
+    /// The most word times that the walk spends at one location.
+    pub fn most_time(&self) -> u64 {
+        let mut most = 0u64;
+        for tally in self.all.iter() {
+            most = most.max(tally.time);
+        }
+        most
+    }
+}
