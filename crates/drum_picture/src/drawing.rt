@@ -23,7 +23,7 @@ fn draw_drum(
 ) -> Result<(), AllocError> {
     let rings = rings_of(alloc, tallies)?;
     let hops = taken_hops(alloc, walk)?;
-    draw_drum_title(text, hops.len())?;
+    draw_drum_title(text, &rings, hops.len())?;
     text.push_str("<g class='drum' transform='translate(310 396) scale(.1)'>\n")?;
     draw_rings(text, &rings)?;
     draw_rim(text)?;

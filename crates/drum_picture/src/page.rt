@@ -1,4 +1,5 @@
 use crate::hops::MOST_HOPS;
+use crate::rings::Ring;
 use crate::walk::Walk;
 use std::alloc::AllocError;
 
@@ -32,25 +33,25 @@ markerHeight='110' markerUnits='userSpaceOnUse' orient='auto'>\
 
 /// What the colours of the rows mean.
 const ROWS_KEY: &str = "<g class='key' transform='translate(690 124)'>
-<rect class='stroke' x='2' width='2' height='11'/><text x='10' y='10'>instruction found</text>
-<rect class='work' x='122' width='11' height='11'/><text x='138' y='10'>at work</text>
-<rect class='seek' x='194' width='11' height='11'/>\
-<text x='210' y='10'>waiting for the instruction</text>
-<rect class='data' x='366' width='11' height='11'/><text x='382' y='10'>for its data</text>
-<rect class='cards' x='458' width='11' height='11'/><text x='474' y='10'>for cards</text>
+<rect class='stroke' x='1' width='2' height='11'/><text x='8' y='10'>found</text>
+<rect class='work' x='62' width='11' height='11'/><text x='78' y='10'>at work</text>
+<rect class='seek' x='142' width='11' height='11'/>\
+<text x='158' y='10'>waiting for the instruction</text>
+<rect class='data' x='334' width='11' height='11'/><text x='350' y='10'>for its data</text>
+<rect class='cards' x='436' width='11' height='11'/><text x='452' y='10'>for cards</text>
 </g>
 ";
 
 /// What the colours of the drum mean.
-const DRUM_KEY: &str = "<g class='key' transform='translate(30 686)'>
+const DRUM_KEY: &str = "<g class='key' transform='translate(240 674)'>
 <rect class='work' width='11' height='11' fill-opacity='.25'/>\
 <rect class='work' x='11' width='11' height='11' fill-opacity='.6'/>\
 <rect class='work' x='22' width='11' height='11'/>
-<text x='40' y='10'>executed: the darker, the more word times</text>
-<rect class='place' x='296' width='11' height='11'/><text x='312' y='10'>data</text>
-<rect class='other' x='352' width='11' height='11'/>\
-<text x='368' y='10'>executed by other walks</text>
-<rect class='rest' x='514' width='11' height='11'/><text x='530' y='10'>other words</text>
+<text x='40' y='10'>executed, darker for more word times</text>
+<rect class='place' x='324' width='11' height='11'/><text x='342' y='10'>data</text>
+<rect class='other' x='22' y='20' width='11' height='11'/>\
+<text x='40' y='30'>executed by other walks alone</text>
+<rect class='rest' x='324' y='20' width='11' height='11'/><text x='342' y='30'>other words</text>
 </g>
 ";
 
@@ -80,17 +81,34 @@ pub fn begin(text: &mut String, walk: Walk<'_>) -> Result<(), AllocError> {
     )
 }
 
+/// Writes how many bands are drawn, and which are the outermost and the innermost.
+fn draw_bands(text: &mut String, count: usize, first: u16, last: u16) -> Result<(), AllocError> {
+    let from = first.saturating_mul(50);
+    let to = from.saturating_add(49);
+    if count == 1 {
+        return write!(text, "One band: {from:04} to {to:04}");
+    }
+    write!(
+        text,
+        "A ring for each of {count} bands: {from:04} to {to:04} at the rim, "
+    )?;
+    let from = last.saturating_mul(50);
+    let to = from.saturating_add(49);
+    write!(text, "{from:04} to {to:04} inside")
+}
+
 /// Writes what the drawing of the drum shows.
-pub fn draw_drum_title(text: &mut String, hops: usize) -> Result<(), AllocError> {
+pub fn draw_drum_title(text: &mut String, rings: &[Ring], hops: usize) -> Result<(), AllocError> {
     text.push_str("<text class='title' x='28' y='112'>The drum, seen from its end</text>\n")?;
-    text.push_str("<text class='faint' x='28' y='131'>A ring is a band")?;
-    if hops > MOST_HOPS {
-        write!(
-            text,
-            "; {MOST_HOPS} of {hops} hops are drawn, those taken most"
-        )?;
+    text.push_str("<text class='faint' x='28' y='131'>")?;
+    if let (Some(first), Some(last)) = (rings.first(), rings.last()) {
+        draw_bands(text, rings.len(), first.band, last.band)?;
     }
     text.push_str("</text>\n")?;
+    if hops > MOST_HOPS {
+        text.push_str("<text class='faint' x='28' y='149'>")?;
+        write!(text, "The {MOST_HOPS} hops taken most of {hops}</text>\n")?;
+    }
     text.push_str(DRUM_KEY)
 }
 

@@ -17,13 +17,13 @@ fn rows_of(walk: Walk<'_>) -> u64 {
 pub fn draw_revolutions_title(text: &mut String, walk: Walk<'_>) -> Result<(), AllocError> {
     let rows = rows_of(walk);
     let (whole, tenths) = (walk.bound / 50, walk.bound % 50 / 5);
-    text.push_str("<text class='title' x='690' y='112'>The worst walk, a revolution a row: ")?;
+    text.push_str("<text class='title' x='690' y='112'>The worst walk: ")?;
     if whole < rows {
-        write!(text, "all {whole}.{tenths} revolutions</text>\n")
+        write!(text, "all {whole}.{tenths} revolutions, one a row</text>\n")
     } else {
         write!(
             text,
-            "the first {rows} of {whole}.{tenths} revolutions</text>\n"
+            "first {rows} of {whole}.{tenths} revolutions, one a row</text>\n"
         )
     }
 }

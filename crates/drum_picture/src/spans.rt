@@ -37,7 +37,11 @@ fn draw_stroke(text: &mut String, number: u16, found: u64, ended: u64) -> Result
     if row >= MOST_ROWS {
         return Ok(());
     }
-    let (x, top) = (found % 50 * COLUMN, row * PITCH);
+    let (x, top, base) = (
+        found % 50 * COLUMN,
+        row * PITCH,
+        (row * PITCH).saturating_sub(2),
+    );
     write!(
         text,
         "<rect class='stroke' x='{x}' y='{top}' width='2' height='9'/>"
@@ -45,7 +49,7 @@ fn draw_stroke(text: &mut String, number: u16, found: u64, ended: u64) -> Result
     if ended.saturating_sub(found) < LABEL || found % 50 > 48 {
         return Ok(());
     }
-    write!(text, "<text x='{x}' y='{top}'>{number:04}</text>")
+    write!(text, "<text x='{x}' y='{base}'>{number:04}</text>")
 }
 
 /// Draws a hop: its parts, and the stroke.
