@@ -1,6 +1,6 @@
-use crate::drum::{finish_word, ink};
 use crate::point::Point;
 use crate::tallies::Tallies;
+use crate::word::Word;
 use std::alloc::AllocError;
 
 /// Where the row of 8000 to 8003 begins, in tenths of a pixel from the drum's centre.
@@ -27,22 +27,13 @@ pub fn beside_top(number: u16) -> Point {
     }
 }
 
-/// Draws one of 8000 to 8003, if the walk has to do with it.
-fn draw_box(
-    text: &mut String,
-    tallies: &Tallies,
-    number: u16,
-    most: u64,
-) -> Result<(), AllocError> {
-    let tally = tallies.at(number);
-    if !tally.is_used() {
-        return Ok(());
-    }
-    let (left, middle) = (left_of(number), left_of(number).saturating_add(200));
+/// Draws a word beside the drum.
+fn draw_box(text: &mut String, word: Word) -> Result<(), AllocError> {
+    let left = left_of(word.number);
     write!(text, "<use href='#beside' x='{left}' y='{TOP}'")?;
-    finish_word(text, tally, number, most)?;
-    let ink = ink(tally, most);
-    let base = TOP + 145;
+    word.finish(text)?;
+    let (ink, number, base) = (word.ink(), word.number, TOP + 145);
+    let middle = left.saturating_add(200);
     write!(
         text,
         "<text class='large{ink}' x='{middle}' y='{base}'>{number}</text>\n"
@@ -54,7 +45,9 @@ pub fn draw_beside(text: &mut String, tallies: &Tallies) -> Result<(), AllocErro
     let most = tallies.most_time();
     text.push_str("<defs><rect id='beside' width='400' height='220' rx='30'/></defs>\n")?;
     for number in 8000..8004u16 {
-        draw_box(text, tallies, number, most)?;
+        if let Some(word) = Word::of(tallies, number, most) {
+            draw_box(text, word)?;
+        }
     }
     Ok(())
 }

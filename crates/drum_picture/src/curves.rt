@@ -44,18 +44,23 @@ fn draw_curve(
 /// Draws the ways between words that the walk takes most, those that it takes more often wider.
 pub fn draw_curves(text: &mut String, rings: &[Ring], hops: &[TakenHop]) -> Result<(), AllocError> {
     let class = if hops.len() > MOST_ARROWS {
-        "hops"
+        "hops many"
     } else {
         "hops tipped"
     };
     write!(text, "<g class='{class}'>\n")?;
     let most = hops.first().map_or(1, |hop| hop.taken);
+    let wide = if most < 2 || hops.len() > MOST_ARROWS {
+        8
+    } else {
+        28
+    };
     for hop in hops.iter().take(MOST_HOPS) {
         draw_curve(
             text,
             rings,
             *hop,
-            scaled(hop.taken, most, 28).saturating_add(8),
+            scaled(hop.taken, most, wide).saturating_add(7),
         )?;
     }
     text.push_str("</g>\n")

@@ -3,9 +3,11 @@ use crate::beside::draw_beside;
 use crate::curves::draw_curves;
 use crate::drum::{draw_rim, draw_rings, draw_words};
 use crate::hops::taken_hops;
+use crate::labels::draw_labels;
 use crate::page::{begin, draw_drum_title, draw_rows_key};
 use crate::revolutions::{draw_revolutions, draw_revolutions_title};
 use crate::rings::rings_of;
+use crate::rows::Rows;
 use crate::shares::Shares;
 use crate::tallies::Tallies;
 use crate::walk::Walk;
@@ -13,6 +15,9 @@ use drum_bound::Analysis;
 use drum_core::Deck;
 use drum_times::Times;
 use std::alloc::{AllocError, Global};
+
+/// What stands in the place of an empty walk.
+const NO_HOP: &str = "<text class='title' x='690' y='112'>The worst walk has no hop</text>\n";
 
 /// Draws the drum: its words, and the ways of the walk between them.
 fn draw_drum(
@@ -27,22 +32,27 @@ fn draw_drum(
     text.push_str("<g class='drum' transform='translate(310 396) scale(.1)'>\n")?;
     draw_rings(text, &rings)?;
     draw_rim(text)?;
-    draw_curves(text, &rings, &hops)?;
     draw_words(text, &rings, tallies)?;
+    draw_curves(text, &rings, &hops)?;
+    draw_labels(text, &rings, tallies)?;
     draw_beside(text, tallies)?;
     text.push_str("</g>\n")
 }
 
 /// Draws the walk: its first revolutions, and where its word times go.
-fn draw_walk(text: &mut String, walk: Walk<'_>, times: &Times) -> Result<(), AllocError> {
+fn draw_walk(
+    alloc: Global,
+    text: &mut String,
+    walk: Walk<'_>,
+    times: &Times,
+) -> Result<(), AllocError> {
     if walk.visits.is_empty() {
-        return text.push_str(
-            "<text class='title' x='690' y='112'>The worst walk has no hop</text>\n",
-        );
+        return text.push_str(NO_HOP);
     }
-    draw_revolutions_title(text, walk)?;
+    let rows = Rows::of(alloc, walk, times)?;
+    draw_revolutions_title(text, walk, &rows)?;
     draw_rows_key(text)?;
-    draw_revolutions(text, walk, times)?;
+    draw_revolutions(text, walk, times, &rows)?;
     draw_bar(text, Shares::of(walk, times), walk.bound)
 }
 
@@ -65,7 +75,7 @@ pub fn picture(
     let mut text = String::new(alloc);
     begin(&mut text, walk)?;
     draw_drum(alloc, &mut text, walk, &tallies)?;
-    draw_walk(&mut text, walk, times)?;
+    draw_walk(alloc, &mut text, walk, times)?;
     text.push_str("</svg>\n")?;
     Ok(text)
 }

@@ -11,15 +11,18 @@ mod curves;
 mod drawing;
 mod drum;
 mod hops;
+mod labels;
 mod page;
 mod parts;
 mod point;
 mod revolutions;
 mod rings;
+mod rows;
 mod scale;
 mod shares;
 mod spans;
 mod tallies;
 mod walk;
+mod word;
 
 pub use drawing::picture;

@@ -7,27 +7,35 @@ use std::alloc::AllocError;
 const HEAD: &str = "<svg xmlns='http://www.w3.org/2000/svg' viewBox='0 0 1240 830' \
 font-family='system-ui, sans-serif' role='img'>
 <style>
-:root { color: #1b1b1b; --page: #ffffff; --track: #f0f1f4; --faint: #5d6470; --line: #c3c7cf }
-:root { --work: #0072b2; --seek: #e69f00; --data: #b35f96; --cards: #2f8f6f; --rest: #9aa1ad }
+:root { background: var(--page) }
+:root { color: #1b1b1b; --page: #ffffff; --track: #f0f1f4; --faint: #5d6470; --hop: #8d919a }
+:root { --work: #0072b2; --seek: #e69f00; --data: #b35f96; --cards: #2f8f6f }
+:root { --place: #e8cfdf; --rest: #d9dce2; --s1: #cfe2ef; --s2: #a6cae3; --s3: #7cb2d7 }
+:root { --s4: #5aa0cd; --s5: #2582bd; --s6: #006ba8 }
 @media (prefers-color-scheme: dark) {
-:root { color: #e8e8e8; --page: #16181c; --track: #23262d; --faint: #a3aab6; --line: #4a505c }
-:root { --work: #3391d6; --seek: #e8a917; --data: #cf7fb2; --cards: #45b08c; --rest: #717886 }
+:root { color: #e8e8e8; --page: #16181c; --track: #23262d; --faint: #a3aab6; --hop: #7d838f }
+:root { --work: #3391d6; --seek: #e8a917; --data: #cf7fb2; --cards: #45b08c }
+:root { --place: #543a4d; --rest: #3b404a; --s1: #203447; --s2: #244663; --s3: #285880 }
+:root { --s4: #2b6798; --s5: #2c77b2; --s6: #2f8bd0 }
 }
 text { fill: currentColor; font-size: 12px } .head { font-size: 27px; font-weight: 600 }
-.title { font-size: 15px; font-weight: 600 } .faint { fill: var(--faint) } .page { fill: var(--page) }
-.track { fill: none; stroke: var(--track) } .row { fill: var(--track) } .left { text-anchor: end }
+.title { font-size: 15px; font-weight: 600 } .faint { fill: var(--faint) }
+.page { fill: var(--page) } .track { fill: none; stroke: var(--track) }
+.row { fill: var(--track) } .cut { fill: var(--cards) } .left { text-anchor: end }
 .work { fill: var(--work) } .seek { fill: var(--seek) } .data { fill: var(--data) }
 .cards { fill: var(--cards) } .stroke { fill: currentColor } .rows text { font-size: 9px }
-.other { fill: var(--track); stroke: var(--work); stroke-width: 8 }
-.place { fill: var(--data); fill-opacity: .35 } .rest { fill: var(--rest); fill-opacity: .35 }
+.s1 { fill: var(--s1) } .s2 { fill: var(--s2) } .s3 { fill: var(--s3) } .s4 { fill: var(--s4) }
+.s5 { fill: var(--s5) } .s6 { fill: var(--s6) } .place { fill: var(--place) }
+.other { fill: var(--page); stroke: var(--work); stroke-width: 8 } .rest { fill: var(--rest) }
 .drum text { text-anchor: middle; pointer-events: none } .drum .angle { font-size: 115px }
 .drum .large { font-size: 102px } .drum .small { font-size: 78px } .drum .white { fill: #ffffff }
-.hops { fill: none; stroke: currentColor; opacity: .42 } .tipped path { marker-end: url(#tip) }
-.key rect { stroke-width: 1 }
+.drum .start { text-anchor: start } .drum .end { text-anchor: end }
+.hops { fill: none; stroke: var(--hop); opacity: .8 } .many { opacity: .45 }
+.tipped path { marker-end: url(#tip) } .tip { fill: var(--hop) } .key rect { stroke-width: 1 }
 </style>
 <defs><marker id='tip' viewBox='0 0 10 10' refX='9' refY='5' markerWidth='110' \
 markerHeight='110' markerUnits='userSpaceOnUse' orient='auto'>\
-<path d='M0 1L10 5L0 9Z' fill='context-stroke' stroke='none'/></marker></defs>
+<path class='tip' d='M0 1L10 5L0 9Z'/></marker></defs>
 <rect class='page' width='1240' height='830'/>
 ";
 
@@ -44,13 +52,12 @@ const ROWS_KEY: &str = "<g class='key' transform='translate(690 124)'>
 
 /// What the colours of the drum mean.
 const DRUM_KEY: &str = "<g class='key' transform='translate(240 674)'>
-<rect class='work' width='11' height='11' fill-opacity='.25'/>\
-<rect class='work' x='11' width='11' height='11' fill-opacity='.6'/>\
-<rect class='work' x='22' width='11' height='11'/>
-<text x='40' y='10'>executed, darker for more word times</text>
+<rect class='s1' width='11' height='11'/><rect class='s3' x='11' width='11' height='11'/>\
+<rect class='s6' x='22' width='11' height='11'/>
+<text x='40' y='10'>executed, stronger for more word times</text>
 <rect class='place' x='324' width='11' height='11'/><text x='342' y='10'>data</text>
 <rect class='other' x='22' y='20' width='11' height='11'/>\
-<text x='40' y='30'>executed by other walks alone</text>
+<text x='40' y='30'>executed by other walks only</text>
 <rect class='rest' x='324' y='20' width='11' height='11'/><text x='342' y='30'>other words</text>
 </g>
 ";

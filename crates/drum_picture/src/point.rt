@@ -72,12 +72,12 @@ impl Point {
         }
     }
 
-    /// Between two points, nearer to the centre than they are: a curve from one to the other that
-    /// is drawn to it bends inward.
+    /// Between two points, a little nearer to the centre than they are: a curve from one to the
+    /// other that is drawn to it bends inward.
     pub fn inward(self, other: Point) -> Point {
         Point {
-            x: self.x.saturating_add(other.x).saturating_mul(3) / 10,
-            y: self.y.saturating_add(other.y).saturating_mul(3) / 10,
+            x: self.x.saturating_add(other.x).saturating_mul(4) / 10,
+            y: self.y.saturating_add(other.y).saturating_mul(4) / 10,
         }
     }
 }

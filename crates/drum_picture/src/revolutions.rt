@@ -1,29 +1,25 @@
 use crate::parts::Parts;
-use crate::spans::{COLUMN, MOST_ROWS, PITCH, draw_visit};
+use crate::rows::{MOST_ROWS, MOST_VISITS, Rows};
+use crate::spans::{COLUMN, draw_visit, top_of};
 use crate::walk::Walk;
 use drum_times::Times;
 use std::alloc::AllocError;
 
-/// More hops than rows have word times aren't looked at, so that the picture stays small.
-const MOST_VISITS: usize = 1200;
-
-/// How many rows the walk takes, if not too many.
-fn rows_of(walk: Walk<'_>) -> u64 {
-    let clock = walk.angle.saturating_add(walk.bound).saturating_add(49);
-    (clock / 50).min(MOST_ROWS)
-}
-
 /// Writes which part of the walk is shown.
-pub fn draw_revolutions_title(text: &mut String, walk: Walk<'_>) -> Result<(), AllocError> {
-    let rows = rows_of(walk);
+pub fn draw_revolutions_title(
+    text: &mut String,
+    walk: Walk<'_>,
+    rows: &Rows,
+) -> Result<(), AllocError> {
+    let shown = rows.shown.last().map_or(0, |last| last.saturating_add(1));
     let (whole, tenths) = (walk.bound / 50, walk.bound % 50 / 5);
     text.push_str("<text class='title' x='690' y='112'>The worst walk: ")?;
-    if whole < rows {
-        write!(text, "all {whole}.{tenths} revolutions, one a row</text>\n")
+    if shown.saturating_mul(50) >= walk.angle.saturating_add(walk.bound) {
+        write!(text, "all {whole}.{tenths} revolutions</text>\n")
     } else {
         write!(
             text,
-            "first {rows} of {whole}.{tenths} revolutions, one a row</text>\n"
+            "first {shown} of {whole}.{tenths} revolutions</text>\n"
         )
     }
 }
@@ -40,10 +36,23 @@ fn draw_angles(text: &mut String) -> Result<(), AllocError> {
     text.push_str("\n")
 }
 
-/// Draws the rows without the walk.
-fn draw_rows(text: &mut String, rows: u64) -> Result<(), AllocError> {
-    for row in 0..rows.min(MOST_ROWS) {
-        let (y, base, number) = (row * PITCH, row * PITCH + 8, row + 1);
+/// Draws the rows without the walk, each with the number of its revolution, from 1.
+fn draw_rows(text: &mut String, rows: &Rows) -> Result<(), AllocError> {
+    let mut next = 0u64;
+    for (row, revolution) in (0..MOST_ROWS).zip(rows.shown.iter()) {
+        let (y, base, number) = (
+            top_of(row),
+            top_of(row).saturating_add(8),
+            revolution.saturating_add(1),
+        );
+        if *revolution > next {
+            let (x, middle) = (-4, y.saturating_sub(6));
+            write!(
+                text,
+                "<rect class='cut' x='{x}' y='{middle}' width='508' height='2'/>"
+            )?;
+        }
+        next = number;
         write!(text, "<rect class='row' y='{y}' width='500' height='9'/>")?;
         write!(
             text,
@@ -58,14 +67,16 @@ pub fn draw_revolutions(
     text: &mut String,
     walk: Walk<'_>,
     times: &Times,
+    rows: &Rows,
 ) -> Result<(), AllocError> {
     text.push_str("<g class='rows' transform='translate(690 174)'>\n")?;
     draw_angles(text)?;
-    draw_rows(text, rows_of(walk))?;
+    draw_rows(text, rows)?;
+    let last = rows.shown.last().copied().unwrap_or(0);
     for visit in walk.visits.iter().take(MOST_VISITS) {
         let parts = Parts::of(visit, walk.angle, times);
-        if parts.begun / 50 < MOST_ROWS {
-            draw_visit(text, visit, parts)?;
+        if parts.begun / 50 <= last {
+            draw_visit(text, rows, visit, parts)?;
         }
     }
     text.push_str("</g>\n")
