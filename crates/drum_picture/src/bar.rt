@@ -42,7 +42,7 @@ fn parts_of(shares: Shares) -> [Share; 4] {
 /// Writes what a part is, below the bar.
 fn draw_name(text: &mut String, share: Share, bound: u64, x: u64) -> Result<(), AllocError> {
     let Share { class, name, time } = share;
-    let thousandths = scaled(time, bound, 1000);
+    let thousandths = scaled(time, bound, 2000).saturating_add(1) / 2;
     let (whole, tenths) = (thousandths / 10, thousandths % 10);
     let beside = x.saturating_add(18);
     write!(

@@ -1,8 +1,9 @@
 //! The picture of an analysis: its worst walk, drawn as an SVG document of bounded size.
 //!
-//! `walk` is what is drawn and `parts` when the parts of one hop begin and end. `tallies`, `hops`
-//! and `shares` each count something in one pass over the walk. `rings`, `drum` and `curves` draw
-//! the drum, `spans` and `revolutions` the walk a revolution a row, `page` what stands around them.
+//! Each of `tallies`, `hops` and `shares` counts something in one pass over the `walk`, of which
+//! `parts` says when the parts of one hop begin and end, and `rows` which revolutions are shown.
+//! `drum`, with `rings`, `word`, `labels`, `curves` and `beside`, draws the drum; `revolutions`, with
+//! `spans`, draws the walk a revolution a row; `page` and `bar` draw what stands around them.
 #![tactic(auto)]
 
 mod bar;

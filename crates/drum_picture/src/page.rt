@@ -71,20 +71,16 @@ pub fn begin(text: &mut String, walk: Walk<'_>) -> Result<(), AllocError> {
         text,
         "<text class='head' x='28' y='46'>bound {bound} word times</text>\n"
     )?;
-    // 96 microseconds are 12 of 125 milliseconds
-    let (whole, rest) = (
-        bound / 125 * 12 + bound % 125 * 12 / 125,
-        bound % 125 * 12 % 125,
-    );
-    let tenths = rest * 10 / 125;
+    let (time, turns) = (walk.tenths_of_milliseconds(), walk.tenths_of_revolutions());
+    let (whole, tenths) = (time / 10, time % 10);
     write!(
         text,
         "<text class='faint' x='29' y='70'>{whole}.{tenths} milliseconds at 96 "
     )?;
-    let (turns, tenths) = (bound / 50, bound % 50 / 5);
+    let (whole, tenths) = (turns / 10, turns % 10);
     write!(
         text,
-        "microseconds a word time, {turns}.{tenths} revolutions of the drum</text>\n"
+        "microseconds a word time, {whole}.{tenths} revolutions of the drum</text>\n"
     )
 }
 

@@ -20,4 +20,16 @@ impl<'a> Walk<'a> {
             bound: analysis.bound(),
         }
     }
+
+    /// How many revolutions it takes, in tenths, rounded.
+    pub fn tenths_of_revolutions(self) -> u64 {
+        self.bound.saturating_add(2) / 5
+    }
+
+    /// How many milliseconds it takes at 96 microseconds a word time, in tenths, rounded.
+    pub fn tenths_of_milliseconds(self) -> u64 {
+        // 24 to 25 word times: the whole ones first, so that the product fits
+        let rest = (self.bound % 25 * 24 + 12) / 25;
+        (self.bound / 25 * 24).saturating_add(rest)
+    }
 }
