@@ -33,7 +33,7 @@ fn draw_span(
             let (x, y, width) = (left * COLUMN, top_of(row), (right - left) * COLUMN);
             write!(
                 text,
-                "<rect class='{class}' x='{x}' y='{y}' width='{width}' height='9'/>"
+                "<path class='{class}' d='M{x} {y}h{width}v9h-{width}z'/>"
             )?;
         }
     }
@@ -53,10 +53,7 @@ fn draw_stroke(
     for (row, revolution) in (0..MOST_ROWS).zip(rows.shown.iter()) {
         if *revolution == found / 50 {
             let (x, y, base) = (angle * COLUMN, top_of(row), top_of(row).saturating_sub(2));
-            write!(
-                text,
-                "<rect class='stroke' x='{x}' y='{y}' width='2' height='9'/>"
-            )?;
+            write!(text, "<path class='stroke' d='M{x} {y}h2v9h-2z'/>")?;
             if has_room {
                 write!(text, "<text x='{x}' y='{base}'>{number:04}</text>")?;
             }
@@ -71,11 +68,14 @@ fn draw_visit_title(text: &mut String, visit: &Visit, parts: Parts) -> Result<()
     let seek = parts.found.saturating_sub(parts.begun);
     let data = parts.reached.saturating_sub(parts.ready);
     let time = parts.ended.saturating_sub(parts.begun);
-    write!(
-        text,
-        "<title>{number:04}: {time} word times, {seek} of them waiting for the "
-    )?;
-    write!(text, "instruction, {data} for data</title>")
+    write!(text, "<title>{number:04}: {time} word times")?;
+    if seek > 0 || data > 0 {
+        write!(
+            text,
+            ", waiting {seek} for the instruction, {data} for data"
+        )?;
+    }
+    text.push_str("</title>")
 }
 
 /// Draws a hop: its parts, and the stroke.

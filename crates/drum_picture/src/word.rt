@@ -31,7 +31,7 @@ impl Word {
             return None;
         }
         let shade = if tally.visits > 0 {
-            scaled(tally.time, most, 5).saturating_add(1)
+            scaled(tally.time, most, 10).saturating_add(3) / 2
         } else {
             0
         };
