@@ -1,7 +1,7 @@
 use crate::beside::{beside_top, is_beside};
 use crate::hops::{MOST_HOPS, TakenHop};
 use crate::point::Point;
-use crate::rings::{Ring, ring_of};
+use crate::rings::{RIM, Ring, ring_of};
 use crate::scale::scaled;
 use std::alloc::AllocError;
 
@@ -17,6 +17,32 @@ fn end_at(rings: &[Ring], number: u16) -> Option<Point> {
     Some(Point::at(number % 50, ring.inner))
 }
 
+/// Writes the curve of a way between two different words: it bends inward.
+fn write_bow(text: &mut String, start: Point, end: Point) -> Result<(), AllocError> {
+    let between = start.inward(end);
+    let (x, y) = (start.x, start.y);
+    write!(text, "<path d='M{x} {y}")?;
+    let (x, y) = (between.x, between.y);
+    write!(text, "Q{x} {y}")?;
+    let (x, y) = (end.x, end.y);
+    write!(text, " {x} {y}'")
+}
+
+/// Writes the curve of a way from a word to itself.
+fn write_loop(text: &mut String, rings: &[Ring], number: u16) -> Result<(), AllocError> {
+    let radius = ring_of(rings, number).map_or(RIM, |ring| ring.inner);
+    let angle = number % 50;
+    let Point { x, y } = Point::at(angle, radius);
+    write!(text, "<path d='M{x} {y}")?;
+    let low = radius.saturating_sub(420);
+    let Point { x, y } = Point::at(angle + 46, low);
+    write!(text, "C{x} {y}")?;
+    let Point { x, y } = Point::at(angle + 4, low);
+    write!(text, " {x} {y}")?;
+    let Point { x, y } = Point::at(angle, radius);
+    write!(text, " {x} {y}'")
+}
+
 /// Draws a way between two words as a curve, this wide in tenths of a pixel.
 fn draw_curve(
     text: &mut String,
@@ -28,13 +54,12 @@ fn draw_curve(
     let (Some(start), Some(end)) = (end_at(rings, from), end_at(rings, onto)) else {
         return Ok(());
     };
-    let between = start.inward(end);
-    let (x, y) = (start.x, start.y);
-    write!(text, "<path d='M{x} {y}")?;
-    let (x, y) = (between.x, between.y);
-    write!(text, "Q{x} {y}")?;
-    let (x, y) = (end.x, end.y);
-    write!(text, " {x} {y}' stroke-width='{width}'>")?;
+    if from == onto && !is_beside(from) {
+        write_loop(text, rings, from)?;
+    } else {
+        write_bow(text, start, end)?;
+    }
+    write!(text, " stroke-width='{width}'>")?;
     write!(
         text,
         "<title>{from:04} to {onto:04}: {taken} times</title></path>\n"

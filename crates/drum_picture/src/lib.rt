@@ -2,8 +2,8 @@
 //!
 //! Each of `tallies`, `hops` and `shares` counts something in one pass over the `walk`, of which
 //! `parts` says when the parts of one hop begin and end, and `rows` which revolutions are shown.
-//! `drum`, with `rings`, `word`, `labels`, `curves` and `beside`, draws the drum; `revolutions`, with
-//! `spans`, draws the walk a revolution a row; `page` and `bar` draw what stands around them.
+//! `drum`, with `rings`, `word`, `labels`, `curves` and `beside`, draws the drum; `revolutions`,
+//! with `spans`, draws the walk a revolution a row; `page` and `bar` draw what stands around them.
 #![tactic(auto)]
 
 mod bar;

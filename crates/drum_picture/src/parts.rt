@@ -47,6 +47,14 @@ fn card_wait(op: Op, entry: Entry, way: Way) -> u64 {
     }
 }
 
+/// When the instruction is found that a hop goes on at; never where it goes on at none.
+pub fn next_found(visit: &Visit, parts: Parts) -> u64 {
+    match visit.way {
+        Way::To(onto) => moments::found(onto, parts.ended.min(LATEST)),
+        Way::Early | Way::Late => u64::MAX,
+    }
+}
+
 impl Parts {
     /// The parts of a hop of a walk from this angle.
     pub fn of(visit: &Visit, angle: u64, times: &Times) -> Parts {

@@ -1,4 +1,4 @@
-use crate::parts::Parts;
+use crate::parts::{Parts, next_found};
 use crate::rows::{MOST_ROWS, Rows};
 use drum_bound::Visit;
 use std::alloc::AllocError;
@@ -40,16 +40,17 @@ fn draw_span(
     Ok(())
 }
 
-/// Draws a stroke where an instruction is found, with its location where there is room.
+/// Draws a stroke where an instruction is found, with its location where there is room before the
+/// next is found.
 fn draw_stroke(
     text: &mut String,
     rows: &Rows,
     number: u16,
     found: u64,
-    ended: u64,
+    next: u64,
 ) -> Result<(), AllocError> {
     let angle = found % 50;
-    let has_room = ended.saturating_sub(found) >= LABEL && angle <= 50 - LABEL;
+    let has_room = next.saturating_sub(found) >= LABEL && angle <= 50 - LABEL;
     for (row, revolution) in (0..MOST_ROWS).zip(rows.shown.iter()) {
         if *revolution == found / 50 {
             let (x, y, base) = (angle * COLUMN, top_of(row), top_of(row).saturating_sub(2));
@@ -91,6 +92,7 @@ pub fn draw_visit(
     draw_span(text, rows, "work", parts.found, parts.worked)?;
     draw_span(text, rows, "data", parts.ready, parts.reached)?;
     draw_span(text, rows, "cards", parts.worked, parts.ended)?;
-    draw_stroke(text, rows, visit.place.number(), parts.found, parts.ended)?;
+    let next = next_found(visit, parts);
+    draw_stroke(text, rows, visit.place.number(), parts.found, next)?;
     text.push_str("</g>\n")
 }
