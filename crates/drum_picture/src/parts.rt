@@ -26,14 +26,17 @@ pub struct Parts {
 
 /// Where the instruction has its data, for which it waits; `None` where it waits for none.
 pub fn data_of(visit: &Visit) -> Option<Location> {
-    match Op::of(visit.instruction.op())? {
+    let op = Op::of(visit.instruction.op())?;
+    let d = visit.instruction.d();
+    match op {
         Op::Add(_)
         | Op::ResetAdd(_)
         | Op::Divide
         | Op::DivideReset
         | Op::Multiply
         | Op::Store(_)
-        | Op::LoadDistributor => Location::new(visit.instruction.d()),
+        | Op::LoadDistributor
+            if is_operand(op.operand(), d) => Location::new(d),
         _ => None,
     }
 }
