@@ -3,6 +3,7 @@ use crate::hops::{MOST_HOPS, TakenHop};
 use crate::point::Point;
 use crate::rings::{RIM, Ring, ring_of};
 use crate::scale::scaled;
+use crate::word::plural;
 use std::alloc::AllocError;
 
 /// With more ways than this arrows only hide them.
@@ -60,9 +61,10 @@ fn draw_curve(
         write_bow(text, start, end)?;
     }
     write!(text, " stroke-width='{width}'>")?;
+    let more = plural(taken);
     write!(
         text,
-        "<title>{from:04} to {onto:04}: {taken} times</title></path>\n"
+        "<title>{from:04} to {onto:04}: taken {taken} time{more}</title></path>\n"
     )
 }
 

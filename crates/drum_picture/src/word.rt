@@ -18,7 +18,7 @@ pub struct Word {
 }
 
 /// An s behind the name of what there is more than one of.
-fn plural(count: u64) -> &'static str {
+pub fn plural(count: u64) -> &'static str {
     if count == 1 { "" } else { "s" }
 }
 
