@@ -1,5 +1,6 @@
 """A plain model of the machine and of its walks, written from docs/MACHINE.md and docs/FORMATS.md apart from the product:
-it shares no code with it, and doesn't know that an earlier clock is never overtaken. `checks/examples` uses it."""
+it shares no code with it, and its search for the longest walk doesn't know that an earlier clock is never overtaken.
+`checks/examples` and `checks/stored-run` use it."""
 
 import functools
 import sys
@@ -246,6 +247,12 @@ class Walks:
             return [acts + longest - less for less in range(min(50, longest - entry["wait_min"] + 1))]
         return sorted({acts + entry.get("per", 0) * units for units in self.units(op, d)})
 
+    def allows(self, place, word):
+        """Whether a word may stand at a location: without a list any may."""
+        number = word[1]
+        parts = number // 10**8, number // 10**4 % 10**4, number % 10**4
+        return place not in self.lists or parts in self.instructions(place)
+
     def passed(self, counts, place, onto):
         """The counts after a step along an edge; None where a mark is passed too often."""
         counts = list(counts)
@@ -286,3 +293,21 @@ class Walks:
 
         nothing = (0,) * len(self.marks)
         return max(behind(self.start, nothing, angle) for angle in range(50))
+
+
+def verdict(machine, walks, bound):
+    """Runs the machine, and tells whether the run keeps to the notes, as a replay does."""
+    counts, step = (0,) * len(walks.marks), 0
+    while True:
+        step += 1
+        place, used = machine.sought, machine.used
+        sign, digits = word = machine.word(place)
+        if not walks.allows(place, word):
+            return "left unlisted %04d %s%010d step %d used %d" % (place, "-" if sign else "+", digits, step, used)
+        try:
+            machine.step()
+        except Stopped as stopped:
+            return "kept used %d bound %d stop %s" % (machine.used, bound, stopped)
+        counts = walks.passed(counts, place, machine.sought)
+        if counts is None:
+            return "left toooften %04d %04d step %d used %d" % (place, machine.sought, step, used)

@@ -1,0 +1,20 @@
+"""What a page shows: a fenced block that is named after a file is that file; one named `console`, and an indented block that
+begins with `$`, has commands, each with its output."""
+
+import re
+
+
+def blocks_of(text):
+    """The blocks of a page, each with its name; an indented one is named `console` where it begins with `$`."""
+    for name, fenced, indented in re.findall(r"^```(\S+)\n(.*?)^```$|((?:^    [^\n]*\n)+)", text, re.M | re.S):
+        if fenced:
+            yield name, fenced
+        elif indented.startswith("    $ "):
+            yield "console", re.sub(r"^    ", "", indented, flags=re.M)
+
+
+def commands_of(block):
+    """The commands of a block, each with the output that it shows."""
+    for part in re.split(r"^\$ ", block, flags=re.M)[1:]:
+        command, _, output = part.partition("\n")
+        yield command, output
