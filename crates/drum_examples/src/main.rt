@@ -1,6 +1,7 @@
 //! Runs the program over the examples and prints what comes out of it; then runs each command that
 //! a page of theirs shows, and tells what differs from the page. It runs where the examples' files
-//! lie, and its stored output is made by checks/stored-run, from a model of the machine.
+//! lie (by hand in `data`, as `../out/drum_examples`), and its stored output is made by
+//! checks/stored-run, from a model of the machine.
 #![tactic(auto)]
 
 mod examples;

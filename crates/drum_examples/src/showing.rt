@@ -48,7 +48,12 @@ pub fn show_example(rt: &HostRuntime, example: &Example) -> io::Result<()> {
 
 /// Runs a command that a page shows behind these pieces, and tells whether what comes out of it is
 /// as the page shows it; else prints both.
-fn is_as_shown(rt: &HostRuntime, shown: &[Piece<'_>], command: &Piece<'_>) -> io::Result<bool> {
+fn is_as_shown(
+    rt: &HostRuntime,
+    page: &str,
+    shown: &[Piece<'_>],
+    command: &Piece<'_>,
+) -> io::Result<bool> {
     let output = output_of(rt, shown, command.name);
     if let Ok(output) = &output
         && output.as_slice() == command.text.as_bytes()
@@ -56,7 +61,7 @@ fn is_as_shown(rt: &HostRuntime, shown: &[Piece<'_>], command: &Piece<'_>) -> io
         return Ok(true);
     }
     println!(rt;
-        "$ {}\nshows:\n{}but this came:",
+        "{page} shows:\n$ {}\n{}but this came:",
         command.name, command.text
     )?;
     match output {
@@ -75,7 +80,7 @@ pub fn hold_page(rt: &HostRuntime, name: &str) -> io::Result<bool> {
         if piece.shows == Shows::File {
             continue;
         }
-        match is_as_shown(rt, &pieces[..place], piece)? {
+        match is_as_shown(rt, name, &pieces[..place], piece)? {
             true => right = right.saturating_add(1),
             false => wrong = wrong.saturating_add(1),
         }
