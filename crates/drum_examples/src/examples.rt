@@ -1,7 +1,7 @@
 //! The examples: a folder each, with decks, their notes, and inputs for replays.
 
-/// A folder of `examples/`, and in it a deck, its notes, and the files of inputs that it is replayed
-/// on. All examples share one timing table.
+/// A folder of `examples/`, and in it a deck, its notes, and the files of inputs for its replays.
+/// All examples share one timing table.
 pub struct Example(
     pub &'static str,
     pub &'static str,
