@@ -11,7 +11,8 @@ use Rattle.clap.specs.Simple.{Shape, built, entered, filled_from, help_rule, is_
 use Rattle.clap.specs.Takes.{is_given}
 use Rattle.clap.specs.Walk.{Row, Rule, Text, answers_to, finished, first_of, nothing_held, rows_after, settled, stop_after, walk, walk_from}
 use Rattle.clap.proofs.OnLiterals.{clap_on_literals}
-use Rattle.drum_command.specs.Line.{Verb, bound, drum650, file_rule, is_whole, replay, report}
+use Rattle.drum_command.specs.Line.{Verb, drum650, file_rule, is_whole}
+use Rattle.drum_command.specs.Line as line
 use Rattle.drum_command.proofs.Own.{and_both, and_of, find_passes}
 use Rattle.drum_command.proofs.Full.{are_full, is_file_or_request, is_full, rows_after-full}
 
@@ -37,7 +38,7 @@ leaf verb = record (new_shape verb.name) {
 }
 
 abbrev pub leaves : List Shape
-leaves = leaf bound ∷ leaf report ∷ leaf replay ∷ []
+leaves = leaf line.bound ∷ leaf line.report ∷ leaf line.walk ∷ leaf line.draw ∷ leaf line.replay ∷ leaf line.trace ∷ []
 
 pub built_subs : (built drum650).subs ≡ leaves
 built_subs = refl
@@ -119,7 +120,16 @@ AllRead (s ∷ rest) = IsRead s × AllRead rest
 
 all_read : AllRead leaves
 unfolding AllRead
-all_read = (leaf_has_files bound, (leaf_has_files report, (leaf_has_files replay, tt)))
+all_read = (
+  leaf_has_files line.bound,
+  (
+    leaf_has_files line.report,
+    (
+      leaf_has_files line.walk,
+      (leaf_has_files line.draw, (leaf_has_files line.replay, (leaf_has_files line.trace, tt))),
+    ),
+  ),
+)
 
 -- the subcommand that is found, with the words after its name
 abbrev below_fault : Option Shape → List Text → Kinds

@@ -7,7 +7,7 @@ use Rattle.clap.specs.Lexer.{strip_byte}
 use Rattle.clap.specs.Simple.{Shape}
 use Rattle.clap.specs.Takes.{default_passes, is_valid, level_passes, settle_passes, step_passes, turn_passes, walk_passes, word_passes}
 use Rattle.clap.specs.Walk.{Held, Rule, Text, Walk, arg_by_index, finished, first_of, idle, nothing_held, rows_after, to_positional, value, walk_from, walked, word_met}
-use Rattle.drum_command.specs.Line.{NamesFilesOf, Verb, begins_with_hyphen, common_files, replay}
+use Rattle.drum_command.specs.Line.{NamesFilesOf, Verb, begins_with_hyphen, common_files, run_files}
 use Rattle.drum_command.proofs.Own.{and_both, and_of}
 use Rattle.drum_command.proofs.Accepted.{leaf, leaf_rules}
 
@@ -141,9 +141,9 @@ common_given name (a ∷ b ∷ c ∷ []) names =
 common_given name (a ∷ b ∷ c ∷ d ∷ rest) names = absurd (omega (arith, names.0))
 
 four_given : (name a b c d : Text) → begins_with_hyphen a ≡ false → begins_with_hyphen b ≡ false → begins_with_hyphen c ≡ false
-    → begins_with_hyphen d ≡ false → GivesFiles (record { name = name; files = replay.files }) (a ∷ b ∷ c ∷ d ∷ [])
+    → begins_with_hyphen d ≡ false → GivesFiles (record { name = name; files = run_files }) (a ∷ b ∷ c ∷ d ∷ [])
 four_given name a b c d first second third fourth =
-    let verb : Verb = record { name = name; files = replay.files } in
+    let verb : Verb = record { name = name; files = run_files } in
     let s = leaf verb in
     let start = walk_from nothing_held in
     let one = after_file s start a in
@@ -160,15 +160,15 @@ four_given name a b c d first second third fourth =
     (lead_more s two three last c (d ∷ []) (leads s two c free_two third refl)
     (lead_more s three last last d [] (leads s three d free_three fourth refl) (lead_none s last))))) refl refl
 
-pub replay_given : AreGiven replay.files
-replay_given name [] names = absurd (omega (arith, names.0))
-replay_given name (a ∷ []) names = absurd (omega (arith, names.0))
-replay_given name (a ∷ b ∷ []) names = absurd (omega (arith, names.0))
-replay_given name (a ∷ b ∷ c ∷ []) names = absurd (omega (arith, names.0))
-replay_given name (a ∷ b ∷ c ∷ d ∷ []) names =
+pub run_given : AreGiven run_files
+run_given name [] names = absurd (omega (arith, names.0))
+run_given name (a ∷ []) names = absurd (omega (arith, names.0))
+run_given name (a ∷ b ∷ []) names = absurd (omega (arith, names.0))
+run_given name (a ∷ b ∷ c ∷ []) names = absurd (omega (arith, names.0))
+run_given name (a ∷ b ∷ c ∷ d ∷ []) names =
     let first = and_both _ _ names.1 in
     let second = and_both _ _ first.1 in
     let third = and_both _ _ second.1 in
     let fourth = and_both _ _ third.1 in
     four_given name a b c d (not_true _ first.0) (not_true _ second.0) (not_true _ third.0) (not_true _ fourth.0)
-replay_given name (a ∷ b ∷ c ∷ d ∷ e ∷ rest) names = absurd (omega (arith, names.0))
+run_given name (a ∷ b ∷ c ∷ d ∷ e ∷ rest) names = absurd (omega (arith, names.0))

@@ -8,11 +8,12 @@ use Rattle.clap.specs.Takes.{default_passes, entered_passes, is_valid, level_pas
 use Rattle.clap.specs.Walk.{Names, Text, Walk, answers_to, finished, first_of, nothing_held, rows_after, walk, walk_from, walked}
 use Rattle.clap.proofs.OnLiterals.{clap_on_literals}
 use Rattle.clap.proofs.WalkLemmas.{walk_stopped}
-use Rattle.drum_command.specs.Line.{IsLineOf, NamesFilesOf, Verb, bound, drum650, files_of, replay, report, said_by_words, said_in, verbs}
+use Rattle.drum_command.specs.Line.{IsLineOf, NamesFilesOf, Verb, drum650, files_of, said_by_words, said_in, verbs}
+use Rattle.drum_command.specs.Line as line
 use Rattle.drum_command.proofs.Own.{and_of}
 use Rattle.drum_command.proofs.Accepted.{drum650_is_simple, leaf, leaves}
 use Rattle.drum_command.proofs.Verbs.{all_verbs}
-use Rattle.drum_command.proofs.Lines.{AreGiven, GivesFiles, common_given, replay_given}
+use Rattle.drum_command.proofs.Lines.{AreGiven, GivesFiles, common_given, run_given}
 
 abbrev top : Shape
 top = (built drum650).top
@@ -31,17 +32,29 @@ pub record IsNamed (verb : Verb) : Type 0 where
   pub found : find (λ s. answers_to verb.name (label_of s)) leaves ≡ Some (leaf verb)
   pub files : files_of verb.name ≡ verb.files
 
-bound_is_named : IsNamed bound
+bound_is_named : IsNamed line.bound
 unfolding clap_on_literals
 bound_is_named = record { walked = refl; passes = refl; found = refl; files = refl }
 
-report_is_named : IsNamed report
+report_is_named : IsNamed line.report
 unfolding clap_on_literals
 report_is_named = record { walked = refl; passes = refl; found = refl; files = refl }
 
-replay_is_named : IsNamed replay
+walk_is_named : IsNamed line.walk
+unfolding clap_on_literals
+walk_is_named = record { walked = refl; passes = refl; found = refl; files = refl }
+
+draw_is_named : IsNamed line.draw
+unfolding clap_on_literals
+draw_is_named = record { walked = refl; passes = refl; found = refl; files = refl }
+
+replay_is_named : IsNamed line.replay
 unfolding clap_on_literals
 replay_is_named = record { walked = refl; passes = refl; found = refl; files = refl }
+
+trace_is_named : IsNamed line.trace
+unfolding clap_on_literals
+trace_is_named = record { walked = refl; passes = refl; found = refl; files = refl }
 
 -- words after the command's name are not looked at
 passes_stopped : (name : Text) (seen words : List Text) → walk_passes top names (stopped_at name seen) words ≡ true
@@ -100,8 +113,10 @@ is_line verb named given words names =
     (line_taken verb words named gives, line_said verb words named gives)
 
 pub all_lines : All IsLine verbs
-all_lines = all_verbs IsLine (is_line bound bound_is_named common_given) (is_line report report_is_named common_given)
-    (is_line replay replay_is_named replay_given)
+all_lines = all_verbs IsLine (is_line line.bound bound_is_named common_given)
+    (is_line line.report report_is_named common_given) (is_line line.walk walk_is_named common_given)
+    (is_line line.draw draw_is_named common_given) (is_line line.replay replay_is_named run_given)
+    (is_line line.trace trace_is_named run_given)
 
 -- the same of words that are the line of a command
 pub line_of : (words files : List Text) (verb : Verb) → IsLine verb → IsLineOf verb files words

@@ -9,7 +9,7 @@ use Rattle.clap.specs.Simple.{new_shape}
 use Rattle.clap.specs.Walk.{is_empty}
 use Rattle.clap.specs.declared.builder.action.ArgAction.TheVariants.{Set}
 use Rattle.drum_command.specs.declared.command.Command.{Command}
-use Rattle.drum_command.specs.declared.command.Command.TheVariants.{Bound, Report, Replay}
+use Rattle.drum_command.specs.declared.command.Command.TheVariants.{Bound, Report, Walk, Draw, Replay, Trace}
 use Rattle.drum_command.specs.declared.command.Files.{Files}
 
 -- a command: its name, and what the files that it names are called, in their order
@@ -21,21 +21,31 @@ pub record Verb : Type 0 where
 abbrev pub common_files : List Text
 common_files = codes "DECK" ∷ codes "TIMES" ∷ codes "NOTES" ∷ []
 
+-- and those of a command that lets the deck run
+abbrev pub run_files : List Text
+run_files = codes "DECK" ∷ codes "TIMES" ∷ codes "NOTES" ∷ codes "INPUTS" ∷ []
+
 abbrev pub bound : Verb
 bound = record { name = codes "bound"; files = common_files }
 
 abbrev pub report : Verb
 report = record { name = codes "report"; files = common_files }
 
+abbrev pub walk : Verb
+walk = record { name = codes "walk"; files = common_files }
+
+abbrev pub draw : Verb
+draw = record { name = codes "draw"; files = common_files }
+
 abbrev pub replay : Verb
-replay = record {
-  name = codes "replay";
-  files = codes "DECK" ∷ codes "TIMES" ∷ codes "NOTES" ∷ codes "INPUTS" ∷ [];
-}
+replay = record { name = codes "replay"; files = run_files }
+
+abbrev pub trace : Verb
+trace = record { name = codes "trace"; files = run_files }
 
 -- the commands that there are
 abbrev pub verbs : List Verb
-verbs = bound ∷ report ∷ replay ∷ []
+verbs = bound ∷ report ∷ walk ∷ draw ∷ replay ∷ trace ∷ []
 
 -- ---- the same, as clap's arguments and commands
 
@@ -80,14 +90,17 @@ said_by_words words = option_map said_in (subcommand_of drum650 words)
 abbrev pub common : Files → List Text
 common files = files.deck.now ∷ files.times.now ∷ files.notes.now ∷ []
 
+abbrev pub with_inputs : Files → Text → List Text
+with_inputs files inputs = files.deck.now ∷ files.times.now ∷ files.notes.now ∷ inputs ∷ []
+
 -- what a command says: its name, and its files in their order
 abbrev pub said_by : Command → Text × List (Option Text)
 said_by (Bound files) = (codes "bound", map Some (common files))
 said_by (Report files) = (codes "report", map Some (common files))
-said_by (Replay files inputs) = (
-  codes "replay",
-  map Some (files.deck.now ∷ files.times.now ∷ files.notes.now ∷ inputs.now ∷ []),
-)
+said_by (Walk files) = (codes "walk", map Some (common files))
+said_by (Draw files) = (codes "draw", map Some (common files))
+said_by (Replay files inputs) = (codes "replay", map Some (with_inputs files inputs.now))
+said_by (Trace files inputs) = (codes "trace", map Some (with_inputs files inputs.now))
 
 -- clap found the name of a command, and all of its files
 abbrev pub is_whole : Text × List Row → Bool

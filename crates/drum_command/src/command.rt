@@ -18,6 +18,12 @@ pub enum Command<'a> {
     Bound(Files<'a>),
     /// Where the worst walk spends them, by card.
     Report(Files<'a>),
+    /// The worst walk itself, visit by visit.
+    Walk(Files<'a>),
+    /// A picture of it.
+    Draw(Files<'a>),
     /// The verdict on one run, which is given the inputs of the last file.
     Replay(Files<'a>, &'a str),
+    /// That run, step by step, and the verdict on it.
+    Trace(Files<'a>, &'a str),
 }

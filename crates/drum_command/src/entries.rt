@@ -43,6 +43,12 @@ pub(crate) const INPUTS: FileWord = FileWord {
     help: "The inputs: what the replayed run finds in the machine, and the cards that it reads",
 };
 
+/// The files that every command works on.
+const COMMON_FILES: &[FileWord] = &[DECK, TIMES, NOTES];
+
+/// The files of a command that lets the deck run.
+const RUN_FILES: &[FileWord] = &[DECK, TIMES, NOTES, INPUTS];
+
 /// Each command that there is.
 pub(crate) fn entries() -> &'static [Entry]
     ensures { map verb_of result.now ≡ verbs }
@@ -52,19 +58,37 @@ pub(crate) fn entries() -> &'static [Entry]
             name: "bound",
             about: "Prints `bound W`: no run that keeps to the notes takes more than W word times",
             example: "Example: drum650 bound deck.txt times.toml notes.toml",
-            files: &[DECK, TIMES, NOTES],
+            files: COMMON_FILES,
         },
         Entry {
             name: "report",
             about: "Prints where the worst walk spends its word times, card by card",
             example: "Example: drum650 report deck.txt times.toml notes.toml",
-            files: &[DECK, TIMES, NOTES],
+            files: COMMON_FILES,
+        },
+        Entry {
+            name: "walk",
+            about: "Prints the worst walk, a line for each instruction, with its waits",
+            example: "Example: drum650 walk deck.txt times.toml notes.toml",
+            files: COMMON_FILES,
+        },
+        Entry {
+            name: "draw",
+            about: "Prints a picture, in SVG, of the drum and of the worst walk",
+            example: "Example: drum650 draw deck.txt times.toml notes.toml > picture.svg",
+            files: COMMON_FILES,
         },
         Entry {
             name: "replay",
             about: "Lets the deck run once on inputs, and prints the verdict on that run",
             example: "Example: drum650 replay deck.txt times.toml notes.toml inputs.txt",
-            files: &[DECK, TIMES, NOTES, INPUTS],
+            files: RUN_FILES,
+        },
+        Entry {
+            name: "trace",
+            about: "Lets the deck run as `replay` does, and prints each step of that run too",
+            example: "Example: drum650 trace deck.txt times.toml notes.toml inputs.txt",
+            files: RUN_FILES,
         },
     ]
 }

@@ -28,7 +28,10 @@ fn command_of<'a>(name: &str, found: &ArgMatches<'a>) -> Command<'a>
     match name {
         "bound" => Command::Bound(files_in(found)),
         "report" => Command::Report(files_in(found)),
+        "walk" => Command::Walk(files_in(found)),
+        "draw" => Command::Draw(files_in(found)),
         "replay" => Command::Replay(files_in(found), file_in(found, INPUTS)),
+        "trace" => Command::Trace(files_in(found), file_in(found, INPUTS)),
         _ => unreachable!(),
     }
 }

@@ -18,7 +18,8 @@ The files that commands name:
   TIMES   a timing table: TOML, how many word times each operation takes
   NOTES   notes: TOML, bounds on loops, and what altered words may become
   INPUTS  what a replayed run finds in the machine, and the cards that it reads
-Their formats are described in docs/FORMATS.md. The drum turns once in 50 word times.
+Their formats are described in docs/FORMATS.md, and every fault with its cure in docs/FAULTS.md.
+The drum turns once in 50 word times.
 
 Example:
   drum650 bound deck.txt times.toml notes.toml
@@ -31,7 +32,7 @@ Exit status:
   1  the deck, the timing table, the notes or the inputs are refused
   2  the command line is wrong
   3  a file could not be read, memory ran out, or what is printed could not be written
-  4  a replay left the notes
+  4  a replay or a trace left the notes
 ";
 
 /// The whole command line.

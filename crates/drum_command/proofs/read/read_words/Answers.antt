@@ -43,6 +43,19 @@ returns-in-Ok-try_get_matches_from-clause-lines c files k d within is =
     let line = (line_of words files (slice_index_or verbs k d) (all_lines k d within) is).1 in
     some_same _ _ (sym c.command_in.ensures ∙ told ∙ line)
 
+pub returns-in-Ok-try_get_matches_from-clause-told : goal.returns-in-Ok-try_get_matches_from-clause-told
+returns-in-Ok-try_get_matches_from-clause-told c =
+    let line_is = c.in-Ok.ensures in
+    let found = (c.in-Ok-try_get_matches_from.ensures.matches (ap is_simple line_is ∙ drum650_is_simple)).1
+    ∙ ap (λ (a : App). subcommand_of a (texts c.args.words.now)) line_is in
+    sym (ap (option_map said_in) found) ∙ c.command_in.ensures
+
+pub returns-in-Ok-try_get_matches_from-clause-faultless : goal.returns-in-Ok-try_get_matches_from-clause-faultless
+returns-in-Ok-try_get_matches_from-clause-faultless c =
+    let line_is = c.in-Ok.ensures in
+    subst (λ (a : App). fault_of a (texts c.args.words.now) ≡ []) line_is
+    (c.in-Ok-try_get_matches_from.ensures.kinds (ap is_simple_and_free line_is ∙ drum650_is_free))
+
 pub returns-in-Err-clause-lines : goal.returns-in-Err-clause-lines
 returns-in-Err-clause-lines c files k d within is =
     let words = texts c.args.words.now in
