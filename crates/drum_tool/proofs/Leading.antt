@@ -4,13 +4,10 @@ use Rattle.drum_core.specs.declared.op.Op.{Op}
 use Rattle.drum_times.specs.declared.entry.Entry.{Entry}
 use Rattle.drum_machine.specs.Machine.{op_in, wait_with, waits_with}
 use Rattle.drum_machine.specs.Run.{Turn, IsTurn, IsRun, Follow, time_of, used_from}
-use Rattle.drum_machine.specs.Step.{State, Stepped, on, stopped, step, MayWait}
+use Rattle.drum_machine.specs.Step.{State, Stepped, on, stopped, MayWait}
+use Rattle.drum_tool.specs.Following as spec
+use Rattle.drum_tool.specs.Following.{Goes}
 use Rattle.drum_tool.specs.Replay.{AreFed}
-
--- the step goes on to a state that is right
-abbrev pub Goes : Stepped → (State → Type 0) → Type 0
-Goes (on next) Right = Right next
-Goes (stopped because moment) Right = ⊥
 
 goes_any : (outcome : Stepped) (Right : State → Type 0) (Thing : Type 0) → ((next : State) → Right next → Thing) → Goes outcome Right → Thing
 goes_any (on next) Right Thing so goes = so next goes
@@ -30,22 +27,11 @@ used_more time [] turn = refl
 used_more time (one ∷ turns) turn = used_more (time_of one.outcome) turns turn
 
 module _ (times : Op → Entry) where
-  -- turns from a state with waits, each of which goes on, lead to a state with the waits that are
-  -- left
-  abbrev pub Lead : State → List ℕ → List Turn → State → List ℕ → Type 0
-  Lead s waits [] now left = (s ≡ now) × (waits ≡ left)
-  Lead s waits (turn ∷ turns) now left =
-      IsTurn times s turn × (turn.wait ≡ wait_with times (op_in turn.origin) waits)
-      × Goes turn.outcome
-      (λ next. Lead next (waits_with (op_in turn.origin) turn.origin waits) turns now left)
+  abbrev Lead : State → List ℕ → List Turn → State → List ℕ → Type 0
+  Lead s waits turns now left = spec.Lead times s waits turns now left
 
-  -- the turn of a state with waits
-  abbrev pub turn_at : State → List ℕ → Turn
-  turn_at s waits = record {
-    origin = s;
-    wait = wait_with times (op_in s) waits;
-    outcome = step times s (wait_with times (op_in s) waits);
-  }
+  abbrev turn_at : State → List ℕ → Turn
+  turn_at s waits = spec.turn_at times s waits
 
   -- the wait that is fed is one that the operation may have
   abbrev pub MayBe : State → List ℕ → Type 0

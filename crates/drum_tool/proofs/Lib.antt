@@ -1,4 +1,5 @@
 pub mod Answering
+pub mod Beginning
 pub mod Cuts
 pub mod Followed
 pub mod Giving
@@ -7,4 +8,5 @@ pub mod OneRun
 pub mod OneVerdict
 pub mod Replies
 pub mod ToldOf
+pub mod Traced
 pub mod Worded

@@ -13,7 +13,7 @@ use Rattle.drum_machine.proofs.Fronts.{run_front}
 use Rattle.drum_machine.specs.Step.{State, Stepped, on, stopped, step}
 use Rattle.drum_flow.specs.Walk.{Setting}
 use Rattle.drum_tool.specs.Replay.{Given, AreFed, IsReplayed}
-use Rattle.drum_tool.proofs.Leading.{turn_at}
+use Rattle.drum_tool.specs.Following.{turn_at}
 
 -- lists that are as long and have the same at each place are one
 same_places : (xs ys : List Word) → length xs ≡ length ys → ((k : ℕ) → k < length xs → slice_get xs k ≡ slice_get ys k) → xs ≡ ys

@@ -7,25 +7,24 @@ use Rattle.drum_flow.specs.Walk.{Setting}
 use Rattle.drum_tool.specs.Replay.{Given, IsReplayFault}
 use Rattle.drum_lines.specs.FaultStatus.{failed_by, reads_failed}
 use Rattle.drum_tool.specs.Documents.{IsAnalysisFault, IsBound}
-use Rattle.drum_tool.specs.Reply.{AnswersBound, AnswersReport, bound_reply, fault_reply}
+use Rattle.drum_tool.specs.Reply.{AnswersOn, IsFault, Reply, SaysBound, bound_reply, fault_reply}
 
 module _ {Are : Documents → Type 0} {No : Fault → Type 0} where
-  -- no documents are given
-  pub bound_without : (fault : Fault) → No fault → AnswersBound Are No (reads_failed fault) (fault_reply fault)
-  bound_without fault none = inr (fault, inl none, refl, refl)
+  -- there is nothing to say of documents, for a fault of theirs
+  pub faulty : (Says : Documents → Reply → Type 0) (fault : Fault) → IsFault Are No fault → AnswersOn Says Are No (reads_failed fault) (fault_reply fault)
+  faulty Says fault is = inr (fault, is, refl, refl)
 
-  pub report_without : (fault : Fault) → No fault → AnswersReport Are No (reads_failed fault) (fault_reply fault)
-  report_without fault none = inr (fault, inl none, refl, refl)
+  -- no documents are given
+  pub bound_without : (fault : Fault) → No fault → AnswersOn SaysBound Are No (reads_failed fault) (fault_reply fault)
+  bound_without fault none = faulty SaysBound fault (inl none)
 
   -- documents are given, and analysed or refused
-  pub bound_with : (documents : Documents) → Are documents → (bound : ℕ) → IsBound documents bound → AnswersBound Are No 0 (bound_reply bound)
-  bound_with documents are bound is = inl (documents, are, bound, is, refl, refl)
+  pub bound_with : (documents : Documents) → Are documents → (bound : ℕ) → IsBound documents bound → AnswersOn SaysBound Are No 0 (bound_reply bound)
+  bound_with documents are bound is = inl (documents, are, refl, (bound, is, refl))
 
-  pub bound_refused : (documents : Documents) → Are documents → (fault : Fault) → IsAnalysisFault documents fault → AnswersBound Are No (reads_failed fault) (fault_reply fault)
-  bound_refused documents are fault is = inr (fault, inr (documents, are, is), refl, refl)
-
-  pub report_refused : (documents : Documents) → Are documents → (fault : Fault) → IsAnalysisFault documents fault → AnswersReport Are No (reads_failed fault) (fault_reply fault)
-  report_refused documents are fault is = inr (fault, inr (documents, are, is), refl, refl)
+  pub bound_refused : (documents : Documents) → Are documents → (fault : Fault) → IsAnalysisFault documents fault
+      → AnswersOn SaysBound Are No (reads_failed fault) (fault_reply fault)
+  bound_refused documents are fault is = faulty SaysBound fault (inr (documents, are, is))
 
 -- what holds of a value holds of what it is known as
 pub ok_map : {A E : Type 0} (P Q : A → Type 0) (result : Result A E) → IfOk result P → ((a : A) → P a → Q a) → IfOk result Q

@@ -3,33 +3,35 @@ use Rattle.std.proofs.Common.{◌≡◌, ℕ, true, List, [], ◌∷◌, Option,
 use Rattle.std.specs.Prelude.{codes}
 use Rattle.clap.specs.Words.{Text, takes}
 use Rattle.drum_command.specs.declared.command.Command.{Command}
-use Rattle.drum_command.specs.declared.command.Command.TheVariants.{Bound, Report, Replay}
+use Rattle.drum_command.specs.declared.command.Command.TheVariants.{Bound, Report, Walk, Draw, Replay, Trace}
 use Rattle.drum_command.specs.declared.refused.Refused.{Refused}
 use Rattle.drum_command.specs.declared.refused.Refused.TheVariants.{Memory}
 use Rattle.drum_command.specs.Line.{drum650, said_by}
 use Rattle.drum_tool.specs.declared.documents.Documents.{Documents}
 use Rattle.drum_lines.specs.declared.fault.Fault.{Fault}
 use Rattle.drum_lines.specs.declared.status.Status as statuses
-use Rattle.drum_lines.specs.declared.status.Status.TheVariants.{Done}
+use Rattle.drum_lines.specs.declared.status.Status.TheVariants.{Done, Failed}
 use Rattle.drum_lines.specs.BoundText.{bound_text}
 use Rattle.drum_tool.specs.Documents.{IsBound}
 use Rattle.drum_tool.specs.Files.{AreHeld, HoldsDeck, HoldsTimes, HoldsNotes}
-use Rattle.drum_tool.specs.Reply.{Reply, says, complains, AnswersBound, AnswersCommand}
+use Rattle.drum_tool.specs.Reply.{Reply, says, complains, breaks_off, AnswersOn, AnswersCommand, SaysBound}
 use Rattle.drum_tool.specs.Told.{IsBoundOfFiles}
 use Rattle.drum_tool.specs.Words.{AreRefused, refused_reply}
 
 abbrev text_in : Reply → List ℕ
 text_in (says text status) = text
 text_in (complains text status) = text
+text_in (breaks_off text) = text
 
 abbrev status_in : Reply → statuses.Status
 status_in (says text status) = status
 status_in (complains text status) = status
+status_in (breaks_off text) = Failed
 
 -- a result to `bound` is the line of documents that are given
-pub result_of_bound : (Are : Documents → Type 0) (No : Fault → Type 0) (failures : ℕ) (text : List ℕ) (status : statuses.Status) → AnswersBound Are No failures (says text status)
+pub result_of_bound : (Are : Documents → Type 0) (No : Fault → Type 0) (failures : ℕ) (text : List ℕ) (status : statuses.Status) → AnswersOn SaysBound Are No failures (says text status)
     → (documents : Documents) × Are documents × (bound : ℕ) × IsBound documents bound × (text ≡ bound_text bound) × (status ≡ Done)
-result_of_bound Are No failures text status (inl (documents, are, bound, is, none, reply)) =
+result_of_bound Are No failures text status (inl (documents, are, none, (bound, is, reply))) =
     (documents, are, bound, is, ap text_in reply, ap status_in reply)
 result_of_bound Are No failures text status (inr (fault, is, none, reply)) = absurd (let bad = reply in cc)
 
@@ -61,6 +63,10 @@ no_result words refused text status are taken reply =
     let memory : refused ≡ Memory = are.taken taken in
     let bad : says text status ≡ refused_reply Memory = reply ∙ ap refused_reply memory in cc
 
+-- names that are the same begin with the same byte
+same_first : (said other : Option (Text × List (Option Text))) → said ≡ other → first_byte (name_in said) ≡ first_byte (name_in other)
+same_first said other same = ap (λ (s : Option (Text × List (Option Text))). first_byte (name_in s)) same
+
 -- the command of these words is `bound`, with these names
 pub of_files : (held : List ℕ → Option (List ℕ)) (deck times notes : Text) (command : Command) (failures : ℕ) (text : List ℕ) (status : statuses.Status)
     → Some (said_by command) ≡ Some (codes "bound", Some deck ∷ Some times ∷ Some notes ∷ [])
@@ -83,7 +89,8 @@ of_files held deck times notes (Bound files) failures text status said answers =
       found.4,
       found.5,
     )
-of_files held deck times notes (Report files) failures text status said answers =
-    let bad : 114 ≡ 98 = ap (λ (s : Option (Text × List (Option Text))). first_byte (name_in s)) said in absurd (omega (arith, bad))
-of_files held deck times notes (Replay files inputs) failures text status said answers =
-    let bad : 114 ≡ 98 = ap (λ (s : Option (Text × List (Option Text))). first_byte (name_in s)) said in absurd (omega (arith, bad))
+of_files held deck times notes (Report files) failures text status said answers = absurd (let bad : 114 ≡ 98 = same_first _ _ said in omega (arith, bad))
+of_files held deck times notes (Walk files) failures text status said answers = absurd (let bad : 119 ≡ 98 = same_first _ _ said in omega (arith, bad))
+of_files held deck times notes (Draw files) failures text status said answers = absurd (let bad : 100 ≡ 98 = same_first _ _ said in omega (arith, bad))
+of_files held deck times notes (Replay files inputs) failures text status said answers = absurd (let bad : 114 ≡ 98 = same_first _ _ said in omega (arith, bad))
+of_files held deck times notes (Trace files inputs) failures text status said answers = absurd (let bad : 116 ≡ 98 = same_first _ _ said in omega (arith, bad))

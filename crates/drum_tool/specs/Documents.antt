@@ -29,10 +29,9 @@ pub record IsBound (documents : Documents) (bound : ℕ) : Type 0 where
   pub worst : IsWorst (setting_of documents) bound
   pub bounded : IsBounded (setting_of documents) bound
 
--- a walk of this time
-pub record IsWorstWalk (documents : Documents) (bound : ℕ) (walk : List Visited) : Type 0 where
-  pub angle : ℕ
-  pub is_walk : IsWalkOf (setting_of documents) angle bound walk
+-- a walk of this time, from this angle
+abbrev pub IsWorstWalk : Documents → ℕ → ℕ → List Visited → Type 0
+IsWorstWalk documents bound angle walk = IsWalkOf (setting_of documents) angle bound walk
 
 -- why they have no bound: the deck with its notes is refused
 abbrev pub IsAnalysisFault : Documents → Fault → Type 0

@@ -1,13 +1,19 @@
--- What is needed to follow a run, and what is then known of it.
-use Rattle.std.specs.Prelude.{◌≡◌, ℕ, ◌+◌, ◌≤◌, List}
+-- What is needed to follow a run, and what is known of it on the way and at its end.
+use Rattle.std.specs.Prelude.{◌≡◌, ℕ, ◌+◌, ◌≤◌, List, [], ◌∷◌, length, None}
+use Rattle.drum_core.specs.declared.op.Op.{Op}
+use Rattle.drum_times.specs.declared.entry.Entry.{Entry}
+use Rattle.drum_machine.specs.Feed.{cards_left, waits_left}
 use Rattle.drum_machine.specs.FirstState.{IsSetUp}
 use Rattle.drum_machine.specs.Keeps.{IsAsDeclared, IsKept}
-use Rattle.drum_machine.specs.Run.{Turn, IsRun, IsFirstState, used_from}
-use Rattle.drum_machine.specs.Step.{State}
+use Rattle.drum_machine.specs.Machine.{GoesOn, op_in, state_in, used_by, wait_with, waits_with}
+use Rattle.drum_machine.specs.Monitor.{HasSeen, answer_of}
+use Rattle.drum_machine.specs.Run.{Turn, IsRun, IsTurn, IsFirstState, used_from}
+use Rattle.drum_machine.specs.Step.{State, Stepped, on, stopped, step}
 use Rattle.drum_flow.specs.Accepted.{IsFixed}
 use Rattle.drum_flow.specs.Walk.{Setting}
 use Rattle.drum_lines.specs.declared.verdict.Verdict.{Verdict}
-use Rattle.drum_tool.specs.Replay.{Given, IsVerdict, used_in}
+use Rattle.drum_tool.specs.declared.following.Following.{Following}
+use Rattle.drum_tool.specs.Replay.{Given, IsReplayed, IsVerdict, used_in}
 
 -- each run that keeps to the notes uses so many word times at most
 abbrev pub IsBounded : Setting → ℕ → Type 0
@@ -26,11 +32,65 @@ pub record AreGiven (g : Setting) (given : Given) (s : State) (waits : List ℕ)
   pub reader : s.contents.cards ≡ given.cards
   pub feed : waits ≡ given.waits
 
--- The verdict is that on the run which begins in this state with these waits, and no time in it is
--- past the bound.
-pub record IsFollowed (g : Setting) (s : State) (waits : List ℕ) (bound : ℕ) (verdict : Verdict) :
-    Type 0 where
-  pub step : ℕ
-  pub says : (given : Given) → AreGiven g given s waits → IsVerdict g given bound step verdict
+-- the turns are the first of the run that begins in this state with these waits
+abbrev pub AreOfRun : Setting → State → List ℕ → List Turn → Type 0
+AreOfRun g s waits turns =
+    (given : Given) → AreGiven g given s waits → IsReplayed g given turns
+
+-- The verdict is that on the run which begins in this state with these waits, it comes with the
+-- last of these turns of it, and no time in it is past the bound.
+pub record IsFollowed (g : Setting) (s : State) (waits : List ℕ) (bound : ℕ) (turns : List Turn)
+    (verdict : Verdict) : Type 0 where
+  pub says :
+      (given : Given) → AreGiven g given s waits → IsVerdict g given bound (length turns) verdict
+  pub of_run : AreOfRun g s waits turns
   pub within : used_in verdict ≤ bound
-  pub short : step ≤ bound + 1
+  pub short : length turns ≤ bound + 1
+
+-- ---- on the way
+
+-- the state and the waits at which a followed run stands, and the turn that it takes there
+abbrev pub state_of : Following → State
+state_of following = state_in following.machine (cards_left following.feed)
+
+abbrev pub waits_of : Following → List ℕ
+waits_of following = waits_left following.feed
+
+-- the turn of a state with waits
+abbrev pub turn_at : (Op → Entry) → State → List ℕ → Turn
+turn_at times s waits = record {
+  origin = s;
+  wait = wait_with times (op_in s) waits;
+  outcome = step times s (wait_with times (op_in s) waits);
+}
+
+abbrev pub turn_of : (Op → Entry) → Following → Turn
+turn_of times following = turn_at times (state_of following) (waits_of following)
+
+-- the word times that it has used
+abbrev pub used_so_far : Following → ℕ
+used_so_far following = used_by following.machine
+
+-- the step goes on to a state that is right
+abbrev pub Goes : Stepped → (State → Type 0) → Type 0
+Goes (on next) Right = Right next
+Goes (stopped because moment) Right = ⊥
+
+-- turns from a state with waits, each of which goes on, lead to a state with the waits that are left
+abbrev pub Lead : (Op → Entry) → State → List ℕ → List Turn → State → List ℕ → Type 0
+Lead times s waits [] now left = (s ≡ now) × (waits ≡ left)
+Lead times s waits (turn ∷ turns) now left =
+    IsTurn times s turn × (turn.wait ≡ wait_with times (op_in turn.origin) waits)
+    × Goes turn.outcome
+    (λ next. Lead times next (waits_with (op_in turn.origin) turn.origin waits) turns now left)
+
+-- These turns were followed from a state with waits, and the notes were kept to.
+pub record IsFollowing (g : Setting) (s : State) (waits : List ℕ) (bound : ℕ) (turns : List Turn)
+    (following : Following) : Type 0 where
+  pub lead : Lead g.times s waits turns (state_of following) (waits_of following)
+  pub seen : HasSeen g.loads g.notes following.monitor turns
+  pub silent : answer_of following.monitor ≡ None
+  pub goes : GoesOn following.machine
+  pub within : used_so_far following ≤ bound
+  pub counted : following.steps ≡ length turns
+  pub each_takes_time : following.steps ≤ used_so_far following

@@ -1,3 +1,4 @@
+pub mod Begun
 pub mod Documents
 pub mod Files
 pub mod Following

@@ -3,7 +3,7 @@ use Rattle.std.specs.Prelude.{◌≡◌, ℕ, ◌+◌, ◌<◌, List, length, ta
 use Rattle.std.specs.Io.KnownBytes.{Appends}
 use Rattle.drum_lines.specs.declared.status.Status.{Status}
 use Rattle.drum_lines.specs.declared.status.Status.TheVariants.{Failed}
-use Rattle.drum_tool.specs.Reply.{Reply, says, complains}
+use Rattle.drum_tool.specs.Reply.{Reply, says, complains, breaks_off}
 
 -- what a device was given, where that is known, and how many writes to it failed
 pub record Device : Type 0 where
@@ -40,9 +40,12 @@ ended_with (Ok done) status = status
 ended_with (Err fault) status = Failed
 
 -- A result goes to standard output, and a complaint to standard error, where a write that fails
--- changes nothing. The other device gets nothing.
+-- changes nothing. Of a text that is given up standard output gets a front. The other device gets
+-- nothing.
 abbrev pub Tells : Reply → Device → Device → Device → Device → Status → Type 0
 Tells (says text done) out out' err err' status =
     GetsResult out out' text done status × (err' ≡ err)
 Tells (complains text after) out out' err err' status =
     (out' ≡ out) × GetsComplaint err err' text × (status ≡ after)
+Tells (breaks_off text) out out' err err' status =
+    GetsFront out out' text × (status ≡ Failed) × (err' ≡ err)

@@ -100,6 +100,14 @@ pub record IsReplay (g : Setting) (given : Given) (verdict : Verdict) : Type 0 w
   pub within : used_in verdict ≤ worst
   pub short : step ≤ worst + 1
 
+-- The turns of its run, up to the one with which the verdict comes: none, where it comes before any
+-- step.
+pub record IsTraced (g : Setting) (given : Given) (turns : List Turn) (verdict : Verdict) :
+    Type 0 where
+  pub replay : IsReplay g given verdict
+  pub replayed : IsReplayed g given turns
+  pub all : replay.step ≡ length turns
+
 -- Why there is no replay: a word is given that the deck loads too, of which the first is told; else
 -- the deck with its notes is refused; else it is accepted, and the fault is Memory. (That memory
 -- was wanting then is tested, not said.)

@@ -1,8 +1,12 @@
 -- What the program has to say, and when it says it (this project's choice).
-use Rattle.std.specs.Prelude.{◌≡◌, ℕ, List, Option, ◌⊎◌}
+use Rattle.std.specs.Prelude.{◌≡◌, ℕ, List, ◌++◌, Option, ◌⊎◌}
+use Rattle.drum_times.specs.Entries.{entry_in}
+use Rattle.drum_machine.specs.Run.{Turn}
+use Rattle.drum_flow.specs.Walk.{Setting}
 use Rattle.drum_bound.specs.Visited.{Visited}
 use Rattle.drum_command.specs.declared.command.Command.{Command}
-use Rattle.drum_command.specs.declared.command.Command.TheVariants.{Bound, Report, Replay}
+use Rattle.drum_command.specs.declared.command.Files.{Files}
+use Rattle.drum_command.specs.declared.command.Command.TheVariants.{Bound, Report, Walk, Draw, Replay, Trace}
 use Rattle.drum_inputs.specs.declared.inputs.Inputs.{Inputs}
 use Rattle.drum_tool.specs.declared.documents.Documents.{Documents}
 use Rattle.drum_lines.specs.declared.fault.Fault.{Fault}
@@ -10,55 +14,107 @@ use Rattle.drum_lines.specs.declared.status.Status.{Status}
 use Rattle.drum_lines.specs.declared.status.Status.TheVariants.{Done}
 use Rattle.drum_lines.specs.declared.verdict.Verdict.{Verdict}
 use Rattle.drum_lines.specs.BoundText.{bound_text}
-use Rattle.drum_tool.specs.Documents.{IsAnalysisFault, IsBound, IsWorstWalk, setting_of}
 use Rattle.drum_lines.specs.FaultStatus.{reads_failed, status_after}
 use Rattle.drum_lines.specs.FaultText.{fault_text}
 use Rattle.drum_lines.specs.Status.{status_of}
+use Rattle.drum_lines.specs.VerdictText.{verdict_text}
+use Rattle.drum_report.specs.Report.{report_text}
+use Rattle.drum_listing.specs.TraceText.{turn_lines}
+use Rattle.drum_listing.specs.WalkText.{walk_text}
+use Rattle.drum_tool.specs.Documents.{IsAnalysisFault, IsBound, IsWorstWalk, setting_of}
 use Rattle.drum_tool.specs.Files.{AreHeld, AreNotHeld, HoldsInputs, HoldsNoInputs}
 use Rattle.drum_tool.specs.Given.{given}
 use Rattle.drum_tool.specs.Joined.{Gives, GivesNone}
-use Rattle.drum_tool.specs.Replay.{IsReplay, IsReplayFault}
-use Rattle.drum_report.specs.Report.{report_text}
-use Rattle.drum_lines.specs.VerdictText.{verdict_text}
+use Rattle.drum_tool.specs.Replay.{Given, IsReplay, IsReplayed, IsReplayFault, IsTraced}
 
--- a text, for standard output or for standard error, and how the program ends
+-- A text, for standard output or for standard error, and how the program ends; or a text that is
+-- given up, since a write of it fails.
 pub data Reply : Type 0 where
   says : List ℕ → Status → Reply
   complains : List ℕ → Status → Reply
+  breaks_off : List ℕ → Reply
 
--- the reply with a bound, with a report of a walk, and with the line of a fault
+-- ---- what is said
+
+-- a bound, a report of a walk, a walk from an angle, a picture, and the line of a fault
 abbrev pub bound_reply : ℕ → Reply
 bound_reply bound = says (bound_text bound) Done
 
 abbrev pub report_reply : Documents → List Visited → Reply
 report_reply documents walk = says (report_text documents.deck documents.notes walk) Done
 
+abbrev pub walk_reply : Documents → ℕ → List Visited → ℕ → Reply
+walk_reply documents angle walk bound =
+    says (walk_text (entry_in documents.times) angle walk bound) Done
+
+abbrev pub picture_reply : List ℕ → Reply
+picture_reply picture = says picture Done
+
 abbrev pub fault_reply : Fault → Reply
 fault_reply fault = complains (fault_text fault) (status_after fault)
 
+-- a verdict, with the turns of its run before it, and turns alone, on which a write fails
 abbrev pub verdict_reply : Verdict → Reply
 verdict_reply verdict = says (verdict_text verdict) (status_of verdict)
+
+abbrev pub trace_reply : Setting → List Turn → Verdict → Reply
+trace_reply g turns verdict =
+    says (turn_lines g.times 1 turns ++ verdict_text verdict) (status_of verdict)
+
+abbrev pub cut_reply : Setting → List Turn → Reply
+cut_reply g turns = breaks_off (turn_lines g.times 1 turns)
+
+-- ---- what is said of documents
+
+abbrev pub SaysBound : Documents → Reply → Type 0
+SaysBound documents reply =
+    (bound : ℕ) × IsBound documents bound × (reply ≡ bound_reply bound)
+
+-- the report of a walk that takes as long as the bound
+abbrev pub SaysReport : Documents → Reply → Type 0
+SaysReport documents reply =
+    (bound : ℕ) × IsBound documents bound
+    × (angle : ℕ) × (walk : List Visited) × IsWorstWalk documents bound angle walk
+    × (reply ≡ report_reply documents walk)
+
+-- such a walk itself
+abbrev pub SaysWalk : Documents → Reply → Type 0
+SaysWalk documents reply =
+    (bound : ℕ) × IsBound documents bound
+    × (angle : ℕ) × (walk : List Visited) × IsWorstWalk documents bound angle walk
+    × (reply ≡ walk_reply documents angle walk bound)
+
+-- a picture; which one isn't said
+abbrev pub SaysPicture : Documents → Reply → Type 0
+SaysPicture documents reply = (picture : List ℕ) × (reply ≡ picture_reply picture)
+
+-- ---- what is said of a run
+
+-- the verdict on the run that is fixed by what is given
+abbrev pub SaysVerdict : Setting → Given → Reply → Type 0
+SaysVerdict g given reply =
+    (verdict : Verdict) × IsReplay g given verdict × (reply ≡ verdict_reply verdict)
+
+-- its turns and the verdict; or its first turns alone, where a write fails
+abbrev pub SaysTrace : Setting → Given → Reply → Type 0
+SaysTrace g given reply =
+    ((turns : List Turn) × (verdict : Verdict) × IsTraced g given turns verdict
+    × (reply ≡ trace_reply g turns verdict))
+    ⊎ ((turns : List Turn) × IsReplayed g given turns × (reply ≡ cut_reply g turns))
+
+-- ---- to commands
 
 -- a fault of documents, where these may be given or there are none for these faults
 abbrev pub IsFault : (Documents → Type 0) → (Fault → Type 0) → Fault → Type 0
 IsFault Are None fault =
     None fault ⊎ ((documents : Documents) × Are documents × IsAnalysisFault documents fault)
 
--- To `bound`, where so many reads failed: the bound of the documents, or why there is none.
-abbrev pub AnswersBound : (Documents → Type 0) → (Fault → Type 0) → ℕ → Reply → Type 0
-AnswersBound Are None failures reply =
-    ((documents : Documents) × Are documents
-    × (bound : ℕ) × IsBound documents bound × (failures ≡ 0) × (reply ≡ bound_reply bound))
-    ⊎ ((fault : Fault) × IsFault Are None fault
-    × (failures ≡ reads_failed fault) × (reply ≡ fault_reply fault))
-
--- To `report`: the report of a walk that takes as long as the bound, or why there is none.
-abbrev pub AnswersReport : (Documents → Type 0) → (Fault → Type 0) → ℕ → Reply → Type 0
-AnswersReport Are None failures reply =
-    ((documents : Documents) × Are documents
-    × (bound : ℕ) × IsBound documents bound
-    × (walk : List Visited) × IsWorstWalk documents bound walk
-    × (failures ≡ 0) × (reply ≡ report_reply documents walk))
+-- To a command on documents, where so many reads failed: what it says of them, or why there is
+-- nothing to say.
+abbrev pub AnswersOn : (Documents → Reply → Type 0) → (Documents → Type 0) → (Fault → Type 0)
+    → ℕ → Reply → Type 0
+AnswersOn Says Are None failures reply =
+    ((documents : Documents) × Are documents × (failures ≡ 0) × Says documents reply)
     ⊎ ((fault : Fault) × IsFault Are None fault
     × (failures ≡ reads_failed fault) × (reply ≡ fault_reply fault))
 
@@ -71,24 +127,37 @@ IsFaultWith Are None AreInputs NoInputs fault =
     ⊎ ((inputs : Inputs) × AreInputs inputs
     × IsReplayFault (setting_of documents) (given inputs) fault)))
 
--- To `replay`: the verdict on the run that the inputs fix, or why there is none.
-abbrev pub AnswersReplay : (Documents → Type 0) → (Fault → Type 0) → (Inputs → Type 0)
-    → (Fault → Type 0) → ℕ → Reply → Type 0
-AnswersReplay Are None AreInputs NoInputs failures reply =
+-- To a command that lets the deck run: what it says of the run that the inputs fix, or why there is
+-- nothing to say.
+abbrev pub AnswersRun : (Setting → Given → Reply → Type 0) → (Documents → Type 0)
+    → (Fault → Type 0) → (Inputs → Type 0) → (Fault → Type 0) → ℕ → Reply → Type 0
+AnswersRun Says Are None AreInputs NoInputs failures reply =
     ((documents : Documents) × Are documents × (inputs : Inputs) × AreInputs inputs
-    × (verdict : Verdict) × IsReplay (setting_of documents) (given inputs) verdict
-    × (failures ≡ 0) × (reply ≡ verdict_reply verdict))
+    × (failures ≡ 0) × Says (setting_of documents) (given inputs) reply)
     ⊎ ((fault : Fault) × IsFaultWith Are None AreInputs NoInputs fault
     × (failures ≡ reads_failed fault) × (reply ≡ fault_reply fault))
 
 -- the reply to a joined form, where so many reads failed
 abbrev pub AnswersJoined : List ℕ → ℕ → Reply → Type 0
-AnswersJoined bytes = AnswersBound (Gives bytes) (GivesNone bytes)
+AnswersJoined bytes = AnswersOn SaysBound (Gives bytes) (GivesNone bytes)
+
+-- the reply to a command on documents in files, and to one that lets a deck in files run
+abbrev pub AnswersOnFiles : (Documents → Reply → Type 0) → (List ℕ → Option (List ℕ)) → Files
+    → ℕ → Reply → Type 0
+AnswersOnFiles Says held files = AnswersOn Says (AreHeld held files) (AreNotHeld held files)
+
+abbrev pub AnswersRunOfFiles : (Setting → Given → Reply → Type 0) → (List ℕ → Option (List ℕ))
+    → Files → List ℕ → ℕ → Reply → Type 0
+AnswersRunOfFiles Says held files inputs =
+    AnswersRun Says (AreHeld held files) (AreNotHeld held files)
+    (HoldsInputs (held inputs)) (HoldsNoInputs (held inputs))
 
 -- the reply to a command, where files hold these bytes and so many reads failed
 abbrev pub AnswersCommand : (List ℕ → Option (List ℕ)) → Command → ℕ → Reply → Type 0
-AnswersCommand held (Bound files) = AnswersBound (AreHeld held files) (AreNotHeld held files)
-AnswersCommand held (Report files) = AnswersReport (AreHeld held files) (AreNotHeld held files)
+AnswersCommand held (Bound files) = AnswersOnFiles SaysBound held files
+AnswersCommand held (Report files) = AnswersOnFiles SaysReport held files
+AnswersCommand held (Walk files) = AnswersOnFiles SaysWalk held files
+AnswersCommand held (Draw files) = AnswersOnFiles SaysPicture held files
 AnswersCommand held (Replay files inputs) =
-    AnswersReplay (AreHeld held files) (AreNotHeld held files)
-    (HoldsInputs (held inputs.now)) (HoldsNoInputs (held inputs.now))
+    AnswersRunOfFiles SaysVerdict held files inputs.now
+AnswersCommand held (Trace files inputs) = AnswersRunOfFiles SaysTrace held files inputs.now

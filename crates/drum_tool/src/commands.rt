@@ -1,38 +1,45 @@
 //! What each command does, with files.
 
-ghost use Rattle.std.specs.Prelude.{◌≡◌, ◌+◌, ◌^◌, ◌≤◌, ℕ, List, Option, IfOk, IfErr};
-ghost use Rattle.drum_bound.specs.AnalysisOf.{visits_of};
+ghost use Rattle.std.specs.Prelude.{◌≡◌, ◌+◌, ◌^◌, ◌≤◌, ℕ, List, Option, IfOk, IfErr, length, string_bytes};
+ghost use Rattle.drum_bound.specs.AnalysisOf.{angle_of, bound_of, visits_of};
 ghost use Rattle.drum_lines.specs.FaultStatus.{failed_by, reads_failed};
-ghost use Rattle.drum_tool.specs.Files.{AreTold};
+ghost use Rattle.drum_tool.specs.Begun.{IsBegun};
+ghost use Rattle.drum_tool.specs.Documents.{IsBound, IsWorstWalk, setting_of};
+ghost use Rattle.drum_tool.specs.Files.{AreHeld, AreNotHeld, AreTold, HoldsInputs, HoldsNoInputs};
 ghost use Rattle.drum_tool.specs.Output.{Tells, device};
-ghost use Rattle.drum_tool.specs.Reply.{AnswersCommand, Reply, bound_reply, fault_reply, report_reply, verdict_reply};
+ghost use Rattle.drum_tool.specs.Replay.{Given};
+ghost use Rattle.drum_tool.specs.Reply.{
+  AnswersCommand,
+  AnswersOnFiles,
+  AnswersRunOfFiles,
+  IsFault,
+  IsFaultWith,
+  Reply,
+  SaysPicture,
+  SaysTrace,
+  SaysVerdict,
+  fault_reply,
+  picture_reply,
+  verdict_reply,
+};
 
 use crate::documents::Documents;
 use crate::files::inputs_of;
-use crate::replaying::replay;
+use crate::replaying::{Begun, begin, replay};
 use crate::source::Source;
-use crate::telling::{tell_bound, tell_fault, tell_report, tell_verdict};
-use drum_bound::Analysis;
+use crate::telling::{
+    complain, tell_bound, tell_report, tell_text, tell_trace, tell_verdict, tell_walk,
+};
+use drum_bound::{Analysis, Refusal};
 use drum_command::{Command, Files};
 use drum_core::Output;
+use drum_inputs::Inputs;
 use drum_lines::{Fault, Status, Verdict};
+use drum_picture::picture;
 use std::alloc::Global;
 
-/// The bound of documents in files.
-fn bound<S: Source>(alloc: Global, source: &mut S, files: Files<'_>) -> Result<u64, Fault>
-    requires { S.failed source.old ≤ 2 ^ 61 }
-    ensures bound { IfOk result (λ bound. (held : List ℕ → Option (List ℕ))
-        → AreTold (S.file source.old) held
-        → AnswersCommand held (Command.Bound files.entry) 0 (bound_reply bound)) }
-    ensures fault { IfErr result (λ fault. (held : List ℕ → Option (List ℕ))
-        → AreTold (S.file source.old) held
-        → AnswersCommand held (Command.Bound files.entry) (reads_failed fault)
-        (fault_reply fault)) }
-    ensures counted { S.failed source.new ≡ S.failed source.old + failed_by result }
-{
-    let documents = Documents::of_files(alloc, source, files)?;
-    documents.bound(alloc)
-}
+/// The most bytes of a picture that is printed.
+const PICTURE_BYTES: usize = 1 << 61;
 
 /// The documents in files, and their analysis.
 fn analysis<S: Source>(
@@ -41,19 +48,68 @@ fn analysis<S: Source>(
     files: Files<'_>,
 ) -> Result<(Documents, Analysis), Fault>
     requires { S.failed source.old ≤ 2 ^ 61 }
-    ensures report { IfOk result (λ done. (held : List ℕ → Option (List ℕ))
-        → AreTold (S.file source.old) held
-        → AnswersCommand held (Command.Report files.entry) 0
-        (report_reply done.0 (visits_of done.1))) }
+    ensures held { IfOk result (λ done. (held : List ℕ → Option (List ℕ))
+        → AreTold (S.file source.old) held → AreHeld held files.entry done.0) }
+    ensures bound { IfOk result (λ done. IsBound done.0 (bound_of done.1)) }
+    ensures walk { IfOk result (λ done.
+        IsWorstWalk done.0 (bound_of done.1) (angle_of done.1) (visits_of done.1)) }
     ensures fault { IfErr result (λ fault. (held : List ℕ → Option (List ℕ))
         → AreTold (S.file source.old) held
-        → AnswersCommand held (Command.Report files.entry) (reads_failed fault)
-        (fault_reply fault)) }
+        → IsFault (AreHeld held files.entry) (AreNotHeld held files.entry) fault) }
     ensures counted { S.failed source.new ≡ S.failed source.old + failed_by result }
 {
     let documents = Documents::of_files(alloc, source, files)?;
     let analysis = documents.analyse(alloc)?;
     Ok((documents, analysis))
+}
+
+/// A picture of the worst walk of an analysis.
+fn drawing(alloc: Global, documents: &Documents, analysis: &Analysis) -> Result<String, Fault>
+    ensures short { IfOk result (λ text. length (string_bytes text) ≤ 2 ^ 61) }
+    ensures wanting { IfErr result (λ fault. fault ≡ Fault.Refused Refusal.Memory) }
+{
+    match picture(alloc, analysis, &documents.deck, &documents.times) {
+        Ok(text) if text.len() <= PICTURE_BYTES => Ok(text),
+        _ => Err(Fault::Refused(Refusal::Memory)),
+    }
+}
+
+/// A picture of the worst walk of documents in files.
+fn picture_of<S: Source>(alloc: Global, source: &mut S, files: Files<'_>) -> Result<String, Fault>
+    requires { S.failed source.old ≤ 2 ^ 61 }
+    ensures short { IfOk result (λ text. length (string_bytes text) ≤ 2 ^ 61) }
+    ensures picture { IfOk result (λ text. (held : List ℕ → Option (List ℕ))
+        → AreTold (S.file source.old) held
+        → AnswersOnFiles SaysPicture held files.entry 0 (picture_reply (string_bytes text))) }
+    ensures fault { IfErr result (λ fault. (held : List ℕ → Option (List ℕ))
+        → AreTold (S.file source.old) held
+        → IsFault (AreHeld held files.entry) (AreNotHeld held files.entry) fault) }
+    ensures counted { S.failed source.new ≡ S.failed source.old + failed_by result }
+{
+    let (documents, analysis) = analysis(alloc, source, files)?;
+    drawing(alloc, &documents, &analysis)
+}
+
+/// The documents in files, and the inputs in another.
+fn documents_with_inputs<S: Source>(
+    alloc: Global,
+    source: &mut S,
+    files: Files<'_>,
+    inputs: &str,
+) -> Result<(Documents, Inputs), Fault>
+    requires { S.failed source.old ≤ 2 ^ 61 }
+    ensures held { IfOk result (λ done. (held : List ℕ → Option (List ℕ))
+        → AreTold (S.file source.old) held
+        → AreHeld held files.entry done.0 × HoldsInputs (held inputs.entry.now) done.1) }
+    ensures fault { IfErr result (λ fault. (held : List ℕ → Option (List ℕ))
+        → AreTold (S.file source.old) held
+        → IsFaultWith (AreHeld held files.entry) (AreNotHeld held files.entry)
+        (HoldsInputs (held inputs.entry.now)) (HoldsNoInputs (held inputs.entry.now)) fault) }
+    ensures counted { S.failed source.new ≡ S.failed source.old + failed_by result }
+{
+    let documents = Documents::of_files(alloc, source, files)?;
+    let inputs = inputs_of(alloc, source, inputs)?;
+    Ok((documents, inputs))
 }
 
 /// The verdict of a replay from files.
@@ -66,16 +122,15 @@ fn verdict<S: Source>(
     requires { S.failed source.old ≤ 2 ^ 61 }
     ensures verdict { IfOk result (λ verdict. (held : List ℕ → Option (List ℕ))
         → AreTold (S.file source.old) held
-        → AnswersCommand held (Command.Replay files.entry inputs.entry) 0
+        → AnswersRunOfFiles SaysVerdict held files.entry inputs.entry.now 0
         (verdict_reply verdict)) }
     ensures fault { IfErr result (λ fault. (held : List ℕ → Option (List ℕ))
         → AreTold (S.file source.old) held
-        → AnswersCommand held (Command.Replay files.entry inputs.entry) (reads_failed fault)
-        (fault_reply fault)) }
+        → IsFaultWith (AreHeld held files.entry) (AreNotHeld held files.entry)
+        (HoldsInputs (held inputs.entry.now)) (HoldsNoInputs (held inputs.entry.now)) fault) }
     ensures counted { S.failed source.new ≡ S.failed source.old + failed_by result }
 {
-    let documents = Documents::of_files(alloc, source, files)?;
-    let inputs = inputs_of(alloc, source, inputs)?;
+    let (documents, inputs) = documents_with_inputs(alloc, source, files, inputs)?;
     replay(
         alloc,
         &documents.deck,
@@ -83,6 +138,35 @@ fn verdict<S: Source>(
         &documents.notes,
         inputs,
     )
+}
+
+/// A replay from files, before its first step.
+fn begun<S: Source>(
+    alloc: Global,
+    source: &mut S,
+    files: Files<'_>,
+    inputs: &str,
+) -> Result<(Documents, Begun), Fault>
+    requires { S.failed source.old ≤ 2 ^ 61 }
+    ensures begun { IfOk result (λ done. (given : Given) × IsBegun (setting_of done.0) given done.1
+        × ((held : List ℕ → Option (List ℕ)) (reply : Reply) → AreTold (S.file source.old) held
+        → SaysTrace (setting_of done.0) given reply
+        → AnswersRunOfFiles SaysTrace held files.entry inputs.entry.now 0 reply)) }
+    ensures fault { IfErr result (λ fault. (held : List ℕ → Option (List ℕ))
+        → AreTold (S.file source.old) held
+        → IsFaultWith (AreHeld held files.entry) (AreNotHeld held files.entry)
+        (HoldsInputs (held inputs.entry.now)) (HoldsNoInputs (held inputs.entry.now)) fault) }
+    ensures counted { S.failed source.new ≡ S.failed source.old + failed_by result }
+{
+    let (documents, inputs) = documents_with_inputs(alloc, source, files, inputs)?;
+    let begun = begin(
+        alloc,
+        &documents.deck,
+        &documents.times,
+        &documents.notes,
+        inputs,
+    )?;
+    Ok((documents, begun))
 }
 
 /// Does what a command says, with files: writes its result to `out`, or the line of the first fault
@@ -111,17 +195,29 @@ pub fn obey<S: Source, O: Output, E: Output>(
         → AnswersCommand held command.entry failures reply) }
 {
     match command {
-        Command::Bound(files) => match bound(alloc, source, files) {
-            Ok(bound) => tell_bound(out, bound),
-            Err(fault) => tell_fault(err, &fault),
+        Command::Bound(files) => match analysis(alloc, source, files) {
+            Ok((_, analysis)) => tell_bound(out, analysis.bound()),
+            Err(fault) => complain(err, fault),
         },
         Command::Report(files) => match analysis(alloc, source, files) {
             Ok((documents, analysis)) => tell_report(out, &documents, &analysis),
-            Err(fault) => tell_fault(err, &fault),
+            Err(fault) => complain(err, fault),
+        },
+        Command::Walk(files) => match analysis(alloc, source, files) {
+            Ok((documents, analysis)) => tell_walk(out, &documents, &analysis),
+            Err(fault) => complain(err, fault),
+        },
+        Command::Draw(files) => match picture_of(alloc, source, files) {
+            Ok(picture) => tell_text(out, picture.as_bytes()),
+            Err(fault) => complain(err, fault),
         },
         Command::Replay(files, inputs) => match verdict(alloc, source, files, inputs) {
             Ok(verdict) => tell_verdict(out, &verdict),
-            Err(fault) => tell_fault(err, &fault),
+            Err(fault) => complain(err, fault),
+        },
+        Command::Trace(files, inputs) => match begun(alloc, source, files, inputs) {
+            Ok((documents, begun)) => tell_trace(out, &documents, begun),
+            Err(fault) => complain(err, fault),
         },
     }
 }

@@ -1,5 +1,5 @@
 ghost use Rattle.std.specs.Prelude.{IfOk, IfErr};
-ghost use Rattle.drum_bound.specs.AnalysisOf.{bound_of, visits_of};
+ghost use Rattle.drum_bound.specs.AnalysisOf.{angle_of, bound_of, visits_of};
 ghost use Rattle.drum_tool.specs.Documents.{IsAnalysisFault, IsBound, IsWorstWalk};
 
 use drum_bound::{Analysis, analyse};
@@ -25,7 +25,7 @@ impl Documents {
     pub fn analyse(&self, alloc: Global) -> Result<Analysis, Fault>
         ensures bound { IfOk result (λ analysis. IsBound self.now (bound_of analysis)) }
         ensures walk { IfOk result (λ analysis.
-            IsWorstWalk self.now (bound_of analysis) (visits_of analysis)) }
+            IsWorstWalk self.now (bound_of analysis) (angle_of analysis) (visits_of analysis)) }
         ensures fault { IfErr result (IsAnalysisFault self.now) }
     {
         match analyse(alloc, &self.deck, &self.times, &self.notes) {

@@ -5,6 +5,7 @@
 mod commands;
 mod documents;
 mod files;
+mod following;
 mod held;
 mod input;
 mod joined;
@@ -13,6 +14,7 @@ mod replaying;
 mod running;
 mod source;
 mod telling;
+mod tracing;
 
 pub use commands::obey;
 pub use documents::Documents;

@@ -1,59 +1,89 @@
-ghost use Rattle.std.specs.Prelude.{◌≡◌, ℕ, ◌^◌, ◌<◌, List, [], None, IfOk, IfErr};
+ghost use Rattle.std.specs.Prelude.{◌≡◌, ℕ, List, IfErr, IfOk, option_map};
 ghost use Rattle.drum_core.specs.Loads.{loads_in, start_in};
-ghost use Rattle.drum_machine.specs.Feed.{cards_left, waits_left};
-ghost use Rattle.drum_machine.specs.Machine.{GoesOn, state_in};
-ghost use Rattle.drum_machine.specs.Monitor.{answer_of, HasSeen};
 ghost use Rattle.drum_flow.specs.Accepted.{IsAccepted};
 ghost use Rattle.drum_bound.specs.AnalysisOf.{setting};
-ghost use Rattle.drum_tool.specs.Following.{CanBegin, IsBounded, IsFollowed};
+ghost use Rattle.drum_tool.specs.Begun.{IsBegun, left_before};
 ghost use Rattle.drum_tool.specs.Given.{given};
 ghost use Rattle.drum_tool.specs.Replay.{IsReplay, IsReplayFault};
 
+use crate::following::{Following, follow};
 use drum_bound::analyse;
 use drum_core::Deck;
 use drum_inputs::Inputs;
 use drum_lines::{Fault, Verdict};
-use drum_machine::{Feed, Machine, Monitor, Step};
+use drum_machine::{Left, Machine, Monitor};
 use drum_times::{Notes, Times};
 use std::alloc::Global;
 
-/// Follows a run from its beginning until it leaves the notes or stops. It ends, since each step
-/// uses time, and no run that keeps to the notes uses more than the bound.
-fn follow(
+/// A replay before its first step.
+#[derive(Debug, Drop)]
+pub struct Begun {
+    pub following: Following,
+    /// The drum's angle at time 0.
+    pub angle: u8,
+    /// The most word times that a run which keeps to the notes uses.
+    pub bound: u64,
+    /// The verdict, where it comes before any step.
+    pub verdict: Option<Verdict>,
+}
+
+/// The verdict on a run that has left the notes before its first step.
+fn verdict_before(left: Option<Left>) -> Option<Verdict>
+    ensures { result ≡ option_map left_before left }
+{
+    match left {
+        Some(what) => Some(Verdict::Left {
+            what,
+            step: 0,
+            used: 0,
+        }),
+        None => None,
+    }
+}
+
+/// A replay of a machine with this deck, which the inputs set up and feed, before its first step.
+///
+/// # Errors
+///
+/// As [`replay`].
+pub fn begin(
+    alloc: Global,
     deck: &Deck,
     times: &Times,
     notes: &Notes,
-    mut machine: Machine,
-    mut monitor: Monitor,
-    mut feed: Feed,
-    bound: u64,
-) -> Verdict
-    requires bounded { IsBounded (setting deck.now times.now notes.now) bound }
-    requires below { bound < 2 ^ 62 }
-    requires begins { CanBegin (setting deck.now times.now notes.now)
-        (state_in machine (cards_left feed)) }
-    requires goes { GoesOn machine }
-    requires silent { answer_of monitor ≡ None }
-    requires seen { HasSeen (loads_in deck.now) notes.now monitor [] }
-    ensures { IsFollowed (setting deck.now times.now notes.now)
-        (state_in machine (cards_left feed)) (waits_left feed) bound result }
+    inputs: Inputs,
+) -> Result<Begun, Fault>
+    ensures begun { IfOk result (IsBegun (setting deck.now times.now notes.now) (given inputs)) }
+    ensures accepted { IfOk result (λ _. (executed : List ℕ)
+        × IsAccepted (loads_in deck.now) notes.now (start_in deck.now) executed) }
+    ensures refused { IfErr result
+        (IsReplayFault (setting deck.now times.now notes.now) (given inputs)) }
 {
-    let mut number = 0;
-    loop {
-        let before = machine.used();
-        let step = machine.step(times, &mut feed);
-        number += 1;
-        if let Some(what) = monitor.check(notes, deck, &step) {
-            return Verdict::Left {
-                what,
-                step: number,
-                used: before,
-            };
-        }
-        if let Step::Stopped { why, used, .. } = step {
-            return Verdict::Kept { used, bound, why };
-        }
+    let Inputs { setup, feed } = inputs;
+    if let Some(location) = setup.loaded_by(deck) {
+        return Err(Fault::Loaded(location));
     }
+    let analysis = match analyse(alloc, deck, times, notes) {
+        Ok(analysis) => analysis,
+        Err(refusal) => return Err(Fault::Refused(refusal)),
+    };
+    let Ok(machine) = Machine::new(alloc, deck, &setup) else {
+        return Err(Fault::Memory);
+    };
+    let monitor = Monitor::new(notes, &setup);
+    let verdict = verdict_before(monitor.left());
+    let following = Following {
+        machine,
+        monitor,
+        feed,
+        steps: 0,
+    };
+    Ok(Begun {
+        following,
+        angle: setup.angle,
+        bound: analysis.bound(),
+        verdict,
+    })
 }
 
 /// The verdict on the run of a machine with this deck, which the inputs set up and feed.
@@ -77,24 +107,14 @@ pub fn replay(
     ensures refused { IfErr result
         (IsReplayFault (setting deck.now times.now notes.now) (given inputs)) }
 {
-    let Inputs { setup, feed } = inputs;
-    if let Some(location) = setup.loaded_by(deck) {
-        return Err(Fault::Loaded(location));
+    let Begun {
+        following,
+        bound,
+        verdict,
+        ..
+    } = begin(alloc, deck, times, notes, inputs)?;
+    match verdict {
+        Some(verdict) => Ok(verdict),
+        None => Ok(follow(deck, times, notes, following, bound)),
     }
-    let analysis = match analyse(alloc, deck, times, notes) {
-        Ok(analysis) => analysis,
-        Err(refusal) => return Err(Fault::Refused(refusal)),
-    };
-    let Ok(machine) = Machine::new(alloc, deck, &setup) else {
-        return Err(Fault::Memory);
-    };
-    let monitor = Monitor::new(notes, &setup);
-    if let Some(what) = monitor.left() {
-        return Ok(Verdict::Left {
-            what,
-            step: 0,
-            used: 0,
-        });
-    }
-    Ok(follow(deck, times, notes, machine, monitor, feed, analysis.bound()))
 }

@@ -12,7 +12,7 @@ ghost use Rattle.drum_tool.specs.Words.{Answers, refused_reply};
 use crate::commands::obey;
 use crate::documents::Documents;
 use crate::source::Source;
-use crate::telling::{tell_bound, tell_fault, tell_help, tell_usage};
+use crate::telling::{tell_bound, tell_fault, tell_text, tell_usage};
 use drum_command::{Refused, read_words};
 use drum_core::{Input, Output};
 use drum_lines::{Fault, Status};
@@ -82,7 +82,7 @@ fn refuse<O: Output, E: Output>(out: &mut O, err: &mut E, refused: &Refused) -> 
         (device (E.written err.new) (E.failed err.new)) result }
 {
     match refused {
-        Refused::Help(text) => tell_help(out, text.as_bytes()),
+        Refused::Help(text) => tell_text(out, text.as_bytes()),
         Refused::Usage(text) => tell_usage(err, text.as_bytes()),
         Refused::Memory => tell_fault(err, &Fault::Memory),
     }

@@ -1,21 +1,30 @@
 //! What goes out of a reply: a result to standard output, a complaint to standard error.
 
-ghost use Rattle.std.specs.Prelude.{◌≡◌, ◌^◌, ◌≤◌, length};
-ghost use Rattle.drum_bound.specs.AnalysisOf.{visits_of};
+ghost use Rattle.std.specs.Prelude.{◌≡◌, ◌+◌, ◌^◌, ◌≤◌, length};
+ghost use Rattle.drum_times.specs.Entries.{entry_in};
+ghost use Rattle.drum_bound.specs.AnalysisOf.{angle_of, bound_of, visits_of};
 ghost use Rattle.drum_lines.specs.BoundText.{bound_text};
 ghost use Rattle.drum_lines.specs.FaultStatus.{status_after};
 ghost use Rattle.drum_lines.specs.FaultText.{fault_text};
-ghost use Rattle.drum_tool.specs.Output.{GetsComplaint, GetsResult, device, ended_with};
+ghost use Rattle.drum_listing.specs.WalkText.{walk_text};
+ghost use Rattle.drum_tool.specs.Begun.{IsBegun, IsReady};
+ghost use Rattle.drum_tool.specs.Documents.{setting_of};
+ghost use Rattle.drum_tool.specs.Output.{Device, GetsComplaint, GetsResult, Tells, device, ended_with};
+ghost use Rattle.drum_tool.specs.Replay.{Given};
+ghost use Rattle.drum_tool.specs.Reply.{Reply, SaysTrace};
 ghost use Rattle.drum_lines.specs.Status.{status_of};
 ghost use Rattle.drum_report.specs.Report.{report_text};
 ghost use Rattle.drum_lines.specs.VerdictText.{verdict_text};
 
 use crate::documents::Documents;
+use crate::replaying::Begun;
+use crate::tracing::trace;
 use drum_bound::Analysis;
 use drum_core::Output;
 use drum_lines::{
     Fault, Status, Verdict, WriteFault, write_bound, write_fault, write_text, write_verdict,
 };
+use drum_listing::list_walk;
 use drum_report::report;
 
 /// How the program ends once a result was written.
@@ -51,9 +60,20 @@ pub fn tell_report<O: Output>(out: &mut O, documents: &Documents, analysis: &Ana
     )
 }
 
+/// Writes the worst walk of an analysis.
+pub fn tell_walk<O: Output>(out: &mut O, documents: &Documents, analysis: &Analysis) -> Status
+    requires { O.called out.old ≤ 2 ^ 62 }
+    ensures { GetsResult (device (O.written out.old) (O.failed out.old))
+        (device (O.written out.new) (O.failed out.new))
+        (walk_text (entry_in documents.now.times) (angle_of analysis.now) (visits_of analysis.now)
+        (bound_of analysis.now)) Status.Done result }
+{
+    ended(list_walk(analysis, &documents.times, out), Status::Done)
+}
+
 /// Writes a verdict.
 pub fn tell_verdict<O: Output>(out: &mut O, verdict: &Verdict) -> Status
-    requires { O.called out.old ≤ 2 ^ 62 }
+    requires { O.called out.old ≤ 2 ^ 62 + 2 ^ 60 }
     ensures { GetsResult (device (O.written out.old) (O.failed out.old))
         (device (O.written out.new) (O.failed out.new)) (verdict_text verdict.now)
         (status_of verdict.now) result }
@@ -73,8 +93,33 @@ pub fn tell_fault<E: Output>(err: &mut E, fault: &Fault) -> Status
     fault.status()
 }
 
-/// Writes the help that was asked for.
-pub fn tell_help<O: Output>(out: &mut O, text: &[u8]) -> Status
+/// Writes the steps of a replay and its verdict.
+pub fn tell_trace<O: Output>(out: &mut O, documents: &Documents, begun: Begun) -> Status
+    requires called { O.called out.old ≤ 2 ^ 62 }
+    requires ready { IsReady (setting_of documents.now) begun }
+    ensures { (given : Given) → IsBegun (setting_of documents.now) given begun
+        → (reply : Reply) × SaysTrace (setting_of documents.now) given reply
+        × ((err : Device) → Tells reply (device (O.written out.old) (O.failed out.old))
+        (device (O.written out.new) (O.failed out.new)) err err result) }
+{
+    match trace(documents, begun, out) {
+        Ok(verdict) => tell_verdict(out, &verdict),
+        Err(_) => Status::Failed,
+    }
+}
+
+/// As [`tell_fault`], of a fault that is done with then.
+pub fn complain<E: Output>(err: &mut E, fault: Fault) -> Status
+    requires { E.called err.old ≤ 2 ^ 62 }
+    ensures line { GetsComplaint (device (E.written err.old) (E.failed err.old))
+        (device (E.written err.new) (E.failed err.new)) (fault_text fault) }
+    ensures status { result ≡ status_after fault }
+{
+    tell_fault(err, &fault)
+}
+
+/// Writes a text that is a result.
+pub fn tell_text<O: Output>(out: &mut O, text: &[u8]) -> Status
     requires out { O.called out.old ≤ 2 ^ 62 }
     requires short { length text.now ≤ 2 ^ 61 }
     ensures { GetsResult (device (O.written out.old) (O.failed out.old))

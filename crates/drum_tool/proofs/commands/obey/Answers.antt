@@ -1,48 +1,111 @@
-use Rattle.std.proofs.Common.{ℕ, refl}
-use Rattle.drum_bound.specs.AnalysisOf.{visits_of}
+use Rattle.std.proofs.Common.{ℕ, List, inl, inr, refl, sym, subst}
+use Rattle.std.specs.Prelude.{string_bytes}
+use Rattle.drum_bound.specs.AnalysisOf.{angle_of, bound_of, visits_of}
 use Rattle.drum_lines.specs.FaultStatus.{reads_failed}
-use Rattle.drum_tool.specs.Reply.{AnswersCommand, bound_reply, fault_reply, report_reply, verdict_reply}
+use Rattle.drum_lines.specs.declared.status.Status.TheVariants.{Done}
+use Rattle.drum_tool.specs.Documents.{IsBound}
+use Rattle.drum_tool.specs.Output.{GetsResult, device}
+use Rattle.drum_tool.specs.Reply.{AnswersCommand, bound_reply, fault_reply, picture_reply, report_reply, verdict_reply, walk_reply}
 use Rattle.drum_tool.proofs.Replies.{counted}
 use Rattle.drum_tool.proofs.commands.obey.Goals as goal
 
 pub returns-in-Ok : goal.returns-in-Ok
 returns-in-Ok g c =
-    let reply = bound_reply c.in-Ok.bound in (
+    let documents = c.in-Ok.field-0-0 in
+    let is : IsBound documents c.bound.result = subst (IsBound documents) (sym c.bound.ensures.told) c.in-Ok.ensures.bound in
+    let reply = bound_reply c.bound.result in (
       reply,
       (c.tell_bound.ensures, refl),
       (λ held failures told count.
           counted (λ (n : ℕ). AnswersCommand held c.args.command n reply) _ _ failures 0 c.in-Ok.ensures.counted count
-          (rw c.in-Bound.is (c.in-Ok.ensures.bound held told))),
+          (rw c.in-Bound.is (inl (documents, c.in-Ok.ensures.held held told, refl, (c.bound.result, is, refl))))),
     )
 
-pub returns-in-Err : goal.returns-in-Err
-returns-in-Err g c =
+pub returns-in-Bound : goal.returns-in-Bound
+returns-in-Bound g c =
     let fault = c.in-Err.fault in (
       fault_reply fault,
-      (refl, c.tell_fault.ensures.line, c.tell_fault.ensures.status),
+      (refl, c.complain.ensures.line, c.complain.ensures.status),
       (λ held failures told count.
           counted (λ (n : ℕ). AnswersCommand held c.args.command n (fault_reply fault)) _ _ failures (reads_failed fault) c.in-Err.ensures.counted count
-          (rw c.in-Bound.is (c.in-Err.ensures.fault held told))),
+          (rw c.in-Bound.is (inr (fault, c.in-Err.ensures.fault held told, refl, refl)))),
     )
 
 pub returns-in-Ok-analysis : goal.returns-in-Ok-analysis
 returns-in-Ok-analysis g c =
-    let reply = report_reply c.in-Ok-analysis.documents (visits_of c.in-Ok-analysis.analysis) in (
+    let documents = c.in-Ok-analysis.documents in
+    let analysis = c.in-Ok-analysis.analysis in
+    let reply = report_reply documents (visits_of analysis) in (
       reply,
       (c.tell_report.ensures, refl),
       (λ held failures told count.
           counted (λ (n : ℕ). AnswersCommand held c.args.command n reply) _ _ failures 0 c.in-Ok-analysis.ensures.counted count
-          (rw c.in-Report.is (c.in-Ok-analysis.ensures.report held told))),
+          (rw c.in-Report.is (inl (
+            documents,
+            c.in-Ok-analysis.ensures.held held told,
+            refl,
+            (bound_of analysis, c.in-Ok-analysis.ensures.bound, angle_of analysis, visits_of analysis, c.in-Ok-analysis.ensures.walk, refl),
+          )))),
     )
 
-pub returns-in-Err-analysis : goal.returns-in-Err-analysis
-returns-in-Err-analysis g c =
+pub returns-in-Report : goal.returns-in-Report
+returns-in-Report g c =
     let fault = c.in-Err-analysis.fault in (
       fault_reply fault,
-      (refl, c.tell_fault-in-Err-analysis.ensures.line, c.tell_fault-in-Err-analysis.ensures.status),
+      (refl, c.complain-in-Err-analysis.ensures.line, c.complain-in-Err-analysis.ensures.status),
       (λ held failures told count.
           counted (λ (n : ℕ). AnswersCommand held c.args.command n (fault_reply fault)) _ _ failures (reads_failed fault) c.in-Err-analysis.ensures.counted count
-          (rw c.in-Report.is (c.in-Err-analysis.ensures.fault held told))),
+          (rw c.in-Report.is (inr (fault, c.in-Err-analysis.ensures.fault held told, refl, refl)))),
+    )
+
+pub returns-in-Ok-analysis-2 : goal.returns-in-Ok-analysis-2
+returns-in-Ok-analysis-2 g c =
+    let documents = c.in-Ok-analysis-2.documents in
+    let analysis = c.in-Ok-analysis-2.analysis in
+    let reply = walk_reply documents (angle_of analysis) (visits_of analysis) (bound_of analysis) in (
+      reply,
+      (c.tell_walk.ensures, refl),
+      (λ held failures told count.
+          counted (λ (n : ℕ). AnswersCommand held c.args.command n reply) _ _ failures 0 c.in-Ok-analysis-2.ensures.counted count
+          (rw c.in-Walk.is (inl (
+            documents,
+            c.in-Ok-analysis-2.ensures.held held told,
+            refl,
+            (bound_of analysis, c.in-Ok-analysis-2.ensures.bound, angle_of analysis, visits_of analysis, c.in-Ok-analysis-2.ensures.walk, refl),
+          )))),
+    )
+
+pub returns-in-Walk : goal.returns-in-Walk
+returns-in-Walk g c =
+    let fault = c.in-Err-analysis-2.fault in (
+      fault_reply fault,
+      (refl, c.complain-in-Err-analysis-2.ensures.line, c.complain-in-Err-analysis-2.ensures.status),
+      (λ held failures told count.
+          counted (λ (n : ℕ). AnswersCommand held c.args.command n (fault_reply fault)) _ _ failures (reads_failed fault) c.in-Err-analysis-2.ensures.counted count
+          (rw c.in-Walk.is (inr (fault, c.in-Err-analysis-2.ensures.fault held told, refl, refl)))),
+    )
+
+pub returns-in-Ok-picture_of : goal.returns-in-Ok-picture_of
+returns-in-Ok-picture_of g c =
+    let old = device (g.O.Output.written c.args.out.now) (g.O.Output.failed c.args.out.now) in
+    let new = device (g.O.Output.written c.tell_text.new.out) (g.O.Output.failed c.tell_text.new.out) in
+    let gets = subst (λ (text : List ℕ). GetsResult old new text Done c.tell_text.result) c.as_bytes.ensures.value c.tell_text.ensures in
+    let reply = picture_reply (string_bytes c.in-Ok-picture_of.picture) in (
+      reply,
+      (gets, refl),
+      (λ held failures told count.
+          counted (λ (n : ℕ). AnswersCommand held c.args.command n reply) _ _ failures 0 c.in-Ok-picture_of.ensures.counted count
+          (rw c.in-Draw.is (c.in-Ok-picture_of.ensures.picture held told))),
+    )
+
+pub returns-in-Draw : goal.returns-in-Draw
+returns-in-Draw g c =
+    let fault = c.in-Err-picture_of.fault in (
+      fault_reply fault,
+      (refl, c.complain-in-Err-picture_of.ensures.line, c.complain-in-Err-picture_of.ensures.status),
+      (λ held failures told count.
+          counted (λ (n : ℕ). AnswersCommand held c.args.command n (fault_reply fault)) _ _ failures (reads_failed fault) c.in-Err-picture_of.ensures.counted count
+          (rw c.in-Draw.is (inr (fault, c.in-Err-picture_of.ensures.fault held told, refl, refl)))),
     )
 
 pub returns-in-Ok-verdict : goal.returns-in-Ok-verdict
@@ -55,12 +118,33 @@ returns-in-Ok-verdict g c =
           (rw c.in-Replay.is (c.in-Ok-verdict.ensures.verdict held told))),
     )
 
-pub returns-in-Err-verdict : goal.returns-in-Err-verdict
-returns-in-Err-verdict g c =
+pub returns-in-Replay : goal.returns-in-Replay
+returns-in-Replay g c =
     let fault = c.in-Err-verdict.fault in (
       fault_reply fault,
-      (refl, c.tell_fault-in-Err-verdict.ensures.line, c.tell_fault-in-Err-verdict.ensures.status),
+      (refl, c.complain-in-Err-verdict.ensures.line, c.complain-in-Err-verdict.ensures.status),
       (λ held failures told count.
           counted (λ (n : ℕ). AnswersCommand held c.args.command n (fault_reply fault)) _ _ failures (reads_failed fault) c.in-Err-verdict.ensures.counted count
-          (rw c.in-Replay.is (c.in-Err-verdict.ensures.fault held told))),
+          (rw c.in-Replay.is (inr (fault, c.in-Err-verdict.ensures.fault held told, refl, refl)))),
+    )
+
+pub returns-in-Ok-begun : goal.returns-in-Ok-begun
+returns-in-Ok-begun g c =
+    let begun = c.in-Ok-begun.ensures.begun in
+    let told_so = c.tell_trace.ensures begun.0 begun.1 in (
+      told_so.0,
+      told_so.2 (device (g.E.Output.written c.args.err.now) (g.E.Output.failed c.args.err.now)),
+      (λ held failures told count.
+          counted (λ (n : ℕ). AnswersCommand held c.args.command n told_so.0) _ _ failures 0 c.in-Ok-begun.ensures.counted count
+          (rw c.in-Trace.is (begun.2 held told_so.0 told told_so.1))),
+    )
+
+pub returns : goal.returns
+returns g c =
+    let fault = c.in-Err-begun.fault in (
+      fault_reply fault,
+      (refl, c.complain-in-Err-begun.ensures.line, c.complain-in-Err-begun.ensures.status),
+      (λ held failures told count.
+          counted (λ (n : ℕ). AnswersCommand held c.args.command n (fault_reply fault)) _ _ failures (reads_failed fault) c.in-Err-begun.ensures.counted count
+          (rw c.in-Trace.is (inr (fault, c.in-Err-begun.ensures.fault held told, refl, refl)))),
     )

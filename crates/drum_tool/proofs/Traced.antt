@@ -1,0 +1,135 @@
+-- The lines of a run's steps, and the verdict behind them.
+use Rattle.std.proofs.Common.{◌≡◌, ℕ, suc, ◌+◌, ◌-◌, Bool, true, false, not, List, [], ◌∷◌, ◌++◌, length, take, ap, sym, subst, ◌∙◌, arith, append_assoc, append-nil, length-append, inl, inr, Option, Some, None, Result, Ok, Err}
+use Rattle.std.specs.Prelude.{MatchResult, if◌then◌else◌}
+use Rattle.std.specs.Io.KnownBytes.{Appends}
+use Rattle.drum_core.proofs.Bytes.{Appends-then, take_behind}
+use Rattle.drum_core.specs.declared.op.Op.{Op}
+use Rattle.drum_times.specs.declared.entry.Entry.{Entry}
+use Rattle.drum_machine.specs.Machine.{op_in, waits_with}
+use Rattle.drum_machine.specs.Run.{Turn}
+use Rattle.drum_machine.specs.Step.{State, Stepped, on, stopped, clock_of, instruction_in, is_operand, lacks_card, leaves, step, step_with}
+use Rattle.drum_machine.specs.declared.why.Why.TheVariants as why
+use Rattle.drum_machine.specs.Effect.{Outcome, effect, goes, stops}
+use Rattle.drum_machine.specs.Timing.{ended, ready, units_of}
+use Rattle.drum_core.specs.Location.{is_location}
+use Rattle.drum_core.specs.Op.{op_of, operand_of}
+use Rattle.drum_flow.specs.Walk.{Setting}
+use Rattle.drum_lines.specs.declared.status.Status.{Status}
+use Rattle.drum_lines.specs.declared.verdict.Verdict.{Verdict}
+use Rattle.drum_listing.specs.TraceText.{turn_line, turn_lines}
+use Rattle.drum_tool.specs.declared.replaying.Begun.{Begun}
+use Rattle.drum_tool.specs.Begun.{IsBegun}
+use Rattle.drum_tool.specs.Following.{Goes, IsFollowed, Lead, state_of, waits_of}
+use Rattle.drum_tool.specs.Output.{Device, GetsAll, GetsResult}
+use Rattle.drum_tool.specs.Replay.{Given, IsTraced}
+use Rattle.drum_tool.proofs.Beginning.{before_none, followed_all, replay_before, replay_followed}
+
+-- one line more
+pub lines_more : (times : Op → Entry) (number : ℕ) (turns : List Turn) (turn : Turn)
+    → turn_lines times number (turns ++ turn ∷ []) ≡ turn_lines times number turns ++ turn_line times (number + length turns) turn
+lines_more times number [] turn =
+    let same : number + 0 ≡ number = omega arith in
+    append-nil (turn_line times number turn) ∙ ap (λ (n : ℕ). turn_line times n turn) (sym same)
+lines_more times number (one ∷ turns) turn =
+    let same : suc number + length turns ≡ number + suc (length turns) = omega arith in
+    ap (λ (rest : List ℕ). turn_line times number one ++ rest)
+    (lines_more times (suc number) turns turn ∙ ap (λ (n : ℕ). turn_lines times (suc number) turns ++ turn_line times n turn) same)
+    ∙ sym (append_assoc (turn_line times number one) (turn_lines times (suc number) turns) (turn_line times (number + suc (length turns)) turn))
+
+-- ---- a run keeps its angle at time 0
+
+leaves_start : (s : State) (clock : ℕ) (outcome : Outcome) (next : State) → leaves s clock outcome ≡ on next → next.start ≡ s.start
+leaves_start s clock (stops because) next is = absurd (let bad = is in cc)
+leaves_start s clock (goes contents place) next is = go (is_location place) is
+  where
+    went : State
+    went = record { contents = contents; sought = place; time = clock - s.start; start = s.start }
+
+    go : (b : Bool) → (if b then on went else stopped why.Next (clock - s.start)) ≡ on next → next.start ≡ s.start
+    go true same = let one : went ≡ next = cc in ap (λ (state : State). state.start) (sym one)
+    go false same = absurd (let bad = same in cc)
+
+acted_start : (s : State) (x e : ℕ) (outcome : Outcome) (next : State) (wanted lacks : Bool)
+    → (if not wanted then stopped why.Operand (x - s.start) else (if lacks then stopped why.Card (x - s.start) else leaves s e outcome)) ≡ on next
+    → next.start ≡ s.start
+acted_start s x e outcome next false lacks is = absurd (let bad = is in cc)
+acted_start s x e outcome next true true is = absurd (let bad = is in cc)
+acted_start s x e outcome next true false is = leaves_start s e outcome next is
+
+step_start : (times : Op → Entry) (s : State) (wait : ℕ) (next : State) → step times s wait ≡ on next → next.start ≡ s.start
+step_start times s wait next is = go (op_of (instruction_in s).op) is
+  where
+    go : (op : Option Op) → step_with times s wait op ≡ on next → next.start ≡ s.start
+    go None same = absurd (let bad = same in cc)
+    go (Some op) same =
+        let ins = instruction_in s in
+        acted_start s (ready (times op) s.sought (clock_of s))
+        (ended (times op) op ins.d s.sought (units_of op ins.d s.contents) wait (clock_of s))
+        (effect s.contents op ins.d ins.i) next (is_operand (operand_of op) ins.d) (lacks_card op s.contents) same
+
+goes_start : (s : State) (now : State) (outcome reached : Stepped) (Right : State → Type 0) → outcome ≡ reached
+    → ((next : State) → reached ≡ on next → next.start ≡ s.start) → ((next : State) → Right next → now.start ≡ next.start)
+    → Goes outcome Right → now.start ≡ s.start
+goes_start s now (on next) reached Right is here later onward = later next onward ∙ here next (sym is)
+goes_start s now (stopped because moment) reached Right is here later onward = absurd onward
+
+-- turns that lead on keep it
+pub lead_start : (times : Op → Entry) (s : State) (waits : List ℕ) (turns : List Turn) (now : State) (left : List ℕ)
+    → Lead times s waits turns now left → now.start ≡ s.start
+lead_start times s waits [] now left lead = ap (λ (state : State). state.start) (sym lead.0)
+lead_start times s waits (turn ∷ turns) now left lead =
+    goes_start s now turn.outcome (step times s turn.wait)
+    (λ next. Lead times next (waits_with (op_in turn.origin) turn.origin waits) turns now left) lead.0.stepped
+    (λ next is. step_start times s turn.wait next is)
+    (λ next rest. lead_start times next (waits_with (op_in turn.origin) turn.origin waits) turns now left rest) lead.2
+
+-- ---- what a trace is
+
+module _ (g : Setting) (given : Given) (begun : Begun) (is : IsBegun g given begun) where
+  -- no turns, where the verdict comes before any,
+  pub traced_before : (verdict : Verdict) → begun.verdict ≡ Some verdict → IsTraced g given [] verdict
+  traced_before verdict at = record {
+    replay = replay_before g given begun is verdict at;
+    replayed = record {
+      first = state_of begun.following;
+      set_up = is.are.set_up;
+      reader = is.are.reader;
+      run = tt;
+      fed = tt;
+    };
+    all = before_none g given begun is verdict at;
+  }
+
+  -- and else those that were followed
+  pub traced_followed : (turns : List Turn) (verdict : Verdict)
+      → IsFollowed g (state_of begun.following) (waits_of begun.following) begun.bound turns verdict → IsTraced g given turns verdict
+  traced_followed turns verdict followed = record {
+    replay = replay_followed g given begun is turns verdict followed;
+    replayed = followed.of_run given is.are;
+    all = followed_all g given begun is turns verdict followed;
+  }
+
+-- what is known of a value, or of an error
+pub either_map : {A E : Type 0} {P P' : A → Type 0} {Q Q' : E → Type 0} (result : Result A E) → MatchResult result P Q
+    → ((a : A) → P a → P' a) → ((e : E) → Q e → Q' e) → MatchResult result P' Q'
+either_map (Ok a) p f h = f a p
+either_map (Err e) q f h = h e q
+
+-- ---- what goes out
+
+-- a text that goes out whole, and another behind it
+pub gets_behind : (old mid new : Device) (front text : List ℕ) (ending status : Status) → GetsAll old mid front → GetsResult mid new text ending status
+    → GetsResult old new (front ++ text) ending status
+gets_behind old mid new front text ending status all (inl (rest, is)) =
+    inl ((Appends-then old.written mid.written new.written front text all.0 rest.0, rest.1 ∙ all.1), is)
+gets_behind old mid new front text ending status all (inr (rest, is)) =
+    inr (
+      (
+        length front + rest.0,
+        omega (arith, rest.1, length-append front text),
+        subst (Appends old.written new.written) (sym (take_behind rest.0 front text))
+            (Appends-then old.written mid.written new.written front (take rest.0 text) all.0 rest.2),
+        rest.3 ∙ ap (λ (n : ℕ). n + 1) all.1,
+      ),
+      is,
+    )

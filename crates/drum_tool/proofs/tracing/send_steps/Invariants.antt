@@ -1,0 +1,23 @@
+use Rattle.std.proofs.Common.{◌≡◌, ◌+◌, ◌-◌, ◌*◌, ◌≤◌, List, Ok}
+use Rattle.drum_times.specs.Entries.{entry_in}
+use Rattle.drum_machine.specs.Run.{Turn}
+use Rattle.drum_bound.specs.AnalysisOf.{setting}
+use Rattle.drum_lines.specs.Sent.{IsSent}
+use Rattle.drum_listing.specs.TraceText.{turn_lines}
+use Rattle.drum_tool.specs.Following.{IsFollowing, state_of, used_so_far, waits_of}
+use Rattle.drum_tool.proofs.tracing.send_steps.Given as goal
+
+-- the lines of the turns so far have gone out
+abbrev pub invariant-loop-following : goal.invariant-loop-following
+invariant-loop-following g l = record {
+  turns : List Turn;
+  so_far : IsFollowing (setting l.deck l.times l.notes) (state_of l.fn.following) (waits_of l.fn.following) l.bound turns l.following;
+  gone : IsSent (g.O.Output.written l.fn.out) (g.O.Output.written l.out) 0 (Ok l.sent) (turn_lines (entry_in l.times) 1 turns);
+  few : l.sent ≤ 200 * l.following.steps;
+  calls : g.O.Output.called l.out ≤ g.O.Output.called l.fn.out + 200 * l.following.steps;
+  failures : g.O.Output.failed l.out ≡ g.O.Output.failed l.fn.out;
+}
+
+-- each step uses time
+abbrev pub decreases-loop-following : goal.decreases-loop-following
+decreases-loop-following g l = l.bound + 1 - used_so_far l.following
