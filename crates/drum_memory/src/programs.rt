@@ -138,9 +138,19 @@ fn obeys(rt: &(impl AllocGlobal + Abort), subject: &Subject) -> Result<(), Fail>
         &files,
         subject.report,
     );
+    done(
+        rt,
+        &["walk", "deck", "times", "notes"],
+        &files,
+        subject.walk,
+    );
     let verdict = format!(in rt.alloc(); "kept used {used} bound {bound} stop programmed\n")?;
     let words = ["replay", "deck", "times", "notes", "inputs"];
     done(rt, &words, &files, verdict.as_str());
+    let steps = subject.steps;
+    let trace = format!(in rt.alloc(); "{steps}{verdict}")?;
+    let words = ["trace", "deck", "times", "notes", "inputs"];
+    done(rt, &words, &files, trace.as_str());
     Ok(())
 }
 
@@ -173,6 +183,17 @@ fn of_a_replay_that_leaves_the_notes(rt: HostRuntime) -> Result<(), Fail> {
     let out = b"left toooften 0100 0100 step 4 used 152\n";
     ends(&rt, Call::Words(&words, &files), Status::Left, out, b"");
     Ok(())
+}
+
+/// A picture is as it is with memory, and looks like one.
+#[test]
+fn of_a_picture(rt: HostRuntime) {
+    let files = files(TWO_WORDS, NOTES, "");
+    let call = Call::Words(&["draw", "deck", "times", "notes"], &files);
+    let known = call.run(rt.alloc());
+    let picture = known.out.text();
+    assert!(rt; picture.starts_with(b"<svg") && picture.ends_with(b"</svg>\n"));
+    ends(&rt, call, Status::Done, picture, b"");
 }
 
 /// The joined form of a deck with these notes.

@@ -22,12 +22,17 @@ pub(crate) struct Subject {
     /// How many entries the table has, and how many ends of hops were made for it.
     pub(crate) figures: (usize, u64),
     pub(crate) report: &'static str,
+    pub(crate) walk: &'static str,
     /// The word times of the run from angle 1 with nothing else set up, which keeps to the notes
     /// and stops at its 01.
     pub(crate) used: u64,
+    /// The lines of that run's steps.
+    pub(crate) steps: &'static str,
 }
 
-/// The subjects. Their answers are worked out by hand.
+/// The subjects. Their answers are worked out by hand. Of a walk and of the run, moment `m` is the
+/// drum's angle `m + 1`, since both begin at angle 1; a location comes at its number, 69 and 24 are
+/// ready 3 later, seek their data and take 3, 45 takes 2 + 1, 00 and 01 take 1.
 pub(crate) const SUBJECTS: [Subject; 4] = [
     Subject {
         deck: TWO_WORDS,
@@ -41,7 +46,14 @@ card 0001 visits 1 time 55\n\
 card 0002 visits 1 time 1\n\
 other visits 0 time 0\n\
 bound 56\n",
+        walk: "\
+0100 69 0103 0106 to 0106 begun 0 found 49 ready 52 data 52 ended 55\n\
+0106 01 0000 0106 late begun 55 found 55 ready 56 data 56 ended 56\n\
+bound 56\n",
         used: 56,
+        steps: "\
+step 1 0100 +6901030106 found 49 ready 52 data 52 ended 55\n\
+step 2 0106 +0100000106 found 55 ready 56 data 56 ended 56\n",
     },
     Subject {
         deck: BRANCH_BACK,
@@ -56,7 +68,17 @@ card 0002 visits 1 time 8\n\
 other visits 0 time 0\n\
 mark 0100 0100 passed 3 of 3\n\
 bound 210\n",
+        walk: "\
+0100 45 0100 0110 to 0100 begun 0 found 49 ready 51 data 51 ended 52\n\
+0100 45 0100 0110 to 0100 begun 52 found 99 ready 101 data 101 ended 102\n\
+0100 45 0100 0110 to 0100 begun 102 found 149 ready 151 data 151 ended 152\n\
+0100 45 0100 0110 to 0110 begun 152 found 199 ready 201 data 201 ended 202\n\
+0110 01 0000 0110 late begun 202 found 209 ready 210 data 210 ended 210\n\
+bound 210\n",
         used: 60,
+        steps: "\
+step 1 0100 +4501000110 found 49 ready 51 data 51 ended 52\n\
+step 2 0110 +0100000110 found 59 ready 60 data 60 ended 60\n",
     },
     // Its one run meets both roads in the order of the worst walk, and waits as long.
     Subject {
@@ -76,7 +98,24 @@ other visits 2 time 96\n\
 mark 0210 0110 passed 1 of 1\n\
 mark 0210 0120 passed 1 of 1\n\
 bound 420\n",
+        walk: "\
+0100 69 0150 0200 to 0200 begun 0 found 49 ready 52 data 99 ended 102\n\
+0200 24 0210 0210 to 0210 begun 102 found 149 ready 152 data 159 ended 162\n\
+0210 00 0000 0110 to 0110 begun 162 found 209 ready 210 data 210 ended 210\n\
+0110 69 0151 0200 to 0200 begun 210 found 259 ready 262 data 300 ended 303\n\
+0200 24 0210 0210 to 0210 begun 303 found 349 ready 352 data 359 ended 362\n\
+0210 00 0000 0120 to 0120 begun 362 found 409 ready 410 data 410 ended 410\n\
+0120 01 0000 0120 late begun 410 found 419 ready 420 data 420 ended 420\n\
+bound 420\n",
         used: 420,
+        steps: "\
+step 1 0100 +6901500200 found 49 ready 52 data 99 ended 102\n\
+step 2 0200 +2402100210 found 149 ready 152 data 159 ended 162\n\
+step 3 0210 +0000000110 found 209 ready 210 data 210 ended 210\n\
+step 4 0110 +6901510200 found 259 ready 262 data 300 ended 303\n\
+step 5 0200 +2402100210 found 349 ready 352 data 359 ended 362\n\
+step 6 0210 +0000000120 found 409 ready 410 data 410 ended 410\n\
+step 7 0120 +0100000120 found 419 ready 420 data 420 ended 420\n",
     },
     Subject {
         deck: LOOPS,
@@ -93,7 +132,22 @@ other visits 0 time 0\n\
 mark 0110 0100 passed 1 of 1\n\
 mark 0100 0100 passed 4 of 2\n\
 bound 320\n",
+        walk: "\
+0100 45 0100 0110 to 0100 begun 0 found 49 ready 51 data 51 ended 52\n\
+0100 45 0100 0110 to 0100 begun 52 found 99 ready 101 data 101 ended 102\n\
+0100 45 0100 0110 to 0110 begun 102 found 149 ready 151 data 151 ended 152\n\
+0110 45 0100 0120 to 0100 begun 152 found 159 ready 161 data 161 ended 162\n\
+0100 45 0100 0110 to 0100 begun 162 found 199 ready 201 data 201 ended 202\n\
+0100 45 0100 0110 to 0100 begun 202 found 249 ready 251 data 251 ended 252\n\
+0100 45 0100 0110 to 0110 begun 252 found 299 ready 301 data 301 ended 302\n\
+0110 45 0100 0120 to 0120 begun 302 found 309 ready 311 data 311 ended 312\n\
+0120 01 0000 0120 late begun 312 found 319 ready 320 data 320 ended 320\n\
+bound 320\n",
         used: 70,
+        steps: "\
+step 1 0100 +4501000110 found 49 ready 51 data 51 ended 52\n\
+step 2 0110 +4501000120 found 59 ready 61 data 61 ended 62\n\
+step 3 0120 +0100000120 found 69 ready 70 data 70 ended 70\n",
     },
 ];
 
