@@ -11,6 +11,10 @@ mod readings;
 #[cfg(test)]
 mod support;
 #[cfg(test)]
+mod traces;
+#[cfg(test)]
+mod walks;
+#[cfg(test)]
 mod words;
 #[cfg(test)]
 mod writers;

@@ -31,6 +31,13 @@ d_to = 9999\n\
 i = 106\n\
 ";
 
+/// A card, and how long it is waited for.
+const CARD: &str = "\
+ANGLE 01\n\
+CARD +0000000000 +0000000000 +0000000000 +0000000000 +0000000000 +0000000000 +0000000000 +0000000000 +0000000000 +0000000000\n\
+WAIT 100\n\
+";
+
 /// The files that there are, each by its name.
 pub const FILES: &[(&str, &str)] = &[
     ("deck", TWO_WORDS),
@@ -46,6 +53,17 @@ pub const FILES: &[(&str, &str)] = &[
     ("stop", "ANGLE 01\nDISTRIBUTOR +0112340106\n"),
     ("load", "ANGLE 01\nDISTRIBUTOR +6900000000\n"),
     ("switched", "PROGRAMMED RUN\n"),
+    ("one", "ANGLE 01\nACCUMULATOR +00000000000000000001\n"),
+    ("outside", "ANGLE 01\nDISTRIBUTOR +8400000106\n"),
+    ("reads", "0100 +7000490011\n0011 +0100000011\nSTART 0100\n"),
+    ("card", CARD),
+    ("nowhere", "0100 +2480000106\nSTART 0100\n"),
+    ("lower", "0100 +6580020111\n0111 +0100000111\nSTART 0100\n"),
+    (
+        "product",
+        "0100 +1901030106\n0106 +0100000106\nSTART 0100\n",
+    ),
+    ("twelve", "ANGLE 40\nACCUMULATOR +00000000120000000000\n"),
     ("loaded", "ANGLE 01\n0100 +0000000000\n"),
     ("endless", "0100 +0000000100\nSTART 0100\n"),
     ("no deck", "x\n"),

@@ -35,15 +35,17 @@ fn helps(
 #[test]
 fn help(rt: HostRuntime) -> Result<(), Fail> {
     for word in ["--help", "-h"] {
-        helps(&rt, &[word], &["bound", "report", "replay"])?;
-        for command in ["bound", "report"] {
-            helps(&rt, &[command, word], &["DECK", "TIMES", "NOTES"])?;
-        }
         helps(
             &rt,
-            &["replay", word],
-            &["DECK", "TIMES", "NOTES", "INPUTS"],
+            &[word],
+            &["bound", "report", "walk", "draw", "replay", "trace"],
         )?;
+        for command in ["bound", "report", "walk", "draw"] {
+            helps(&rt, &[command, word], &["DECK", "TIMES", "NOTES"])?;
+        }
+        for command in ["replay", "trace"] {
+            helps(&rt, &[command, word], &["DECK", "TIMES", "NOTES", "INPUTS"])?;
+        }
     }
     Ok(())
 }
@@ -62,7 +64,7 @@ fn words_of_no_command(rt: HostRuntime) -> Result<(), Fail> {
         "--version",
         "-V",
         "help",
-        "walk",
+        "walks",
         "Bound",
         "boun",
         "bound ",
@@ -81,18 +83,20 @@ fn words_of_no_command(rt: HostRuntime) -> Result<(), Fail> {
 
 #[test]
 fn wrong_numbers_of_files(rt: HostRuntime) -> Result<(), Fail> {
-    for command in ["bound", "report"] {
+    for command in ["bound", "report", "walk", "draw"] {
         is_no_line(&rt, &[command])?;
         is_no_line(&rt, &[command, "deck"])?;
         is_no_line(&rt, &[command, "deck", "times"])?;
         is_no_line(&rt, &[command, "deck", "times", "notes", "inputs"])?;
     }
-    is_no_line(&rt, &["replay"])?;
-    is_no_line(&rt, &["replay", "deck", "times", "notes"])?;
-    is_no_line(
-        &rt,
-        &["replay", "deck", "times", "notes", "inputs", "inputs"],
-    )?;
+    for command in ["replay", "trace"] {
+        is_no_line(&rt, &[command])?;
+        is_no_line(&rt, &[command, "deck", "times", "notes"])?;
+        is_no_line(
+            &rt,
+            &[command, "deck", "times", "notes", "inputs", "inputs"],
+        )?;
+    }
     Ok(())
 }
 

@@ -3,6 +3,7 @@
 ghost use Rattle.std.specs.Prelude.{◌^◌, ◌≤◌};
 
 use crate::support::{FILES, Shelf};
+use crate::{traces, walks};
 use drum_core::{Output, Reading, Writing};
 use drum_texts::devices::Full;
 use drum_tool::{Status, run};
@@ -27,6 +28,12 @@ const BOUND_WORDS: [&str; 4] = ["bound", "deck", "times", "notes"];
 
 /// The words for the report.
 const REPORT_WORDS: [&str; 4] = ["report", "deck", "times", "notes"];
+
+/// The words for the worst walk.
+const WALK_WORDS: [&str; 4] = ["walk", "nowhere", "times", "notes"];
+
+/// The words for the steps of a run.
+const TRACE_WORDS: [&str; 5] = ["trace", "nowhere", "times", "notes", "empty"];
 
 /// The words for the verdict.
 const REPLAY_WORDS: [&str; 5] = ["replay", "stores", "times", "stops", "stop"];
@@ -96,6 +103,19 @@ fn reports_to_full_outputs(rt: HostRuntime) -> Result<(), Fail> {
 }
 
 #[test]
+fn walks_and_traces_to_full_outputs(rt: HostRuntime) -> Result<(), Fail> {
+    for (words, text) in [
+        (WALK_WORDS.as_slice(), walks::OF_A_STORE_NOWHERE),
+        (TRACE_WORDS.as_slice(), traces::OF_A_STORE_NOWHERE),
+    ] {
+        for room in 0..=text.len() {
+            fills(&rt, words, text, room, AMPLE)?;
+        }
+    }
+    Ok(())
+}
+
+#[test]
 fn outputs_that_take_nothing(rt: HostRuntime) -> Result<(), Fail> {
     fills(&rt, &BOUND_WORDS, BOUND, AMPLE, 0)?;
     fills(&rt, &REPORT_WORDS, REPORT, AMPLE, 0)
@@ -129,6 +149,24 @@ fn verdicts_to_full_outputs(rt: HostRuntime) -> Result<(), Fail> {
             assert_eq!(rt; out.writer.taken.as_slice(), &line.as_bytes()[..room]);
             assert_eq!(rt; err.calls(), 0);
         }
+    }
+    Ok(())
+}
+
+#[test]
+fn traces_that_leave_to_full_outputs(rt: HostRuntime) -> Result<(), Fail> {
+    // Within the first line, before and behind its end, within the second, and within the last.
+    let text = traces::OF_NO_STOP.as_bytes();
+    for room in [0usize, 1, 58, 59, 100, 150] {
+        let words = ["trace", "stores", "times", "stops", "load"];
+        let mut out = Writing::new(Full::new(rt.alloc(), room, AMPLE));
+        let mut err = Writing::new(Full::new(rt.alloc(), AMPLE, AMPLE));
+        let status = run_to(&rt, &words, &mut out, &mut err);
+        assert_eq!(rt; status, Status::Failed, "with {room} bytes");
+        let front = text.get(..room).ok_or("a front")?;
+        assert_eq!(rt; out.writer.taken.as_slice(), front);
+        assert_eq!(rt; out.failures(), 1);
+        assert_eq!(rt; err.calls(), 0);
     }
     Ok(())
 }
