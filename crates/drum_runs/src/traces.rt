@@ -20,8 +20,8 @@ kept used 7 bound 56 stop programmed\n\
 ";
 
 /// From angle 40, 0100 comes at clock 50, and 19 is ready at 53, when 0103 comes, which is odd. The
-/// digits of 12 make 3: 53 + 1 + 2 * 3 = 60, and 0106 comes at 106. At most they make 90: from angle
-/// 1 that is 53 + 1 + 180 = 234, and 0106 comes at 256.
+/// digits of 12 make 3: 53 + 1 + 2 * 3 = 60, and 0106 comes at 106. At most they make 90: from
+/// angle 1 that is 53 + 1 + 180 = 234, and 0106 comes at 256.
 const OF_A_PRODUCT: &str = "\
 step 1 0100 +1901030106 found 10 ready 13 data 13 ended 20\n\
 step 2 0106 +0100000106 found 66 ready 67 data 67 ended 67\n\

@@ -76,7 +76,8 @@ abbrev pub Goes : Stepped → (State → Type 0) → Type 0
 Goes (on next) Right = Right next
 Goes (stopped because moment) Right = ⊥
 
--- turns from a state with waits, each of which goes on, lead to a state with the waits that are left
+-- turns from a state with waits, each of which goes on, lead to a state with the waits that are
+-- left
 abbrev pub Lead : (Op → Entry) → State → List ℕ → List Turn → State → List ℕ → Type 0
 Lead times s waits [] now left = (s ≡ now) × (waits ≡ left)
 Lead times s waits (turn ∷ turns) now left =
