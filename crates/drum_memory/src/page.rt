@@ -4,14 +4,14 @@ use std::io;
 use std::io::{ErrorKind, Write};
 
 /// How many bytes a page has room for.
-const ROOM: usize = 65_536;
+const ROOM: usize = 2048;
 
-/// A writer that takes no memory: it has room for a picture, and refuses what goes past it.
+/// A writer that takes no memory: it has room for a small text, and refuses what goes past it.
 #[derive(Drop)]
 pub(crate) struct Page {
     bytes: [u8; ROOM],
     len: usize,
-    ghost within: { len ≤ 65536 },
+    ghost within: { len ≤ 2048 },
 }
 
 impl Page {

@@ -185,17 +185,6 @@ fn of_a_replay_that_leaves_the_notes(rt: HostRuntime) -> Result<(), Fail> {
     Ok(())
 }
 
-/// A picture is as it is with memory, and looks like one.
-#[test]
-fn of_a_picture(rt: HostRuntime) {
-    let files = files(TWO_WORDS, NOTES, "");
-    let call = Call::Words(&["draw", "deck", "times", "notes"], &files);
-    let known = call.run(rt.alloc());
-    let picture = known.out.text();
-    assert!(rt; picture.starts_with(b"<svg") && picture.ends_with(b"</svg>\n"));
-    ends(&rt, call, Status::Done, picture, b"");
-}
-
 /// The joined form of a deck with these notes.
 fn joined(alloc: Global, deck: &str, notes: &str) -> Result<String, AllocError> {
     format!(in alloc; "{deck}%TIMES\n{TIMES}%NOTES\n{notes}")
