@@ -1,6 +1,7 @@
 -- What a finished scan shows.
-use Rattle.std.proofs.Common.{◌≡◌, ℕ, ◌-◌, ◌*◌, ◌<◌, List, length, map, Option, Some, None, refl, ap, sym, ◌∙◌, subst, arith, mul_comm}
+use Rattle.std.proofs.Common.{◌≡◌, ℕ, ◌-◌, ◌*◌, ◌<◌, ◌≤◌, List, length, map, Option, Some, None, refl, ap, sym, ◌∙◌, subst, arith, mul_comm}
 use Rattle.std.specs.Prelude.{slice_get, sum}
+use Rattle.std.proofs.lemmas.List.{length-map}
 use Rattle.std.proofs.lemmas.Option.{slice_get_within}
 use Rattle.drum_core.specs.declared.deck.Deck.{Deck}
 use Rattle.drum_core.specs.declared.deck.Given.{Given}
@@ -14,6 +15,7 @@ use Rattle.drum_flow.specs.Flow.{order_in}
 use Rattle.drum_flow.specs.Hops.{hops}
 use Rattle.drum_flow.specs.Walk.{Setting, IsProper}
 use Rattle.drum_bound.specs.declared.analysis.Analysis.{Analysis}
+use Rattle.drum_bound.specs.declared.cells.Cells.{Cells}
 use Rattle.drum_bound.specs.declared.keys.Keys.{Keys}
 use Rattle.drum_bound.specs.declared.latest.Latest.{Latest}
 use Rattle.drum_bound.specs.declared.scan.Scan.{Scan}
@@ -23,14 +25,16 @@ use Rattle.drum_bound.proofs.EntriesRaised.{are_raised}
 use Rattle.drum_bound.proofs.EntryEnds.{ends_of, are_ends, as_many_ends}
 use Rattle.drum_bound.specs.Keys.{keys_of, IsOrdered}
 use Rattle.drum_bound.specs.KeysOf.{setting_of}
-use Rattle.drum_bound.specs.RowOf.{rows_below}
-use Rattle.drum_bound.proofs.Rows.{is_table, few_rows, turns_of_rows}
+use Rattle.drum_bound.specs.RowOf.{row_in, rows_below}
+use Rattle.drum_bound.proofs.Rows.{is_table, turns_of_rows}
+use Rattle.drum_bound.proofs.RowsHeld.{few_entries, held_raised, held_sum, held_table}
 use Rattle.drum_bound.proofs.ShortWalks.{short_walk}
-use Rattle.drum_bound.specs.ScanOf.{IsDone, setting_in, order_of, size_in}
+use Rattle.drum_bound.specs.ScanOf.{AreCells, IsDone, setting_in, order_of}
 use Rattle.drum_bound.specs.Scanned.{start_angle, Scanned, turns_below}
 use Rattle.drum_bound.specs.Table.{Row, IsTable}
 use Rattle.drum_bound.specs.Visited.{Visited, IsWalkOf}
 use Rattle.drum_bound.specs.Worst.{IsWorst}
+use Rattle.drum_bound.specs.Held.{kept_in}
 use Rattle.drum_bound.proofs.Worsts.{is_worst}
 
 -- A deck loads drum words alone.
@@ -45,64 +49,68 @@ loaded_on_drum deck place w loads = go (slice_get deck.image.items place) refl l
 pub is_proper : (deck : Deck) (times : Times) (notes : Notes) → AreSound notes → IsProper (setting deck times notes)
 is_proper deck times notes sound = record { on_drum = loaded_on_drum deck; starts = deck.on_drum; notes = sound }
 
--- What a finished scan, its table and its walk are, of these keys and this timing table.
-pub record IsFound (keys : Keys) (times : Times) (scan : Scan) (rows : List Row) (visits : List Visited) : Type 0 where
+-- What a finished scan and its walk are, of these keys and this timing table.
+pub record IsFound (keys : Keys) (times : Times) (cells : Cells) (visits : List Visited) : Type 0 where
+  pub are : AreCells (setting_of keys.flow.now times) (order_in keys.flow.now) cells
   pub scanned : Scanned (setting_of keys.flow.now times) (order_in keys.flow.now)
       (keys_of (setting_of keys.flow.now times).notes.marks (order_in keys.flow.now))
-      (keys_of (setting_of keys.flow.now times).notes.marks (order_in keys.flow.now)) scan.cells.kept.items scan.cells.last
-  pub turns : scan.cells.made.count ≡ turns_below (setting_of keys.flow.now times) (order_in keys.flow.now) scan.cells.kept.items
-      (keys_of (setting_of keys.flow.now times).notes.marks (order_in keys.flow.now))
-  pub table : rows ≡ rows_below (setting_of keys.flow.now times) (order_in keys.flow.now) scan.cells.kept.items
+      (keys_of (setting_of keys.flow.now times).notes.marks (order_in keys.flow.now)) (kept_in cells) cells.last
+  pub turns : cells.made.count ≡ turns_below (setting_of keys.flow.now times) (order_in keys.flow.now) (kept_in cells)
       (keys_of (setting_of keys.flow.now times).notes.marks (order_in keys.flow.now))
   pub walk : IsWalkOf (setting_of keys.flow.now times) (start_angle (setting_of keys.flow.now times).start)
-      (scan.cells.last.clock - start_angle (setting_of keys.flow.now times).start) visits
+      (cells.last.clock - start_angle (setting_of keys.flow.now times).start) visits
 
 -- They are of the keys and the timing table that the scan was given.
-pub is_found : (keys : Keys) (times : Times) (scan : Scan) (rows : List Row) (visits : List Visited) → scan.keys.now ≡ keys → scan.times.now ≡ times → IsDone scan
-    → rows ≡ rows_below (setting_in scan) (order_of scan) scan.cells.kept.items (size_in scan)
+pub is_found : (keys : Keys) (times : Times) (scan : Scan) (visits : List Visited) → scan.keys.now ≡ keys → scan.times.now ≡ times → IsDone scan
     → IsWalkOf (setting_in scan) (start_angle (setting_in scan).start) (scan.cells.last.clock - start_angle (setting_in scan).start) visits
-    → IsFound keys times scan rows visits
-is_found keys times scan rows visits same_keys same_times done table walk =
-    let own : IsFound scan.keys.now scan.times.now scan rows visits = record { scanned = done.scanned; turns = done.turns; table = table; walk = walk } in
-    subst (λ (one : Times). IsFound keys one scan rows visits) same_times (subst (λ (one : Keys). IsFound one scan.times.now scan rows visits) same_keys own)
+    → IsFound keys times scan.cells visits
+is_found keys times scan visits same_keys same_times done walk =
+    let own : IsFound scan.keys.now scan.times.now scan.cells visits = record { are = done.cells; scanned = done.scanned; turns = done.turns; walk = walk } in
+    subst (λ (one : Times). IsFound keys one scan.cells visits) same_times (subst (λ (one : Keys). IsFound one scan.times.now scan.cells visits) same_keys own)
 
--- How the numbers of an analysis are those of a scan.
-pub record IsTold (g : Setting) (order : List ℕ) (cells : List (Option Latest)) (last : Latest) (analysis : Analysis) : Type 0 where
-  pub bound : bound_of analysis ≡ last.clock - start_angle g.start
-  pub angle : angle_of analysis ≡ start_angle g.start
-  pub rows : rows_of analysis ≡ rows_below g order cells (keys_of g.notes.marks order)
-  pub walk : IsWalkOf g (start_angle g.start) (last.clock - start_angle g.start) (visits_of analysis)
-  pub words : words_of analysis ≡ length order
-  pub counts : counts_in_all analysis ≡ counts_of g.notes.marks
-  pub turns : turns_of analysis ≡ turns_below g order cells (keys_of g.notes.marks order)
-  pub passed : ArePasses g.notes.marks (visits_of analysis) (passed_of analysis)
+-- the latest end of all is no earlier than the start
+pub last_after : (g : Setting) (order : List ℕ) (cells : Cells) → AreCells g order cells
+    → Scanned g order (keys_of g.notes.marks order) (keys_of g.notes.marks order) (kept_in cells) cells.last → cells.angle ≤ cells.last.clock
+last_after g order cells are s = omega (arith, are.angle, s.begins.after, s.below s.begins.key s.begins.kept s.begins.there)
 
--- An analysis that tells what a finished scan shows is right.
-pub is_analysis : (g : Setting) (order : List ℕ) (cells : List (Option Latest)) (last : Latest) (analysis : Analysis) → IsOrdered g.loads g.notes g.start order → g.start < 2000
-    → Scanned g order (keys_of g.notes.marks order) (keys_of g.notes.marks order) cells last → IsTold g order cells last analysis
+-- An analysis of finished cells, and of their walk, is right.
+pub is_analysis : (g : Setting) (order : List ℕ) (analysis : Analysis) → IsOrdered g.loads g.notes g.start order → g.start < 2000
+    → AreCells g order analysis.cells
+    → Scanned g order (keys_of g.notes.marks order) (keys_of g.notes.marks order) (kept_in analysis.cells) analysis.cells.last
+    → analysis.cells.made.count ≡ turns_below g order (kept_in analysis.cells) (keys_of g.notes.marks order)
+    → IsWalkOf g (start_angle g.start) (analysis.cells.last.clock - start_angle g.start) (visits_of analysis)
+    → ArePasses g.notes.marks (visits_of analysis) (passed_of analysis)
     → IsAnalysis g (length order) analysis
-is_analysis g order cells last analysis ordered starts s told =
+is_analysis g order analysis ordered starts are s made walk passed =
+    let cells : Cells = analysis.cells in
+    let last : Latest = cells.last in
     let size : ℕ = keys_of g.notes.marks order in
-    let rows : List Row = rows_below g order cells size in
+    let rows : List Row = rows_of analysis in
+    let below : List Row = rows_below g order (kept_in cells) size in
     let turns_in : List Row → ℕ = λ some. sum (map (λ (row : Row). length (hops g.loads g.notes row.place)) some) in
     let product : words_of analysis * counts_in_all analysis ≡ length order * counts_of g.notes.marks =
-    ap (λ (words : ℕ). words * counts_in_all analysis) told.words ∙ ap (λ (counts : ℕ). length order * counts) told.counts in
-    let table : IsTable g rows = is_table g order cells last ordered starts s in
-    let turns : turns_of analysis ≡ turns_in rows = told.turns ∙ sym (turns_of_rows g order cells size) in
-    let ends : (ends : List HopEnd) × AreEnds g rows ends × AreRaised g rows ends × (turns_of analysis ≡ length ends) =
-    (ends_of g rows, are_ends g rows table.apart, are_raised g order cells last ordered starts s, turns ∙ sym (as_many_ends g rows)) in
+    ap (λ (words : ℕ). words * counts_in_all analysis) are.words ∙ ap (λ (counts : ℕ). length order * counts) are.counts in
+    let bound : bound_of analysis ≡ last.clock - start_angle g.start = ap (λ (n : ℕ). last.clock - n) are.angle in
+    let known : IsTable g below = is_table g order (kept_in cells) last ordered starts s in
+    let table : IsTable g rows = held_table g order cells ordered are known in
+    let turns : turns_of analysis ≡ turns_in rows =
+    made ∙ sym (turns_of_rows g order (kept_in cells) size) ∙ held_sum g order cells ordered are (λ (row : Row). length (hops g.loads g.notes row.place)) known.apart in
     record {
-      worst = subst (IsWorst g) (sym told.bound) (is_worst g order cells last ordered starts s);
-      walk = subst (λ (angle : ℕ). IsWalkOf g angle (bound_of analysis) (visits_of analysis)) (sym told.angle)
-          (subst (λ (bound : ℕ). IsWalkOf g (start_angle g.start) bound (visits_of analysis)) (sym told.bound) told.walk);
-      table = subst (IsTable g) (sym told.rows) table;
-      few = omega (arith, product, ap length told.rows, few_rows g order cells size);
+      worst = subst (IsWorst g) (sym bound) (is_worst g order (kept_in cells) last ordered starts s);
+      walk = subst (λ (angle : ℕ). IsWalkOf g angle (bound_of analysis) (visits_of analysis)) (sym are.angle)
+          (subst (λ (n : ℕ). IsWalkOf g (start_angle g.start) n (visits_of analysis)) (sym bound) walk);
+      table = table;
+      few = omega (arith, product, few_entries g order cells ordered are, length-map cells.entries.items row_in, mul_comm (length order) (counts_of g.notes.marks));
       short = λ angle hops walk. omega (arith, product, mul_comm (length order) (counts_of g.notes.marks), short_walk g order ordered angle hops walk);
-      executed = told.words;
-      counts = told.counts;
-      turns = subst (λ (some : List Row). turns_of analysis ≡ turns_in some) (sym told.rows) turns;
-      ends = subst (λ (some : List Row). (ends : List HopEnd) × AreEnds g some ends × AreRaised g some ends × (turns_of analysis ≡ length ends))
-          (sym told.rows) ends;
-      passed = told.passed;
-      below = omega (arith, told.bound, s.last_near, ordered.few);
+      executed = are.words;
+      counts = are.counts;
+      turns = turns;
+      ends = (
+        ends_of g rows,
+        are_ends g rows table.apart,
+        held_raised g order cells ordered are (are_raised g order (kept_in cells) last ordered starts s),
+        turns ∙ sym (as_many_ends g rows),
+      );
+      passed = passed;
+      below = omega (arith, bound, s.last_near, ordered.few);
     }

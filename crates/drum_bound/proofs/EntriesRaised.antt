@@ -23,7 +23,7 @@ use Rattle.drum_bound.specs.Table.{number_of, Row}
 use Rattle.drum_bound.proofs.Walked.{not_before}
 
 -- no pass has the number 0
-number_none : (marks : List Mark) → number_of marks (no_counts marks) ≡ 0
+pub number_none : (marks : List Mark) → number_of marks (no_counts marks) ≡ 0
 number_none [] = refl
 number_none (mark ∷ marks) =
     let others : (mark.most + 1) * number_of marks (no_counts marks) ≡ (mark.most + 1) * 0 = ap (λ (n : ℕ). (mark.most + 1) * n) (number_none marks) in

@@ -19,6 +19,7 @@ use Rattle.drum_bound.specs.ScanOf.{IsDone, order_of, setting_in}
 use Rattle.drum_bound.specs.Scanned.{start_angle, cell_at}
 use Rattle.drum_bound.specs.Table.{Row}
 use Rattle.drum_bound.proofs.Raises.{kept_inside}
+use Rattle.drum_bound.specs.Held.{kept_in}
 use Rattle.drum_bound.proofs.Walked.{not_before}
 
 -- a deck starts on the drum
@@ -34,41 +35,10 @@ pub is_ordered : (scan : Scan) → IsDone scan → IsOrdered (setting_in scan).l
 is_ordered scan done = done.keys.ordered.0
 
 -- what it keeps is no earlier than the start
-pub kept_after : (scan : Scan) (key : ℕ) (kept : Latest) → IsDone scan → cell_at scan.cells.kept.items key ≡ Some kept → start_angle (setting_in scan).start ≤ kept.clock
+pub kept_after : (scan : Scan) (key : ℕ) (kept : Latest) → IsDone scan → cell_at (kept_in scan.cells) key ≡ Some kept → start_angle (setting_in scan).start ≤ kept.clock
 kept_after scan key kept done there =
-    not_before (setting_in scan) (order_of scan) scan.cells.kept.items scan.cells.last (is_ordered scan done) (starts_on_drum scan) done.scanned key kept there
+    not_before (setting_in scan) (order_of scan) (kept_in scan.cells) scan.cells.last (is_ordered scan done) (starts_on_drum scan) done.scanned key kept there
 
 -- something is kept at its keys alone
-pub key_below : (scan : Scan) (key : ℕ) (kept : Latest) → IsDone scan → cell_at scan.cells.kept.items key ≡ Some kept → key < scan.keys.now.size
-key_below scan key kept done there = omega (arith, kept_inside scan.cells.kept.items key kept there, done.scanned.size, done.keys.size)
-
--- the counts of a key are within the marks' limits
-pub counts_of_key : (scan : Scan) (key : ℕ) (counts : Counts) (marks : List Mark) → IsDone scan → key < scan.keys.now.size
-    → counts_in counts (setting_in scan).notes.marks ≡ counts_at (setting_in scan).notes.marks (order_of scan) key → marks ≡ (setting_in scan).notes.marks
-    → AreWithin marks (counts_in counts marks)
-counts_of_key scan key counts marks done below is same =
-    let all : List Mark = (setting_in scan).notes.marks in
-    let within = counts_within all (order_of scan) key (omega (arith, below, done.keys.size)) in
-    subst (λ (ms : List Mark). AreWithin ms (counts_in counts ms)) (sym same) (subst (AreWithin all) (sym is) within)
-
--- the table with the entry of one more key
-pub row_more : (scan : Scan) (key : ℕ) (kept : Latest) (worst : Worst) (rows : List Worst) → cell_at scan.cells.kept.items key ≡ Some kept
-    → row_in worst ≡ row_of (setting_in scan) (order_of scan) key kept
-    → map row_in rows ≡ rows_below (setting_in scan) (order_of scan) scan.cells.kept.items key
-    → map row_in (rows ++ worst ∷ []) ≡ rows_below (setting_in scan) (order_of scan) scan.cells.kept.items (suc key)
-row_more scan key kept worst rows there is so_far =
-    let before : List Row = rows_below (setting_in scan) (order_of scan) scan.cells.kept.items key in
-    map-append row_in rows (worst ∷ [])
-    ∙ ap (λ (front : List Row). front ++ row_in worst ∷ []) so_far
-    ∙ ap (λ (row : Row). before ++ row ∷ []) is
-    ∙ sym (ap (λ (cell : Option Latest). before ++ rows_at (setting_in scan) (order_of scan) key cell) there)
-
--- and with none of a key that nothing is kept at
-pub row_none : (scan : Scan) (key : ℕ) (rows : List Worst) → cell_at scan.cells.kept.items key ≡ None
-    → map row_in rows ≡ rows_below (setting_in scan) (order_of scan) scan.cells.kept.items key
-    → map row_in rows ≡ rows_below (setting_in scan) (order_of scan) scan.cells.kept.items (suc key)
-row_none scan key rows there so_far =
-    let before : List Row = rows_below (setting_in scan) (order_of scan) scan.cells.kept.items key in
-    so_far
-    ∙ sym (append-nil before)
-    ∙ sym (ap (λ (cell : Option Latest). before ++ rows_at (setting_in scan) (order_of scan) key cell) there)
+pub key_below : (scan : Scan) (key : ℕ) (kept : Latest) → IsDone scan → cell_at (kept_in scan.cells) key ≡ Some kept → key < scan.keys.now.size
+key_below scan key kept done there = omega (arith, kept_inside (kept_in scan.cells) key kept there, done.scanned.size, done.keys.size)

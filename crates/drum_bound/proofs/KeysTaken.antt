@@ -4,21 +4,23 @@ use Rattle.std.specs.Prelude.{slice_get, Contains}
 use denote.Bor.{Bor}
 use Rattle.drum_times.specs.Allowed.{AreSound}
 use Rattle.drum_times.specs.declared.times.Times.{Times}
-use Rattle.drum_flow.specs.Accepted.{counts_of}
 use Rattle.drum_flow.specs.Flow.{order_in}
 use Rattle.drum_flow.specs.Hops.{Hop, hops}
 use Rattle.drum_flow.proofs.Lists.{contains_from_get}
 use Rattle.drum_flow.specs.Walk.{Setting}
 use Rattle.drum_bound.proofs.FewHops.{few_hops}
+use Rattle.drum_bound.specs.declared.cells.Cells.{Cells}
+use Rattle.drum_bound.specs.declared.cells.end.Made.{Made}
 use Rattle.drum_bound.specs.declared.keys.Keys.{Keys}
 use Rattle.drum_bound.specs.declared.latest.Latest.{Latest}
 use Rattle.drum_bound.specs.declared.scan.Scan.{Scan}
 use Rattle.drum_bound.specs.Keys.{place_at}
 use Rattle.drum_bound.specs.KeysOf.{AreKeys, setting_of}
 use Rattle.drum_bound.specs.Scanned.{cell_at, Scanned, Taking, turns_at, turns_below}
-use Rattle.drum_bound.specs.ScanOf.{setting_in, order_of, IsScanned, IsAgreed}
+use Rattle.drum_bound.specs.ScanOf.{setting_in, order_of, AreCells, IsScanned, IsAgreed}
 use Rattle.drum_bound.specs.KeyHops.{IsLater}
 use Rattle.drum_bound.proofs.LaterHops.{before_end, before_next}
+use Rattle.drum_bound.specs.Held.{kept_in}
 use Rattle.drum_bound.proofs.Scans.{skip, open_key, close_key}
 
 -- the hops of keys whose cells are the same are as many
@@ -52,27 +54,26 @@ hops_as a b key keys =
     ap (λ (k : Bor Keys). hops_of k.now) keys
 
 -- a key at which nothing is kept needs no taking
-pub skipped : (scan : Scan) (key : ℕ) → IsScanned scan key → cell_at scan.cells.kept.items key ≡ None → IsScanned scan (key + 1)
+pub skipped : (scan : Scan) (key : ℕ) → IsScanned scan key → cell_at (kept_in scan.cells) key ≡ None → IsScanned scan (key + 1)
 skipped scan key is none =
     let next : suc key ≡ key + 1 = omega arith in
     subst (IsScanned scan) next (record {
       keys = is.keys;
-      words = is.words;
-      counts = is.counts;
-      scanned = skip (setting_in scan) (order_of scan) key scan.cells.kept.items scan.cells.last none is.scanned;
+      cells = is.cells;
+      scanned = skip (setting_in scan) (order_of scan) key (kept_in scan.cells) scan.cells.last none is.scanned;
       turns = omega (arith, is.turns, ap (turns_at (setting_in scan) (order_of scan) key) none);
       before = before_next scan.cells.made.last key is.before;
     })
 
 -- all hops of a key at which something is kept are left
-pub opened : (scan : Scan) (key : ℕ) (kept : Latest) (left : List Hop) → IsScanned scan key → cell_at scan.cells.kept.items key ≡ Some kept → left ≡ hops_at scan key
-    → Taking (setting_in scan) (order_of scan) key kept.clock left scan.cells.kept.items scan.cells.last
+pub opened : (scan : Scan) (key : ℕ) (kept : Latest) (left : List Hop) → IsScanned scan key → cell_at (kept_in scan.cells) key ≡ Some kept → left ≡ hops_at scan key
+    → Taking (setting_in scan) (order_of scan) key kept.clock left (kept_in scan.cells) scan.cells.last
 opened scan key kept left is there all =
-    subst (λ (hops : List Hop). Taking (setting_in scan) (order_of scan) key kept.clock hops scan.cells.kept.items scan.cells.last) (sym all)
-    (open_key (setting_in scan) (order_of scan) key kept scan.cells.kept.items scan.cells.last there is.scanned)
+    subst (λ (hops : List Hop). Taking (setting_in scan) (order_of scan) key kept.clock hops (kept_in scan.cells) scan.cells.last) (sym all)
+    (open_key (setting_in scan) (order_of scan) key kept (kept_in scan.cells) scan.cells.last there is.scanned)
 
 -- clocks and turns are far from their limits
-pub early_clock : (scan : Scan) (key : ℕ) (kept : Latest) → IsScanned scan key → key < scan.keys.now.size → cell_at scan.cells.kept.items key ≡ Some kept → kept.clock ≤ 2305843009213693952
+pub early_clock : (scan : Scan) (key : ℕ) (kept : Latest) → IsScanned scan key → key < scan.keys.now.size → cell_at (kept_in scan.cells) key ≡ Some kept → kept.clock ≤ 2305843009213693952
 early_clock scan key kept is below there = omega (arith, is.scanned.near key kept there, below, is.keys.size, is.keys.ordered.0.few)
 
 pub few_turns : (scan : Scan) (key count left : ℕ) → IsScanned scan key → key < scan.keys.now.size → count + left ≡ scan.cells.made.count + length (hops_at scan key) → count < 4611686018427387904
@@ -81,7 +82,7 @@ few_turns scan key count left is below so_far =
       arith,
       so_far,
       is.turns,
-      turns_few (setting_in scan) (order_of scan) scan.cells.kept.items key is.keys.ordered.0.sound,
+      turns_few (setting_in scan) (order_of scan) (kept_in scan.cells) key is.keys.ordered.0.sound,
       few_hops (setting_in scan).loads (setting_in scan).notes (place_at (order_of scan) key) is.keys.ordered.0.sound,
       below,
       is.keys.size,
@@ -97,27 +98,65 @@ pub taking_as : (a b : Scan) (key clock : ℕ) (left : List Hop) (cells : List (
 taking_as a b key clock left cells last times keys taking =
     subst (λ (k : Bor Keys). TakingOf key clock left cells last b.times k) keys (subst (λ (t : Bor Times). TakingOf key clock left cells last t a.keys) times taking)
 
+pub cells_as : (a b : Scan) (cells : Cells) → a.times ≡ b.times → a.keys ≡ b.keys → AreCells (setting_in a) (order_of a) cells → AreCells (setting_in b) (order_of b) cells
+cells_as a b cells times keys are =
+    let Right : Bor Times → Bor Keys → Type 0 = λ t k. AreCells (setting_of k.now.flow.now t.now) (order_in k.now.flow.now) cells in
+    subst (λ (k : Bor Keys). Right b.times k) keys (subst (λ (t : Bor Times). Right t a.keys) times are)
+
+-- cells where nothing that is held changes
+pub cells_made : (g : Setting) (order : List ℕ) (cells : Cells) (made : Made) → AreCells g order cells → AreCells g order (record cells { made = made })
+cells_made g order cells made are = record {
+  held = record {
+    linked = are.held.linked;
+    paired = are.held.paired;
+    room = are.held.room;
+    more_room = are.held.more_room;
+    few = are.held.few;
+    soon = are.held.soon;
+  };
+  entries = are.entries;
+  angle = are.angle;
+  words = are.words;
+  counts = are.counts;
+}
+
+pub cells_last : (g : Setting) (order : List ℕ) (cells : Cells) (last : Latest) → AreCells g order cells → AreCells g order (record cells { last = last })
+cells_last g order cells last are = record {
+  held = record {
+    linked = are.held.linked;
+    paired = are.held.paired;
+    room = are.held.room;
+    more_room = are.held.more_room;
+    few = are.held.few;
+    soon = are.held.soon;
+  };
+  entries = are.entries;
+  angle = are.angle;
+  words = are.words;
+  counts = are.counts;
+}
+
 -- no hop of the key is left
-pub closed : (a b : Scan) (key number : ℕ) (kept : Latest) → a.times ≡ b.times → a.keys ≡ b.keys → IsScanned b key → cell_at b.cells.kept.items key ≡ Some kept
-    → a.cells.words ≡ b.cells.words → a.cells.counts ≡ b.cells.counts
-    → Taking (setting_in b) (order_of b) key kept.clock [] a.cells.kept.items a.cells.last → a.cells.made.count ≡ b.cells.made.count + length (hops_at b key) → IsAgreed key b.cells.kept.items a.cells.kept.items
+pub closed : (a b : Scan) (key number : ℕ) (kept : Latest) → a.times ≡ b.times → a.keys ≡ b.keys → IsScanned b key → cell_at (kept_in b.cells) key ≡ Some kept
+    → AreCells (setting_in b) (order_of b) a.cells
+    → Taking (setting_in b) (order_of b) key kept.clock [] (kept_in a.cells) a.cells.last → a.cells.made.count ≡ b.cells.made.count + length (hops_at b key) → IsAgreed key (kept_in b.cells) (kept_in a.cells)
     → IsLater a.cells.made.last (record { key = key; hop = number }) → IsScanned a (key + 1)
-closed a b key number kept times keys is there words counts taking count agreed later =
+closed a b key number kept times keys is there cells taking count agreed later =
     let next : suc key ≡ key + 1 = omega arith in
     let g = setting_in b in
     let order = order_of b in
-    let turns : a.cells.made.count ≡ turns_below g order a.cells.kept.items (suc key) =
+    let turns : a.cells.made.count ≡ turns_below g order (kept_in a.cells) (suc key) =
     omega (
       arith,
       count,
       is.turns,
-      turns_agree g order b.cells.kept.items a.cells.kept.items key (λ other below. agreed other (omega (arith, below))),
+      turns_agree g order (kept_in b.cells) (kept_in a.cells) key (λ other below. agreed other (omega (arith, below))),
       ap (turns_at g order key) (agreed key (omega arith) ∙ there),
     ) in
     let Right : Bor Times → Bor Keys → Type 0 = λ t k.
-    AreKeys k.now × Scanned (setting_of k.now.flow.now t.now) (order_in k.now.flow.now) (suc key) (suc key) a.cells.kept.items a.cells.last
-    × (a.cells.made.count ≡ turns_below (setting_of k.now.flow.now t.now) (order_in k.now.flow.now) a.cells.kept.items (suc key))
-    × (a.cells.words ≡ length (order_in k.now.flow.now)) × (a.cells.counts ≡ counts_of (setting_of k.now.flow.now t.now).notes.marks) in
-    let right : Right b.times b.keys = (is.keys, close_key g order key kept.clock a.cells.kept.items a.cells.last taking, turns, words ∙ is.words, counts ∙ is.counts) in
+    AreKeys k.now × Scanned (setting_of k.now.flow.now t.now) (order_in k.now.flow.now) (suc key) (suc key) (kept_in a.cells) a.cells.last
+    × (a.cells.made.count ≡ turns_below (setting_of k.now.flow.now t.now) (order_in k.now.flow.now) (kept_in a.cells) (suc key))
+    × AreCells (setting_of k.now.flow.now t.now) (order_in k.now.flow.now) a.cells in
+    let right : Right b.times b.keys = (is.keys, close_key g order key kept.clock (kept_in a.cells) a.cells.last taking, turns, cells) in
     let as_a : Right a.times a.keys = subst (λ (k : Bor Keys). Right a.times k) (sym keys) (subst (λ (t : Bor Times). Right t b.keys) (sym times) right) in
-    subst (IsScanned a) next (record { keys = as_a.0; words = as_a.3; counts = as_a.4; scanned = as_a.1; turns = as_a.2; before = before_end a.cells.made.last key number later })
+    subst (IsScanned a) next (record { keys = as_a.0; cells = as_a.3; scanned = as_a.1; turns = as_a.2; before = before_end a.cells.made.last key number later })

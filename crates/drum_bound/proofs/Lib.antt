@@ -8,6 +8,7 @@ pub mod EntriesRaised
 pub mod EntryEnds
 pub mod FewHops
 mod Finished
+pub mod HeldLaws
 mod InTime
 pub mod KeyLaws
 pub mod KeysTaken
@@ -18,6 +19,7 @@ pub mod Ordering
 pub mod Profiles
 pub mod Raises
 pub mod Rows
+pub mod RowsHeld
 pub mod Scans
 mod ShortWalks
 pub mod Sites

@@ -1,5 +1,5 @@
 -- An analysis, as it is held, and when it is right.
-use Rattle.std.specs.Prelude.{◌≡◌, ℕ, ◌*◌, ◌^◌, ◌<◌, ◌≤◌, List, length, map, sum, slice_get, slice_index, Some}
+use Rattle.std.specs.Prelude.{◌≡◌, ℕ, ◌-◌, ◌*◌, ◌^◌, ◌<◌, ◌≤◌, List, length, map, sum, slice_get, slice_index, Some}
 use Rattle.drum_core.specs.declared.deck.Deck.{Deck}
 use Rattle.drum_core.specs.Loads.{loads_in, start_in}
 use Rattle.drum_times.specs.declared.notes.mark.Mark.{Mark}
@@ -22,15 +22,15 @@ setting deck times notes = record { loads = loads_in deck; notes = notes; times 
 
 -- the bound, in word times
 abbrev pub bound_of : Analysis → ℕ
-bound_of analysis = analysis.bound
+bound_of analysis = analysis.cells.last.clock - analysis.cells.angle
 
 -- the table of worst times
 abbrev pub rows_of : Analysis → List Row
-rows_of analysis = map row_in analysis.table.items
+rows_of analysis = map row_in analysis.cells.entries.items
 
 -- the start angle of the walk
 abbrev pub angle_of : Analysis → ℕ
-angle_of analysis = analysis.angle
+angle_of analysis = analysis.cells.angle
 
 -- the hops of the walk
 abbrev pub visits_of : Analysis → List Visited
@@ -38,15 +38,15 @@ visits_of analysis = map seen_visit analysis.walk.items
 
 -- how many counts the marks can have
 abbrev pub counts_in_all : Analysis → ℕ
-counts_in_all analysis = analysis.counts
+counts_in_all analysis = analysis.cells.counts
 
 -- how many locations are executed
 abbrev pub words_of : Analysis → ℕ
-words_of analysis = analysis.words
+words_of analysis = analysis.cells.words
 
 -- how many ends of hops were made
 abbrev pub turns_of : Analysis → ℕ
-turns_of analysis = analysis.turns
+turns_of analysis = analysis.cells.made.count
 
 -- how often the walk passes each mark, by its place in the notes
 abbrev pub passed_of : Analysis → List ℕ

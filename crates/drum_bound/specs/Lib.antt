@@ -1,7 +1,9 @@
 pub mod AnalysisOf
 pub mod CountsIn
 pub mod Digits
+pub mod EndOf
 pub mod Ends
+pub mod Held
 pub mod KeyHops
 pub mod Keys
 pub mod KeysOf

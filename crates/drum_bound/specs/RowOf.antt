@@ -1,5 +1,6 @@
 -- The rows of a table: of an entry as the code has it, and of the keys of a scan.
 use Rattle.std.specs.Prelude.{ℕ, zero, suc, ◌-◌, ◌%◌, List, [], ◌∷◌, ◌++◌, Option, Some, None}
+use Rattle.drum_times.specs.declared.notes.mark.Mark.{Mark}
 use Rattle.drum_flow.specs.Walk.{Setting}
 use Rattle.drum_bound.specs.declared.latest.Latest.{Latest}
 use Rattle.drum_bound.specs.declared.worst.Worst.{Worst}
@@ -10,6 +11,10 @@ use Rattle.drum_bound.specs.Table.{number_of, Row}
 -- an entry as the code has it
 abbrev pub row_in : Worst → Row
 row_in worst = record { place = worst.place.number; angle = worst.angle; counts = worst.counts; time = worst.time }
+
+-- the number of a key's counts
+abbrev pub counts_number : List Mark → List ℕ → ℕ → ℕ
+counts_number marks order key = number_of marks (counts_at marks order key)
 
 -- the row of a key
 abbrev pub row_of : Setting → List ℕ → ℕ → Latest → Row

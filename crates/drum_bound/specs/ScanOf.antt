@@ -4,11 +4,14 @@ use Rattle.drum_machine.specs.Counts.{after_pass, AreWithin}
 use Rattle.drum_flow.specs.Accepted.{counts_of}
 use Rattle.drum_flow.specs.Flow.{order_in}
 use Rattle.drum_flow.specs.Walk.{Setting}
+use Rattle.drum_bound.specs.declared.cells.Cells.{Cells}
 use Rattle.drum_bound.specs.declared.latest.Latest.{Latest}
 use Rattle.drum_bound.specs.declared.scan.Scan.{Scan}
 use Rattle.drum_bound.specs.Keys.{keys_of, place_at, counts_at, IsKey}
+use Rattle.drum_bound.specs.RowOf.{counts_number}
 use Rattle.drum_bound.specs.KeysOf.{AreKeys, setting_of}
-use Rattle.drum_bound.specs.Scanned.{cell_at, later, raised, Scanned, turns_below}
+use Rattle.drum_bound.specs.Held.{AreHeld, HaveEntries, kept_in}
+use Rattle.drum_bound.specs.Scanned.{start_angle, cell_at, later, raised, Scanned, turns_below}
 use Rattle.drum_bound.specs.KeyHops.{IsBefore}
 
 -- what its walks are in
@@ -23,13 +26,20 @@ order_of scan = order_in scan.keys.now.flow.now
 abbrev pub size_in : Scan → ℕ
 size_in scan = keys_of (setting_in scan).notes.marks (order_of scan)
 
+-- The cells are in order, and are those of these locations and counts.
+pub record AreCells (g : Setting) (order : List ℕ) (cells : Cells) : Type 0 where
+  pub held : AreHeld cells
+  pub entries : HaveEntries (place_at order) (counts_number g.notes.marks order) cells
+  pub angle : cells.angle ≡ start_angle g.start
+  pub words : cells.words ≡ length order
+  pub counts : cells.counts ≡ counts_of g.notes.marks
+
 -- The keys below one have been taken.
 pub record IsScanned (scan : Scan) (taken : ℕ) : Type 0 where
   pub keys : AreKeys scan.keys.now
-  pub words : scan.cells.words ≡ length (order_of scan)
-  pub counts : scan.cells.counts ≡ counts_of (setting_in scan).notes.marks
-  pub scanned : Scanned (setting_in scan) (order_of scan) taken taken scan.cells.kept.items scan.cells.last
-  pub turns : scan.cells.made.count ≡ turns_below (setting_in scan) (order_of scan) scan.cells.kept.items taken
+  pub cells : AreCells (setting_in scan) (order_of scan) scan.cells
+  pub scanned : Scanned (setting_in scan) (order_of scan) taken taken (kept_in scan.cells) scan.cells.last
+  pub turns : scan.cells.made.count ≡ turns_below (setting_in scan) (order_of scan) (kept_in scan.cells) taken
   pub before : IsBefore scan.cells.made.last taken
 
 -- All have.

@@ -26,7 +26,6 @@ use crate::passed::passes;
 use crate::scan::Scan;
 use crate::visit::Visit;
 use drum_core::Deck;
-use drum_flow::counts::counts_of;
 use drum_flow::{Flow, Refusal, accept};
 use drum_machine::passes::MOST_MARKS;
 use drum_times::{Mark, Notes, Times};
@@ -54,27 +53,10 @@ fn analysis_by<'a>(
     requires { AreKeys keys.now }
     ensures { IfOk result (IsAnalysis (setting_of keys.now.flow.now times.now) (length (order_in keys.now.flow.now))) }
 {
-    let Ok(scan) = Scan::of(alloc, times, keys) else {
-        return Err(AllocError);
-    };
-    let Ok(table) = scan.table(alloc) else {
-        return Err(AllocError);
-    };
-    let Ok(walk) = scan.walk(alloc) else {
-        return Err(AllocError);
-    };
-    let marks = keys.flow.notes().marks();
-    let angle = keys.start_angle();
-    Ok(Analysis {
-        bound: scan.cells.last().clock - angle,
-        table,
-        angle: angle as u8,
-        passed: passes_of_marks(&walk, marks),
-        walk,
-        counts: counts_of(marks) as usize,
-        words: keys.flow.order().len(),
-        turns: scan.cells.made(),
-    })
+    let scan = Scan::of(alloc, times, keys)?;
+    let walk = scan.walk(alloc)?;
+    let passed = passes_of_marks(&walk, keys.flow.notes().marks());
+    Ok(Analysis::of(scan.cells, walk, passed))
 }
 
 /// The analysis of an accepted deck, of its flow graph.

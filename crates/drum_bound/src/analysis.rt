@@ -1,25 +1,26 @@
-ghost use Rattle.std.specs.Prelude.{◌≡◌, ◌^◌, ◌<◌, ◌≤◌, length, map};
+ghost use Rattle.std.specs.Prelude.{◌≡◌, ◌-◌, ◌^◌, ◌<◌, ◌≤◌, length, map};
 ghost use Rattle.drum_bound.specs.Visited.{AreInTime, seen_visit};
 
+use crate::cells::Cells;
 use crate::visit::Visit;
 use crate::worst::Worst;
 use drum_machine::passes::MOST_MARKS;
 
 /// What [`analyse`](crate::analyse) finds for a deck with its timing table and notes. The hops of
 /// its walk follow one another in time, from 0 to the bound, and are 4,000,000 at most.
+///
+/// Its table is the one that was raised, entry by entry, by ends of hops: bound, table and turns are
+/// read from it.
 #[derive(Debug, Drop)]
 pub struct Analysis {
-    pub(crate) bound: u64,
-    pub(crate) table: Vec<Worst>,
-    pub(crate) angle: u8,
-    pub(crate) walk: Vec<Visit>,
-    pub(crate) counts: usize,
-    pub(crate) words: usize,
-    pub(crate) turns: u64,
+    cells: Cells,
+    walk: Vec<Visit>,
     /// By the marks' places in the notes; what stands past the last mark means nothing.
-    pub(crate) passed: [u64; MOST_MARKS],
-    ghost in_time: { ∥ AreInTime 0 (map seen_visit walk.items) bound ∥₁ },
-    ghost below: { bound < 2 ^ 50 },
+    passed: [u64; MOST_MARKS],
+    ghost in_time: { ∥ AreInTime 0 (map seen_visit walk.items) (cells.last.clock - cells.angle) ∥₁ },
+    ghost after: { cells.angle ≤ cells.last.clock },
+    ghost on_drum: { cells.angle < 50 },
+    ghost below: { cells.last.clock - cells.angle < 2 ^ 50 },
     ghost few: { length walk.items ≤ 4000000 },
 }
 
@@ -28,13 +29,32 @@ impl Analysis {
     ghost use Rattle.drum_bound.specs.AnalysisOf.{angle_of, bound_of, counts_in_all, passed_of, rows_of, turns_of, visits_of, words_of};
     ghost use Rattle.drum_bound.specs.RowOf.{row_in};
 
+    /// The analysis of a finished table, which it keeps as it was raised, with a walk that takes as
+    /// long as the latest end of all, and how often that passes each mark.
+    pub(crate) fn of(cells: Cells, walk: Vec<Visit>, passed: [u64; MOST_MARKS]) -> Analysis
+        requires in_time { AreInTime 0 (map seen_visit walk.items) (cells.last.clock - cells.angle) }
+        requires after { cells.angle ≤ cells.last.clock }
+        requires on_drum { cells.angle < 50 }
+        requires below { cells.last.clock - cells.angle < 2 ^ 50 }
+        requires few { length walk.items ≤ 4000000 }
+        ensures cells { result.cells ≡ cells }
+        ensures walk { result.walk ≡ walk }
+        ensures passed { result.passed ≡ passed }
+    {
+        Analysis {
+            cells,
+            walk,
+            passed,
+        }
+    }
+
     /// The bound, in word times: no run that keeps to the notes uses more, and some walk uses just
     /// as many. Below 2^50.
     pub fn bound(&self) -> u64
         ensures told { result ≡ bound_of self.now }
         ensures below { result < 2 ^ 50 }
     {
-        self.bound
+        self.cells.last().clock - self.cells.angle()
     }
 
     /// The table of worst times: one entry for each location and counts of the marks that some walk
@@ -42,14 +62,14 @@ impl Analysis {
     pub fn table(&self) -> &[Worst]
         ensures { map row_in result.now ≡ rows_of self.now }
     {
-        &self.table
+        self.cells.entries()
     }
 
     /// The drum's angle when the walk of [`walk`](Analysis::walk) begins, 0 to 49.
     pub fn angle(&self) -> u8
         ensures { result ≡ angle_of self.now }
     {
-        self.angle
+        self.cells.angle() as u8
     }
 
     /// The hops of a walk that uses as many word times as the bound, in order; none where the bound
@@ -66,14 +86,14 @@ impl Analysis {
     pub fn counts(&self) -> usize
         ensures { result ≡ counts_in_all self.now }
     {
-        self.counts
+        self.cells.counts()
     }
 
     /// How many locations are executed, 1 to 2004.
     pub fn words(&self) -> usize
         ensures { result ≡ words_of self.now }
     {
-        self.words
+        self.cells.words()
     }
 
     /// How many ends of hops the analysis has made: as many as the locations of the entries have
@@ -81,7 +101,7 @@ impl Analysis {
     pub fn turns(&self) -> u64
         ensures { result ≡ turns_of self.now }
     {
-        self.turns
+        self.cells.made()
     }
 
     /// How often the walk passes the mark at a place of the notes, from 0, whatever it stands

@@ -1,16 +1,11 @@
-//! What is kept at the keys.
+//! What is kept at the keys: the table of worst times while it is raised.
 
-ghost use Rattle.std.specs.Prelude.{◌≡◌, ◌+◌, ◌*◌, ◌^◌, ◌<◌, ◌≤◌, length, replicate, set, Some, None, IfOk};
-ghost use Rattle.drum_times.specs.Entries.{entry_in};
-ghost use Rattle.drum_flow.specs.Seen.{seen_way};
-ghost use Rattle.drum_bound.specs.Longest.{longest};
-ghost use Rattle.drum_bound.specs.Profile.{MayEnd};
-ghost use Rattle.drum_bound.specs.Scanned.{cell_at, later, raised};
-ghost use Rattle.drum_bound.specs.KeyHops.{IsBefore, IsLater, KeepsAt};
+ghost use Rattle.std.specs.Prelude.{◌≡◌, ◌*◌, ◌≤◌, length};
 
 mod end;
 
-use crate::latest::Latest;
+use crate::latest::{Latest, Origin};
+use crate::worst::Worst;
 use drum_core::Location;
 use drum_flow::Hop;
 use drum_times::Times;
@@ -19,77 +14,129 @@ pub use end::{End, KeyHop};
 use std::alloc::{AllocError, Global};
 
 /// The latest end at each key, of the hops that lead there, or the moment of the start; and the
-/// latest of all.
+/// latest of all. Where something is kept, an entry of the table of worst times holds it: the table
+/// is handed out as it was raised.
 ///
 /// An [`End`] alone raises what is kept, and each is made here, of the clock that its key keeps. No
 /// end is made twice, since each is of a later hop than the one before; and what its key keeps
 /// stays, since only later keys are raised from then on.
 #[derive(Debug, Drop)]
 pub struct Cells {
-    kept: Vec<Option<Latest>>,
+    /// Which entry a key has, by key, counted from 1; 0 where nothing is kept.
+    places: Vec<u32>,
+    /// The start's, and behind it the others', in the order in which they were first led to.
+    entries: Vec<Worst>,
+    /// Where each entry's time comes from. The start's comes from its own key, which no hop does.
+    origins: Vec<Origin>,
     last: Latest,
     made: Made,
+    /// The start angle: an entry's clock is its time from there on.
+    angle: u64,
     /// How many executed locations there are, and how many counts the marks can have: for the limit
     /// alone.
     words: usize,
     counts: usize,
-    /// There are never more cells than locations times counts.
-    ghost limit: { length kept.items ≤ counts * words },
-}
-
-/// What is kept, or the end of a hop where that is later.
-fn later_of(kept: Latest, end: &End) -> Latest
-    ensures { result ≡ later kept end.now.latest }
-{
-    if kept.clock < end.latest().clock {
-        end.latest()
-    } else {
-        kept
-    }
+    /// There are never more entries than locations times counts.
+    ghost limit: { length entries.items ≤ counts * words },
+    ghost size: { length places.items ≡ counts * words },
 }
 
 impl Cells {
+    ghost use Rattle.std.specs.Prelude.{ℕ, ◌+◌, ◌^◌, ◌<◌, suc, MatchOption, replicate, set, Some, None, IfOk};
+    ghost use Rattle.drum_times.specs.Entries.{entry_in};
+    ghost use Rattle.drum_flow.specs.Seen.{seen_way};
+    ghost use Rattle.drum_bound.specs.EndOf.{latest_in};
+    ghost use Rattle.drum_bound.specs.Held.{AreHeld, HaveEntries, entry_of, kept_in};
+    ghost use Rattle.drum_bound.specs.Longest.{longest};
+    ghost use Rattle.drum_bound.specs.Profile.{MayEnd};
+    ghost use Rattle.drum_bound.specs.Scanned.{cell_at, later, raised};
+    ghost use Rattle.drum_bound.specs.KeyHops.{IsBefore, IsLater, KeepsAt};
+
     /// The cells of so many executed locations and counts: the start's key keeps the moment of the
-    /// start, at this clock, and no other keeps anything.
+    /// start, at this angle, and no other keeps anything.
     pub fn new(
         alloc: Global,
         words: usize,
         counts: usize,
         start_key: usize,
-        clock: u64,
+        start: Location,
+        angle: u64,
     ) -> Result<Cells, AllocError>
         requires there { start_key < counts * words }
         requires few { counts * words ≤ 4000000 }
-        ensures kept { IfOk result (λ cells. cells.kept.items ≡ set (replicate (counts * words) None) start_key (Some (record { clock = clock; origin = None }))) }
-        ensures last { IfOk result (λ cells. cells.last ≡ record { clock = clock; origin = None }) }
+        requires on_drum { angle < 50 }
+        ensures held { IfOk result AreHeld }
+        ensures kept { IfOk result (λ cells. kept_in cells ≡ set (replicate (counts * words) None) start_key (Some (record { clock = angle; origin = None }))) }
+        ensures last { IfOk result (λ cells. cells.last ≡ record { clock = angle; origin = None }) }
+        ensures entries { IfOk result (λ cells. (place_of counts_of : ℕ → ℕ) → start.number ≡ place_of start_key → 0 ≡ counts_of start_key → HaveEntries place_of counts_of cells) }
         ensures made { IfOk result (λ cells. cells.made.count ≡ 0) }
         ensures unmade { IfOk result (λ cells. cells.made.last ≡ None) }
+        ensures angle { IfOk result (λ cells. cells.angle ≡ angle) }
         ensures words { IfOk result (λ cells. cells.words ≡ words) }
         ensures counts { IfOk result (λ cells. cells.counts ≡ counts) }
     {
-        let start = Latest {
-            clock,
+        let size = counts * words;
+        let mut places = vec![in alloc; 0; size]?;
+        let mut entries = Vec::with_capacity(alloc, size)?;
+        let mut origins = Vec::with_capacity(alloc, size)?;
+        entries.push(Worst {
+            place: start,
+            angle: angle as u8,
+            counts: 0,
+            time: 0,
+        })?;
+        origins.push(Origin::of_start(start_key))?;
+        places[start_key] = 1;
+        let last = Latest {
+            clock: angle,
             origin: None,
         };
-        let mut kept = vec![in alloc; None; counts * words]?;
-        kept[start_key] = Some(start);
         Ok(Cells {
-            kept,
-            last: start,
+            places,
+            entries,
+            origins,
+            last,
             made: Made::none(),
+            angle,
             words,
             counts,
         })
     }
 
+    /// The place of a key's entry; `None` where nothing is kept.
+    fn entry_of(&self, key: usize) -> Option<usize>
+        ensures { MatchOption result (entry_of self.now.places.items key ≡ 0) (λ place. entry_of self.now.places.items key ≡ suc place) }
+    {
+        match self.places.get(key) {
+            Some(entry) if *entry > 0 => Some(*entry as usize - 1),
+            _ => None,
+        }
+    }
+
     /// What is kept at a key; `None` where nothing is.
     pub fn kept_at(&self, key: usize) -> Option<Latest>
-        ensures { result ≡ cell_at self.now.kept.items key }
+        requires { AreHeld self.now }
+        ensures { result ≡ cell_at (kept_in self.now) key }
     {
-        match self.kept.get(key) {
-            Some(cell) => *cell,
-            None => None,
-        }
+        let Some(place) = self.entry_of(key) else {
+            return None;
+        };
+        let origin = self.origins[place];
+        Some(Latest {
+            clock: self.angle + self.entries[place].time,
+            origin: if origin.key == key as u32 {
+                None
+            } else {
+                Some(origin)
+            },
+        })
+    }
+
+    /// The entries: one of each key at which something is kept.
+    pub fn entries(&self) -> &[Worst]
+        ensures { result.now ≡ self.now.entries.items }
+    {
+        &self.entries
     }
 
     /// The latest end of all; before there is one, the moment of the start.
@@ -97,6 +144,27 @@ impl Cells {
         ensures { result ≡ self.now.last }
     {
         self.last
+    }
+
+    /// The start angle, 0 to 49.
+    pub fn angle(&self) -> u64
+        ensures { result ≡ self.now.angle }
+    {
+        self.angle
+    }
+
+    /// How many executed locations there are.
+    pub fn words(&self) -> usize
+        ensures { result ≡ self.now.words }
+    {
+        self.words
+    }
+
+    /// How many counts the marks can have.
+    pub fn counts(&self) -> usize
+        ensures { result ≡ self.now.counts }
+    {
+        self.counts
     }
 
     /// How many ends have been made.
@@ -116,44 +184,113 @@ impl Cells {
         hop: Hop,
         clock: u64,
     ) -> End
-        requires kept { KeepsAt self.old.kept.items key_hop.key clock }
+        requires kept { KeepsAt (kept_in self.old) key_hop.key clock }
         requires later { IsLater self.old.made.last key_hop }
         requires few { self.old.made.count < 2 ^ 62 }
+        requires narrow { key_hop.key < 2 ^ 32 }
         requires soon { clock ≤ 2 ^ 61 }
         requires may_end { MayEnd hop.instruction (seen_way hop.way) }
         ensures same { self.new ≡ record self.old { made = self.new.made } }
         ensures counted { self.new.made.count ≡ self.old.made.count + 1 }
         ensures now_last { self.new.made.last ≡ Some key_hop }
-        ensures origin { result.latest.origin ≡ Some (record { key = key_hop.key; hop = hop }) }
-        ensures clock { result.latest.clock ≡ longest (entry_in times.now) location.number hop.instruction (seen_way hop.way) clock }
+        ensures origin { result.origin ≡ record { key = key_hop.key; hop = hop } }
+        ensures clock { result.clock ≡ longest (entry_in times.now) location.number hop.instruction (seen_way hop.way) clock }
+        ensures after { clock ≤ result.clock }
     {
         self.made.end(times, key_hop, location, hop, clock)
     }
 
     /// Keeps the end of a hop that goes on at a key, where it is later than what is kept there, and
-    /// of all. The key is later than those whose ends have been made.
-    pub fn raise(&mut self, key: usize, end: &End)
-        requires there { key < length self.old.kept.items }
+    /// of all. The key is later than those whose ends have been made; it is at this location, with
+    /// the counts of this number.
+    pub fn raise(&mut self, key: usize, location: Location, counts: u32, end: &End)
+        requires held { AreHeld self.old }
+        requires there { key < length self.old.places.items }
         requires onward { IsBefore self.old.made.last key }
-        ensures kept { self.new.kept.items ≡ raised self.old.kept.items key end.now.latest }
-        ensures last { self.new.last ≡ later self.old.last end.now.latest }
+        requires from { end.now.origin.key < key }
+        requires after { self.old.angle ≤ end.now.clock }
+        ensures held { AreHeld self.new }
+        ensures kept { kept_in self.new ≡ raised (kept_in self.old) key (latest_in end.now) }
+        ensures last { self.new.last ≡ later self.old.last (latest_in end.now) }
+        ensures entries { (place_of counts_of : ℕ → ℕ) → location.number ≡ place_of key → counts ≡ counts_of key
+            → HaveEntries place_of counts_of self.old → HaveEntries place_of counts_of self.new }
         ensures made { self.new.made ≡ self.old.made }
+        ensures angle { self.new.angle ≡ self.old.angle }
         ensures words { self.new.words ≡ self.old.words }
         ensures counts { self.new.counts ≡ self.old.counts }
     {
-        let latest = match self.kept[key] {
-            Some(kept) => later_of(kept, end),
-            None => end.latest(),
-        };
-        self.kept[key] = Some(latest);
-        self.last = later_of(self.last, end);
+        match self.entry_of(key) {
+            Some(place) => self.raise_entry(key, place, end),
+            None => self.add_entry(key, location, counts, end),
+        }
+        self.keep_last(end);
     }
 
-    /// Keeps the end of a hop that stops, where it is later than all others.
-    pub fn stop(&mut self, end: &End)
-        ensures same { self.new ≡ record self.old { last = self.new.last } }
-        ensures last { self.new.last ≡ later self.old.last end.now.latest }
+    /// Raises the entry of a key, where the end is later.
+    fn raise_entry(&mut self, key: usize, place: usize, end: &End)
+        requires held { AreHeld self.old }
+        requires there { entry_of self.old.places.items key ≡ suc place }
+        requires from { end.now.origin.key < key }
+        requires after { self.old.angle ≤ end.now.clock }
+        ensures held { AreHeld self.new }
+        ensures kept { kept_in self.new ≡ raised (kept_in self.old) key (latest_in end.now) }
+        ensures entries { (place_of counts_of : ℕ → ℕ) → HaveEntries place_of counts_of self.old → HaveEntries place_of counts_of self.new }
+        ensures last { self.new.last ≡ self.old.last }
+        ensures made { self.new.made ≡ self.old.made }
+        ensures angle { self.new.angle ≡ self.old.angle }
+        ensures words { self.new.words ≡ self.old.words }
+        ensures counts { self.new.counts ≡ self.old.counts }
     {
-        self.last = later_of(self.last, end);
+        let time = end.clock() - self.angle;
+        if self.entries[place].time < time {
+            self.entries[place] = Worst {
+                angle: end.angle(),
+                time,
+                ..self.entries[place]
+            };
+            self.origins[place] = end.origin();
+        }
+    }
+
+    /// Adds the entry of a key at which nothing is kept.
+    fn add_entry(&mut self, key: usize, location: Location, counts: u32, end: &End)
+        requires held { AreHeld self.old }
+        requires there { key < length self.old.places.items }
+        requires none { entry_of self.old.places.items key ≡ 0 }
+        requires from { end.now.origin.key < key }
+        requires after { self.old.angle ≤ end.now.clock }
+        ensures held { AreHeld self.new }
+        ensures kept { kept_in self.new ≡ raised (kept_in self.old) key (latest_in end.now) }
+        ensures entries { (place_of counts_of : ℕ → ℕ) → location.number ≡ place_of key → counts ≡ counts_of key
+            → HaveEntries place_of counts_of self.old → HaveEntries place_of counts_of self.new }
+        ensures last { self.new.last ≡ self.old.last }
+        ensures made { self.new.made ≡ self.old.made }
+        ensures angle { self.new.angle ≡ self.old.angle }
+        ensures words { self.new.words ≡ self.old.words }
+        ensures counts { self.new.counts ≡ self.old.counts }
+    {
+        let entry = Worst {
+            place: location,
+            angle: end.angle(),
+            counts,
+            time: end.clock() - self.angle,
+        };
+        let before = self.entries.len();
+        let Ok(()) = self.entries.push(entry) else {
+            unreachable!()
+        };
+        let Ok(()) = self.origins.push(end.origin()) else {
+            unreachable!()
+        };
+        self.places[key] = before as u32 + 1;
+    }
+
+    /// Keeps the end of a hop, where it is later than all others: that of one that stops is kept
+    /// nowhere else.
+    pub fn keep_last(&mut self, end: &End)
+        ensures same { self.new ≡ record self.old { last = self.new.last } }
+        ensures last { self.new.last ≡ later self.old.last (latest_in end.now) }
+    {
+        self.last = end.or_later(self.last);
     }
 }

@@ -11,6 +11,7 @@ ghost use Rattle.drum_flow.specs.HopsLeft.{hops_left};
 ghost use Rattle.drum_bound.specs.CountsIn.{counts_in};
 ghost use Rattle.drum_bound.specs.Keys as numbered;
 ghost use Rattle.drum_bound.specs.Keys.{place_at, IsKey};
+ghost use Rattle.drum_bound.specs.RowOf.{counts_number};
 ghost use Rattle.drum_bound.specs.Scanned.{start_angle as start_angle_of};
 ghost use Rattle.drum_bound.specs.KeysOf.{AreKeys, CanHaveKeys, HaveHops, HaveIndices, IsAfter, IsAt, numbers, sites_in};
 
@@ -162,6 +163,15 @@ impl<'a> Keys<'a> {
         ensures { counts_in result (notes_of self.now.flow.now).marks ≡ numbered.counts_at (notes_of self.now.flow.now).marks (order_in self.now.flow.now) key }
     {
         Counts::of(self.marks(), key / self.sites.len())
+    }
+
+    /// The number of a key's counts in the table of worst times.
+    pub fn counts_number(&self, key: usize) -> u32
+        requires keys { AreKeys self.now }
+        requires below { key < self.now.size }
+        ensures { result ≡ counts_number (notes_of self.now.flow.now).marks (order_in self.now.flow.now) key }
+    {
+        self.counts_at(key).number(self.marks())
     }
 
     /// The index of a location in the order.

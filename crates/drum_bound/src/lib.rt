@@ -11,7 +11,6 @@ mod latest;
 mod longest;
 mod passed;
 mod scan;
-mod table;
 mod trace;
 pub mod visit;
 pub mod worst;

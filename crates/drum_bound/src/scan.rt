@@ -20,10 +20,12 @@ pub struct Scan<'a> {
 impl<'a> Scan<'a> {
     ghost use Rattle.drum_flow.specs.Hops.{Hop as HopOf, IsEdge, hops};
     ghost use Rattle.drum_flow.specs.Seen.{seen_hop};
+    ghost use Rattle.drum_bound.specs.EndOf.{latest_in};
+    ghost use Rattle.drum_bound.specs.Held.{kept_in};
     ghost use Rattle.drum_bound.specs.Keys.{place_at};
     ghost use Rattle.drum_bound.specs.KeysOf.{AreKeys, IsAt};
     ghost use Rattle.drum_bound.specs.Scanned.{start_angle, Taking};
-    ghost use Rattle.drum_bound.specs.ScanOf.{setting_in, order_of, size_in, IsScanned, IsDone, Goes, IsAgreed};
+    ghost use Rattle.drum_bound.specs.ScanOf.{setting_in, order_of, AreCells, IsScanned, IsDone, Goes, IsAgreed};
     ghost use Rattle.drum_bound.specs.KeyHops.{IsBefore, IsLater, KeepsAt};
 
     /// The latest ends at all keys, and of all: each key is taken once, after all that can raise
@@ -57,9 +59,9 @@ impl<'a> Scan<'a> {
         ensures times { IfOk result (λ scan. scan.times.now ≡ times.now) }
         ensures keys { IfOk result (λ scan. scan.keys.now ≡ keys.now) }
     {
-        let words = keys.sites.len();
-        let (start, clock) = (keys.start_key(), keys.start_angle());
-        let Ok(cells) = Cells::new(alloc, words, keys.counts, start, clock) else {
+        let (key, start) = (keys.start_key(), keys.flow.deck().start());
+        let (words, angle) = (keys.sites.len(), keys.start_angle());
+        let Ok(cells) = Cells::new(alloc, words, keys.counts, key, start, angle) else {
             return Err(AllocError);
         };
         Ok(Scan { times, keys, cells })
@@ -71,18 +73,20 @@ impl<'a> Scan<'a> {
         requires at { IsAt self.old.keys.now at.now }
         requires edge { IsEdge (setting_in self.old).loads (setting_in self.old).notes (place_at (order_of self.old) at.now.key) next.number }
         requires before { IsBefore self.old.cells.made.last (at.now.key + 1) }
-        requires size { length self.old.cells.kept.items ≡ size_in self.old }
-        ensures goes { Goes (setting_in self.old) (order_of self.old) at.now.key next.number end.now.latest self.old.cells.kept.items self.old.cells.last self.new.cells.kept.items self.new.cells.last }
+        requires from { end.now.origin.key ≡ at.now.key }
+        requires after { self.old.cells.angle ≤ end.now.clock }
+        requires cells { AreCells (setting_in self.old) (order_of self.old) self.old.cells }
+        ensures goes { Goes (setting_in self.old) (order_of self.old) at.now.key next.number (latest_in end.now) (kept_in self.old.cells) self.old.cells.last (kept_in self.new.cells) self.new.cells.last }
         ensures times { self.new.times ≡ self.old.times }
         ensures keys { self.new.keys ≡ self.old.keys }
         ensures made { self.new.cells.made ≡ self.old.cells.made }
-        ensures words { self.new.cells.words ≡ self.old.cells.words }
-        ensures counts { self.new.cells.counts ≡ self.old.cells.counts }
+        ensures cells { AreCells (setting_in self.old) (order_of self.old) self.new.cells }
     {
         let Some(key) = self.keys.after(at, next) else {
             return;
         };
-        self.cells.raise(key, end);
+        let counts = self.keys.counts_number(key);
+        self.cells.raise(key, next, counts, end);
     }
 
     /// Takes a hop of a key at which something is kept of this clock: that of this number among the
@@ -91,20 +95,19 @@ impl<'a> Scan<'a> {
         requires keys { AreKeys self.old.keys.now }
         requires at { IsAt self.old.keys.now at.now }
         requires hop { slice_get (hops (setting_in self.old).loads (setting_in self.old).notes (place_at (order_of self.old) at.now.key)) number ≡ Some (seen_hop hop) }
-        requires kept { KeepsAt self.old.cells.kept.items at.now.key clock }
+        requires kept { KeepsAt (kept_in self.old.cells) at.now.key clock }
         requires later { IsLater self.old.cells.made.last (record { key = at.now.key; hop = number }) }
         requires soon { clock ≤ 2 ^ 61 }
         requires few { self.old.cells.made.count < 2 ^ 62 }
-        requires size { length self.old.cells.kept.items ≡ size_in self.old }
+        requires cells { AreCells (setting_in self.old) (order_of self.old) self.old.cells }
         ensures times { self.new.times ≡ self.old.times }
         ensures keys { self.new.keys ≡ self.old.keys }
         ensures counted { self.new.cells.made.count ≡ self.old.cells.made.count + 1 }
         ensures last { self.new.cells.made.last ≡ Some (record { key = at.now.key; hop = number }) }
-        ensures words { self.new.cells.words ≡ self.old.cells.words }
-        ensures counts { self.new.cells.counts ≡ self.old.cells.counts }
-        ensures agreed { IsAgreed at.now.key self.old.cells.kept.items self.new.cells.kept.items }
-        ensures taken { (left : List HopOf) → Taking (setting_in self.old) (order_of self.old) at.now.key clock (seen_hop hop ∷ left) self.old.cells.kept.items self.old.cells.last
-            → Taking (setting_in self.old) (order_of self.old) at.now.key clock left self.new.cells.kept.items self.new.cells.last }
+        ensures cells { AreCells (setting_in self.old) (order_of self.old) self.new.cells }
+        ensures agreed { IsAgreed at.now.key (kept_in self.old.cells) (kept_in self.new.cells) }
+        ensures taken { (left : List HopOf) → Taking (setting_in self.old) (order_of self.old) at.now.key clock (seen_hop hop ∷ left) (kept_in self.old.cells) self.old.cells.last
+            → Taking (setting_in self.old) (order_of self.old) at.now.key clock left (kept_in self.new.cells) self.new.cells.last }
     {
         let key_hop = KeyHop {
             key: at.key,
@@ -113,7 +116,7 @@ impl<'a> Scan<'a> {
         let end = self.cells.end(self.times, key_hop, at.location, hop, clock);
         match hop.way {
             Way::To(next) => self.go_on(at, next, &end),
-            Way::Early | Way::Late => self.cells.stop(&end),
+            Way::Early | Way::Late => self.cells.keep_last(&end),
         }
     }
 

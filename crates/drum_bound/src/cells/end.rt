@@ -1,6 +1,6 @@
 //! Ends of hops, and their one maker.
 
-ghost use Rattle.std.specs.Prelude.{◌≡◌, ◌+◌, ◌<◌, ◌≤◌, ◌^◌, None, Some};
+ghost use Rattle.std.specs.Prelude.{◌≡◌, ◌+◌, ◌%◌, ◌<◌, ◌≤◌, ◌^◌, None, Some};
 
 use crate::latest::{Latest, Origin};
 use crate::longest::longest;
@@ -11,15 +11,47 @@ use drum_times::Times;
 /// The latest end of a hop from a key. It is made by [`Made::end`] alone, which counts it.
 #[derive(Debug, Drop)]
 pub struct End {
-    latest: Latest,
+    clock: u64,
+    origin: Origin,
 }
 
 impl End {
-    /// What is to be kept of it.
-    pub fn latest(&self) -> Latest
-        ensures { result ≡ self.now.latest }
+    ghost use Rattle.drum_bound.specs.EndOf.{latest_in};
+    ghost use Rattle.drum_bound.specs.Scanned.{later};
+
+    /// Its clock.
+    pub fn clock(&self) -> u64
+        ensures { result ≡ self.now.clock }
     {
-        self.latest
+        self.clock
+    }
+
+    /// The drum's angle then, 0 to 49.
+    pub fn angle(&self) -> u8
+        ensures { result ≡ self.now.clock % 50 }
+    {
+        (self.clock % 50) as u8
+    }
+
+    /// The key and the hop that it is of.
+    pub fn origin(&self) -> Origin
+        ensures { result ≡ self.now.origin }
+    {
+        self.origin
+    }
+
+    /// What is kept, or this end where it is later.
+    pub fn or_later(&self, kept: Latest) -> Latest
+        ensures { result ≡ later kept (latest_in self.now) }
+    {
+        if kept.clock < self.clock {
+            Latest {
+                clock: self.clock,
+                origin: Some(self.origin),
+            }
+        } else {
+            kept
+        }
     }
 }
 
@@ -75,22 +107,22 @@ impl Made {
     ) -> End
         requires few { self.old.count < 2 ^ 62 }
         requires later { IsLater self.old.last key_hop }
+        requires narrow { key_hop.key < 2 ^ 32 }
         requires soon { clock ≤ 2 ^ 61 }
         requires may_end { MayEnd hop.instruction (seen_way hop.way) }
         ensures counted { self.new.count ≡ self.old.count + 1 }
         ensures last { self.new.last ≡ Some key_hop }
-        ensures origin { result.latest.origin ≡ Some (record { key = key_hop.key; hop = hop }) }
-        ensures clock { result.latest.clock ≡ said.longest (entry_in times.now) location.number hop.instruction (seen_way hop.way) clock }
+        ensures origin { result.origin ≡ record { key = key_hop.key; hop = hop } }
+        ensures clock { result.clock ≡ said.longest (entry_in times.now) location.number hop.instruction (seen_way hop.way) clock }
+        ensures after { clock ≤ result.clock }
     {
         self.count += 1;
         self.last = Some(key_hop);
         End {
-            latest: Latest {
-                clock: longest(times, location, hop, clock),
-                origin: Some(Origin {
-                    key: key_hop.key,
-                    hop,
-                }),
+            clock: longest(times, location, hop, clock),
+            origin: Origin {
+                key: key_hop.key as u32,
+                hop,
             },
         }
     }

@@ -1,66 +1,100 @@
-use Rattle.std.proofs.Common.{◌≡◌, ℕ, ◌-◌, List, length, map, ap, sym, ◌∙◌, subst, arith}
-use Rattle.std.proofs.lemmas.Grind.{merely}
+use Rattle.std.proofs.Common.{◌≡◌, ℕ, ◌-◌, List, Vec, Global, length, map, ap, sym, ◌∙◌, subst, arith}
 use Rattle.std.proofs.lemmas.List.{length-map}
 use Rattle.drum_times.specs.declared.notes.mark.Mark.{Mark}
-use Rattle.drum_flow.specs.Accepted.{counts_of}
+use Rattle.drum_times.specs.declared.times.Times.{Times}
 use Rattle.drum_flow.specs.Flow.{deck_of, notes_of, order_in}
-use Rattle.drum_bound.specs.declared.latest.Latest.{Latest}
+use Rattle.drum_bound.specs.declared.analysis.Analysis.{Analysis}
+use Rattle.drum_bound.specs.declared.cells.Cells.{Cells}
+use Rattle.drum_bound.specs.declared.keys.Keys.{Keys}
 use Rattle.drum_bound.specs.declared.visit.Visit.{Visit}
 use Rattle.drum_bound.specs.AnalysisOf.{ArePasses}
+use Rattle.drum_bound.specs.Held.{kept_in}
+use Rattle.drum_bound.specs.Keys.{keys_of}
 use Rattle.drum_bound.specs.KeysOf.{setting_of}
-use Rattle.drum_bound.specs.RowOf.{row_in}
-use Rattle.drum_bound.specs.Scanned.{start_angle}
-use Rattle.drum_bound.specs.Visited.{AreInTime, seen_visit, visited}
-use Rattle.drum_bound.proofs.Analyses.{IsFound, is_found, is_analysis}
+use Rattle.drum_bound.specs.ScanOf.{AreCells}
+use Rattle.drum_bound.specs.Scanned.{start_angle, turns_below, Scanned}
+use Rattle.drum_bound.specs.Visited.{AreInTime, IsWalkOf, Visited, seen_visit, visited}
+use Rattle.drum_bound.proofs.Analyses.{IsFound, is_found, is_analysis, last_after}
 use Rattle.drum_bound.proofs.InTime.{walk_in_time}
 use Rattle.drum_bound.proofs.ShortWalks.{short_walk}
 use Rattle.drum_bound.proofs.analysing.analysis_by.Goals as goal
 
+-- the bound, from the start angle
+bound : (keys : Keys) (times : Times) (cells : Cells) (visits : List Visited) → IsFound keys times cells visits
+    → cells.last.clock - cells.angle ≡ cells.last.clock - start_angle (setting_of keys.flow.now times).start
+bound keys times cells visits is = ap (λ (n : ℕ). cells.last.clock - n) is.are.angle
+
+pub of-requires-2-clause-in_time : goal.of-requires-2-clause-in_time
+of-requires-2-clause-in_time c =
+    let keys = c.args.keys.now in
+    let times = c.args.times.now in
+    let cells = c.in_ok-scan.scan.cells in
+    let visits = map seen_visit c.in_ok-walk.walk.items in
+    let is : IsFound keys times cells visits =
+    is_found keys times c.in_ok-scan.scan visits c.in_ok-scan.ensures.keys c.in_ok-scan.ensures.times c.in_ok-scan.ensures.done c.in_ok-walk.ensures in
+    let g = setting_of keys.flow.now times in
+    subst (AreInTime 0 visits) (sym (bound keys times cells visits is))
+    (walk_in_time g (start_angle g.start) (cells.last.clock - start_angle g.start) visits is.walk)
+
+pub of-requires-2-clause-after : goal.of-requires-2-clause-after
+of-requires-2-clause-after c =
+    let keys = c.args.keys.now in
+    let times = c.args.times.now in
+    let visits = map seen_visit c.in_ok-walk.walk.items in
+    let is : IsFound keys times c.in_ok-scan.scan.cells visits =
+    is_found keys times c.in_ok-scan.scan visits c.in_ok-scan.ensures.keys c.in_ok-scan.ensures.times c.in_ok-scan.ensures.done c.in_ok-walk.ensures in
+    last_after (setting_of keys.flow.now times) (order_in keys.flow.now) c.in_ok-scan.scan.cells is.are is.scanned
+
+pub of-requires-2-clause-on_drum : goal.of-requires-2-clause-on_drum
+of-requires-2-clause-on_drum c = omega (arith, c.in_ok-scan.ensures.done.cells.angle)
+
+pub of-requires-2-clause-below : goal.of-requires-2-clause-below
+of-requires-2-clause-below c =
+    let keys = c.args.keys.now in
+    let times = c.args.times.now in
+    let visits = map seen_visit c.in_ok-walk.walk.items in
+    let is : IsFound keys times c.in_ok-scan.scan.cells visits =
+    is_found keys times c.in_ok-scan.scan visits c.in_ok-scan.ensures.keys c.in_ok-scan.ensures.times c.in_ok-scan.ensures.done c.in_ok-walk.ensures in
+    omega (arith, is.scanned.last_near, c.requires.ordered.0.few)
+
+pub of-requires-2-clause-few : goal.of-requires-2-clause-few
+of-requires-2-clause-few c =
+    let keys = c.args.keys.now in
+    let g = setting_of keys.flow.now c.args.times.now in
+    let visits = map seen_visit c.in_ok-walk.walk.items in
+    let is : IsFound keys c.args.times.now c.in_ok-scan.scan.cells visits =
+    is_found keys c.args.times.now c.in_ok-scan.scan visits c.in_ok-scan.ensures.keys c.in_ok-scan.ensures.times c.in_ok-scan.ensures.done c.in_ok-walk.ensures in
+    omega (
+      arith,
+      c.requires.ordered.0.few,
+      short_walk g (order_in keys.flow.now) c.requires.ordered.0 (start_angle g.start) is.walk.hops is.walk.walk,
+      length-map is.walk.hops visited,
+      ap length is.walk.same,
+      length-map c.in_ok-walk.walk.items seen_visit,
+    )
+
 pub returns : goal.returns
 returns c =
-    let scan = c.in-Ok.scan in
     let keys = c.args.keys.now in
     let times = c.args.times.now in
-    let rows = map row_in c.in-Ok-table.table.items in
-    let visits = map seen_visit c.in-Ok-walk.walk.items in
-    let found : IsFound keys times scan rows visits =
-    is_found keys times scan rows visits c.in-Ok.ensures.keys c.in-Ok.ensures.times c.in-Ok.ensures.done c.in-Ok-table.ensures c.in-Ok-walk.ensures in
-    let marks : c.marks-marks.result.now ≡ (notes_of keys.flow.now).marks = c.marks-marks.ensures.all ∙ ap (λ notes. notes.marks) c.notes.ensures in
-    let passed : ArePasses c.marks-marks.result.now visits c.passes_of_marks.result =
-    subst (λ (walk : List Visit). ArePasses c.marks-marks.result.now (map seen_visit walk) c.passes_of_marks.result) c.deref.ensures.value c.passes_of_marks.ensures.passed in
-    is_analysis (setting_of keys.flow.now times) (order_in keys.flow.now) scan.cells.kept.items scan.cells.last _ c.requires.ordered.0 (deck_of keys.flow.now).on_drum found.scanned
-    (record {
-      bound = ap (λ (l : Latest). l.clock - c.start_angle-angle.result) c.last.ensures ∙ ap (λ (n : ℕ). scan.cells.last.clock - n) c.start_angle-angle.ensures;
-      angle = c.start_angle-angle.ensures;
-      rows = found.table;
-      walk = found.walk;
-      words = sym (length-map c.order.result.now (λ location. location.number)) ∙ ap length c.order.ensures;
-      counts = c.counts_of.ensures.value ∙ ap counts_of marks;
-      turns = c.made.ensures ∙ found.turns;
-      passed = subst (λ (all : List Mark). ArePasses all visits c.passes_of_marks.result) marks passed;
-    })
-
-pub invariant_of-result : goal.invariant_of-result
-invariant_of-result c =
-    let scan = c.in-Ok.scan in
-    let keys = c.args.keys.now in
-    let times = c.args.times.now in
+    let cells = c.in_ok-scan.scan.cells in
+    let visits = map seen_visit c.in_ok-walk.walk.items in
     let g = setting_of keys.flow.now times in
-    let rows = map row_in c.in-Ok-table.table.items in
-    let visits = map seen_visit c.in-Ok-walk.walk.items in
-    let found : IsFound keys times scan rows visits =
-    is_found keys times scan rows visits c.in-Ok.ensures.keys c.in-Ok.ensures.times c.in-Ok.ensures.done c.in-Ok-table.ensures c.in-Ok-walk.ensures in
-    let bound : c.last.result.clock - c.start_angle-angle.result ≡ scan.cells.last.clock - start_angle g.start =
-    ap (λ (l : Latest). l.clock - c.start_angle-angle.result) c.last.ensures ∙ ap (λ (n : ℕ). scan.cells.last.clock - n) c.start_angle-angle.ensures in
-    record {
-      in_time = merely (subst (AreInTime 0 visits) (sym bound) (walk_in_time g (start_angle g.start) (scan.cells.last.clock - start_angle g.start) visits found.walk));
-      below = omega (arith, bound, found.scanned.last_near, c.requires.ordered.0.few);
-      few = omega (
-        arith,
-        c.requires.ordered.0.few,
-        short_walk g (order_in keys.flow.now) c.requires.ordered.0 (start_angle g.start) found.walk.hops found.walk.walk,
-        length-map found.walk.hops visited,
-        ap length found.walk.same,
-        length-map c.in-Ok-walk.walk.items seen_visit,
-      );
-    }
+    let order = order_in keys.flow.now in
+    let is : IsFound keys times cells visits =
+    is_found keys times c.in_ok-scan.scan visits c.in_ok-scan.ensures.keys c.in_ok-scan.ensures.times c.in_ok-scan.ensures.done c.in_ok-walk.ensures in
+    let analysis : Analysis = c.of-2.result in
+    let marks : c.marks.result.now ≡ (notes_of keys.flow.now).marks = c.marks.ensures.all ∙ ap (λ notes. notes.marks) c.notes.ensures in
+    let passed : ArePasses c.marks.result.now visits c.passes_of_marks-passed.result =
+    subst (λ (walk : List Visit). ArePasses c.marks.result.now (map seen_visit walk) c.passes_of_marks-passed.result) c.deref.ensures.value c.passes_of_marks-passed.ensures.passed in
+    let own : ArePasses g.notes.marks visits c.passes_of_marks-passed.result = subst (λ (all : List Mark). ArePasses all visits c.passes_of_marks-passed.result) marks passed in
+    let same : c.of-2.result.cells ≡ cells = c.of-2.ensures.cells in
+    let walked : map seen_visit c.of-2.result.walk.items ≡ visits = ap (λ (walk : Vec Visit Global). map seen_visit walk.items) c.of-2.ensures.walk in
+    is_analysis g order analysis c.requires.ordered.0 (deck_of keys.flow.now).on_drum
+    (subst (AreCells g order) (sym same) is.are)
+    (subst (λ (all : Cells). Scanned g order (keys_of g.notes.marks order) (keys_of g.notes.marks order) (kept_in all) all.last) (sym same) is.scanned)
+    (subst (λ (all : Cells). all.made.count ≡ turns_below g order (kept_in all) (keys_of g.notes.marks order)) (sym same) is.turns)
+    (subst (λ (all : Cells). IsWalkOf g (start_angle g.start) (all.last.clock - start_angle g.start) (map seen_visit c.of-2.result.walk.items)) (sym same)
+    (subst (IsWalkOf g (start_angle g.start) (cells.last.clock - start_angle g.start)) (sym walked) is.walk))
+    (subst (λ (all : List Visited). ArePasses g.notes.marks all c.of-2.result.passed) (sym walked)
+    (subst (λ (all : List ℕ). ArePasses g.notes.marks visits all) (sym c.of-2.ensures.passed) own))

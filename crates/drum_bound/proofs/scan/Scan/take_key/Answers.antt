@@ -11,8 +11,9 @@ use Rattle.drum_bound.specs.Scanned.{Taking}
 use Rattle.drum_bound.specs.ScanOf.{setting_in, order_of}
 use Rattle.drum_bound.specs.KeyHops.{IsLater}
 use Rattle.drum_bound.proofs.FewHops.{few_hops}
-use Rattle.drum_bound.proofs.KeysTaken.{hops_at, hops_as, skipped, opened, early_clock, few_turns, taking_as, closed}
+use Rattle.drum_bound.proofs.KeysTaken.{hops_at, hops_as, skipped, opened, early_clock, few_turns, taking_as, cells_as, closed}
 use Rattle.drum_bound.proofs.LaterHops.{first_left, others_left, later_key, later_hop}
+use Rattle.drum_bound.specs.Held.{kept_in}
 use Rattle.drum_bound.proofs.scan.Scan.take_key.Goals as goal
 
 pub returns-in_default-clause-scanned : goal.returns-in_default-clause-scanned
@@ -41,8 +42,7 @@ loop-number-init c =
     record {
       times = refl;
       keys = refl;
-      words = refl;
-      counts = refl;
+      cells = c.requires.scanned.cells;
       taking = opened scan c.args.key c.in-Some.latest (hops_left (enumerate_source each.result)) c.requires.scanned there left;
       turns = ap (λ (hops : List Hop). scan.cells.made.count + length hops) left;
       agreed = λ other below. refl;
@@ -61,6 +61,11 @@ take_hop-requires-clause-hop c =
     first_left number (hops_at scan c.args.key) (hops_left (enumerate_source c.next.new.self)) hop (known.left ∙ c.in-Some-2.ensures.steps.0) in
     let same : hops_at before c.at-at.result.key ≡ hops_at scan c.args.key = hops_as before scan c.at-at.result.key known.keys ∙ ap (hops_at scan) c.at-at.ensures.key in
     ap (slice_get (hops_at before c.at-at.result.key)) c.in-Some-2.ensures.steps.1 ∙ ap (λ (hops : List Hop). slice_get hops number) same ∙ there
+
+pub take_hop-requires-clause-cells : goal.take_hop-requires-clause-cells
+take_hop-requires-clause-cells c =
+    let known = c.loop-number.invariant in
+    cells_as c.args.self.now c.loop-number.self c.loop-number.self.cells (sym known.times) (sym known.keys) known.cells
 
 pub take_hop-requires-clause-later : goal.take_hop-requires-clause-later
 take_hop-requires-clause-later c =
@@ -91,19 +96,18 @@ loop-number-preserved c =
     let turn : after.cells.made.last ≡ Some (record { key = c.args.key; hop = number }) =
     c.take_hop.ensures.last ∙ ap (λ (key : ℕ). Some (record { key = key; hop = c.in-Some-2.number })) c.at-at.ensures.key
     ∙ ap (λ (hop : ℕ). Some (record { key = c.args.key; hop = hop })) c.in-Some-2.ensures.steps.1 in
-    let taking : Taking (setting_in scan) (order_of scan) c.args.key clock (hop ∷ rest) before.cells.kept.items before.cells.last =
-    subst (λ (left : List Hop). Taking (setting_in scan) (order_of scan) c.args.key clock left before.cells.kept.items before.cells.last) step known.taking in
-    let here : Taking (setting_in before) (order_of before) c.at-at.result.key clock (hop ∷ rest) before.cells.kept.items before.cells.last =
-    subst (λ (key : ℕ). Taking (setting_in before) (order_of before) key clock (hop ∷ rest) before.cells.kept.items before.cells.last) (sym c.at-at.ensures.key)
-    (taking_as scan before c.args.key clock (hop ∷ rest) before.cells.kept.items before.cells.last (sym known.times) (sym known.keys) taking) in
-    let next : Taking (setting_in before) (order_of before) c.args.key clock rest after.cells.kept.items after.cells.last =
-    subst (λ (key : ℕ). Taking (setting_in before) (order_of before) key clock rest after.cells.kept.items after.cells.last) c.at-at.ensures.key (c.take_hop.ensures.taken rest here) in
+    let taking : Taking (setting_in scan) (order_of scan) c.args.key clock (hop ∷ rest) (kept_in before.cells) before.cells.last =
+    subst (λ (left : List Hop). Taking (setting_in scan) (order_of scan) c.args.key clock left (kept_in before.cells) before.cells.last) step known.taking in
+    let here : Taking (setting_in before) (order_of before) c.at-at.result.key clock (hop ∷ rest) (kept_in before.cells) before.cells.last =
+    subst (λ (key : ℕ). Taking (setting_in before) (order_of before) key clock (hop ∷ rest) (kept_in before.cells) before.cells.last) (sym c.at-at.ensures.key)
+    (taking_as scan before c.args.key clock (hop ∷ rest) (kept_in before.cells) before.cells.last (sym known.times) (sym known.keys) taking) in
+    let next : Taking (setting_in before) (order_of before) c.args.key clock rest (kept_in after.cells) after.cells.last =
+    subst (λ (key : ℕ). Taking (setting_in before) (order_of before) key clock rest (kept_in after.cells) after.cells.last) c.at-at.ensures.key (c.take_hop.ensures.taken rest here) in
     record {
       times = c.take_hop.ensures.times ∙ known.times;
       keys = c.take_hop.ensures.keys ∙ known.keys;
-      words = c.take_hop.ensures.words ∙ known.words;
-      counts = c.take_hop.ensures.counts ∙ known.counts;
-      taking = taking_as before scan c.args.key clock rest after.cells.kept.items after.cells.last known.times known.keys next;
+      cells = cells_as before scan after.cells known.times known.keys c.take_hop.ensures.cells;
+      taking = taking_as before scan c.args.key clock rest (kept_in after.cells) after.cells.last known.times known.keys next;
       turns = omega (arith, known.turns, c.take_hop.ensures.counted, ap (λ (hops : List Hop). length hops) step);
       agreed = λ other below. c.take_hop.ensures.agreed other (omega (arith, below, c.at-at.ensures.key)) ∙ known.agreed other below;
       left = ap (λ (n : ℕ). drop n (hops_at scan c.args.key)) next_number ∙ others_left number (hops_at scan c.args.key) rest hop (known.left ∙ step);
@@ -117,6 +121,6 @@ returns-clause-scanned c =
     let known = c.loop-number.invariant in
     let none : hops_left (enumerate_source c.loop-number.number-iterator) ≡ [] = c.in-None.ensures.steps.0.0 in
     closed after scan c.args.key (enumerate_count c.loop-number.number-iterator) c.in-Some.latest known.times known.keys c.requires.scanned
-    (sym c.kept_at.ensures ∙ c.in-Some.is) known.words known.counts
-    (subst (λ (left : List Hop). Taking (setting_in scan) (order_of scan) c.args.key c.in-Some.latest.clock left after.cells.kept.items after.cells.last) none known.taking)
+    (sym c.kept_at.ensures ∙ c.in-Some.is) known.cells
+    (subst (λ (left : List Hop). Taking (setting_in scan) (order_of scan) c.args.key c.in-Some.latest.clock left (kept_in after.cells) after.cells.last) none known.taking)
     (omega (arith, known.turns, ap (λ (hops : List Hop). length hops) none)) known.agreed known.later
