@@ -36,12 +36,12 @@ kept_is angle entries origins places key =
     kept_there angle entries origins 0 places key ∙ ap (λ (k : ℕ). kept_from angle entries origins k (entry_of places key)) same
 
 -- what stands behind a list
-get_before : {X : Type 0} (xs : List X) (x : X) (k : ℕ) → k < length xs → slice_get (xs ++ x ∷ []) k ≡ slice_get xs k
+pub get_before : {X : Type 0} (xs : List X) (x : X) (k : ℕ) → k < length xs → slice_get (xs ++ x ∷ []) k ≡ slice_get xs k
 get_before [] x k within = absurd (omega (arith, within))
 get_before (y ∷ xs) x zero within = refl
 get_before (y ∷ xs) x (suc k) within = get_before xs x k (omega (arith, within))
 
-get_behind : {X : Type 0} (xs : List X) (x : X) (k : ℕ) → k ≡ length xs → slice_get (xs ++ x ∷ []) k ≡ Some x
+pub get_behind : {X : Type 0} (xs : List X) (x : X) (k : ℕ) → k ≡ length xs → slice_get (xs ++ x ∷ []) k ≡ Some x
 get_behind [] x zero is = refl
 get_behind [] x (suc k) is = absurd (omega (arith, is))
 get_behind (y ∷ xs) x zero is = absurd (omega (arith, is))

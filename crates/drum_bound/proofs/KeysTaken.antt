@@ -47,18 +47,13 @@ hops_at scan key = hops (setting_in scan).loads (setting_in scan).notes (place_a
 pub hop_among : (scan : Scan) (key number : ℕ) (hop : Hop) → slice_get (hops_at scan key) number ≡ Some hop → Contains (hops_at scan key) hop
 hop_among scan key number hop at = contains_from_get (hops_at scan key) number hop at
 
--- they are the same where the keys are
-pub hops_as : (a b : Scan) (key : ℕ) → a.keys ≡ b.keys → hops_at a key ≡ hops_at b key
-hops_as a b key keys =
-    let hops_of : Keys → List Hop = λ k. hops (setting_of k.flow.now a.times.now).loads (setting_of k.flow.now a.times.now).notes (place_at (order_in k.flow.now) key) in
-    ap (λ (k : Bor Keys). hops_of k.now) keys
-
 -- a key at which nothing is kept needs no taking
 pub skipped : (scan : Scan) (key : ℕ) → IsScanned scan key → cell_at (kept_in scan.cells) key ≡ None → IsScanned scan (key + 1)
 skipped scan key is none =
     let next : suc key ≡ key + 1 = omega arith in
     subst (IsScanned scan) next (record {
       keys = is.keys;
+      leaps = is.leaps;
       cells = is.cells;
       scanned = skip (setting_in scan) (order_of scan) key (kept_in scan.cells) scan.cells.last none is.scanned;
       turns = omega (arith, is.turns, ap (turns_at (setting_in scan) (order_of scan) key) none);
@@ -88,20 +83,6 @@ few_turns scan key count left is below so_far =
       is.keys.size,
       is.keys.ordered.0.few,
     )
-
--- what is known where a timing table and keys stay
-abbrev TakingOf : ℕ → ℕ → List Hop → List (Option Latest) → Latest → Bor Times → Bor Keys → Type 0
-TakingOf key clock left cells last times keys = Taking (setting_of keys.now.flow.now times.now) (order_in keys.now.flow.now) key clock left cells last
-
-pub taking_as : (a b : Scan) (key clock : ℕ) (left : List Hop) (cells : List (Option Latest)) (last : Latest) → a.times ≡ b.times → a.keys ≡ b.keys
-    → Taking (setting_in a) (order_of a) key clock left cells last → Taking (setting_in b) (order_of b) key clock left cells last
-taking_as a b key clock left cells last times keys taking =
-    subst (λ (k : Bor Keys). TakingOf key clock left cells last b.times k) keys (subst (λ (t : Bor Times). TakingOf key clock left cells last t a.keys) times taking)
-
-pub cells_as : (a b : Scan) (cells : Cells) → a.times ≡ b.times → a.keys ≡ b.keys → AreCells (setting_in a) (order_of a) cells → AreCells (setting_in b) (order_of b) cells
-cells_as a b cells times keys are =
-    let Right : Bor Times → Bor Keys → Type 0 = λ t k. AreCells (setting_of k.now.flow.now t.now) (order_in k.now.flow.now) cells in
-    subst (λ (k : Bor Keys). Right b.times k) keys (subst (λ (t : Bor Times). Right t a.keys) times are)
 
 -- cells where nothing that is held changes
 pub cells_made : (g : Setting) (order : List ℕ) (cells : Cells) (made : Made) → AreCells g order cells → AreCells g order (record cells { made = made })
@@ -137,26 +118,36 @@ cells_last g order cells last are = record {
 }
 
 -- no hop of the key is left
-pub closed : (a b : Scan) (key number : ℕ) (kept : Latest) → a.times ≡ b.times → a.keys ≡ b.keys → IsScanned b key → cell_at (kept_in b.cells) key ≡ Some kept
-    → AreCells (setting_in b) (order_of b) a.cells
-    → Taking (setting_in b) (order_of b) key kept.clock [] (kept_in a.cells) a.cells.last → a.cells.made.count ≡ b.cells.made.count + length (hops_at b key) → IsAgreed key (kept_in b.cells) (kept_in a.cells)
-    → IsLater a.cells.made.last (record { key = key; hop = number }) → IsScanned a (key + 1)
-closed a b key number kept times keys is there cells taking count agreed later =
+pub closed : (b : Scan) (cells : Cells) (key number : ℕ) (kept : Latest) → IsScanned b key → cell_at (kept_in b.cells) key ≡ Some kept
+    → AreCells (setting_in b) (order_of b) cells
+    → Taking (setting_in b) (order_of b) key kept.clock [] (kept_in cells) cells.last → cells.made.count ≡ b.cells.made.count + length (hops_at b key) → IsAgreed key (kept_in b.cells) (kept_in cells)
+    → IsLater cells.made.last (record { key = key; hop = number }) → IsScanned (record b { cells = cells }) (key + 1)
+closed b cells key number kept is there are taking count agreed later =
     let next : suc key ≡ key + 1 = omega arith in
     let g = setting_in b in
     let order = order_of b in
-    let turns : a.cells.made.count ≡ turns_below g order (kept_in a.cells) (suc key) =
+    let turns : cells.made.count ≡ turns_below g order (kept_in cells) (suc key) =
     omega (
       arith,
       count,
       is.turns,
-      turns_agree g order (kept_in b.cells) (kept_in a.cells) key (λ other below. agreed other (omega (arith, below))),
+      turns_agree g order (kept_in b.cells) (kept_in cells) key (λ other below. agreed other (omega (arith, below))),
       ap (turns_at g order key) (agreed key (omega arith) ∙ there),
     ) in
-    let Right : Bor Times → Bor Keys → Type 0 = λ t k.
-    AreKeys k.now × Scanned (setting_of k.now.flow.now t.now) (order_in k.now.flow.now) (suc key) (suc key) (kept_in a.cells) a.cells.last
-    × (a.cells.made.count ≡ turns_below (setting_of k.now.flow.now t.now) (order_in k.now.flow.now) (kept_in a.cells) (suc key))
-    × AreCells (setting_of k.now.flow.now t.now) (order_in k.now.flow.now) a.cells in
-    let right : Right b.times b.keys = (is.keys, close_key g order key kept.clock (kept_in a.cells) a.cells.last taking, turns, cells) in
-    let as_a : Right a.times a.keys = subst (λ (k : Bor Keys). Right a.times k) (sym keys) (subst (λ (t : Bor Times). Right t b.keys) (sym times) right) in
-    subst (IsScanned a) next (record { keys = as_a.0; cells = as_a.3; scanned = as_a.1; turns = as_a.2; before = before_end a.cells.made.last key number later })
+    subst (IsScanned (record b { cells = cells })) next
+    (record {
+      keys = is.keys;
+      leaps = is.leaps;
+      cells = are;
+      scanned = close_key g order key kept.clock (kept_in cells) cells.last taking;
+      turns = turns;
+      before = before_end cells.made.last key number later;
+    })
+
+-- keys at which nothing is kept need no taking
+pub skipped_all : (scan : Scan) (first more : ℕ) → IsScanned scan first → ((key : ℕ) → first ≤ key → key < first + more → cell_at (kept_in scan.cells) key ≡ None) → IsScanned scan (first + more)
+skipped_all scan first zero is none = let same : first ≡ first + 0 = omega arith in subst (IsScanned scan) same is
+skipped_all scan first (suc more) is none =
+    let before : IsScanned scan (first + more) = skipped_all scan first more is (λ key from below. none key from (omega (arith, below))) in
+    let same : first + more + 1 ≡ first + suc more = omega arith in
+    subst (IsScanned scan) same (skipped scan (first + more) before (none (first + more) (omega arith) (omega arith)))

@@ -8,16 +8,19 @@ pub mod EntriesRaised
 pub mod EntryEnds
 pub mod FewHops
 mod Finished
+pub mod Halfway
 pub mod HeldLaws
 mod InTime
 pub mod KeyLaws
 pub mod KeysTaken
 pub mod LaterHops
+mod LeapLaws
 pub mod LongestLaws
 pub mod Onward
 pub mod Ordering
 pub mod Profiles
 pub mod Raises
+pub mod RoundLaws
 pub mod Rows
 pub mod RowsHeld
 pub mod Scans

@@ -82,3 +82,16 @@ key_beside marks order key place k next below is at =
 -- a key has as many locations as its order
 pub same_length : (keys : Keys) → AreKeys keys → length keys.sites.items ≡ length (order_in keys.flow.now)
 same_length keys are = sym (length-map keys.sites.items (λ (site : Site). site.location.number)) ∙ ap (λ (ns : List ℕ). length ns) are.sites
+
+-- the key of the first location with counts is small
+pub small_product : (marks : List Mark) (order counts : List ℕ) → AreWithin marks counts → keys_of marks order ≤ 4000000 → leading marks counts * length order ≤ 4000000
+small_product marks order counts within few =
+    let up : length order * suc (leading marks counts) ≤ length order * counts_of marks = mul-le-mul_left (length order) (leading-< marks counts within) in
+    omega (arith, up, few)
+
+-- counts that are within what the marks allow have a small number
+pub small_number : (marks : List Mark) (order counts : List ℕ) (k place : ℕ) → AreWithin marks counts → keys_of marks order ≤ 4000000 → slice_get order k ≡ Some place
+    → leading marks counts * length order + k < 4000000
+small_number marks order counts k place within few at =
+    let up : length order * suc (leading marks counts) ≤ length order * counts_of marks = mul-le-mul_left (length order) (leading-< marks counts within) in
+    omega (arith, up, few, slice_get_within order k place at)

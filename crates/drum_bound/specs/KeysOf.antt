@@ -10,7 +10,6 @@ use Rattle.drum_flow.specs.Flow.{deck_of, notes_of, executed_in, order_in}
 use Rattle.drum_flow.specs.Hops.{hops}
 use Rattle.drum_flow.specs.HopsLeft.{hops_left}
 use Rattle.drum_flow.specs.Walk.{Setting}
-use Rattle.drum_bound.specs.declared.keys.At.{At}
 use Rattle.drum_bound.specs.declared.keys.Keys.{Keys}
 use Rattle.drum_bound.specs.declared.keys.Site.{Site}
 use Rattle.drum_bound.specs.AnalysisOf.{setting}
@@ -50,17 +49,3 @@ pub record AreKeys (keys : Keys) : Type 0 where
   pub indices : HaveIndices (order_in keys.flow.now) keys.indices.items
   pub counts : keys.counts ≡ counts_of (notes_of keys.flow.now).marks
   pub size : keys.size ≡ keys_of (notes_of keys.flow.now).marks (order_in keys.flow.now)
-
--- A key with the index of its location in the order, and the location.
-pub record IsAt (keys : Keys) (at : At) : Type 0 where
-  pub below : at.key < keys.size
-  pub rest : at.index ≡ at.key % length (order_in keys.flow.now)
-  pub there : at.location.number ≡ place_at (order_in keys.flow.now) at.key
-
--- the key that a hop from a key to a location leads to; none where a full mark bars it
-abbrev pub IsAfter : Keys → At → ℕ → Option ℕ → Type 0
-IsAfter keys at next result =
-    let marks = (notes_of keys.flow.now).marks in
-    let order = order_in keys.flow.now in
-    let passed = after_pass marks (place_at order at.key) next (counts_at marks order at.key) in
-    MatchOption result (¬ AreWithin marks passed) (λ key. IsKey marks order key next passed × AreWithin marks passed)

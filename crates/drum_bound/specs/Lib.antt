@@ -7,11 +7,14 @@ pub mod Held
 pub mod KeyHops
 pub mod Keys
 pub mod KeysOf
+pub mod LeapOf
 pub mod Longest
 pub mod Profile
+pub mod RoundOf
 pub mod RowOf
 pub mod ScanOf
 pub mod Scanned
+pub mod SearchOf
 pub mod Table
 pub mod TakenOf
 pub mod Under

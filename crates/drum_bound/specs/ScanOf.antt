@@ -1,15 +1,22 @@
 -- What a scan knows, as it is held.
-use Rattle.std.specs.Prelude.{◌≡◌, ℕ, suc, ◌<◌, List, length, Option, ◌⊎◌}
+use Rattle.std.specs.Prelude.{◌≡◌, ℕ, suc, ◌/◌, ◌%◌, ◌<◌, List, length, slice_get, Option, Some, ◌⊎◌}
 use Rattle.drum_machine.specs.Counts.{after_pass, AreWithin}
 use Rattle.drum_flow.specs.Accepted.{counts_of}
 use Rattle.drum_flow.specs.Flow.{order_in}
+use Rattle.drum_flow.specs.Hops.{hops}
 use Rattle.drum_flow.specs.Walk.{Setting}
 use Rattle.drum_bound.specs.declared.cells.Cells.{Cells}
 use Rattle.drum_bound.specs.declared.latest.Latest.{Latest}
+use Rattle.drum_bound.specs.declared.leap.Leap.{Leap}
+use Rattle.drum_bound.specs.declared.round.Round.{Round}
 use Rattle.drum_bound.specs.declared.scan.Scan.{Scan}
+use Rattle.drum_bound.specs.declared.search.Search.{Search}
 use Rattle.drum_bound.specs.Keys.{keys_of, place_at, counts_at, IsKey}
 use Rattle.drum_bound.specs.RowOf.{counts_number}
 use Rattle.drum_bound.specs.KeysOf.{AreKeys, setting_of}
+use Rattle.drum_bound.specs.LeapOf.{HaveLeaps, IsLeap, leap_hop}
+use Rattle.drum_bound.specs.RoundOf.{IsRound}
+use Rattle.drum_bound.specs.SearchOf.{IsSearch}
 use Rattle.drum_bound.specs.Held.{AreHeld, HaveEntries, kept_in}
 use Rattle.drum_bound.specs.Scanned.{start_angle, cell_at, later, raised, Scanned, turns_below}
 use Rattle.drum_bound.specs.KeyHops.{IsBefore}
@@ -37,6 +44,7 @@ pub record AreCells (g : Setting) (order : List ℕ) (cells : Cells) : Type 0 wh
 -- The keys below one have been taken.
 pub record IsScanned (scan : Scan) (taken : ℕ) : Type 0 where
   pub keys : AreKeys scan.keys.now
+  pub leaps : HaveLeaps (setting_in scan) (order_of scan) scan.leaps.now
   pub cells : AreCells (setting_in scan) (order_of scan) scan.cells
   pub scanned : Scanned (setting_in scan) (order_of scan) taken taken (kept_in scan.cells) scan.cells.last
   pub turns : scan.cells.made.count ≡ turns_below (setting_in scan) (order_of scan) (kept_in scan.cells) taken
@@ -45,6 +53,16 @@ pub record IsScanned (scan : Scan) (taken : ℕ) : Type 0 where
 -- All have.
 abbrev pub IsDone : Scan → Type 0
 IsDone scan = IsScanned scan (size_in scan)
+
+-- A hop of the key whose instruction is sought, of this number, is to be taken.
+pub record IsReady (scan : Scan) (own_round : Round) (own_search : Search) (number : ℕ) (own_leap : Leap) : Type 0 where
+  pub keys : AreKeys scan.keys.now
+  pub cells : AreCells (setting_in scan) (order_of scan) scan.cells
+  pub below : own_search.key < scan.keys.now.size
+  pub round : IsRound scan.keys.now.flow.now (own_search.key / length (order_of scan)) own_round
+  pub search : IsSearch (order_of scan) (kept_in scan.cells) own_search
+  pub hop : slice_get (hops (setting_in scan).loads (setting_in scan).notes (place_at (order_of scan) own_search.key)) number ≡ Some (leap_hop own_leap)
+  pub leap : IsLeap (setting_in scan) (order_of scan) (place_at (order_of scan) own_search.key) (own_search.found % 50) own_leap
 
 -- the cells up to a key are the same
 abbrev pub IsAgreed : ℕ → List (Option Latest) → List (Option Latest) → Type 0

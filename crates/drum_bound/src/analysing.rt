@@ -53,7 +53,8 @@ fn analysis_by<'a>(
     requires { AreKeys keys.now }
     ensures { IfOk result (IsAnalysis (setting_of keys.now.flow.now times.now) (length (order_in keys.now.flow.now))) }
 {
-    let scan = Scan::of(alloc, times, keys)?;
+    let leaps = keys.leaps(alloc, times)?;
+    let scan = Scan::of(alloc, times, keys, &leaps)?;
     let walk = scan.walk(alloc)?;
     let passed = passes_of_marks(&walk, keys.flow.notes().marks());
     Ok(Analysis::of(scan.cells, walk, passed))

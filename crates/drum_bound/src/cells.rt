@@ -5,10 +5,10 @@ ghost use Rattle.std.specs.Prelude.{◌≡◌, ◌*◌, ◌≤◌, length};
 mod end;
 
 use crate::latest::{Latest, Origin};
+use crate::leap::Leap;
+use crate::search::Search;
 use crate::worst::Worst;
 use drum_core::Location;
-use drum_flow::Hop;
-use drum_times::Times;
 use end::Made;
 pub use end::{End, KeyHop};
 use std::alloc::{AllocError, Global};
@@ -42,11 +42,14 @@ pub struct Cells {
 }
 
 impl Cells {
-    ghost use Rattle.std.specs.Prelude.{ℕ, ◌+◌, ◌^◌, ◌<◌, suc, MatchOption, replicate, set, Some, None, IfOk};
-    ghost use Rattle.drum_times.specs.Entries.{entry_in};
+    ghost use Rattle.std.specs.Prelude.{ℕ, ◌+◌, ◌%◌, ◌^◌, ◌<◌, suc, List, MatchOption, false, replicate, set, Some, None, IfOk};
+    ghost use Rattle.drum_core.specs.Available.{is_available};
+    ghost use Rattle.drum_core.specs.Moment.{first};
     ghost use Rattle.drum_flow.specs.Seen.{seen_way};
+    ghost use Rattle.drum_flow.specs.Walk.{Setting};
     ghost use Rattle.drum_bound.specs.EndOf.{latest_in};
     ghost use Rattle.drum_bound.specs.Held.{AreHeld, HaveEntries, entry_of, kept_in};
+    ghost use Rattle.drum_bound.specs.LeapOf.{IsLeap};
     ghost use Rattle.drum_bound.specs.Longest.{longest};
     ghost use Rattle.drum_bound.specs.Profile.{MayEnd};
     ghost use Rattle.drum_bound.specs.Scanned.{cell_at, later, raised};
@@ -174,30 +177,54 @@ impl Cells {
         self.made.count()
     }
 
-    /// Makes the end of a hop of a key, which is at this location and keeps this clock: the latest
-    /// at which the hop can end.
-    pub fn end(
-        &mut self,
-        times: &Times,
-        key_hop: KeyHop,
-        location: Location,
-        hop: Hop,
-        clock: u64,
-    ) -> End
-        requires kept { KeepsAt (kept_in self.old) key_hop.key clock }
-        requires later { IsLater self.old.made.last key_hop }
+    /// The clock that a key keeps; `None` where nothing is.
+    pub fn clock_at(&self, key: usize) -> Option<u64>
+        requires { AreHeld self.now }
+        ensures { MatchOption result (cell_at (kept_in self.now) key ≡ None) (λ clock. KeepsAt (kept_in self.now) key clock) }
+    {
+        let Some(latest) = self.kept_at(key) else {
+            return None;
+        };
+        Some(latest.clock)
+    }
+
+    /// Whether something is kept at one of the keys from one up to another.
+    pub fn keeps_any(&self, first: usize, end: usize) -> bool
+        requires held { AreHeld self.now }
+        requires there { end ≤ length self.now.places.items }
+        ensures none { result ≡ false → (key : ℕ) → first ≤ key → key < end → cell_at (kept_in self.now) key ≡ None }
+    {
+        for key in first..end {
+            if self.places[key] > 0 {
+                return true;
+            }
+        }
+        false
+    }
+
+    /// Makes the end of a hop of the key whose instruction was sought, from when it is found: the
+    /// latest at which the hop can end from the clock that its key keeps.
+    pub fn end(&mut self, search: &Search, number: usize, leap: &Leap) -> End
+        requires kept { KeepsAt (kept_in self.old) search.now.key search.now.begun }
+        requires found { search.now.found ≡ first (is_available search.now.location.number) search.now.begun }
+        requires later { IsLater self.old.made.last (record { key = search.now.key; hop = number }) }
         requires few { self.old.made.count < 2 ^ 62 }
-        requires narrow { key_hop.key < 2 ^ 32 }
-        requires soon { clock ≤ 2 ^ 61 }
-        requires may_end { MayEnd hop.instruction (seen_way hop.way) }
+        requires narrow { search.now.key < 2 ^ 32 }
+        requires soon { search.now.found ≤ 2 ^ 62 }
         ensures same { self.new ≡ record self.old { made = self.new.made } }
         ensures counted { self.new.made.count ≡ self.old.made.count + 1 }
-        ensures now_last { self.new.made.last ≡ Some key_hop }
-        ensures origin { result.origin ≡ record { key = key_hop.key; hop = hop } }
-        ensures clock { result.clock ≡ longest (entry_in times.now) location.number hop.instruction (seen_way hop.way) clock }
-        ensures after { clock ≤ result.clock }
+        ensures now_last { self.new.made.last ≡ Some (record { key = search.now.key; hop = number }) }
+        ensures origin { result.origin ≡ record { key = search.now.key; hop = leap.now.hop } }
+        ensures clock { (g : Setting) (order : List ℕ) → MayEnd leap.now.hop.instruction (seen_way leap.now.hop.way)
+            → IsLeap g order search.now.location.number (search.now.found % 50) leap.now
+            → result.clock ≡ longest g.times search.now.location.number leap.now.hop.instruction (seen_way leap.now.hop.way) search.now.begun }
+        ensures after { search.now.begun ≤ result.clock }
     {
-        self.made.end(times, key_hop, location, hop, clock)
+        let key_hop = KeyHop {
+            key: search.key,
+            hop: number,
+        };
+        self.made.end(key_hop, search.found, leap)
     }
 
     /// Keeps the end of a hop that goes on at a key, where it is later than what is kept there, and

@@ -13,7 +13,7 @@ ghost use Rattle.drum_bound.specs.Keys as numbered;
 ghost use Rattle.drum_bound.specs.Keys.{place_at, IsKey};
 ghost use Rattle.drum_bound.specs.RowOf.{counts_number};
 ghost use Rattle.drum_bound.specs.Scanned.{start_angle as start_angle_of};
-ghost use Rattle.drum_bound.specs.KeysOf.{AreKeys, CanHaveKeys, HaveHops, HaveIndices, IsAfter, IsAt, numbers, sites_in};
+ghost use Rattle.drum_bound.specs.KeysOf.{AreKeys, CanHaveKeys, HaveHops, HaveIndices, numbers, sites_in};
 
 use crate::counts::Counts;
 use drum_core::Location;
@@ -44,14 +44,6 @@ pub struct Keys<'a> {
     pub counts: usize,
     /// How many keys there are.
     pub size: usize,
-}
-
-/// A key, the index of its location in the order, and the location.
-#[derive(Clone, Copy, Debug)]
-pub struct At {
-    pub key: usize,
-    pub index: usize,
-    pub location: Location,
 }
 
 /// The executed locations of an accepted deck in their order, each with its hops.
@@ -123,7 +115,7 @@ impl<'a> Keys<'a> {
     }
 
     /// The marks.
-    fn marks(&self) -> &'a [Mark]
+    pub fn marks(&self) -> &'a [Mark]
         requires { AreKeys self.now }
         ensures all { result.now ≡ (notes_of self.now.flow.now).marks }
         ensures few { length result.now ≤ 8 }
@@ -132,50 +124,27 @@ impl<'a> Keys<'a> {
         self.flow.notes().marks()
     }
 
-    /// A key with its location.
-    pub fn at(&self, key: usize) -> At
+    /// The location of this index in the order, with its hops.
+    pub fn site(&self, index: usize) -> Site<'a>
         requires keys { AreKeys self.now }
-        requires below { key < self.now.size }
-        ensures key { result.key ≡ key }
-        ensures at { IsAt self.now result }
+        requires there { index < length (order_in self.now.flow.now) }
+        ensures location { slice_get (order_in self.now.flow.now) index ≡ Some result.location.number }
+        ensures hops { hops_left result.hops ≡ said.hops (loads_in (deck_of self.now.flow.now)) (notes_of self.now.flow.now) result.location.number }
     {
-        let index = key % self.sites.len();
-        At {
-            key,
-            index,
-            location: self.sites[index].location,
-        }
+        self.sites[index]
     }
 
-    /// The hops of a key's location.
-    pub fn hops(&self, at: &At) -> Hops<'a>
-        requires keys { AreKeys self.now }
-        requires at { IsAt self.now at.now }
-        ensures { hops_left result ≡ said.hops (loads_in (deck_of self.now.flow.now)) (notes_of self.now.flow.now) (place_at (order_in self.now.flow.now) at.now.key) }
-    {
-        self.sites[at.index].hops
-    }
-
-    /// The counts of a key.
-    pub fn counts_at(&self, key: usize) -> Counts
+    /// The location of a key.
+    pub fn location_at(&self, key: usize) -> Location
         requires keys { AreKeys self.now }
         requires below { key < self.now.size }
-        ensures { counts_in result (notes_of self.now.flow.now).marks ≡ numbered.counts_at (notes_of self.now.flow.now).marks (order_in self.now.flow.now) key }
+        ensures { result.number ≡ place_at (order_in self.now.flow.now) key }
     {
-        Counts::of(self.marks(), key / self.sites.len())
-    }
-
-    /// The number of a key's counts in the table of worst times.
-    pub fn counts_number(&self, key: usize) -> u32
-        requires keys { AreKeys self.now }
-        requires below { key < self.now.size }
-        ensures { result ≡ counts_number (notes_of self.now.flow.now).marks (order_in self.now.flow.now) key }
-    {
-        self.counts_at(key).number(self.marks())
+        self.sites[key % self.sites.len()].location
     }
 
     /// The index of a location in the order.
-    fn index_of(&self, location: Location) -> usize
+    pub fn index_of(&self, location: Location) -> usize
         requires keys { AreKeys self.now }
         requires there { Contains (order_in self.now.flow.now) location.number }
         ensures { slice_get (order_in self.now.flow.now) result ≡ Some location.number }
@@ -191,43 +160,5 @@ impl<'a> Keys<'a> {
         ensures { IsKey (notes_of self.now.flow.now).marks (order_in self.now.flow.now) result location.number (counts_in counts (notes_of self.now.flow.now).marks) }
     {
         counts.leading(self.marks()) * self.sites.len() + self.index_of(location)
-    }
-
-    /// The key of a location of the order, with the counts of another key.
-    fn beside(&self, at: &At, location: Location) -> usize
-        requires keys { AreKeys self.now }
-        requires at { IsAt self.now at.now }
-        requires there { Contains (order_in self.now.flow.now) location.number }
-        ensures { IsKey (notes_of self.now.flow.now).marks (order_in self.now.flow.now) result location.number (numbered.counts_at (notes_of self.now.flow.now).marks (order_in self.now.flow.now) at.now.key) }
-    {
-        at.key - at.index + self.index_of(location)
-    }
-
-    /// The key that a hop which passes a mark leads to; `None` where a full mark bars it.
-    fn passed(&self, at: &At, next: Location) -> Option<usize>
-        requires keys { AreKeys self.now }
-        requires at { IsAt self.now at.now }
-        requires next { Contains (order_in self.now.flow.now) next.number }
-        ensures { IsAfter self.now at.now next.number result }
-    {
-        let counts = self.counts_at(at.key);
-        let Some(passed) = counts.passed(self.marks(), at.location, next) else {
-            return None;
-        };
-        Some(self.key_of(passed, next))
-    }
-
-    /// The key that a hop from a key to a location of the order leads to; `None` where a full mark
-    /// bars it.
-    pub fn after(&self, at: &At, next: Location) -> Option<usize>
-        requires keys { AreKeys self.now }
-        requires at { IsAt self.now at.now }
-        requires next { Contains (order_in self.now.flow.now) next.number }
-        ensures { IsAfter self.now at.now next.number result }
-    {
-        if mark_on(self.marks(), at.location, next).is_some() {
-            return self.passed(at, next);
-        }
-        Some(self.beside(at, next))
     }
 }

@@ -1,11 +1,15 @@
 //! The scan: each key in turn, and each of its hops.
 
-ghost use Rattle.std.specs.Prelude.{◌≡◌, ◌+◌, ◌^◌, ◌<◌, ◌≤◌, ◌∷◌, length, ℕ, List, slice_get, IfOk, Contains, Some};
+ghost use Rattle.std.specs.Prelude.{◌≡◌, ◌+◌, ◌*◌, ◌/◌, ◌%◌, ◌^◌, ◌<◌, ◌≤◌, ◌∷◌, ℕ, List, length, slice_get, IfOk, Some};
 
-use crate::cells::{Cells, End, KeyHop};
-use crate::keys::{At, Keys};
+use crate::cells::{Cells, End};
+use crate::keys::Keys;
+use crate::leap::Leap;
+use crate::round::Round;
+use crate::search::Search;
 use drum_core::Location;
-use drum_flow::{Hop, Way};
+use drum_flow::{Hops, Way};
+use drum_machine::moments::found;
 use drum_times::Times;
 use std::alloc::{AllocError, Global};
 
@@ -14,33 +18,49 @@ use std::alloc::{AllocError, Global};
 pub struct Scan<'a> {
     pub times: &'a Times,
     pub keys: &'a Keys<'a>,
+    /// The leaps of each location, in their order; `None` where they are made for each key.
+    pub leaps: &'a [Option<Vec<Leap>>],
     pub cells: Cells,
 }
 
 impl<'a> Scan<'a> {
+    ghost use Rattle.drum_core.specs.Available.{is_available};
+    ghost use Rattle.drum_core.specs.Moment.{first};
+    ghost use Rattle.drum_machine.specs.Ways.{to};
+    ghost use Rattle.drum_flow.specs.Seen.{seen_way};
     ghost use Rattle.drum_flow.specs.Hops.{Hop as HopOf, IsEdge, hops};
-    ghost use Rattle.drum_flow.specs.Seen.{seen_hop};
+    ghost use Rattle.drum_flow.specs.HopsLeft.{hops_left};
     ghost use Rattle.drum_bound.specs.EndOf.{latest_in};
     ghost use Rattle.drum_bound.specs.Held.{kept_in};
     ghost use Rattle.drum_bound.specs.Keys.{place_at};
-    ghost use Rattle.drum_bound.specs.KeysOf.{AreKeys, IsAt};
+    ghost use Rattle.drum_bound.specs.KeysOf.{AreKeys, setting_of};
+    ghost use Rattle.drum_bound.specs.LeapOf.{AreLeaps, HaveLeaps, IsLeap, leap_hop};
+    ghost use Rattle.drum_bound.specs.RoundOf.{IsRound};
     ghost use Rattle.drum_bound.specs.Scanned.{start_angle, Taking};
-    ghost use Rattle.drum_bound.specs.ScanOf.{setting_in, order_of, AreCells, IsScanned, IsDone, Goes, IsAgreed};
-    ghost use Rattle.drum_bound.specs.KeyHops.{IsBefore, IsLater, KeepsAt};
+    ghost use Rattle.drum_bound.specs.ScanOf.{setting_in, order_of, AreCells, IsScanned, IsDone, IsReady, Goes, IsAgreed};
+    ghost use Rattle.drum_bound.specs.SearchOf.{IsSearch};
+    ghost use Rattle.drum_bound.specs.KeyHops.{IsBefore, IsLater};
+    ghost use Rattle.drum_flow.specs.Flow.{order_in};
 
     /// The latest ends at all keys, and of all: each key is taken once, after all that can raise
     /// what is kept there.
-    pub fn of(alloc: Global, times: &'a Times, keys: &'a Keys<'a>) -> Result<Scan<'a>, AllocError>
-        requires { AreKeys keys.now }
+    pub fn of(
+        alloc: Global,
+        times: &'a Times,
+        keys: &'a Keys<'a>,
+        leaps: &'a [Option<Vec<Leap>>],
+    ) -> Result<Scan<'a>, AllocError>
+        requires keys { AreKeys keys.now }
+        requires leaps { HaveLeaps (setting_of keys.now.flow.now times.now) (order_in keys.now.flow.now) leaps.now }
         ensures done { IfOk result IsDone }
         ensures times { IfOk result (λ scan. scan.times.now ≡ times.now) }
         ensures keys { IfOk result (λ scan. scan.keys.now ≡ keys.now) }
     {
-        let Ok(mut scan) = Scan::new(alloc, times, keys) else {
+        let Ok(mut scan) = Scan::new(alloc, times, keys, leaps) else {
             return Err(AllocError);
         };
-        for key in 0..keys.size {
-            scan.take_key(key);
+        for counts in 0..keys.counts {
+            scan.take_round(counts);
         }
         Ok(scan)
     }
@@ -53,8 +73,14 @@ impl<'a> Scan<'a> {
     }
 
     /// Nothing taken yet: the start's key alone keeps something, the moment of the start.
-    fn new(alloc: Global, times: &'a Times, keys: &'a Keys<'a>) -> Result<Scan<'a>, AllocError>
-        requires { AreKeys keys.now }
+    fn new(
+        alloc: Global,
+        times: &'a Times,
+        keys: &'a Keys<'a>,
+        leaps: &'a [Option<Vec<Leap>>],
+    ) -> Result<Scan<'a>, AllocError>
+        requires keys { AreKeys keys.now }
+        requires leaps { HaveLeaps (setting_of keys.now.flow.now times.now) (order_in keys.now.flow.now) leaps.now }
         ensures scanned { IfOk result (λ scan. IsScanned scan 0) }
         ensures times { IfOk result (λ scan. scan.times.now ≡ times.now) }
         ensures keys { IfOk result (λ scan. scan.keys.now ≡ keys.now) }
@@ -64,76 +90,137 @@ impl<'a> Scan<'a> {
         let Ok(cells) = Cells::new(alloc, words, keys.counts, key, start, angle) else {
             return Err(AllocError);
         };
-        Ok(Scan { times, keys, cells })
+        Ok(Scan {
+            times,
+            keys,
+            leaps,
+            cells,
+        })
     }
 
     /// Keeps the end of a hop that goes on, unless a full mark bars it.
-    fn go_on(&mut self, at: &At, next: Location, end: &End)
+    fn go_on(&mut self, round: &Round, search: &Search, leap: &Leap, next: Location, end: &End)
         requires keys { AreKeys self.old.keys.now }
-        requires at { IsAt self.old.keys.now at.now }
-        requires edge { IsEdge (setting_in self.old).loads (setting_in self.old).notes (place_at (order_of self.old) at.now.key) next.number }
-        requires before { IsBefore self.old.cells.made.last (at.now.key + 1) }
-        requires from { end.now.origin.key ≡ at.now.key }
-        requires after { self.old.cells.angle ≤ end.now.clock }
         requires cells { AreCells (setting_in self.old) (order_of self.old) self.old.cells }
-        ensures goes { Goes (setting_in self.old) (order_of self.old) at.now.key next.number (latest_in end.now) (kept_in self.old.cells) self.old.cells.last (kept_in self.new.cells) self.new.cells.last }
-        ensures times { self.new.times ≡ self.old.times }
-        ensures keys { self.new.keys ≡ self.old.keys }
+        requires below { search.now.key < self.old.keys.now.size }
+        requires round { IsRound self.old.keys.now.flow.now (search.now.key / length (order_of self.old)) round.now }
+        requires leap { IsLeap (setting_in self.old) (order_of self.old) (place_at (order_of self.old) search.now.key) (search.now.found % 50) leap.now }
+        requires next { seen_way leap.now.hop.way ≡ to next.number }
+        requires edge { IsEdge (setting_in self.old).loads (setting_in self.old).notes (place_at (order_of self.old) search.now.key) next.number }
+        requires before { IsBefore self.old.cells.made.last (search.now.key + 1) }
+        requires from { end.now.origin.key ≡ search.now.key }
+        requires after { self.old.cells.angle ≤ end.now.clock }
+        ensures goes { Goes (setting_in self.old) (order_of self.old) search.now.key next.number (latest_in end.now) (kept_in self.old.cells) self.old.cells.last (kept_in self.new.cells) self.new.cells.last }
+        ensures same { self.new ≡ record self.old { cells = self.new.cells } }
         ensures made { self.new.cells.made ≡ self.old.cells.made }
         ensures cells { AreCells (setting_in self.old) (order_of self.old) self.new.cells }
     {
-        let Some(key) = self.keys.after(at, next) else {
+        let Some(counted) = round.after(leap) else {
             return;
         };
-        let counts = self.keys.counts_number(key);
-        self.cells.raise(key, next, counts, end);
+        let key = counted.first + leap.index as usize;
+        self.cells.raise(key, next, counted.number, end);
     }
 
-    /// Takes a hop of a key at which something is kept of this clock: that of this number among the
-    /// key's.
-    fn take_hop(&mut self, at: &At, clock: u64, number: usize, hop: Hop)
-        requires keys { AreKeys self.old.keys.now }
-        requires at { IsAt self.old.keys.now at.now }
-        requires hop { slice_get (hops (setting_in self.old).loads (setting_in self.old).notes (place_at (order_of self.old) at.now.key)) number ≡ Some (seen_hop hop) }
-        requires kept { KeepsAt (kept_in self.old.cells) at.now.key clock }
-        requires later { IsLater self.old.cells.made.last (record { key = at.now.key; hop = number }) }
-        requires soon { clock ≤ 2 ^ 61 }
+    /// Takes a hop of the key whose instruction is sought: that of this number among the key's.
+    fn take_leap(&mut self, round: &Round, search: &Search, number: usize, leap: &Leap)
+        requires ready { IsReady self.old round.now search.now number leap.now }
+        requires later { IsLater self.old.cells.made.last (record { key = search.now.key; hop = number }) }
+        requires soon { search.now.found ≤ 2 ^ 62 }
         requires few { self.old.cells.made.count < 2 ^ 62 }
-        requires cells { AreCells (setting_in self.old) (order_of self.old) self.old.cells }
-        ensures times { self.new.times ≡ self.old.times }
-        ensures keys { self.new.keys ≡ self.old.keys }
+        ensures same { self.new ≡ record self.old { cells = self.new.cells } }
         ensures counted { self.new.cells.made.count ≡ self.old.cells.made.count + 1 }
-        ensures last { self.new.cells.made.last ≡ Some (record { key = at.now.key; hop = number }) }
+        ensures last { self.new.cells.made.last ≡ Some (record { key = search.now.key; hop = number }) }
         ensures cells { AreCells (setting_in self.old) (order_of self.old) self.new.cells }
-        ensures agreed { IsAgreed at.now.key (kept_in self.old.cells) (kept_in self.new.cells) }
-        ensures taken { (left : List HopOf) → Taking (setting_in self.old) (order_of self.old) at.now.key clock (seen_hop hop ∷ left) (kept_in self.old.cells) self.old.cells.last
-            → Taking (setting_in self.old) (order_of self.old) at.now.key clock left (kept_in self.new.cells) self.new.cells.last }
+        ensures agreed { IsAgreed search.now.key (kept_in self.old.cells) (kept_in self.new.cells) }
+        ensures taken { (left : List HopOf) → Taking (setting_in self.old) (order_of self.old) search.now.key search.now.begun (leap_hop leap.now ∷ left) (kept_in self.old.cells) self.old.cells.last
+            → Taking (setting_in self.old) (order_of self.old) search.now.key search.now.begun left (kept_in self.new.cells) self.new.cells.last }
     {
-        let key_hop = KeyHop {
-            key: at.key,
-            hop: number,
-        };
-        let end = self.cells.end(self.times, key_hop, at.location, hop, clock);
-        match hop.way {
-            Way::To(next) => self.go_on(at, next, &end),
+        let end = self.cells.end(search, number, leap);
+        match leap.hop.way {
+            Way::To(next) => self.go_on(round, search, leap, next, &end),
             Way::Early | Way::Late => self.cells.keep_last(&end),
         }
     }
 
-    /// Takes a key, if something is kept there: each of its hops, once.
-    fn take_key(&mut self, key: usize)
-        requires scanned { IsScanned self.old key }
-        requires below { key < self.old.keys.now.size }
-        ensures scanned { IsScanned self.new (key + 1) }
-        ensures times { self.new.times ≡ self.old.times }
-        ensures keys { self.new.keys ≡ self.old.keys }
+    /// Takes the key whose instruction is sought, of whose location these are the leaps.
+    fn take_leaps(&mut self, round: &Round, search: &Search, leaps: &[Leap])
+        requires scanned { IsScanned self.old search.now.key }
+        requires below { search.now.key < self.old.keys.now.size }
+        requires round { IsRound self.old.keys.now.flow.now (search.now.key / length (order_of self.old)) round.now }
+        requires search { IsSearch (order_of self.old) (kept_in self.old.cells) search.now }
+        requires leaps { AreLeaps (setting_in self.old) (order_of self.old) (place_at (order_of self.old) search.now.key) leaps.now }
+        ensures scanned { IsScanned self.new (search.now.key + 1) }
+        ensures same { self.new ≡ record self.old { cells = self.new.cells } }
     {
-        let Some(latest) = self.cells.kept_at(key) else {
+        for (number, leap) in leaps.iter().enumerate() {
+            self.take_leap(round, search, number, leap);
+        }
+    }
+
+    /// Takes the key whose instruction is sought, of whose location these are the hops: their leaps
+    /// are made for it.
+    fn take_hops(&mut self, round: &Round, search: &Search, left: Hops<'_>)
+        requires scanned { IsScanned self.old search.now.key }
+        requires below { search.now.key < self.old.keys.now.size }
+        requires round { IsRound self.old.keys.now.flow.now (search.now.key / length (order_of self.old)) round.now }
+        requires search { IsSearch (order_of self.old) (kept_in self.old.cells) search.now }
+        requires hops { hops_left left ≡ hops (setting_in self.old).loads (setting_in self.old).notes (place_at (order_of self.old) search.now.key) }
+        ensures scanned { IsScanned self.new (search.now.key + 1) }
+        ensures same { self.new ≡ record self.old { cells = self.new.cells } }
+    {
+        let (keys, times) = (self.keys, self.times);
+        let angle = search.found % 50;
+        for (number, hop) in left.enumerate() {
+            let leap = keys.leap(times, search.location, hop, angle);
+            self.take_leap(round, search, number, &leap);
+        }
+    }
+
+    /// Takes a key of a round, that of the location of this index, if something is kept there: each
+    /// of its hops, once.
+    fn take_key(&mut self, round: &Round, index: usize)
+        requires scanned { IsScanned self.old (round.now.own.first + index) }
+        requires index { index < length (order_of self.old) }
+        requires below { round.now.own.first + index < self.old.keys.now.size }
+        requires round { IsRound self.old.keys.now.flow.now ((round.now.own.first + index) / length (order_of self.old)) round.now }
+        requires rest { (round.now.own.first + index) % length (order_of self.old) ≡ index }
+        ensures scanned { IsScanned self.new (round.now.own.first + index + 1) }
+        ensures same { self.new ≡ record self.old { cells = self.new.cells } }
+    {
+        let key = round.own.first + index;
+        let Some(begun) = self.cells.clock_at(key) else {
             return;
         };
-        let at = self.keys.at(key);
-        for (number, hop) in self.keys.hops(&at).enumerate() {
-            self.take_hop(&at, latest.clock, number, hop);
+        let site = self.keys.site(index);
+        let search = Search {
+            key,
+            location: site.location,
+            begun,
+            found: found(site.location, begun),
+        };
+        let leaps: &'a [Option<Vec<Leap>>] = self.leaps;
+        match &leaps[index] {
+            Some(leaps) => self.take_leaps(round, &search, leaps),
+            None => self.take_hops(round, &search, site.hops),
+        }
+    }
+
+    /// Takes the keys with the counts of this number, with the first mark's leading.
+    fn take_round(&mut self, counts: usize)
+        requires scanned { IsScanned self.old (counts * length (order_of self.old)) }
+        requires below { counts < self.old.keys.now.counts }
+        ensures scanned { IsScanned self.new ((counts + 1) * length (order_of self.old)) }
+        ensures same { self.new ≡ record self.old { cells = self.new.cells } }
+    {
+        let words = self.keys.sites.len();
+        let first = counts * words;
+        if !self.cells.keeps_any(first, first + words) {
+            return;
+        }
+        let round = self.keys.round(counts);
+        for index in 0..words {
+            self.take_key(&round, index);
         }
     }
 }

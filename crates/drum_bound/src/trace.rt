@@ -23,7 +23,7 @@ impl Scan<'_> {
     {
         let angle = self.start_angle();
         Visit {
-            place: self.keys.at(origin.key as usize).location,
+            place: self.keys.location_at(origin.key as usize),
             instruction: origin.hop.instruction,
             way: origin.hop.way,
             begun: begin.clock - angle,

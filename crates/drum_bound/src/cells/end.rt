@@ -3,10 +3,7 @@
 ghost use Rattle.std.specs.Prelude.{◌≡◌, ◌+◌, ◌%◌, ◌<◌, ◌≤◌, ◌^◌, None, Some};
 
 use crate::latest::{Latest, Origin};
-use crate::longest::longest;
-use drum_core::Location;
-use drum_flow::Hop;
-use drum_times::Times;
+use crate::leap::Leap;
 
 /// The latest end of a hop from a key. It is made by [`Made::end`] alone, which counts it.
 #[derive(Debug, Drop)]
@@ -71,10 +68,6 @@ pub struct Made {
 }
 
 impl Made {
-    ghost use Rattle.drum_times.specs.Entries.{entry_in};
-    ghost use Rattle.drum_flow.specs.Seen.{seen_way};
-    ghost use Rattle.drum_bound.specs.Longest as said;
-    ghost use Rattle.drum_bound.specs.Profile.{MayEnd};
     ghost use Rattle.drum_bound.specs.KeyHops.{IsLater};
 
     /// No end yet.
@@ -95,34 +88,25 @@ impl Made {
         self.count
     }
 
-    /// The latest end of a hop of a key, which is at this location and begins its search at this
-    /// clock; a later hop than the last one.
-    pub fn end(
-        &mut self,
-        times: &Times,
-        key_hop: KeyHop,
-        location: Location,
-        hop: Hop,
-        clock: u64,
-    ) -> End
+    /// The latest end of a hop of a key whose instruction is found at this clock; a later hop than
+    /// the last one.
+    pub fn end(&mut self, key_hop: KeyHop, found: u64, leap: &Leap) -> End
         requires few { self.old.count < 2 ^ 62 }
         requires later { IsLater self.old.last key_hop }
         requires narrow { key_hop.key < 2 ^ 32 }
-        requires soon { clock ≤ 2 ^ 61 }
-        requires may_end { MayEnd hop.instruction (seen_way hop.way) }
+        requires soon { found ≤ 2 ^ 62 }
         ensures counted { self.new.count ≡ self.old.count + 1 }
         ensures last { self.new.last ≡ Some key_hop }
-        ensures origin { result.origin ≡ record { key = key_hop.key; hop = hop } }
-        ensures clock { result.clock ≡ said.longest (entry_in times.now) location.number hop.instruction (seen_way hop.way) clock }
-        ensures after { clock ≤ result.clock }
+        ensures origin { result.origin ≡ record { key = key_hop.key; hop = leap.now.hop } }
+        ensures clock { result.clock ≡ found + leap.now.time }
     {
         self.count += 1;
         self.last = Some(key_hop);
         End {
-            clock: longest(times, location, hop, clock),
+            clock: found + u64::from(leap.time),
             origin: Origin {
                 key: key_hop.key as u32,
-                hop,
+                hop: leap.hop,
             },
         }
     }

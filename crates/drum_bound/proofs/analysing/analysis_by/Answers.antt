@@ -86,7 +86,7 @@ returns c =
     let analysis : Analysis = c.of-2.result in
     let marks : c.marks.result.now ≡ (notes_of keys.flow.now).marks = c.marks.ensures.all ∙ ap (λ notes. notes.marks) c.notes.ensures in
     let passed : ArePasses c.marks.result.now visits c.passes_of_marks-passed.result =
-    subst (λ (walk : List Visit). ArePasses c.marks.result.now (map seen_visit walk) c.passes_of_marks-passed.result) c.deref.ensures.value c.passes_of_marks-passed.ensures.passed in
+    subst (λ (walk : List Visit). ArePasses c.marks.result.now (map seen_visit walk) c.passes_of_marks-passed.result) c.deref-2.ensures.value c.passes_of_marks-passed.ensures.passed in
     let own : ArePasses g.notes.marks visits c.passes_of_marks-passed.result = subst (λ (all : List Mark). ArePasses all visits c.passes_of_marks-passed.result) marks passed in
     let same : c.of-2.result.cells ≡ cells = c.of-2.ensures.cells in
     let walked : map seen_visit c.of-2.result.walk.items ≡ visits = ap (λ (walk : Vec Visit Global). map seen_visit walk.items) c.of-2.ensures.walk in

@@ -9,20 +9,8 @@ use Rattle.drum_flow.specs.Flow.{notes_of, order_in}
 use Rattle.drum_flow.specs.Passes.{leading, leading-<}
 use Rattle.drum_bound.specs.CountsIn.{counts_in}
 use Rattle.drum_bound.specs.Keys.{keys_of, IsKey}
-use Rattle.drum_bound.proofs.Sites.{key_of_place, same_length}
+use Rattle.drum_bound.proofs.Sites.{key_of_place, same_length, small_number, small_product}
 use Rattle.drum_bound.proofs.keys.Keys.key_of.Goals as goal
-
--- counts that are within what the marks allow have a small number
-small_number : (marks : List Mark) (order counts : List ℕ) (k place : ℕ) → AreWithin marks counts → keys_of marks order ≤ 4000000 → slice_get order k ≡ Some place
-    → leading marks counts * length order + k < 4000000
-small_number marks order counts k place within few at =
-    let up : length order * suc (leading marks counts) ≤ length order * counts_of marks = mul-le-mul_left (length order) (leading-< marks counts within) in
-    omega (arith, up, few, slice_get_within order k place at)
-
-small_product : (marks : List Mark) (order counts : List ℕ) → AreWithin marks counts → keys_of marks order ≤ 4000000 → leading marks counts * length order ≤ 4000000
-small_product marks order counts within few =
-    let up : length order * suc (leading marks counts) ≤ length order * counts_of marks = mul-le-mul_left (length order) (leading-< marks counts within) in
-    omega (arith, up, few)
 
 pub leading-requires-clause-within : goal.leading-requires-clause-within
 leading-requires-clause-within c = subst (λ (all : List Mark). AreWithin all (counts_in c.args.counts all)) (sym c.marks.ensures.all) c.requires.within

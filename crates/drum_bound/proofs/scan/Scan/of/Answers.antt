@@ -1,11 +1,19 @@
-use Rattle.std.proofs.Common.{ap, subst, arith, ◌≡◌}
+use Rattle.std.proofs.Common.{◌≡◌, ℕ, ◌*◌, length, ap, sym, ◌∙◌, subst, arith}
+use Rattle.drum_flow.specs.Accepted.{counts_of}
 use Rattle.drum_bound.specs.declared.keys.Keys.{Keys}
-use Rattle.drum_bound.specs.ScanOf.{IsScanned, size_in}
+use Rattle.drum_bound.specs.declared.scan.Scan.{Scan}
+use Rattle.drum_bound.specs.ScanOf.{IsScanned, order_of, setting_in, size_in}
 use Rattle.drum_bound.proofs.scan.Scan.of.Goals as goal
+
+pub loop-counts-init : goal.loop-counts-init
+loop-counts-init c =
+    let none : 0 ≡ 0 * length (order_of c.in-Ok.scan) = omega arith in
+    record { scanned = subst (IsScanned c.in-Ok.scan) none c.in-Ok.ensures.scanned; times = c.in-Ok.ensures.times; keys = c.in-Ok.ensures.keys }
 
 pub returns-clause-done : goal.returns-clause-done
 returns-clause-done c =
-    let known = c.loop-key.invariant in
-    let size = ap (λ (keys : Keys). keys.size) known.keys in
-    let all : c.loop-key.key ≡ size_in c.loop-key.scan = omega (arith, c.loop-key-test.false, c.loop-key.auto.key-end, size, known.scanned.keys.size) in
-    subst (IsScanned c.loop-key.scan) all known.scanned
+    let known = c.loop-counts.invariant in
+    let scan = c.loop-counts.scan in
+    let counts : scan.keys.now.counts ≡ c.args.keys.now.counts = ap (λ (keys : Keys). keys.counts) known.keys in
+    let all : c.loop-counts.counts ≡ counts_of (setting_in scan).notes.marks = omega (arith, c.loop-counts-test.false, c.loop-counts.auto.counts-end, counts, known.scanned.keys.counts) in
+    subst (IsScanned scan) (ap (λ (n : ℕ). n * length (order_of scan)) all) known.scanned

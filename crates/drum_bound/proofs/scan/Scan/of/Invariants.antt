@@ -1,11 +1,11 @@
-use Rattle.std.proofs.Common.{◌≡◌}
-use Rattle.drum_bound.specs.ScanOf.{IsScanned}
+use Rattle.std.proofs.Common.{◌≡◌, ◌*◌, length}
+use Rattle.drum_bound.specs.ScanOf.{order_of, IsScanned}
 use Rattle.drum_bound.proofs.scan.Scan.of.Given as goal
 
--- the keys so far have been taken
-abbrev pub invariant-loop-key : goal.invariant-loop-key
-invariant-loop-key l = record {
-  scanned : IsScanned l.scan l.key;
+-- the keys of the rounds so far have been taken
+abbrev pub invariant-loop-counts : goal.invariant-loop-counts
+invariant-loop-counts l = record {
+  scanned : IsScanned l.scan (l.counts * length (order_of l.scan));
   times : l.scan.times.now ≡ l.fn.times;
   keys : l.scan.keys.now ≡ l.fn.keys;
 }

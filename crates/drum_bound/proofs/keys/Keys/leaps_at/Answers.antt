@@ -1,0 +1,43 @@
+use Rattle.std.proofs.Common.{◌≡◌, ◌%◌, ℕ, List, [], ◌∷◌, ◌++◌, map, ap, sym, ◌∙◌, subst, inl, inr, arith}
+use Rattle.std.specs.Prelude.{Contains}
+use Rattle.std.proofs.lemmas.List.{append_assoc, map-append}
+use Rattle.std.proofs.lemmas.List.Elements.{Contains-push_cases}
+use Rattle.drum_flow.specs.declared.hop.Hop as code
+use Rattle.drum_flow.specs.Flow.{order_in}
+use Rattle.drum_flow.specs.Hops.{Hop}
+use Rattle.drum_flow.specs.HopsLeft.{hops_left}
+use Rattle.drum_flow.specs.Seen.{seen_hop}
+use Rattle.drum_bound.specs.declared.leap.Leap.{Leap}
+use Rattle.drum_bound.specs.KeysOf.{setting_of}
+use Rattle.drum_bound.specs.LeapOf.{IsLeap, leap_hop}
+use Rattle.drum_bound.proofs.keys.Keys.leaps_at.Goals as goal
+
+-- the leaps with one more, and the hops that are left without it
+more : (leaps : List Leap) (leap : Leap) (rest : List Hop) → map leap_hop (leaps ++ leap ∷ []) ++ rest ≡ map leap_hop leaps ++ leap_hop leap ∷ rest
+more leaps leap rest =
+    ap (λ (hops : List Hop). hops ++ rest) (map-append leap_hop leaps (leap ∷ []))
+    ∙ append_assoc (map leap_hop leaps) (leap_hop leap ∷ []) rest
+
+pub loop-hop-preserved : goal.loop-hop-preserved
+loop-hop-preserved c =
+    let flow = c.args.self.now.flow.now in
+    let place = c.args.site.now.location.number in
+    let rest = hops_left c.next.new.self in
+    let leaps = c.loop-hop.leaps.items in
+    let leap = c.leap.result in
+    let angle : c.from-angle.result ≡ place % 50 = c.from-angle.ensures ∙ ap (λ (n : ℕ). n % 50) c.number-2.ensures in
+    let hop : leap_hop leap ≡ seen_hop c.in-Some.hop = ap (λ (h : code.Hop). seen_hop h) c.leap.ensures.hop in
+    let pushed : c.push.new.self.items ≡ leaps ++ leap ∷ [] = c.in_ok-push.ensures.items in
+    record {
+      hops = ap (λ (all : List Leap). map leap_hop all ++ rest) pushed
+          ∙ more leaps leap rest
+          ∙ ap (λ (h : Hop). map leap_hop leaps ++ h ∷ rest) hop
+          ∙ ap (λ (left : List Hop). map leap_hop leaps ++ left) (sym c.in-Some.ensures.steps)
+          ∙ c.loop-hop.invariant.hops;
+      each = λ one has. elim (Contains-push_cases leaps leap one (subst (λ (all : List Leap). Contains all one) pushed has)) [
+        | inl before ↦ c.loop-hop.invariant.each one before
+        | inr same ↦ subst (IsLeap (setting_of flow c.args.times.now) (order_in flow) place (place % 50)) same
+            (subst (λ (angle : ℕ). IsLeap (setting_of flow c.args.times.now) (order_in flow) place angle leap) angle c.leap.ensures.leap)
+      ];
+      few = omega (arith, c.in_ok-push.ensures.len, c.if-len-room.false, c.len.ensures);
+    }

@@ -1,0 +1,19 @@
+use Rattle.std.proofs.Common.{◌≡◌, ◌%◌, ◌++◌, ◌≤◌, map, vec_len}
+use Rattle.std.specs.Prelude.{Contains}
+use Rattle.drum_core.specs.Loads.{loads_in}
+use Rattle.drum_flow.specs.Flow.{deck_of, notes_of, order_in}
+use Rattle.drum_flow.specs.Hops.{hops}
+use Rattle.drum_flow.specs.HopsLeft.{hops_left}
+use Rattle.drum_bound.specs.declared.leap.Leap.{Leap}
+use Rattle.drum_bound.specs.KeysOf.{setting_of}
+use Rattle.drum_bound.specs.LeapOf.{IsLeap, leap_hop}
+use Rattle.drum_bound.proofs.keys.Keys.leaps_at.Given as goal
+
+-- the leaps so far, of the hops so far
+abbrev pub invariant-loop-hop : goal.invariant-loop-hop
+invariant-loop-hop l = record {
+  hops : map leap_hop l.leaps.items ++ hops_left l.hop-iterator
+      ≡ hops (loads_in (deck_of l.self.flow.now)) (notes_of l.self.flow.now) l.site.location.number;
+  each : (leap : Leap) → Contains l.leaps.items leap → IsLeap (setting_of l.self.flow.now l.times) (order_in l.self.flow.now) l.site.location.number (l.site.location.number % 50) leap;
+  few : vec_len l.leaps ≤ l.room;
+}

@@ -1,0 +1,10 @@
+use Rattle.std.proofs.Common.{◌≡◌}
+use Rattle.drum_bound.proofs.Halfway.{IsHalfway}
+use Rattle.drum_bound.proofs.scan.Scan.take_leaps.Given as goal
+
+-- so many hops of the key have been taken
+abbrev pub invariant-loop-number : goal.invariant-loop-number
+invariant-loop-number l = record {
+  same : l.self ≡ record l.fn.self { cells = l.self.cells };
+  half : IsHalfway l.fn.self l.search.key l.search.begun l.number l.self.cells;
+}

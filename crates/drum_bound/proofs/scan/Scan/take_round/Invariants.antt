@@ -1,0 +1,10 @@
+use Rattle.std.proofs.Common.{◌≡◌, ◌+◌, ◌*◌, length}
+use Rattle.drum_bound.specs.ScanOf.{order_of, IsScanned}
+use Rattle.drum_bound.proofs.scan.Scan.take_round.Given as goal
+
+-- the keys of the round so far have been taken
+abbrev pub invariant-loop-index : goal.invariant-loop-index
+invariant-loop-index l = record {
+  same : l.self ≡ record l.fn.self { cells = l.self.cells };
+  scanned : IsScanned l.self (l.counts * length (order_of l.fn.self) + l.index);
+}

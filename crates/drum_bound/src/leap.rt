@@ -1,0 +1,121 @@
+//! Hops with what can be known of them before the scan.
+
+ghost use Rattle.std.specs.Prelude.{◌≡◌, ◌<◌, ◌≤◌, Contains, IfOk, IfSome, vec_len};
+ghost use Rattle.drum_core.specs.Loads.{loads_in};
+ghost use Rattle.drum_machine.specs.Counts as counted;
+ghost use Rattle.drum_flow.specs.Flow.{deck_of, notes_of, order_in};
+ghost use Rattle.drum_flow.specs.Hops as said;
+ghost use Rattle.drum_flow.specs.HopsLeft.{hops_left};
+ghost use Rattle.drum_flow.specs.Seen.{seen_hop};
+ghost use Rattle.drum_bound.specs.KeysOf.{AreKeys, setting_of};
+ghost use Rattle.drum_bound.specs.LeapOf.{AreLeaps, HaveLeaps, IsLeap};
+
+use crate::keys::{Keys, Site};
+use crate::longest::longest;
+use drum_core::Location;
+use drum_flow::{Hop, Way};
+use drum_machine::passes::mark_on;
+use drum_times::Times;
+use std::alloc::{AllocError, Global};
+
+/// How many leaps are kept at most. A location that has more hops than there is room for has its
+/// leaps made for each of its keys.
+const MOST_LEAPS: usize = 262_144;
+
+/// A hop of a location, with what can be known of it before the scan.
+#[derive(Clone, Copy, Debug)]
+pub struct Leap {
+    pub hop: Hop,
+    /// The most word times that it takes from when its instruction is found, which is at an angle of
+    /// the location.
+    pub time: u32,
+    /// The index of the location that it goes on at; of a hop that stops it means nothing.
+    pub index: u32,
+    /// The place of the mark on its edge.
+    pub mark: Option<u8>,
+}
+
+impl Keys<'_> {
+    /// The place of the mark on an edge.
+    fn mark_between(&self, from: Location, onto: Location) -> Option<u8>
+        requires { AreKeys self.now }
+        ensures { counted.mark_on (notes_of self.now.flow.now).marks from.number onto.number ≡ result }
+    {
+        match mark_on(self.marks(), from, onto) {
+            Some(place) => Some(place as u8),
+            None => None,
+        }
+    }
+
+    /// A hop of an executed location, from when its instruction is found at this angle.
+    pub fn leap(&self, times: &Times, location: Location, hop: Hop, angle: u64) -> Leap
+        requires keys { AreKeys self.now }
+        requires there { Contains (order_in self.now.flow.now) location.number }
+        requires hop { Contains (said.hops (loads_in (deck_of self.now.flow.now)) (notes_of self.now.flow.now) location.number) (seen_hop hop) }
+        requires on_drum { angle < 50 }
+        ensures leap { IsLeap (setting_of self.now.flow.now times.now) (order_in self.now.flow.now) location.number angle result }
+        ensures hop { result.hop ≡ hop }
+    {
+        let time = (longest(times, location, hop, angle) - angle) as u32;
+        let (index, mark) = match hop.way {
+            Way::To(next) => (
+                self.index_of(next) as u32,
+                self.mark_between(location, next),
+            ),
+            Way::Early | Way::Late => (0, None),
+        };
+        Leap {
+            hop,
+            time,
+            index,
+            mark,
+        }
+    }
+
+    /// The leaps of a drum location; `None` of another, or where they are more than there is room
+    /// for.
+    fn leaps_at(
+        &self,
+        alloc: Global,
+        times: &Times,
+        site: &Site<'_>,
+        room: usize,
+    ) -> Result<Option<Vec<Leap>>, AllocError>
+        requires keys { AreKeys self.now }
+        requires there { Contains (order_in self.now.flow.now) site.now.location.number }
+        requires hops { hops_left site.now.hops ≡ said.hops (loads_in (deck_of self.now.flow.now)) (notes_of self.now.flow.now) site.now.location.number }
+        ensures leaps { IfOk result (λ made. IfSome made (λ leaps. AreLeaps (setting_of self.now.flow.now times.now) (order_in self.now.flow.now) site.now.location.number leaps.items)) }
+        ensures few { IfOk result (λ made. IfSome made (λ leaps. vec_len leaps ≤ room)) }
+    {
+        let location = site.location;
+        if location.number() >= 2000 {
+            return Ok(None);
+        }
+        let angle = u64::from(location.number() % 50);
+        let mut leaps = Vec::new(alloc);
+        for hop in site.hops {
+            if leaps.len() >= room {
+                return Ok(None);
+            }
+            leaps.push(self.leap(times, location, hop, angle))?;
+        }
+        Ok(Some(leaps))
+    }
+
+    /// The leaps of the executed locations, in their order.
+    pub fn leaps(&self, alloc: Global, times: &Times) -> Result<Vec<Option<Vec<Leap>>>, AllocError>
+        requires { AreKeys self.now }
+        ensures { IfOk result (λ all. HaveLeaps (setting_of self.now.flow.now times.now) (order_in self.now.flow.now) all.items) }
+    {
+        let mut room = MOST_LEAPS;
+        let mut all = Vec::new(alloc);
+        for site in &self.sites {
+            let leaps = self.leaps_at(alloc, times, site, room)?;
+            if let Some(leaps) = &leaps {
+                room -= leaps.len();
+            }
+            all.push(leaps)?;
+        }
+        Ok(all)
+    }
+}

@@ -1,0 +1,89 @@
+//! The keys that have the same counts.
+
+ghost use Rattle.std.specs.Prelude.{◌≡◌, ◌<◌, ℕ, Some};
+ghost use Rattle.drum_machine.specs.Counts.{AreWithin};
+ghost use Rattle.drum_flow.specs.Flow.{notes_of};
+ghost use Rattle.drum_bound.specs.CountsIn.{counts_in};
+ghost use Rattle.drum_bound.specs.KeysOf.{AreKeys};
+ghost use Rattle.drum_bound.specs.RoundOf.{IsCounted, IsPassed, IsRound, counted_after};
+
+use crate::counts::Counts;
+use crate::keys::Keys;
+use crate::leap::Leap;
+use drum_machine::passes::MOST_MARKS;
+use drum_times::Mark;
+
+/// Counts of the marks, as the keys and the table of worst times have them.
+#[derive(Clone, Copy, Debug)]
+pub struct Counted {
+    /// The key of the first location with these counts.
+    pub first: usize,
+    /// Their number in the table.
+    pub number: u32,
+}
+
+/// The keys that have the same counts, one of each location.
+#[derive(Debug, Drop)]
+pub struct Round {
+    /// Their own counts.
+    pub own: Counted,
+    /// The counts after a pass of each mark, by the marks' places; `None` where it is full.
+    pub passed: [Option<Counted>; MOST_MARKS],
+}
+
+impl Round {
+    /// The counts after a leap from here; `None` where a full mark bars it.
+    pub fn after(&self, leap: &Leap) -> Option<Counted>
+        requires { (mark : ℕ) → leap.now.mark ≡ Some mark → mark < 8 }
+        ensures { result ≡ counted_after self.now leap.now.mark }
+    {
+        match leap.mark {
+            Some(mark) => self.passed[mark as usize],
+            None => Some(self.own),
+        }
+    }
+}
+
+impl Keys<'_> {
+    /// Counts as the keys and the table have them.
+    fn counted(&self, counts: Counts) -> Counted
+        requires keys { AreKeys self.now }
+        requires within { AreWithin (notes_of self.now.flow.now).marks (counts_in counts (notes_of self.now.flow.now).marks) }
+        ensures { IsCounted self.now.flow.now (counts_in counts (notes_of self.now.flow.now).marks) result }
+    {
+        Counted {
+            first: counts.leading(self.marks()) * self.sites.len(),
+            number: counts.number(self.marks()),
+        }
+    }
+
+    /// The counts after a pass of a mark; `None` where it is full.
+    fn counted_after(&self, counts: Counts, mark: &Mark) -> Option<Counted>
+        requires keys { AreKeys self.now }
+        requires within { AreWithin (notes_of self.now.flow.now).marks (counts_in counts (notes_of self.now.flow.now).marks) }
+        ensures { IsPassed self.now.flow.now (counts_in counts (notes_of self.now.flow.now).marks) mark.now result }
+    {
+        let Some(passed) = counts.passed(self.marks(), mark.from, mark.onto) else {
+            return None;
+        };
+        Some(self.counted(passed))
+    }
+
+    /// The keys with the counts of this number, with the first mark's leading.
+    pub fn round(&self, leading: usize) -> Round
+        requires keys { AreKeys self.now }
+        requires below { leading < self.now.counts }
+        ensures { IsRound self.now.flow.now leading result }
+    {
+        let marks = self.marks();
+        let counts = Counts::of(marks, leading);
+        let mut passed = [None; MOST_MARKS];
+        for place in 0..marks.len() {
+            passed[place] = self.counted_after(counts, &marks[place]);
+        }
+        Round {
+            own: self.counted(counts),
+            passed,
+        }
+    }
+}

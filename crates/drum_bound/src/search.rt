@@ -1,0 +1,13 @@
+use drum_core::Location;
+
+/// The search for the instruction of a key.
+#[derive(Clone, Copy, Debug)]
+pub struct Search {
+    pub key: usize,
+    /// The key's location.
+    pub location: Location,
+    /// The clock at which it begins: the one that the key keeps.
+    pub begun: u64,
+    /// The clock at which the instruction is found.
+    pub found: u64,
+}
