@@ -2,6 +2,7 @@ pub mod Bytes
 pub mod Cards
 pub mod CardLines
 mod Checks
+pub mod Clockworks
 pub mod DeckLaws
 pub mod FaultLaws
 pub mod Firsts
@@ -12,4 +13,5 @@ pub mod OpLaws
 pub mod Progress
 pub mod Puts
 pub mod Same
+pub mod Waited
 pub mod Words

@@ -5,6 +5,7 @@ pub mod at_parity;
 pub mod chain;
 pub mod clockwork;
 pub mod delay;
+pub mod optional;
 pub mod parity;
 pub mod seek;
 pub mod then;
