@@ -1,5 +1,6 @@
 pub mod Allowing
 pub mod Alone
+pub mod Chained
 mod Checks
 mod Effects
 pub mod Ends

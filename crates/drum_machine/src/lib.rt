@@ -4,6 +4,7 @@
 
 mod arithmetic;
 pub mod card;
+pub mod chain;
 pub mod feed;
 mod fetch;
 mod first_drum;

@@ -1,5 +1,6 @@
 ghost use Rattle.std.specs.Prelude.{◌≡◌, ◌+◌, ◌-◌, ◌^◌, ◌<◌, ◌≤◌, ℕ, IfOk};
 
+use crate::chain::to_ready;
 use crate::feed::Feed;
 use crate::fetch::{instruction_of, is_load, is_operand, is_read};
 use crate::first_drum::first_drum;
@@ -10,8 +11,8 @@ use crate::setup::Setup;
 use crate::step::Step;
 use crate::stop::Stop;
 use crate::why::Why;
-use drum_core::{Deck, Location, Op, Word};
-use drum_times::Times;
+use drum_core::{Clockwork, Deck, Location, Op, Word};
+use drum_times::{Entry, Times};
 use std::alloc::Global;
 
 /// A machine: what it holds, where it seeks its next instruction, and the time that it has used.
@@ -38,6 +39,7 @@ impl Machine {
     ghost use Rattle.drum_machine.specs.Feed.{cards_left};
     ghost use Rattle.drum_machine.specs.declared.card.Card.{Card};
     ghost use Rattle.drum_machine.specs.declared.step.Step.TheVariants as Step;
+    ghost use Rattle.drum_machine.specs.Timing.{ready as ready_at};
     ghost use Rattle.drum_machine.specs.Step.{State, leaves, fetched, instruction_in, is_operand as is_operand_of};
     ghost use Rattle.drum_machine.specs.Registers.{contents_with, outcome_of};
     ghost use Rattle.drum_machine.specs.Machine.{GoesOn, HasStopped, sought_by, used_by, Tells, Becomes, TakesStep, WritesAlone, EndsByAWay, state_in, op_in, punched_by};
@@ -86,6 +88,18 @@ impl Machine {
         ensures near { result ≤ self.now.used + 255 }
     {
         u64::from(self.start) + self.used
+    }
+
+    /// The moment x of a step whose operation has this entry.
+    fn ready(&self, entry: Entry) -> u64
+        requires { self.now.used ≤ 2 ^ 62 }
+        ensures value { let clock = self.now.start + self.now.used in
+            result ≡ ready_at entry self.now.sought.number clock }
+        ensures advances { self.now.start + self.now.used < result }
+        ensures near { result ≤ self.now.start + self.now.used + 1000049 }
+        ensures soon { result ≤ self.now.used + 1000304 }
+    {
+        to_ready(entry, self.sought).go(self.clock())
     }
 
     /// Stops at a moment of the clock.
@@ -154,7 +168,7 @@ impl Machine {
         let entry = times.entry(op);
         let instruction = instruction_of(word);
         let (d, i) = (instruction.d, instruction.i);
-        let x = found(self.sought, self.clock()) + u64::from(entry.before);
+        let x = self.ready(entry);
         if !is_operand(op.operand(), d) {
             return self.halt(word, Why::Operand, x);
         }

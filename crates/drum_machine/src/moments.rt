@@ -1,14 +1,15 @@
-//! The moments of a step. A clock counts word times from a moment of angle 0 on.
+//! The moments of a step, by the parts of its chain. A clock counts word times from a moment of
+//! angle 0 on.
 
 ghost use Rattle.std.specs.Prelude.{◌≡◌, ◌^◌, ◌<◌, ◌≤◌, ◌+◌, ◌*◌, true};
 ghost use Rattle.drum_core.specs.Available.{has_parity};
-ghost use Rattle.drum_core.specs.Location.{is_location};
 ghost use Rattle.drum_core.specs.Moment.{first};
 ghost use Rattle.drum_core.specs.Op.{operand_of};
 ghost use Rattle.drum_machine.specs.Step.{is_operand};
-ghost use Rattle.drum_machine.specs.Timing.{found as found_at, waits_for_operand, reached as reached_at};
+ghost use Rattle.drum_machine.specs.Timing.{found as found_at, reached as reached_at};
 
-use drum_core::{AtParity, Clockwork, Location, Op, Seek};
+use crate::chain::{from_ready, to_operand};
+use drum_core::{Clockwork, Location, Op, Seek};
 use drum_times::Entry;
 
 /// The first moment at which the word at the location can be had.
@@ -21,22 +22,6 @@ pub fn found(location: Location, clock: u64) -> u64
     Seek::of(location).go(clock)
 }
 
-/// Whether the operation waits for its operand at D.
-fn waits(op: Op) -> bool
-    ensures { result ≡ waits_for_operand op }
-{
-    match op {
-        Op::Add(_)
-        | Op::ResetAdd(_)
-        | Op::Divide
-        | Op::DivideReset
-        | Op::Multiply
-        | Op::Store(_)
-        | Op::LoadDistributor => true,
-        _ => false,
-    }
-}
-
 /// From x on, the moment at which the operation has its operand.
 pub fn reached(op: Op, d: u16, x: u64) -> u64
     requires operand { is_operand (operand_of op) d ≡ true }
@@ -45,11 +30,7 @@ pub fn reached(op: Op, d: u16, x: u64) -> u64
     ensures later { x ≤ result }
     ensures near { result ≤ x + 49 }
 {
-    if waits(op) {
-        found(Location { number: d }, x)
-    } else {
-        x
-    }
+    to_operand(op, d).go(x)
 }
 
 /// From x on, the moment at which the step ends, with so many units of work and a wait for the card
@@ -62,7 +43,5 @@ pub fn ended(entry: Entry, op: Op, d: u16, units: u64, wait: u32, x: u64) -> u64
     ensures later { x ≤ result }
     ensures near { result ≤ x + 91000050 }
 {
-    let acts = AtParity::new(entry.parity).go(reached(op, d, x));
-    let work = u64::from(entry.per) * units + u64::from(wait);
-    acts + u64::from(entry.after) + work
+    from_ready(entry, op, d, units, wait).go(x)
 }

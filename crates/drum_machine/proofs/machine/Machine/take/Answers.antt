@@ -8,7 +8,7 @@ use Rattle.drum_machine.specs.Feed.{cards_left, waits_left, wait_for, cards_afte
 use Rattle.drum_machine.specs.Keeps.{is_load as load_next, reads_load, reads_with}
 use Rattle.drum_core.specs.declared.op.Op.{Op}
 use Rattle.drum_machine.specs.Effect.{effect}
-use Rattle.drum_machine.specs.Timing.{found, ready, ended, units_of, IsWait}
+use Rattle.drum_machine.specs.Timing.{ready, ended, units_of, IsWait}
 use Rattle.drum_machine.specs.Machine.{state_in, op_in, wait_with, punched_with, cards_with, waits_with}
 use Rattle.drum_machine.specs.Registers.{contents_with, cards_before, outcome_of}
 use Rattle.drum_machine.specs.Step.{step, leaves, fetched, clock_of, MayWait, instruction_in, is_operand, is_read, has_cards, lacks_card}
@@ -46,14 +46,11 @@ returns-clause-takes c =
     let wanted : is_operand (operand_of op) (instruction_in s).d ≡ true = subst (λ (v : ℕ). is_operand (operand_of op) v ≡ true) same_d wanted_of in
     let supplied : is_some card ≡ is_read op = grind arith in
     let has : lacks_card op s.contents ≡ false = not_lacking (is_read op) (is_some card) (has_cards (cards_left fed)) c.take_card-card.ensures.taken supplied in
-    let same_found : c.found.result ≡ found s.sought (clock_of s) = c.found.ensures.value ∙ ap (found s.sought) c.clock.ensures.value in
-    let same_before : c.from.result ≡ (times op).before = c.from.ensures ∙ ap (λ (v : Entry). v.before) same_entry in
-    let same_x : c.found.result + c.from.result ≡ ready (times op) s.sought (clock_of s) =
-    ap (λ (v : ℕ). v + c.from.result) same_found ∙ ap (λ (v : ℕ). found s.sought (clock_of s) + v) same_before in
+    let same_x : c.ready-x.result ≡ ready (times op) s.sought (clock_of s) = c.ready-x.ensures.value ∙ ap (λ (v : Entry). ready v s.sought (clock_of s)) same_entry in
     let same_units : c.units-units.result ≡ units_of op (instruction_in s).d s.contents =
     c.units-units.ensures.value (cards_left fed) ∙ ap (λ (v : ℕ). units_of op v s.contents) same_d in
     let ends : c.ended-end.result ≡ ended (times op) op (instruction_in s).d s.sought (units_of op (instruction_in s).d s.contents) wait (clock_of s) =
-    same_end op entry (times op) ins.d (instruction_in s).d (c.found.result + c.from.result) (ready (times op) s.sought (clock_of s)) c.units-units.result (units_of op (instruction_in s).d s.contents) c.take_wait-wait.result wait c.ended-end.result
+    same_end op entry (times op) ins.d (instruction_in s).d c.ready-x.result (ready (times op) s.sought (clock_of s)) c.units-units.result (units_of op (instruction_in s).d s.contents) c.take_wait-wait.result wait c.ended-end.result
     c.ended-end.ensures.value same_entry same_d same_x same_units same_wait in
     let has_effect : effect s.contents op (instruction_in s).d (instruction_in s).i ≡ outcome =
     same_effect op (contents_with before.registers (cards_before card (cards_left left))) s.contents ins.d (instruction_in s).d ins.i (instruction_in s).i
