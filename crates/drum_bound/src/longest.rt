@@ -6,9 +6,9 @@ ghost use Rattle.drum_flow.specs.Seen.{seen_way};
 ghost use Rattle.drum_bound.specs.Longest as defined;
 ghost use Rattle.drum_bound.specs.Profile.{MayEnd};
 
-use drum_core::{Location, Op};
+use drum_core::{Clockwork, Location, Op};
 use drum_flow::{Hop, Way};
-use drum_machine::moments::{ended, found};
+use drum_machine::chain::{to_end, to_ready};
 use drum_machine::places;
 use drum_times::{Entry, Times};
 
@@ -50,12 +50,12 @@ pub fn longest(times: &Times, place: Location, hop: Hop, clock: u64) -> u64
         return clock;
     };
     let entry = times.entry(op);
-    let ready = found(place, clock) + u64::from(entry.before);
     match hop.way {
-        Way::Early => ready,
+        Way::Early => to_ready(entry, place).go(clock),
         Way::To(_) | Way::Late => {
             let d = hop.instruction.d();
-            ended(entry, op, d, most_units(op, d), most_wait(op, entry), ready)
+            let (units, wait) = (most_units(op, d), most_wait(op, entry));
+            to_end(entry, op, place, d, units, wait).go(clock)
         }
     }
 }
