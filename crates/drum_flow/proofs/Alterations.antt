@@ -10,7 +10,7 @@ use Rattle.std.proofs.lemmas.List.FromFn.{length-range_with_len, get_or-range_wi
 use Rattle.drum_core.specs.declared.instruction.Instruction.{Instruction}
 use Rattle.drum_core.specs.declared.location.Location.{Location}
 use Rattle.drum_core.specs.declared.word.Word.{Word}
-use Rattle.drum_times.specs.Allowed.{Notes}
+use Rattle.drum_times.specs.Allowed.{Notes, allowed}
 use Rattle.drum_machine.specs.Writes.{writes}
 use Rattle.drum_flow.specs.Accepted.{IsFixed, Alters, IsAltered}
 use Rattle.drum_flow.specs.Altering.{IsLowestAltered, IsFirstAltered, AltersNone}
@@ -66,7 +66,7 @@ taken_cases xs k x y here there =
 
 -- the first location that alters, where those before it alter nothing
 pub altered_first : (loads : ℕ → Option Word) (notes : Notes) (start : ℕ) (places : List ℕ) (k writer word : ℕ) → AreExecuted loads notes start places
-    → slice_get places k ≡ Some writer → ((place : ℕ) → Contains (take k places) place → AltersNone loads notes start place) → IsFirstAltered loads notes start writer word
+    → slice_get places k ≡ Some writer → ((place : ℕ) → Contains (take k places) place → AltersNone loads notes start place) → IsFirstAltered loads notes start (allowed loads notes writer) word
     → IsAltered loads notes start writer word
 altered_first loads notes start places k writer word executed here before altered = record {
   executed = places;

@@ -1,12 +1,11 @@
 -- The instructions that are allowed at a location, from those that are left of a pattern.
-use Rattle.std.proofs.Common.{◌≡◌, ℕ, zero, suc, ◌+◌, ◌-◌, ◌*◌, ◌/◌, ◌%◌, ◌^◌, ◌<◌, ◌≤◌, List, [], ◌∷◌, ◌++◌, length, get_or, drop, Some, None, refl, ap, sym, ◌∙◌, inl, inr, subst, arith}
+use Rattle.std.proofs.Common.{◌≡◌, ℕ, zero, suc, ◌+◌, ◌-◌, ◌*◌, ◌/◌, ◌%◌, ◌^◌, ◌<◌, ◌≤◌, List, [], ◌∷◌, ◌++◌, length, get_or, drop, Some, None, refl, ap, sym, ◌∙◌, inl, inr, arith}
 use Rattle.std.proofs.lemmas.Bool.{cases_lt}
-use Rattle.std.proofs.lemmas.List.{append-nil, append_assoc, length-map, drop_more, drop_all}
-use Rattle.std.proofs.lemmas.List.Elements.{Contains-push_cases}
+use Rattle.std.proofs.lemmas.List.{length-map, drop_more, drop_all}
 use Rattle.std.proofs.lemmas.Option.{slice_get_within, get_or_from_slice_get}
 use Rattle.std.proofs.lemmas.List.FromFn.{length-range_with_len}
 use Rattle.std.specs.List.{range_with_len}
-use Rattle.std.specs.Prelude.{slice_get, flat_map, Contains}
+use Rattle.std.specs.Prelude.{slice_get, flat_map}
 use Rattle.drum_core.specs.declared.instruction.Instruction.{Instruction}
 use Rattle.drum_core.specs.declared.word.Word.{Word}
 use Rattle.drum_core.specs.Instruction.{IsInstructionOf, instruction, instruction_of}
@@ -76,19 +75,3 @@ listed_behind (one ∷ patterns) others place pattern some first rest none =
     from_first : (ps : List Pattern) → flat_map matching ps ≡ listed_from 0 ps
     from_first [] = refl
     from_first (p ∷ ps) = refl
-
--- one more instruction without a property
-pub none_more : (Property : Instruction → Type 0) (xs : List Instruction) (x : Instruction) → ((other : Instruction) → Contains xs other → ¬ Property other) → ¬ Property x
-    → (other : Instruction) → Contains (xs ++ x ∷ []) other → ¬ Property other
-none_more Property xs x before here other there = elim (Contains-push_cases xs x other there) [
-  | inl earlier ↦ before other earlier
-  | inr same ↦ subst (λ (i : Instruction). ¬ Property i) same here
-]
-
--- one more instruction taken from those that are left
-pub taken_more : (taken left others all : List Instruction) (x : Instruction) → taken ++ left ≡ all → left ≡ x ∷ others → (taken ++ x ∷ []) ++ others ≡ all
-taken_more taken left others all x split first = append_assoc taken (x ∷ []) others ∙ sym (ap (λ (xs : List Instruction). taken ++ xs) first) ∙ split
-
--- all are taken where none are left
-pub taken_all : (taken left all : List Instruction) → taken ++ left ≡ all → left ≡ [] → taken ≡ all
-taken_all taken left all split none = sym (append-nil taken) ∙ sym (ap (λ (xs : List Instruction). taken ++ xs) none) ∙ split

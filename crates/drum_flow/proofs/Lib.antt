@@ -1,4 +1,6 @@
 pub mod Acceptances
+pub mod Additions
+pub mod Alikes
 pub mod Alterations
 mod Checks
 pub mod Flags
@@ -7,6 +9,7 @@ pub mod FreeRows
 pub mod Instructed
 pub mod KeptWalk
 pub mod Lists
+pub mod Matched
 pub mod Orders
 pub mod Products
 mod Refusals

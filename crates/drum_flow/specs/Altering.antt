@@ -1,5 +1,5 @@
 -- How an instruction alters an executed location without a list.
-use Rattle.std.specs.Prelude.{ℕ, ◌≤◌, Option, Contains}
+use Rattle.std.specs.Prelude.{ℕ, ◌≤◌, List, Option, Contains}
 use Rattle.drum_core.specs.declared.instruction.Instruction.{Instruction}
 use Rattle.drum_core.specs.declared.word.Word.{Word}
 use Rattle.drum_times.specs.Allowed.{Notes, allowed}
@@ -22,15 +22,19 @@ pub record IsLowestAltered (loads : ℕ → Option Word) (notes : Notes) (start 
   pub fixed : IsFixed loads notes start word
   pub lowest : (other : ℕ) → Contains (writes ins) other → IsFixed loads notes start other → word ≤ other
 
--- the word is the lowest that the first instruction of a place alters which alters any
-pub record IsFirstAltered (loads : ℕ → Option Word) (notes : Notes) (start place word : ℕ) : Type 0 where
+-- the word is the lowest that the first of the instructions alters which alters any
+pub record IsFirstAltered (loads : ℕ → Option Word) (notes : Notes) (start : ℕ) (instructions : List Instruction) (word : ℕ) : Type 0 where
   pub ins : Instruction
-  pub first : IsFirstIn (allowed loads notes place) (said.Alters loads notes start) ins
+  pub first : IsFirstIn instructions (said.Alters loads notes start) ins
   pub lowest : IsLowestAltered loads notes start ins word
+
+-- none of the instructions alters
+abbrev pub NoneAlters : (ℕ → Option Word) → Notes → ℕ → List Instruction → Type 0
+NoneAlters loads notes start instructions = (ins : Instruction) → Contains instructions ins → ¬ said.Alters loads notes start ins
 
 -- no instruction of a place alters
 abbrev pub AltersNone : (ℕ → Option Word) → Notes → ℕ → ℕ → Type 0
-AltersNone loads notes start place = (ins : Instruction) → Contains (allowed loads notes place) ins → ¬ said.Alters loads notes start ins
+AltersNone loads notes start place = NoneAlters loads notes start (allowed loads notes place)
 
 -- the refusal of a deck that alters
 abbrev pub IsAlteredBy : (ℕ → Option Word) → Notes → ℕ → Refusal → Type 0

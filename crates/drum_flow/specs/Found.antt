@@ -1,13 +1,19 @@
 -- The executed locations, as they are found.
-use Rattle.std.specs.Prelude.{ℕ, List, map, filter_map}
+use Rattle.std.specs.Prelude.{ℕ, List, map, filter_map, flat_map}
+use Rattle.drum_core.specs.declared.instruction.Instruction.{Instruction}
+use Rattle.drum_times.specs.Allowed.{Notes}
+use Rattle.drum_machine.specs.Ways.{Way, ways}
 use Rattle.drum_flow.specs.declared.executed.Executed.{Executed}
 use Rattle.drum_flow.specs.Executed.{target_of}
-use Rattle.drum_flow.specs.Hops.{Hop}
 
 -- the numbers of the locations, in order
 abbrev pub places_of : Executed → List ℕ
 places_of executed = map (λ location. location.number) executed.locations.keys
 
--- where hops go on
-abbrev pub targets_of : List Hop → List ℕ
-targets_of hops = filter_map (λ hop. target_of hop.way) hops
+-- where ways go on
+abbrev pub targets_of : List Way → List ℕ
+targets_of ways = filter_map target_of ways
+
+-- where instructions go on, each in turn
+abbrev pub targets_by : Notes → List Instruction → List ℕ
+targets_by notes instructions = flat_map (λ ins. targets_of (ways notes ins)) instructions

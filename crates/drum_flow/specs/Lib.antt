@@ -1,5 +1,6 @@
 pub mod Acceptance
 pub mod Accepted
+pub mod Alike
 pub mod Altering
 pub mod Executed
 pub mod Fixed
@@ -11,6 +12,7 @@ pub mod Hops
 pub mod HopsLeft
 pub mod Instructions
 pub mod Passes
+pub mod Patterns
 pub mod Refused
 pub mod Rows
 pub mod RunHops

@@ -2,16 +2,18 @@
 
 ghost use Rattle.std.specs.Prelude.{◌≡◌, ℕ, Contains, IfSome, IfNone, IfErr, OnOk};
 ghost use Rattle.drum_core.specs.Loads.{loads_in, start_in};
+ghost use Rattle.drum_times.specs.Allowed.{allowed, matching};
 ghost use Rattle.drum_flow.specs.Accepted as said;
-ghost use Rattle.drum_flow.specs.Altering.{FlagsFixed, IsLowestAltered, IsFirstAltered, AltersNone, IsAlteredBy};
+ghost use Rattle.drum_flow.specs.Altering.{FlagsFixed, IsLowestAltered, IsFirstAltered, NoneAlters, AltersNone, IsAlteredBy};
 ghost use Rattle.drum_flow.specs.Flow.{executed_in, AreExecuted};
 
 use crate::fixed::Fixed;
 use crate::flow_graph::Flow;
-use crate::instructions::Instructions;
+use crate::patterns::{Patterns, instruction_of};
 use crate::refusal::Refusal;
-use crate::writes::writes;
+use crate::writes::{same_writes_end, writes};
 use drum_core::{Instruction, Location};
+use drum_times::Pattern;
 
 /// The lowest word that the instruction alters.
 fn lowest_altered(flow: &Flow<'_>, fixed: &Fixed, instruction: Instruction) -> Option<Location>
@@ -28,14 +30,37 @@ fn lowest_altered(flow: &Flow<'_>, fixed: &Fixed, instruction: Instruction) -> O
     None
 }
 
+/// The lowest word that the first instruction of a pattern alters which alters any.
+fn first_altered_in(flow: &Flow<'_>, fixed: &Fixed, pattern: Pattern) -> Option<Location>
+    requires { FlagsFixed (loads_in flow.now.deck.now) flow.now.notes.now
+        (start_in flow.now.deck.now) fixed.now }
+    ensures some { IfSome result (λ word. IsFirstAltered (loads_in flow.now.deck.now)
+        flow.now.notes.now (start_in flow.now.deck.now) (matching pattern) word.number) }
+    ensures none { IfNone result (NoneAlters (loads_in flow.now.deck.now)
+        flow.now.notes.now (start_in flow.now.deck.now) (matching pattern)) }
+{
+    let mut d = pattern.d_from;
+    while d <= pattern.d_to {
+        let instruction = instruction_of(pattern, d);
+        if let Some(word) = lowest_altered(flow, fixed, instruction) {
+            return Some(word);
+        }
+        d = same_writes_end(instruction);
+    }
+    None
+}
+
 /// The lowest word that the first instruction of a location alters which alters any.
 fn first_altered(flow: &Flow<'_>, fixed: &Fixed, location: Location) -> Option<Location>
     requires { FlagsFixed (loads_in flow.now.deck.now) flow.now.notes.now (start_in flow.now.deck.now) fixed.now }
-    ensures some { IfSome result (λ word. IsFirstAltered (loads_in flow.now.deck.now) flow.now.notes.now (start_in flow.now.deck.now) location.number word.number) }
+    ensures some { let loads = loads_in flow.now.deck.now in
+        let notes = flow.now.notes.now in
+        IfSome result (λ word. IsFirstAltered loads notes (start_in flow.now.deck.now)
+        (allowed loads notes location.number) word.number) }
     ensures none { IfNone result (AltersNone (loads_in flow.now.deck.now) flow.now.notes.now (start_in flow.now.deck.now) location.number) }
 {
-    for instruction in Instructions::at(flow.deck, flow.notes, location) {
-        if let Some(word) = lowest_altered(flow, fixed, instruction) {
+    for pattern in Patterns::at(flow.deck, flow.notes, location) {
+        if let Some(word) = first_altered_in(flow, fixed, pattern) {
             return Some(word);
         }
     }

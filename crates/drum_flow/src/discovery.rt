@@ -5,7 +5,6 @@ ghost use Rattle.drum_flow.specs.Refused.{IsFlowRefusal};
 
 use crate::executed::Executed;
 use crate::flow_graph::Flow;
-use crate::hops::Hops;
 use crate::place::check_place;
 use crate::refusal::Refusal;
 use drum_core::Deck;
@@ -33,10 +32,7 @@ pub fn flow<'a>(alloc: Global, deck: &'a Deck, notes: &'a Notes) -> Result<Flow<
         if let Err(refusal) = check_place(deck, notes, location) {
             return Err(refusal);
         }
-        if executed
-            .add_successors(Hops::at(deck, notes, location))
-            .is_err()
-        {
+        if executed.add_successors(deck, notes, location).is_err() {
             return Err(Refusal::Memory);
         }
         turn += 1;

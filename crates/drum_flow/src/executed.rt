@@ -1,11 +1,8 @@
 ghost use Rattle.std.specs.Prelude.{◌≡◌, [], ◌∷◌, ◌<◌, ◌≤◌, map, option_map, slice_get, length, Some, Contains, IfOk, IfSome, IfNone, OnOk};
 ghost use Rattle.drum_flow.specs.Executed.{with_new};
-ghost use Rattle.drum_flow.specs.Found.{places_of, targets_of};
+ghost use Rattle.drum_flow.specs.Found.{places_of};
 ghost use Rattle.drum_flow.specs.Graph.{AreDifferent};
-ghost use Rattle.drum_flow.specs.HopsLeft.{hops_left};
 
-use crate::hops::Hops;
-use crate::way::Way;
 use drum_core::Location;
 use indexmap::IndexSet;
 use std::alloc::{AllocError, Global};
@@ -37,25 +34,10 @@ impl Executed {
     }
 
     /// Adds a location, unless it is there.
-    fn add(&mut self, location: Location) -> Result<(), AllocError>
+    pub fn add(&mut self, location: Location) -> Result<(), AllocError>
         ensures { OnOk result (places_of self.new ≡ with_new (places_of self.old) (location.number ∷ [])) }
     {
         self.locations.insert(location)?;
-        Ok(())
-    }
-
-    /// Adds the locations that hops go on at, in order, unless they are there.
-    pub fn add_successors(&mut self, hops: Hops<'_>) -> Result<(), AllocError>
-        ensures { OnOk result (places_of self.new ≡ with_new (places_of self.old) (targets_of (hops_left hops.entry))) }
-    {
-        for hop in hops {
-            let Way::To(location) = hop.way else {
-                continue;
-            };
-            if let Err(error) = self.add(location) {
-                return Err(error);
-            }
-        }
         Ok(())
     }
 

@@ -11,7 +11,6 @@ ghost use Rattle.drum_flow.specs.Rows.{row_in};
 use crate::executed::Executed;
 use crate::flow_graph::Flow;
 use crate::graph::Graph;
-use crate::hops::Hops;
 use drum_core::Location;
 use drum_machine::passes::mark_on;
 use std::alloc::{AllocError, Global};
@@ -21,7 +20,7 @@ fn free_row(alloc: Global, flow: &Flow<'_>, from: Location) -> Result<Vec<usize>
     ensures { IfOk result (λ row. IsFreeRow (loads_in flow.now.deck.now) flow.now.notes.now (executed_in flow.now) from.number row.items) }
 {
     let mut targets = Executed::none(alloc);
-    targets.add_successors(Hops::at(flow.deck, flow.notes, from))?;
+    targets.add_successors(flow.deck, flow.notes, from)?;
     unmarked_row(alloc, flow, targets.locations(), from)
 }
 

@@ -57,7 +57,7 @@ impl<'a> Instructions<'a> {
 }
 
 /// The instruction that the deck loads into the location.
-fn loaded(deck: &Deck, location: Location) -> Option<Instruction>
+pub fn loaded(deck: &Deck, location: Location) -> Option<Instruction>
     ensures { option_to_list result ≡ allowed.loaded (loads_in deck.now location.number) }
 {
     match deck.word(location) {
@@ -67,7 +67,7 @@ fn loaded(deck: &Deck, location: Location) -> Option<Instruction>
 }
 
 /// The patterns of the location, none where it isn't listed.
-fn listed(notes: &Notes, location: Location) -> &[Pattern]
+pub fn listed(notes: &Notes, location: Location) -> &[Pattern]
     ensures { flat_map allowed.matching result.now ≡ allowed.listed (allowed.patterns_of notes.now location.number) }
 {
     match notes.patterns(location) {

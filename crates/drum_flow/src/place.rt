@@ -7,7 +7,7 @@ ghost use Rattle.drum_times.specs.Allowed.{allowed};
 ghost use Rattle.drum_flow.specs.Accepted.{IsThere, IsInProfile, IsGood, IsFirstIn};
 ghost use Rattle.drum_flow.specs.Refused.{IsOutside, IsWrong};
 
-use crate::instructions::Instructions;
+use crate::patterns::{Patterns, instruction_of};
 use crate::refusal::Refusal;
 use drum_core::{Deck, Instruction, Location, Op};
 use drum_times::Notes;
@@ -53,9 +53,9 @@ fn first_outside(deck: &Deck, notes: &Notes, location: Location) -> Option<Instr
     ensures first { IfSome result (IsFirstIn (allowed (loads_in deck.now) notes.now location.number) IsOutside) }
     ensures none { IfNone result (IsInProfile (loads_in deck.now) notes.now location.number) }
 {
-    for instruction in Instructions::at(deck, notes, location) {
-        if Op::of(instruction.op).is_none() {
-            return Some(instruction);
+    for pattern in Patterns::at(deck, notes, location) {
+        if Op::of(pattern.op).is_none() {
+            return Some(instruction_of(pattern, pattern.d_from));
         }
     }
     None

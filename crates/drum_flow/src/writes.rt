@@ -1,8 +1,9 @@
 //! Which words an instruction writes.
 
-ghost use Rattle.std.specs.Prelude.{◌≡◌, ◌-◌, ◌≤◌};
+ghost use Rattle.std.specs.Prelude.{◌≡◌, ℕ, ◌-◌, ◌<◌, ◌≤◌};
 ghost use Rattle.std.specs.List.{range_with_len};
 ghost use Rattle.drum_machine.specs.Writes as said;
+ghost use Rattle.drum_flow.specs.Alike.{with_d};
 
 use drum_core::{Instruction, Op};
 use std::ops::Range;
@@ -25,5 +26,26 @@ pub fn writes(instruction: Instruction) -> Range<u16>
             band + 1..band + 11
         }
         _ => 0..0,
+    }
+}
+
+/// The end of the data addresses, from the instruction's own on, with which it writes the same
+/// words.
+pub fn same_writes_end(instruction: Instruction) -> u16
+    ensures past { instruction.d < result }
+    ensures same { (d : ℕ) → instruction.d ≤ d → d < result
+        → said.writes (with_d instruction d) ≡ said.writes instruction }
+{
+    let d = instruction.d;
+    if d >= 2000 {
+        return 10_000;
+    }
+    let Some(op) = Op::of(instruction.op) else {
+        return 10_000;
+    };
+    match op {
+        Op::Store(_) => d + 1,
+        Op::Read => (d / 50 + 1) * 50,
+        _ => 10_000,
     }
 }

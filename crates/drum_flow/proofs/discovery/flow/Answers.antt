@@ -5,9 +5,7 @@ use Rattle.std.proofs.lemmas.Bool.{cases_lt}
 use Rattle.std.proofs.lemmas.Option.{slice_get-get_or}
 use Rattle.drum_core.specs.Loads.{loads_in, start_in}
 use Rattle.drum_flow.specs.Executed.{successors, with_new}
-use Rattle.drum_flow.specs.Found.{places_of, targets_of}
-use Rattle.drum_flow.specs.Hops.{Hop}
-use Rattle.drum_flow.specs.HopsLeft.{hops_left}
+use Rattle.drum_flow.specs.Found.{places_of}
 use Rattle.drum_flow.proofs.Orders.{all_executed, found_next, good_more, wrong_met}
 use Rattle.drum_flow.proofs.discovery.flow.Goals as goal
 
@@ -35,8 +33,8 @@ loop-location-preserved c =
     let turn = c.loop-location.turn in
     let before = places_of c.loop-location.executed in
     let here : slice_get before turn ≡ Some location.number = sym c.in-Some.ensures.value in
-    let is_ok = OnOk-at c.add_successors.result (places_of c.add_successors.new.self ≡ with_new before (targets_of (hops_left c.at.result))) c.add_successors.ensures (sym c.is_err.ensures.value ∙ c.if-is_err.false) in
-    let added : places_of c.add_successors.new.self ≡ with_new before (successors loads notes location.number) = is_ok ∙ ap (λ (all : List Hop). with_new before (targets_of all)) c.at.ensures in
+    let added = OnOk-at c.add_successors.result (places_of c.add_successors.new.self ≡ with_new before (successors loads notes location.number)) c.add_successors.ensures
+    (sym c.is_err.ensures.value ∙ c.if-is_err.false) in
     record {
       found = found_next loads notes (start_in c.args.deck.now) turn location.number before (places_of c.add_successors.new.self) c.loop-location.invariant.found here added;
       good = λ k place lt at. good_more loads notes before (successors loads notes location.number) turn location.number c.loop-location.invariant.good here c.in_default-check_place.ensures.good k place lt

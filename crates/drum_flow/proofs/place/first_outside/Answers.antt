@@ -1,22 +1,40 @@
-use Rattle.std.proofs.Common.{◌≡◌, true, false, ap, ◌∙◌, arith}
-use Rattle.std.specs.Prelude.{is_some, Option, Bool}
+use Rattle.std.proofs.Common.{◌≡◌, ℕ, true, false, not, Option, ap, sym, ◌∙◌, subst, arith}
+use Rattle.std.specs.Prelude.{is_some}
+use Rattle.drum_core.specs.declared.instruction.Instruction.{Instruction}
 use Rattle.drum_core.specs.declared.op.Op.{Op}
 use Rattle.drum_core.specs.Loads.{loads_in}
+use Rattle.drum_core.specs.Op.{op_of}
 use Rattle.drum_times.specs.Allowed.{allowed}
-use Rattle.drum_flow.specs.Instructions.{instructions_left}
+use Rattle.drum_flow.specs.Accepted.{IsFirstIn}
+use Rattle.drum_flow.specs.Patterns.{patterns_left}
 use Rattle.drum_flow.specs.Refused.{IsOutside}
-use Rattle.drum_flow.proofs.Instructed.{none_more, taken_more}
+use Rattle.drum_flow.proofs.Matched.{matching_at, matching_op, first_in_pattern, first_in_all, none_in_pattern, none_in_more, patterns_taken}
 use Rattle.drum_flow.proofs.place.first_outside.Goals as goal
 
-pub loop-instruction-preserved : goal.loop-instruction-preserved
-loop-instruction-preserved c =
-    let ins = c.in-Some.instruction in
-    let inside : ¬ IsOutside ins = λ none.
-    let found : is_some c.of.result ≡ false = ap (λ (op : Option Op). is_some op) c.of.ensures.listed ∙ none in
-    let clash : ◌≡◌ {A = Bool} false true = grind (arith, found, c.is_none.ensures, c.if-is_none.false) in
-    cc in
+apart : ¬ (true ≡ false)
+apart e = cc
+
+pub returns-then-is_none-clause-first : goal.returns-then-is_none-clause-first
+returns-then-is_none-clause-first c =
+    let pattern = c.in-Some.pattern in
+    let found : is_some (op_of pattern.op) ≡ false =
+    sym (ap (λ (op : Option Op). is_some op) c.of.ensures.listed) ∙ c.is_none.ensures ∙ ap not c.if-is_none.true in
+    subst (λ (ins : Instruction). IsFirstIn (allowed (loads_in c.args.deck.now) c.args.notes.now c.args.location.number) IsOutside ins) (sym c.instruction_of.ensures)
+    (first_in_all IsOutside c.loop-pattern.yielded (patterns_left c.next.new.self) (patterns_left c.loop-pattern.pattern-iterator) pattern
+    (allowed (loads_in c.args.deck.now) c.args.notes.now c.args.location.number) (matching_at pattern pattern.d_from)
+    c.loop-pattern.invariant.split c.in-Some.ensures.steps c.loop-pattern.invariant.inside
+    (first_in_pattern IsOutside pattern pattern.d_from (omega arith) pattern.ordered (λ k low high. absurd (omega (arith, low, high)))
+    (ap (λ (op : ℕ). is_some (op_of op)) (matching_op pattern) ∙ found)))
+
+pub loop-pattern-preserved : goal.loop-pattern-preserved
+loop-pattern-preserved c =
+    let pattern = c.in-Some.pattern in
+    let found : is_some (op_of pattern.op) ≡ true =
+    sym (ap (λ (op : Option Op). is_some op) c.of.ensures.listed) ∙ c.is_none.ensures ∙ ap not c.if-is_none.false in
+    let inside : ¬ (is_some (op_of pattern.op) ≡ false) = λ none. apart (sym found ∙ none) in
     record {
-      split = taken_more c.loop-instruction.yielded (instructions_left c.loop-instruction.instruction-iterator) (instructions_left c.next.new.self)
-          (allowed (loads_in c.args.deck.now) c.args.notes.now c.args.location.number) ins c.loop-instruction.invariant.split c.in-Some.ensures.steps;
-      inside = none_more IsOutside c.loop-instruction.yielded ins c.loop-instruction.invariant.inside inside;
+      split = patterns_taken c.loop-pattern.yielded (patterns_left c.loop-pattern.pattern-iterator) (patterns_left c.next.new.self) pattern
+          (allowed (loads_in c.args.deck.now) c.args.notes.now c.args.location.number) c.loop-pattern.invariant.split c.in-Some.ensures.steps;
+      inside = none_in_more IsOutside c.loop-pattern.yielded pattern c.loop-pattern.invariant.inside
+          (none_in_pattern IsOutside pattern (λ k low high none. inside (sym (ap (λ (op : ℕ). is_some (op_of op)) (matching_op pattern)) ∙ none)));
     }

@@ -1,0 +1,69 @@
+//! The locations that the instructions of a location go on at, pattern by pattern.
+
+ghost use Rattle.std.specs.Prelude.{◌≡◌, OnOk};
+ghost use Rattle.drum_core.specs.Loads.{loads_in};
+ghost use Rattle.drum_times.specs.Allowed.{matching};
+ghost use Rattle.drum_flow.specs.Executed.{with_new, successors};
+ghost use Rattle.drum_flow.specs.Found.{places_of, targets_of, targets_by};
+ghost use Rattle.drum_flow.specs.Seen.{ways_left};
+
+use crate::executed::Executed;
+use crate::patterns::{Patterns, instruction_of};
+use crate::way::Way;
+use crate::ways::{Ways, same_ways_end};
+use drum_core::{Deck, Location};
+use drum_times::{Notes, Pattern};
+use std::alloc::AllocError;
+
+impl Executed {
+    /// Adds the successors of a location, in the order of its hops, unless they are there.
+    pub fn add_successors(
+        &mut self,
+        deck: &Deck,
+        notes: &Notes,
+        location: Location,
+    ) -> Result<(), AllocError>
+        ensures { OnOk result (places_of self.new ≡ with_new (places_of self.old)
+            (successors (loads_in deck.now) notes.now location.number)) }
+    {
+        for pattern in Patterns::at(deck, notes, location) {
+            if let Err(error) = self.add_pattern(notes, pattern) {
+                return Err(error);
+            }
+        }
+        Ok(())
+    }
+
+    /// Adds the locations that the instructions of a pattern go on at: of those with the same ways
+    /// the first one's.
+    fn add_pattern(&mut self, notes: &Notes, pattern: Pattern) -> Result<(), AllocError>
+        ensures { OnOk result (places_of self.new
+            ≡ with_new (places_of self.old) (targets_by notes.now (matching pattern))) }
+    {
+        let mut d = pattern.d_from;
+        while d <= pattern.d_to {
+            let instruction = instruction_of(pattern, d);
+            if let Err(error) = self.add_ways(Ways::of(notes, instruction)) {
+                return Err(error);
+            }
+            d = same_ways_end(notes, instruction);
+        }
+        Ok(())
+    }
+
+    /// Adds the locations that ways go on at.
+    fn add_ways(&mut self, ways: Ways) -> Result<(), AllocError>
+        ensures { OnOk result (places_of self.new
+            ≡ with_new (places_of self.old) (targets_of (ways_left ways))) }
+    {
+        for way in ways {
+            let Way::To(location) = way else {
+                continue;
+            };
+            if let Err(error) = self.add(location) {
+                return Err(error);
+            }
+        }
+        Ok(())
+    }
+}
