@@ -3,7 +3,6 @@ pub mod Begun
 mod Checks
 mod CountLoops
 pub mod DigitsLaws
-mod Ends
 pub mod EntriesRaised
 pub mod EntryEnds
 pub mod FewHops
