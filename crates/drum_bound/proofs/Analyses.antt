@@ -19,8 +19,7 @@ use Rattle.drum_bound.specs.declared.cells.Cells.{Cells}
 use Rattle.drum_bound.specs.declared.keys.Keys.{Keys}
 use Rattle.drum_bound.specs.declared.latest.Latest.{Latest}
 use Rattle.drum_bound.specs.declared.scan.Scan.{Scan}
-use Rattle.drum_bound.specs.AnalysisOf.{IsAnalysis, ArePasses, setting, angle_of, bound_of, counts_in_all, passed_of, rows_of, turns_of, visits_of, words_of}
-use Rattle.drum_bound.specs.Ends.{HopEnd, AreEnds, AreRaised}
+use Rattle.drum_bound.specs.AnalysisOf.{IsAnalysis, ArePasses, setting, bound_of, counts_in_all, passed_of, rows_of, turns_of, visits_of, words_of}
 use Rattle.drum_bound.proofs.EntriesRaised.{are_raised}
 use Rattle.drum_bound.proofs.EntryEnds.{ends_of, are_ends, as_many_ends}
 use Rattle.drum_bound.specs.Keys.{keys_of, IsOrdered}
@@ -29,7 +28,7 @@ use Rattle.drum_bound.specs.RowOf.{row_in, rows_below}
 use Rattle.drum_bound.proofs.Rows.{is_table, turns_of_rows}
 use Rattle.drum_bound.proofs.RowsHeld.{few_entries, held_raised, held_sum, held_table}
 use Rattle.drum_bound.proofs.ShortWalks.{short_walk}
-use Rattle.drum_bound.specs.ScanOf.{AreCells, IsDone, setting_in, order_of}
+use Rattle.drum_bound.specs.ScanOf.{AreCells, IsDone, setting_in}
 use Rattle.drum_bound.specs.Scanned.{start_angle, Scanned, turns_below}
 use Rattle.drum_bound.specs.Table.{Row, IsTable}
 use Rattle.drum_bound.specs.Visited.{Visited, IsWalkOf}

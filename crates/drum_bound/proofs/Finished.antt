@@ -1,23 +1,13 @@
 -- What a finished scan, as it is held, gives to the lemmas on its cells.
-use Rattle.std.proofs.Common.{◌≡◌, ℕ, suc, ◌<◌, ◌≤◌, List, [], ◌∷◌, ◌++◌, map, Option, Some, None, ap, sym, ◌∙◌, subst, arith}
-use Rattle.std.proofs.lemmas.List.{append-nil, map-append}
+use Rattle.std.proofs.Common.{◌≡◌, ℕ, ◌<◌, ◌≤◌, Some, arith}
 use Rattle.drum_core.specs.declared.deck.Deck.{Deck}
 use Rattle.drum_core.specs.Loads.{start_in}
-use Rattle.drum_times.specs.declared.notes.mark.Mark.{Mark}
-use Rattle.drum_machine.specs.Counts.{AreWithin}
 use Rattle.drum_flow.specs.Flow.{deck_of}
-use Rattle.drum_bound.specs.declared.counts.Counts.{Counts}
 use Rattle.drum_bound.specs.declared.latest.Latest.{Latest}
 use Rattle.drum_bound.specs.declared.scan.Scan.{Scan}
-use Rattle.drum_bound.specs.declared.worst.Worst.{Worst}
-use Rattle.drum_bound.specs.CountsIn.{counts_in}
-use Rattle.drum_bound.specs.Keys.{counts_at, IsOrdered}
-use Rattle.drum_bound.specs.RowOf.{row_in}
-use Rattle.drum_bound.proofs.KeyLaws.{counts_within}
-use Rattle.drum_bound.specs.RowOf.{row_of, rows_at, rows_below}
+use Rattle.drum_bound.specs.Keys.{IsOrdered}
 use Rattle.drum_bound.specs.ScanOf.{IsDone, order_of, setting_in}
 use Rattle.drum_bound.specs.Scanned.{start_angle, cell_at}
-use Rattle.drum_bound.specs.Table.{Row}
 use Rattle.drum_bound.proofs.Raises.{kept_inside}
 use Rattle.drum_bound.specs.Held.{kept_in}
 use Rattle.drum_bound.proofs.Walked.{not_before}

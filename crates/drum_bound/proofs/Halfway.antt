@@ -1,7 +1,6 @@
 -- How a key is taken hop by hop.
-use Rattle.std.proofs.Common.{◌≡◌, ℕ, zero, suc, ◌+◌, ◌/◌, ◌%◌, ◌<◌, ◌≤◌, ◌-◌, List, [], ◌∷◌, length, drop, refl, ap, sym, ◌∙◌, subst, Option, Some, None, arith}
+use Rattle.std.proofs.Common.{◌≡◌, ℕ, zero, suc, ◌+◌, ◌/◌, ◌%◌, ◌<◌, ◌≤◌, ◌-◌, List, [], ◌∷◌, length, drop, refl, ap, sym, ◌∙◌, subst, Some, arith}
 use Rattle.std.specs.Prelude.{slice_get}
-use Rattle.std.proofs.lemmas.Option.{slice_get_within}
 use Rattle.drum_core.specs.Kind.{kind_of}
 use Rattle.drum_core.specs.Recurs.{within_span}
 use Rattle.drum_core.specs.Span.{kind_span-≤}
@@ -9,8 +8,6 @@ use Rattle.drum_core.specs.Waits.{available_recurs}
 use Rattle.drum_flow.specs.Hops.{Hop}
 use Rattle.drum_flow.specs.Walk.{Setting}
 use Rattle.drum_bound.specs.declared.cells.Cells.{Cells}
-use Rattle.drum_bound.specs.declared.cells.end.KeyHop.{KeyHop}
-use Rattle.drum_bound.specs.declared.latest.Latest.{Latest}
 use Rattle.drum_bound.specs.declared.leap.Leap.{Leap}
 use Rattle.drum_bound.specs.declared.round.Round.{Round}
 use Rattle.drum_bound.specs.declared.scan.Scan.{Scan}
@@ -20,7 +17,7 @@ use Rattle.drum_bound.specs.Keys.{place_at}
 use Rattle.drum_bound.specs.KeyHops.{IsLater, KeepsAt}
 use Rattle.drum_bound.specs.LeapOf.{IsLeap, leap_hop}
 use Rattle.drum_bound.specs.RoundOf.{IsRound}
-use Rattle.drum_bound.specs.Scanned.{cell_at, Taking}
+use Rattle.drum_bound.specs.Scanned.{Taking}
 use Rattle.drum_bound.specs.ScanOf.{setting_in, order_of, AreCells, IsScanned, IsAgreed, IsReady}
 use Rattle.drum_bound.specs.SearchOf.{IsSearch}
 use Rattle.drum_bound.proofs.KeysTaken.{hops_at, opened, early_clock, few_turns, closed}

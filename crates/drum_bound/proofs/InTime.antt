@@ -4,7 +4,7 @@ use Rattle.drum_core.specs.declared.op.Op.{Op}
 use Rattle.drum_core.specs.Op.{op_of}
 use Rattle.drum_machine.specs.Counts.{after_pass, AreWithin}
 use Rattle.drum_machine.specs.Ways.{Way, early, to, late}
-use Rattle.drum_flow.specs.Walk.{Setting, Taken, IsTimed, IsHopAt, Follow, IsWalkFrom, time_from}
+use Rattle.drum_flow.specs.Walk.{Setting, Taken, IsTimed, Follow, IsWalkFrom, time_from}
 use Rattle.drum_bound.specs.Visited.{Visited, visited, IsWalkOf, AreInTime}
 use Rattle.drum_bound.proofs.LongestLaws.{end_later}
 

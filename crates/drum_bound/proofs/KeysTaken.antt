@@ -1,22 +1,17 @@
 -- How a key is taken, as a scan holds it.
 use Rattle.std.proofs.Common.{◌≡◌, ℕ, zero, suc, ◌+◌, ◌*◌, ◌<◌, ◌≤◌, List, [], length, refl, ap, sym, ◌∙◌, subst, Option, Some, None, arith}
 use Rattle.std.specs.Prelude.{slice_get, Contains}
-use denote.Bor.{Bor}
 use Rattle.drum_times.specs.Allowed.{AreSound}
-use Rattle.drum_times.specs.declared.times.Times.{Times}
-use Rattle.drum_flow.specs.Flow.{order_in}
 use Rattle.drum_flow.specs.Hops.{Hop, hops}
 use Rattle.drum_flow.proofs.Lists.{contains_from_get}
 use Rattle.drum_flow.specs.Walk.{Setting}
 use Rattle.drum_bound.proofs.FewHops.{few_hops}
 use Rattle.drum_bound.specs.declared.cells.Cells.{Cells}
 use Rattle.drum_bound.specs.declared.cells.end.Made.{Made}
-use Rattle.drum_bound.specs.declared.keys.Keys.{Keys}
 use Rattle.drum_bound.specs.declared.latest.Latest.{Latest}
 use Rattle.drum_bound.specs.declared.scan.Scan.{Scan}
 use Rattle.drum_bound.specs.Keys.{place_at}
-use Rattle.drum_bound.specs.KeysOf.{AreKeys, setting_of}
-use Rattle.drum_bound.specs.Scanned.{cell_at, Scanned, Taking, turns_at, turns_below}
+use Rattle.drum_bound.specs.Scanned.{cell_at, Taking, turns_at, turns_below}
 use Rattle.drum_bound.specs.ScanOf.{setting_in, order_of, AreCells, IsScanned, IsAgreed}
 use Rattle.drum_bound.specs.KeyHops.{IsLater}
 use Rattle.drum_bound.proofs.LaterHops.{before_end, before_next}

@@ -1,5 +1,5 @@
 -- The entries that a finished scan holds are the rows of its keys, each once, in the order in which they were first led to.
-use Rattle.std.proofs.Common.{◌≡◌, ℕ, zero, suc, ◌+◌, ◌-◌, ◌*◌, ◌%◌, ◌<◌, ◌≤◌, ◌⊎◌, List, [], ◌∷◌, length, map, refl, ap, sym, ◌∙◌, subst, inl, inr, Option, Some, None, arith}
+use Rattle.std.proofs.Common.{◌≡◌, ℕ, zero, suc, ◌+◌, ◌-◌, ◌*◌, ◌%◌, ◌<◌, ◌≤◌, ◌⊎◌, List, [], ◌∷◌, length, map, refl, ap, sym, ◌∙◌, subst, inl, inr, Some, arith}
 use Rattle.std.specs.Prelude.{slice_get, Contains, sum}
 use Rattle.std.specs.Option.{option_map}
 use Rattle.std.proofs.lemmas.List.Sums.{sum-map, sum_by-cons}
@@ -11,11 +11,11 @@ use Rattle.drum_bound.specs.declared.cells.Cells.{Cells}
 use Rattle.drum_bound.specs.declared.latest.Latest.{Latest}
 use Rattle.drum_bound.specs.declared.latest.Origin.{Origin}
 use Rattle.drum_bound.specs.declared.worst.Worst.{Worst}
-use Rattle.drum_bound.specs.Ends.{HopEnd, LeadsTo, AreRaised}
-use Rattle.drum_bound.proofs.EntryEnds.{end_of, ends_of, IsEndIn, end_in, has_in}
+use Rattle.drum_bound.specs.Ends.{HopEnd, AreRaised}
+use Rattle.drum_bound.proofs.EntryEnds.{ends_of, IsEndIn, end_in, has_in}
 use Rattle.drum_bound.specs.Held.{entry_of, kept_in, latest_at}
 use Rattle.drum_bound.proofs.HeldLaws.{entry_inside, entries_few, is_entered, some_kept, IsEntered}
-use Rattle.drum_bound.specs.Keys.{keys_of, place_at, IsOrdered}
+use Rattle.drum_bound.specs.Keys.{keys_of, IsOrdered}
 use Rattle.drum_bound.specs.RowOf.{counts_number, row_in, row_of, rows_below}
 use Rattle.drum_bound.proofs.Rows.{IsRowOf, has_row, row_from, one_row}
 use Rattle.drum_bound.specs.Scanned.{start_angle, cell_at}

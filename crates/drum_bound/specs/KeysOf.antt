@@ -1,9 +1,8 @@
 -- What the keys of a flow graph are, as they are held.
-use Rattle.std.specs.Prelude.{◌≡◌, ℕ, ◌%◌, ◌<◌, List, length, map, slice_get, Option, Some, Contains, MatchOption}
+use Rattle.std.specs.Prelude.{◌≡◌, ℕ, List, map, slice_get, Some, Contains}
 use Rattle.drum_core.specs.declared.location.Location.{Location}
 use Rattle.drum_core.specs.Loads.{loads_in, start_in}
 use Rattle.drum_times.specs.declared.times.Times.{Times}
-use Rattle.drum_machine.specs.Counts.{after_pass, AreWithin}
 use Rattle.drum_flow.specs.declared.flow_graph.Flow.{Flow}
 use Rattle.drum_flow.specs.Accepted.{counts_of}
 use Rattle.drum_flow.specs.Flow.{deck_of, notes_of, executed_in, order_in}
@@ -13,7 +12,7 @@ use Rattle.drum_flow.specs.Walk.{Setting}
 use Rattle.drum_bound.specs.declared.keys.Keys.{Keys}
 use Rattle.drum_bound.specs.declared.keys.Site.{Site}
 use Rattle.drum_bound.specs.AnalysisOf.{setting}
-use Rattle.drum_bound.specs.Keys.{keys_of, place_at, counts_at, IsKey, IsOrdered}
+use Rattle.drum_bound.specs.Keys.{keys_of, IsOrdered}
 
 -- what the walks of a flow graph are in, with a timing table
 abbrev pub setting_of : Flow → Times → Setting

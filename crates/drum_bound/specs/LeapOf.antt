@@ -1,10 +1,8 @@
 -- What is known of a hop before the scan: how long it takes from the angle that it begins at, and where it goes on.
 use Rattle.std.specs.Prelude.{◌≡◌, ℕ, ◌+◌, ◌%◌, ◌<◌, List, length, map, slice_get, Option, Some, Contains}
 use Rattle.std.proofs.Common.{Vec, Global}
-use Rattle.drum_core.specs.Available.{is_available}
-use Rattle.drum_core.specs.Moment.{first}
 use Rattle.drum_machine.specs.Counts.{mark_on}
-use Rattle.drum_machine.specs.Ways.{Way, to}
+use Rattle.drum_machine.specs.Ways.{to}
 use Rattle.drum_flow.specs.Hops.{Hop, hops}
 use Rattle.drum_flow.specs.Seen.{seen_hop, seen_way}
 use Rattle.drum_flow.specs.Walk.{Setting}

@@ -1,6 +1,4 @@
-use Rattle.std.proofs.Common.{◌≡◌, ℕ, ◌+◌, refl, ap, sym, ◌∙◌, arith}
-use Rattle.drum_core.specs.Available.{is_available}
-use Rattle.drum_core.specs.Moment.{first}
+use Rattle.std.proofs.Common.{refl, ap, sym, ◌∙◌, arith}
 use Rattle.drum_core.specs.Recurs.{never_earlier}
 use Rattle.drum_core.specs.Waits.{available_recurs}
 use Rattle.drum_flow.specs.Seen.{seen_way}

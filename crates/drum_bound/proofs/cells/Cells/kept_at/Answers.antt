@@ -1,5 +1,4 @@
-use Rattle.std.proofs.Common.{◌≡◌, ℕ, ◌<◌, suc, Some, None, Option, length, get_or, ◌+◌, refl, ap, sym, ◌∙◌, arith}
-use Rattle.std.specs.Prelude.{slice_get}
+use Rattle.std.proofs.Common.{◌≡◌, ℕ, ◌<◌, suc, Some, length, get_or, ◌+◌, refl, ap, sym, ◌∙◌, arith}
 use Rattle.std.proofs.lemmas.Option.{slice_get_read}
 use Rattle.drum_bound.specs.declared.cells.Cells.{Cells}
 use Rattle.drum_bound.specs.declared.latest.Latest.{Latest}
@@ -7,7 +6,7 @@ use Rattle.drum_bound.specs.declared.latest.Origin.{Origin}
 use Rattle.drum_bound.specs.declared.worst.Worst.{Worst}
 use Rattle.drum_bound.specs.Held.{entry_of, kept_in, latest_at, AreHeld}
 use Rattle.drum_bound.specs.Scanned.{cell_at}
-use Rattle.drum_bound.proofs.HeldLaws.{entry_inside, latest_of, latest_other, latest_start, none_kept, some_kept}
+use Rattle.drum_bound.proofs.HeldLaws.{entry_inside, latest_other, latest_start, none_kept, some_kept}
 use Rattle.drum_bound.proofs.cells.Cells.kept_at.Goals as goal
 
 -- what a key keeps, of the entry and the origin that were read

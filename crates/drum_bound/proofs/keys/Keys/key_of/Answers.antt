@@ -1,14 +1,10 @@
-use Rattle.std.proofs.Common.{◌≡◌, ℕ, ◌+◌, ◌*◌, ◌<◌, ◌≤◌, List, length, Some, suc, sym, ap, ◌∙◌, subst, arith}
-use Rattle.std.specs.Prelude.{slice_get}
-use Rattle.std.proofs.Math.Nat.{mul-le-mul_left}
-use Rattle.std.proofs.lemmas.Option.{slice_get_within}
+use Rattle.std.proofs.Common.{◌≡◌, ℕ, ◌+◌, ◌*◌, List, length, sym, ap, ◌∙◌, subst, arith}
 use Rattle.drum_times.specs.declared.notes.mark.Mark.{Mark}
 use Rattle.drum_machine.specs.Counts.{AreWithin}
-use Rattle.drum_flow.specs.Accepted.{counts_of}
 use Rattle.drum_flow.specs.Flow.{notes_of, order_in}
-use Rattle.drum_flow.specs.Passes.{leading, leading-<}
+use Rattle.drum_flow.specs.Passes.{leading}
 use Rattle.drum_bound.specs.CountsIn.{counts_in}
-use Rattle.drum_bound.specs.Keys.{keys_of, IsKey}
+use Rattle.drum_bound.specs.Keys.{IsKey}
 use Rattle.drum_bound.proofs.Sites.{key_of_place, same_length, small_number, small_product}
 use Rattle.drum_bound.proofs.keys.Keys.key_of.Goals as goal
 

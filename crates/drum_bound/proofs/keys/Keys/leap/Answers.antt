@@ -1,14 +1,13 @@
-use Rattle.std.proofs.Common.{◌≡◌, ◌⊎◌, ℕ, ◌+◌, ◌-◌, List, Some, ap, sym, ◌∙◌, subst, inl, inr, refl, arith}
-use Rattle.std.specs.Prelude.{Contains, slice_get}
+use Rattle.std.proofs.Common.{◌≡◌, ◌⊎◌, ℕ, ◌+◌, ◌-◌, Some, ap, sym, ◌∙◌, subst, inl, inr, refl, arith}
+use Rattle.std.specs.Prelude.{Contains}
 use Rattle.drum_core.specs.Loads.{loads_in}
-use Rattle.drum_times.specs.declared.notes.mark.Mark.{Mark}
 use Rattle.drum_times.specs.Entries.{entry_in}
 use Rattle.drum_machine.specs.Ways.{Way, early, to, late}
 use Rattle.drum_flow.specs.declared.way.Way as code
 use Rattle.drum_flow.specs.declared.way.Way.TheVariants as way
 use Rattle.drum_flow.specs.Flow.{deck_of, notes_of, order_in}
-use Rattle.drum_flow.specs.Hops.{Hop, hops}
-use Rattle.drum_flow.specs.Seen.{seen_hop, seen_way}
+use Rattle.drum_flow.specs.Hops.{hops}
+use Rattle.drum_flow.specs.Seen.{seen_way}
 use Rattle.drum_bound.proofs.DigitsLaws.{no_counts_within}
 use Rattle.drum_machine.specs.Counts.{mark_on, no_counts}
 use Rattle.drum_bound.proofs.LeapLaws.{leap_time}

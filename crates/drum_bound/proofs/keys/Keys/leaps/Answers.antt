@@ -1,4 +1,4 @@
-use Rattle.std.proofs.Common.{◌≡◌, ◌<◌, ◌≤◌, ℕ, List, [], ◌∷◌, ◌++◌, length, map, Option, Some, None, Vec, Global, refl, ap, sym, ◌∙◌, subst, inl, inr, arith}
+use Rattle.std.proofs.Common.{◌≡◌, ◌<◌, ℕ, List, [], ◌∷◌, ◌++◌, length, Option, Some, Vec, Global, refl, ap, sym, ◌∙◌, subst, inl, inr, arith}
 use Rattle.std.specs.Prelude.{slice_get, IfSome}
 use Rattle.std.specs.Option.{option_map}
 use Rattle.std.proofs.lemmas.Bool.{cases_lt}
@@ -9,7 +9,7 @@ use Rattle.drum_flow.specs.Flow.{order_in}
 use Rattle.drum_times.specs.declared.times.Times.{Times}
 use Rattle.drum_bound.specs.declared.keys.Site.{Site}
 use Rattle.drum_bound.specs.declared.leap.Leap.{Leap}
-use Rattle.drum_bound.specs.KeysOf.{setting_of, sites_in}
+use Rattle.drum_bound.specs.KeysOf.{setting_of}
 use Rattle.drum_bound.specs.LeapOf.{AreLeaps}
 use Rattle.drum_bound.proofs.HeldLaws.{get_before, get_behind}
 use Rattle.drum_bound.proofs.keys.Keys.leaps.Goals as goal

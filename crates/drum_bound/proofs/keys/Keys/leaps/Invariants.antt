@@ -1,4 +1,4 @@
-use Rattle.std.proofs.Common.{◌≡◌, ◌≤◌, ℕ, length, Some, Vec, Global, vec_len}
+use Rattle.std.proofs.Common.{◌≡◌, ◌≤◌, ℕ, Some, Vec, Global, vec_len}
 use Rattle.std.specs.Prelude.{slice_get}
 use Rattle.drum_flow.specs.Flow.{order_in}
 use Rattle.drum_bound.specs.declared.leap.Leap.{Leap}

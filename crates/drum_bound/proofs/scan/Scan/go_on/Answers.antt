@@ -1,5 +1,5 @@
 use Rattle.std.proofs.Common.{◌≡◌, ℕ, ◌+◌, ◌/◌, ◌%◌, ◌<◌, Option, Some, None, length, refl, inl, inr, ap, sym, ◌∙◌, subst, arith}
-use Rattle.std.specs.Prelude.{MatchOption, slice_get}
+use Rattle.std.specs.Prelude.{slice_get}
 use Rattle.drum_machine.specs.Ways.{to}
 use Rattle.drum_machine.specs.Counts.{after_pass, mark_on, AreWithin}
 use Rattle.drum_bound.specs.declared.round.Counted.{Counted}

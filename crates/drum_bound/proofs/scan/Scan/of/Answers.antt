@@ -1,8 +1,7 @@
-use Rattle.std.proofs.Common.{◌≡◌, ℕ, ◌*◌, length, ap, sym, ◌∙◌, subst, arith}
+use Rattle.std.proofs.Common.{◌≡◌, ℕ, ◌*◌, length, ap, subst, arith}
 use Rattle.drum_flow.specs.Accepted.{counts_of}
 use Rattle.drum_bound.specs.declared.keys.Keys.{Keys}
-use Rattle.drum_bound.specs.declared.scan.Scan.{Scan}
-use Rattle.drum_bound.specs.ScanOf.{IsScanned, order_of, setting_in, size_in}
+use Rattle.drum_bound.specs.ScanOf.{IsScanned, order_of, setting_in}
 use Rattle.drum_bound.proofs.scan.Scan.of.Goals as goal
 
 pub loop-counts-init : goal.loop-counts-init

@@ -1,14 +1,12 @@
-use Rattle.std.proofs.Common.{◌≡◌, ℕ, ◌+◌, ◌%◌, ◌<◌, List, length, get_or, Option, Some, None, Vec, Global, refl, ap, sym, ◌∙◌, subst, arith}
+use Rattle.std.proofs.Common.{◌≡◌, ℕ, ◌+◌, ◌%◌, List, length, get_or, Option, Some, Vec, Global, refl, ap, sym, ◌∙◌, subst, arith}
 use Rattle.std.specs.Prelude.{slice_get}
 use Rattle.std.proofs.lemmas.Option.{get_or_from_slice_get, slice_get_read}
-use Rattle.drum_flow.specs.Hops.{Hop, hops}
-use Rattle.drum_flow.specs.HopsLeft.{hops_left}
+use Rattle.drum_flow.specs.Hops.{hops}
 use Rattle.drum_bound.specs.declared.leap.Leap.{Leap}
-use Rattle.drum_bound.specs.declared.scan.Scan.{Scan}
 use Rattle.drum_bound.specs.Keys.{place_at}
 use Rattle.drum_bound.specs.LeapOf.{AreLeaps}
 use Rattle.drum_bound.specs.ScanOf.{setting_in, order_of}
-use Rattle.drum_bound.proofs.KeysTaken.{hops_at, skipped}
+use Rattle.drum_bound.proofs.KeysTaken.{skipped}
 use Rattle.drum_bound.proofs.scan.Scan.take_key.Goals as goal
 
 -- the location of the key
