@@ -318,6 +318,8 @@ impl Cells {
         ensures same { self.new ≡ record self.old { last = self.new.last } }
         ensures last { self.new.last ≡ later self.old.last (latest_in end.now) }
     {
-        self.last = end.or_later(self.last);
+        if self.last.clock < end.clock() {
+            self.last = end.latest();
+        }
     }
 }

@@ -14,7 +14,6 @@ pub struct End {
 
 impl End {
     ghost use Rattle.drum_bound.specs.EndOf.{latest_in};
-    ghost use Rattle.drum_bound.specs.Scanned.{later};
 
     /// Its clock.
     pub fn clock(&self) -> u64
@@ -37,17 +36,13 @@ impl End {
         self.origin
     }
 
-    /// What is kept, or this end where it is later.
-    pub fn or_later(&self, kept: Latest) -> Latest
-        ensures { result ≡ later kept (latest_in self.now) }
+    /// What is kept of it.
+    pub fn latest(&self) -> Latest
+        ensures { result ≡ latest_in self.now }
     {
-        if kept.clock < self.clock {
-            Latest {
-                clock: self.clock,
-                origin: Some(self.origin),
-            }
-        } else {
-            kept
+        Latest {
+            clock: self.clock,
+            origin: Some(self.origin),
         }
     }
 }
