@@ -32,8 +32,7 @@ pub struct Cells {
     made: Made,
     /// The start angle: an entry's clock is its time from there on.
     angle: u64,
-    /// How many executed locations there are, and how many counts the marks can have: for the limit
-    /// alone.
+    /// How many executed locations there are, and how many counts the marks can have.
     words: usize,
     counts: usize,
     /// There are never more entries than locations times counts.
