@@ -41,7 +41,7 @@ pub struct Cells {
 }
 
 impl Cells {
-    ghost use Rattle.std.specs.Prelude.{ℕ, ◌+◌, ◌%◌, ◌^◌, ◌<◌, suc, List, MatchOption, false, replicate, set, Some, None, IfOk};
+    ghost use Rattle.std.specs.Prelude.{ℕ, ◌+◌, ◌%◌, ◌^◌, ◌<◌, suc, List, MatchOption, true, false, replicate, set, Some, None, IfOk};
     ghost use Rattle.drum_core.specs.Available.{is_available};
     ghost use Rattle.drum_core.specs.Moment.{first};
     ghost use Rattle.drum_flow.specs.Seen.{seen_way};
@@ -192,6 +192,7 @@ impl Cells {
         requires held { AreHeld self.now }
         requires there { end ≤ length self.now.places.items }
         ensures none { result ≡ false → (key : ℕ) → first ≤ key → key < end → cell_at (kept_in self.now) key ≡ None }
+        ensures some { result ≡ true → (key : ℕ) × (first ≤ key) × (key < end) × (0 < entry_of self.now.places.items key) }
     {
         for key in first..end {
             if self.places[key] > 0 {
