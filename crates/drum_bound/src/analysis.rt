@@ -29,8 +29,9 @@ impl Analysis {
     ghost use Rattle.drum_bound.specs.AnalysisOf.{angle_of, bound_of, counts_in_all, passed_of, rows_of, turns_of, visits_of, words_of};
     ghost use Rattle.drum_bound.specs.RowOf.{row_in};
 
-    /// The analysis of a finished table, which it keeps as it was raised, with a walk that takes as
-    /// long as the latest end of all, and how often that passes each mark.
+    /// The analysis of a table, which it keeps as it was raised, with a walk that takes as long as its
+    /// latest end, and how often that passes each mark. (That the table is finished and the walk is
+    /// one is said by who calls this.)
     pub(crate) fn of(cells: Cells, walk: Vec<Visit>, passed: [u64; MOST_MARKS]) -> Analysis
         requires in_time { AreInTime 0 (map seen_visit walk.items) (cells.last.clock - cells.angle) }
         requires after { cells.angle ≤ cells.last.clock }
@@ -58,7 +59,7 @@ impl Analysis {
     }
 
     /// The table of worst times: one entry for each location and counts of the marks that some walk
-    /// arrives at.
+    /// arrives at. The start's comes first, the others as they were first led to.
     pub fn table(&self) -> &[Worst]
         ensures { map row_in result.now ≡ rows_of self.now }
     {

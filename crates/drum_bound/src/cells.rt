@@ -14,11 +14,11 @@ pub use end::{End, KeyHop};
 use std::alloc::{AllocError, Global};
 
 /// The latest end at each key, of the hops that lead there, or the moment of the start; and the
-/// latest of all. Where something is kept, an entry of the table of worst times holds it: the table
-/// is handed out as it was raised.
+/// latest of all that no full mark bars. Where something is kept, an entry of the table of worst
+/// times holds it: the table is handed out as it was raised.
 ///
-/// An [`End`] alone raises what is kept, and each is made here, of the clock that its key keeps. No
-/// end is made twice, since each is of a later hop than the one before; and what its key keeps
+/// An [`End`] alone raises what is kept. One is made from the clock that its key keeps, and no two of
+/// one key and number, since each is of a later hop than the one before; and what its key keeps
 /// stays, since only later keys are raised from then on.
 #[derive(Debug, Drop)]
 pub struct Cells {
@@ -141,7 +141,7 @@ impl Cells {
         &self.entries
     }
 
-    /// The latest end of all; before there is one, the moment of the start.
+    /// The latest end of all that no full mark bars; before there is one, the moment of the start.
     pub fn last(&self) -> Latest
         ensures { result ≡ self.now.last }
     {
@@ -202,8 +202,8 @@ impl Cells {
         false
     }
 
-    /// Makes the end of a hop of the key whose instruction was sought, from when it is found: the
-    /// latest at which the hop can end from the clock that its key keeps.
+    /// Makes the end of a hop of the key whose instruction was sought, from when it is found: where
+    /// the leap is that of the hop, the latest at which it can end from the clock that its key keeps.
     pub fn end(&mut self, search: &Search, number: usize, leap: &Leap) -> End
         requires kept { KeepsAt (kept_in self.old) search.now.key search.now.begun }
         requires found { search.now.found ≡ first (is_available search.now.location.number) search.now.begun }
@@ -312,8 +312,8 @@ impl Cells {
         self.places[key] = before as u32 + 1;
     }
 
-    /// Keeps the end of a hop, where it is later than all others: that of one that stops is kept
-    /// nowhere else.
+    /// Keeps the end of a hop, where it is later than all that were kept before: that of one that
+    /// stops is kept nowhere else.
     pub fn keep_last(&mut self, end: &End)
         ensures same { self.new ≡ record self.old { last = self.new.last } }
         ensures last { self.new.last ≡ later self.old.last (latest_in end.now) }

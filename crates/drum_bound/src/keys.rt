@@ -19,7 +19,6 @@ use crate::counts::Counts;
 use drum_core::Location;
 use drum_flow::counts::counts_of;
 use drum_flow::{Flow, Hops};
-use drum_machine::passes::mark_on;
 use drum_times::Mark;
 use std::alloc::{AllocError, Global};
 

@@ -102,7 +102,8 @@ impl Keys<'_> {
         Ok(Some(leaps))
     }
 
-    /// The leaps of the executed locations, in their order.
+    /// The leaps of the executed locations, in their order. Where those of one don't fit, the room is
+    /// halved, so that few are made and thrown away.
     pub fn leaps(&self, alloc: Global, times: &Times) -> Result<Vec<Option<Vec<Leap>>>, AllocError>
         requires { AreKeys self.now }
         ensures { IfOk result (λ all. HaveLeaps (setting_of self.now.flow.now times.now) (order_in self.now.flow.now) all.items) }
@@ -111,8 +112,9 @@ impl Keys<'_> {
         let mut all = Vec::new(alloc);
         for site in &self.sites {
             let leaps = self.leaps_at(alloc, times, site, room)?;
-            if let Some(leaps) = &leaps {
-                room -= leaps.len();
+            match &leaps {
+                Some(leaps) => room -= leaps.len(),
+                None => room /= 2,
             }
             all.push(leaps)?;
         }

@@ -6,7 +6,7 @@ pub struct Search {
     pub key: usize,
     /// The key's location.
     pub location: Location,
-    /// The clock at which it begins: the one that the key keeps.
+    /// The clock at which it begins: the one that the key keeps. For the contracts alone.
     pub begun: u64,
     /// The clock at which the instruction is found.
     pub found: u64,

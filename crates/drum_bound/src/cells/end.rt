@@ -54,8 +54,8 @@ pub struct KeyHop {
     pub hop: usize,
 }
 
-/// The ends of hops that have been made: how many, and which was the last. Each is of a later hop
-/// than the one before it, so that none is made twice.
+/// The ends of hops that have been made: how many, and, for the contracts alone, which was the last.
+/// Each is of a later hop than the one before it, so that no two are of one key and number.
 #[derive(Debug, Drop)]
 pub struct Made {
     count: u64,

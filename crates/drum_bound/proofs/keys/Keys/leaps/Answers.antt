@@ -13,7 +13,7 @@ use Rattle.drum_bound.specs.KeysOf.{setting_of}
 use Rattle.drum_bound.specs.LeapOf.{AreLeaps}
 use Rattle.drum_bound.proofs.HeldLaws.{get_before, get_behind}
 use Rattle.drum_bound.proofs.keys.Keys.leaps.Goals as goal
-use Rattle.drum_bound.proofs.keys.Keys.leaps.Goals.{in-Some, in_default}
+use Rattle.drum_bound.proofs.keys.Keys.leaps.Goals.{in-Some, in-None}
 
 -- the leaps of the location, if it has them
 own_leaps : (flow : Flow) (times : Times) (place : ℕ) (made : Option (Vec Leap Global)) (leaps : Vec Leap Global)
@@ -64,6 +64,6 @@ loop-site-preserved c =
           c.loop-site.invariant.each j one leaps at (subst (λ (held : List (Option (Vec Leap Global))). slice_get held j ≡ Some (Some leaps)) c.in_ok-push.ensures.items there);
       room = elim c.match-leaps.branch [
         | in-Some w ↦ omega (arith, w.room-is, c.loop-site.invariant.room)
-        | in_default w ↦ omega (arith, w.room-is, c.loop-site.invariant.room)
+        | in-None w ↦ omega (arith, w.room-is, c.loop-site.invariant.room)
       ];
     }
