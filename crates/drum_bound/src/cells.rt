@@ -204,6 +204,7 @@ impl Cells {
 
     /// Makes the end of a hop of the key whose instruction was sought, from when it is found: where
     /// the leap is that of the hop, the latest at which it can end from the clock that its key keeps.
+    #[inline(always)]
     pub fn end(&mut self, search: &Search, number: usize, leap: &Leap) -> End
         requires kept { KeepsAt (kept_in self.old) search.now.key search.now.begun }
         requires found { search.now.found ≡ first (is_available search.now.location.number) search.now.begun }
@@ -230,6 +231,7 @@ impl Cells {
     /// Keeps the end of a hop that goes on at a key, where it is later than what is kept there, and
     /// of all. The key is later than those whose ends have been made; it is at this location, with
     /// the counts of this number.
+    #[inline(always)]
     pub fn raise(&mut self, key: usize, location: Location, counts: u32, end: &End)
         requires held { AreHeld self.old }
         requires there { key < length self.old.places.items }
@@ -314,6 +316,7 @@ impl Cells {
 
     /// Keeps the end of a hop, where it is later than all that were kept before: that of one that
     /// stops is kept nowhere else.
+    #[inline(always)]
     pub fn keep_last(&mut self, end: &End)
         ensures same { self.new ≡ record self.old { last = self.new.last } }
         ensures last { self.new.last ≡ later self.old.last (latest_in end.now) }

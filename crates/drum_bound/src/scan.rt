@@ -99,6 +99,7 @@ impl<'a> Scan<'a> {
     }
 
     /// Keeps the end of a hop that goes on, unless a full mark bars it.
+    #[inline(always)]
     fn go_on(&mut self, round: &Round, search: &Search, leap: &Leap, next: Location, end: &End)
         requires keys { AreKeys self.old.keys.now }
         requires cells { AreCells (setting_in self.old) (order_of self.old) self.old.cells }
@@ -123,6 +124,7 @@ impl<'a> Scan<'a> {
     }
 
     /// Takes a hop of the key whose instruction is sought: that of this number among the key's.
+    #[inline(always)]
     fn take_leap(&mut self, round: &Round, search: &Search, number: usize, leap: &Leap)
         requires ready { IsReady self.old round.now search.now number leap.now }
         requires later { IsLater self.old.cells.made.last (record { key = search.now.key; hop = number }) }

@@ -85,6 +85,7 @@ impl Made {
 
     /// The latest end of a hop of a key whose instruction is found at this clock; a later hop than
     /// the last one.
+    #[inline(always)]
     pub fn end(&mut self, key_hop: KeyHop, found: u64, leap: &Leap) -> End
         requires few { self.old.count < 2 ^ 62 }
         requires later { IsLater self.old.last key_hop }
