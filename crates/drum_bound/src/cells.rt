@@ -68,9 +68,16 @@ impl Cells {
         requires few { counts * words ≤ 4000000 }
         requires on_drum { angle < 50 }
         ensures held { IfOk result AreHeld }
-        ensures kept { IfOk result (λ cells. kept_in cells ≡ set (replicate (counts * words) None) start_key (Some (record { clock = angle; origin = None }))) }
+        ensures kept { IfOk result (λ cells.
+            kept_in cells ≡ set (replicate (counts * words) None) start_key (Some (record {
+              clock
+                  = angle;
+              origin = None;
+            }))) }
         ensures last { IfOk result (λ cells. cells.last ≡ record { clock = angle; origin = None }) }
-        ensures entries { IfOk result (λ cells. (place_of counts_of : ℕ → ℕ) → start.number ≡ place_of start_key → 0 ≡ counts_of start_key → HaveEntries place_of counts_of cells) }
+        ensures entries { IfOk result (λ cells. (place_of counts_of : ℕ → ℕ)
+            → start.number ≡ place_of start_key → 0 ≡ counts_of start_key
+            → HaveEntries place_of counts_of cells) }
         ensures made { IfOk result (λ cells. cells.made.count ≡ 0) }
         ensures unmade { IfOk result (λ cells. cells.made.last ≡ None) }
         ensures angle { IfOk result (λ cells. cells.angle ≡ angle) }
@@ -107,7 +114,8 @@ impl Cells {
 
     /// The place of a key's entry; `None` where nothing is kept.
     fn entry_of(&self, key: usize) -> Option<usize>
-        ensures { MatchOption result (entry_of self.now.places.items key ≡ 0) (λ place. entry_of self.now.places.items key ≡ suc place) }
+        ensures { MatchOption result (entry_of self.now.places.items key ≡ 0) (λ place.
+            entry_of self.now.places.items key ≡ suc place) }
     {
         match self.places.get(key) {
             Some(entry) if *entry > 0 => Some(*entry as usize - 1),
@@ -179,7 +187,8 @@ impl Cells {
     /// The clock that a key keeps; `None` where nothing is.
     pub fn clock_at(&self, key: usize) -> Option<u64>
         requires { AreHeld self.now }
-        ensures { MatchOption result (cell_at (kept_in self.now) key ≡ None) (λ clock. KeepsAt (kept_in self.now) key clock) }
+        ensures { MatchOption result (cell_at (kept_in self.now) key ≡ None) (λ clock.
+            KeepsAt (kept_in self.now) key clock) }
     {
         let Some(latest) = self.kept_at(key) else {
             return None;
@@ -191,8 +200,10 @@ impl Cells {
     pub fn keeps_any(&self, first: usize, end: usize) -> bool
         requires held { AreHeld self.now }
         requires there { end ≤ length self.now.places.items }
-        ensures none { result ≡ false → (key : ℕ) → first ≤ key → key < end → cell_at (kept_in self.now) key ≡ None }
-        ensures some { result ≡ true → (key : ℕ) × (first ≤ key) × (key < end) × (0 < entry_of self.now.places.items key) }
+        ensures none { result ≡ false → (key : ℕ) → first ≤ key → key < end
+            → cell_at (kept_in self.now) key ≡ None }
+        ensures some { result ≡ true → (key : ℕ) × (first ≤ key) × (key < end)
+            × (0 < entry_of self.now.places.items key) }
     {
         for key in first..end {
             if self.places[key] > 0 {
@@ -207,18 +218,25 @@ impl Cells {
     #[inline(always)]
     pub fn end(&mut self, search: &Search, number: usize, leap: &Leap) -> End
         requires kept { KeepsAt (kept_in self.old) search.now.key search.now.begun }
-        requires found { search.now.found ≡ first (is_available search.now.location.number) search.now.begun }
-        requires later { IsLater self.old.made.last (record { key = search.now.key; hop = number }) }
+        requires found { search.now.found
+            ≡ first (is_available search.now.location.number) search.now.begun }
+        requires later { IsLater self.old.made.last (record {
+          key = search.now.key;
+          hop = number;
+        }) }
         requires few { self.old.made.count < 2 ^ 62 }
         requires narrow { search.now.key < 2 ^ 32 }
         requires soon { search.now.found ≤ 2 ^ 62 }
         ensures same { self.new ≡ record self.old { made = self.new.made } }
         ensures counted { self.new.made.count ≡ self.old.made.count + 1 }
-        ensures now_last { self.new.made.last ≡ Some (record { key = search.now.key; hop = number }) }
+        ensures now_last { self.new.made.last
+            ≡ Some (record { key = search.now.key; hop = number }) }
         ensures origin { result.origin ≡ record { key = search.now.key; hop = leap.now.hop } }
-        ensures clock { (g : Setting) (order : List ℕ) → MayEnd leap.now.hop.instruction (seen_way leap.now.hop.way)
+        ensures clock { (g : Setting) (order : List ℕ)
+            → MayEnd leap.now.hop.instruction (seen_way leap.now.hop.way)
             → IsLeap g order search.now.location.number (search.now.found % 50) leap.now
-            → result.clock ≡ longest g.times search.now.location.number leap.now.hop.instruction (seen_way leap.now.hop.way) search.now.begun }
+            → result.clock ≡ longest g.times search.now.location.number leap.now.hop.instruction
+            (seen_way leap.now.hop.way) search.now.begun }
         ensures after { search.now.begun ≤ result.clock }
     {
         let key_hop = KeyHop {
@@ -241,7 +259,8 @@ impl Cells {
         ensures held { AreHeld self.new }
         ensures kept { kept_in self.new ≡ raised (kept_in self.old) key (latest_in end.now) }
         ensures last { self.new.last ≡ later self.old.last (latest_in end.now) }
-        ensures entries { (place_of counts_of : ℕ → ℕ) → location.number ≡ place_of key → counts ≡ counts_of key
+        ensures entries { (place_of counts_of : ℕ → ℕ) → location.number ≡ place_of key
+            → counts ≡ counts_of key
             → HaveEntries place_of counts_of self.old → HaveEntries place_of counts_of self.new }
         ensures made { self.new.made ≡ self.old.made }
         ensures angle { self.new.angle ≡ self.old.angle }
@@ -263,7 +282,8 @@ impl Cells {
         requires after { self.old.angle ≤ end.now.clock }
         ensures held { AreHeld self.new }
         ensures kept { kept_in self.new ≡ raised (kept_in self.old) key (latest_in end.now) }
-        ensures entries { (place_of counts_of : ℕ → ℕ) → HaveEntries place_of counts_of self.old → HaveEntries place_of counts_of self.new }
+        ensures entries { (place_of counts_of : ℕ → ℕ)
+            → HaveEntries place_of counts_of self.old → HaveEntries place_of counts_of self.new }
         ensures last { self.new.last ≡ self.old.last }
         ensures made { self.new.made ≡ self.old.made }
         ensures angle { self.new.angle ≡ self.old.angle }
@@ -290,7 +310,8 @@ impl Cells {
         requires after { self.old.angle ≤ end.now.clock }
         ensures held { AreHeld self.new }
         ensures kept { kept_in self.new ≡ raised (kept_in self.old) key (latest_in end.now) }
-        ensures entries { (place_of counts_of : ℕ → ℕ) → location.number ≡ place_of key → counts ≡ counts_of key
+        ensures entries { (place_of counts_of : ℕ → ℕ) → location.number ≡ place_of key
+            → counts ≡ counts_of key
             → HaveEntries place_of counts_of self.old → HaveEntries place_of counts_of self.new }
         ensures last { self.new.last ≡ self.old.last }
         ensures made { self.new.made ≡ self.old.made }

@@ -39,7 +39,8 @@ impl Keys<'_> {
     /// The place of the mark on an edge.
     fn mark_between(&self, from: Location, onto: Location) -> Option<u8>
         requires { AreKeys self.now }
-        ensures { counted.mark_on (notes_of self.now.flow.now).marks from.number onto.number ≡ result }
+        ensures { counted.mark_on (notes_of self.now.flow.now).marks from.number onto.number
+            ≡ result }
     {
         match mark_on(self.marks(), from, onto) {
             Some(place) => Some(place as u8),
@@ -51,9 +52,11 @@ impl Keys<'_> {
     pub fn leap(&self, times: &Times, location: Location, hop: Hop, angle: u64) -> Leap
         requires keys { AreKeys self.now }
         requires there { Contains (order_in self.now.flow.now) location.number }
-        requires hop { Contains (said.hops (loads_in (deck_of self.now.flow.now)) (notes_of self.now.flow.now) location.number) (seen_hop hop) }
+        requires hop { Contains (said.hops (loads_in (deck_of self.now.flow.now)) (notes_of
+            self.now.flow.now) location.number) (seen_hop hop) }
         requires on_drum { angle < 50 }
-        ensures leap { IsLeap (setting_of self.now.flow.now times.now) (order_in self.now.flow.now) location.number angle result }
+        ensures leap { IsLeap (setting_of self.now.flow.now times.now) (order_in
+            self.now.flow.now) location.number angle result }
         ensures hop { result.hop ≡ hop }
     {
         let time = (longest(times, location, hop, angle) - angle) as u32;
@@ -83,8 +86,12 @@ impl Keys<'_> {
     ) -> Result<Option<Vec<Leap>>, AllocError>
         requires keys { AreKeys self.now }
         requires there { Contains (order_in self.now.flow.now) site.now.location.number }
-        requires hops { hops_left site.now.hops ≡ said.hops (loads_in (deck_of self.now.flow.now)) (notes_of self.now.flow.now) site.now.location.number }
-        ensures leaps { IfOk result (λ made. IfSome made (λ leaps. AreLeaps (setting_of self.now.flow.now times.now) (order_in self.now.flow.now) site.now.location.number leaps.items)) }
+        requires hops { hops_left site.now.hops
+            ≡ said.hops (loads_in (deck_of self.now.flow.now)) (notes_of self.now.flow.now)
+            site.now.location.number }
+        ensures leaps { IfOk result (λ made. IfSome made (λ leaps.
+            AreLeaps (setting_of self.now.flow.now times.now) (order_in self.now.flow.now)
+            site.now.location.number leaps.items)) }
         ensures few { IfOk result (λ made. IfSome made (λ leaps. vec_len leaps ≤ room)) }
     {
         let location = site.location;
@@ -106,7 +113,8 @@ impl Keys<'_> {
     /// halved, so that few are made and thrown away.
     pub fn leaps(&self, alloc: Global, times: &Times) -> Result<Vec<Option<Vec<Leap>>>, AllocError>
         requires { AreKeys self.now }
-        ensures { IfOk result (λ all. HaveLeaps (setting_of self.now.flow.now times.now) (order_in self.now.flow.now) all.items) }
+        ensures { IfOk result (λ all. HaveLeaps (setting_of self.now.flow.now times.now)
+            (order_in self.now.flow.now) all.items) }
     {
         let mut room = MOST_LEAPS;
         let mut all = Vec::new(alloc);

@@ -48,8 +48,10 @@ impl Keys<'_> {
     /// Counts as the keys and the table have them.
     fn counted(&self, counts: Counts) -> Counted
         requires keys { AreKeys self.now }
-        requires within { AreWithin (notes_of self.now.flow.now).marks (counts_in counts (notes_of self.now.flow.now).marks) }
-        ensures { IsCounted self.now.flow.now (counts_in counts (notes_of self.now.flow.now).marks) result }
+        requires within { AreWithin (notes_of self.now.flow.now).marks (counts_in counts
+            (notes_of self.now.flow.now).marks) }
+        ensures { IsCounted self.now.flow.now (counts_in counts (notes_of
+            self.now.flow.now).marks) result }
     {
         Counted {
             first: counts.leading(self.marks()) * self.sites.len(),
@@ -60,8 +62,10 @@ impl Keys<'_> {
     /// The counts after a pass of a mark; `None` where it is full.
     fn counted_after(&self, counts: Counts, mark: &Mark) -> Option<Counted>
         requires keys { AreKeys self.now }
-        requires within { AreWithin (notes_of self.now.flow.now).marks (counts_in counts (notes_of self.now.flow.now).marks) }
-        ensures { IsPassed self.now.flow.now (counts_in counts (notes_of self.now.flow.now).marks) mark.now result }
+        requires within { AreWithin (notes_of self.now.flow.now).marks (counts_in counts
+            (notes_of self.now.flow.now).marks) }
+        ensures { IsPassed self.now.flow.now (counts_in counts (notes_of
+            self.now.flow.now).marks) mark.now result }
     {
         let Some(passed) = counts.passed(self.marks(), mark.from, mark.onto) else {
             return None;

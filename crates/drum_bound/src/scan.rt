@@ -51,7 +51,8 @@ impl<'a> Scan<'a> {
         leaps: &'a [Option<Vec<Leap>>],
     ) -> Result<Scan<'a>, AllocError>
         requires keys { AreKeys keys.now }
-        requires leaps { HaveLeaps (setting_of keys.now.flow.now times.now) (order_in keys.now.flow.now) leaps.now }
+        requires leaps { HaveLeaps (setting_of keys.now.flow.now times.now) (order_in
+            keys.now.flow.now) leaps.now }
         ensures done { IfOk result IsDone }
         ensures times { IfOk result (λ scan. scan.times.now ≡ times.now) }
         ensures keys { IfOk result (λ scan. scan.keys.now ≡ keys.now) }
@@ -80,7 +81,8 @@ impl<'a> Scan<'a> {
         leaps: &'a [Option<Vec<Leap>>],
     ) -> Result<Scan<'a>, AllocError>
         requires keys { AreKeys keys.now }
-        requires leaps { HaveLeaps (setting_of keys.now.flow.now times.now) (order_in keys.now.flow.now) leaps.now }
+        requires leaps { HaveLeaps (setting_of keys.now.flow.now times.now) (order_in
+            keys.now.flow.now) leaps.now }
         ensures scanned { IfOk result (λ scan. IsScanned scan 0) }
         ensures times { IfOk result (λ scan. scan.times.now ≡ times.now) }
         ensures keys { IfOk result (λ scan. scan.keys.now ≡ keys.now) }
@@ -104,14 +106,19 @@ impl<'a> Scan<'a> {
         requires keys { AreKeys self.old.keys.now }
         requires cells { AreCells (setting_in self.old) (order_of self.old) self.old.cells }
         requires below { search.now.key < self.old.keys.now.size }
-        requires round { IsRound self.old.keys.now.flow.now (search.now.key / length (order_of self.old)) round.now }
-        requires leap { IsLeap (setting_in self.old) (order_of self.old) (place_at (order_of self.old) search.now.key) (search.now.found % 50) leap.now }
+        requires round { IsRound self.old.keys.now.flow.now (search.now.key / length (order_of
+            self.old)) round.now }
+        requires leap { IsLeap (setting_in self.old) (order_of self.old) (place_at (order_of
+            self.old) search.now.key) (search.now.found % 50) leap.now }
         requires next { seen_way leap.now.hop.way ≡ to next.number }
-        requires edge { IsEdge (setting_in self.old).loads (setting_in self.old).notes (place_at (order_of self.old) search.now.key) next.number }
+        requires edge { IsEdge (setting_in self.old).loads (setting_in self.old).notes (place_at
+            (order_of self.old) search.now.key) next.number }
         requires before { IsBefore self.old.cells.made.last (search.now.key + 1) }
         requires from { end.now.origin.key ≡ search.now.key }
         requires after { self.old.cells.angle ≤ end.now.clock }
-        ensures goes { Goes (setting_in self.old) (order_of self.old) search.now.key next.number (latest_in end.now) (kept_in self.old.cells) self.old.cells.last (kept_in self.new.cells) self.new.cells.last }
+        ensures goes { Goes (setting_in self.old) (order_of self.old) search.now.key next.number
+            (latest_in end.now) (kept_in self.old.cells) self.old.cells.last (kept_in
+            self.new.cells) self.new.cells.last }
         ensures same { self.new ≡ record self.old { cells = self.new.cells } }
         ensures made { self.new.cells.made ≡ self.old.cells.made }
         ensures cells { AreCells (setting_in self.old) (order_of self.old) self.new.cells }
@@ -127,16 +134,24 @@ impl<'a> Scan<'a> {
     #[inline(always)]
     fn take_leap(&mut self, round: &Round, search: &Search, number: usize, leap: &Leap)
         requires ready { IsReady self.old round.now search.now number leap.now }
-        requires later { IsLater self.old.cells.made.last (record { key = search.now.key; hop = number }) }
+        requires later { IsLater self.old.cells.made.last (record {
+          key = search.now.key;
+          hop =
+              number;
+        }) }
         requires soon { search.now.found ≤ 2 ^ 62 }
         requires few { self.old.cells.made.count < 2 ^ 62 }
         ensures same { self.new ≡ record self.old { cells = self.new.cells } }
         ensures counted { self.new.cells.made.count ≡ self.old.cells.made.count + 1 }
-        ensures last { self.new.cells.made.last ≡ Some (record { key = search.now.key; hop = number }) }
+        ensures last { self.new.cells.made.last
+            ≡ Some (record { key = search.now.key; hop = number }) }
         ensures cells { AreCells (setting_in self.old) (order_of self.old) self.new.cells }
         ensures agreed { IsAgreed search.now.key (kept_in self.old.cells) (kept_in self.new.cells) }
-        ensures taken { (left : List HopOf) → Taking (setting_in self.old) (order_of self.old) search.now.key search.now.begun (leap_hop leap.now ∷ left) (kept_in self.old.cells) self.old.cells.last
-            → Taking (setting_in self.old) (order_of self.old) search.now.key search.now.begun left (kept_in self.new.cells) self.new.cells.last }
+        ensures taken { (left : List HopOf)
+            → Taking (setting_in self.old) (order_of self.old) search.now.key search.now.begun
+            (leap_hop leap.now ∷ left) (kept_in self.old.cells) self.old.cells.last
+            → Taking (setting_in self.old) (order_of self.old) search.now.key search.now.begun
+            left (kept_in self.new.cells) self.new.cells.last }
     {
         let end = self.cells.end(search, number, leap);
         match leap.hop.way {
@@ -149,9 +164,11 @@ impl<'a> Scan<'a> {
     fn take_leaps(&mut self, round: &Round, search: &Search, leaps: &[Leap])
         requires scanned { IsScanned self.old search.now.key }
         requires below { search.now.key < self.old.keys.now.size }
-        requires round { IsRound self.old.keys.now.flow.now (search.now.key / length (order_of self.old)) round.now }
+        requires round { IsRound self.old.keys.now.flow.now (search.now.key / length (order_of
+            self.old)) round.now }
         requires search { IsSearch (order_of self.old) (kept_in self.old.cells) search.now }
-        requires leaps { AreLeaps (setting_in self.old) (order_of self.old) (place_at (order_of self.old) search.now.key) leaps.now }
+        requires leaps { AreLeaps (setting_in self.old) (order_of self.old) (place_at (order_of
+            self.old) search.now.key) leaps.now }
         ensures scanned { IsScanned self.new (search.now.key + 1) }
         ensures same { self.new ≡ record self.old { cells = self.new.cells } }
     {
@@ -165,9 +182,11 @@ impl<'a> Scan<'a> {
     fn take_hops(&mut self, round: &Round, search: &Search, left: Hops<'_>)
         requires scanned { IsScanned self.old search.now.key }
         requires below { search.now.key < self.old.keys.now.size }
-        requires round { IsRound self.old.keys.now.flow.now (search.now.key / length (order_of self.old)) round.now }
+        requires round { IsRound self.old.keys.now.flow.now (search.now.key / length (order_of
+            self.old)) round.now }
         requires search { IsSearch (order_of self.old) (kept_in self.old.cells) search.now }
-        requires hops { hops_left left ≡ hops (setting_in self.old).loads (setting_in self.old).notes (place_at (order_of self.old) search.now.key) }
+        requires hops { hops_left left ≡ hops (setting_in self.old).loads (setting_in
+            self.old).notes (place_at (order_of self.old) search.now.key) }
         ensures scanned { IsScanned self.new (search.now.key + 1) }
         ensures same { self.new ≡ record self.old { cells = self.new.cells } }
     {
@@ -185,7 +204,8 @@ impl<'a> Scan<'a> {
         requires scanned { IsScanned self.old (round.now.own.first + index) }
         requires index { index < length (order_of self.old) }
         requires below { round.now.own.first + index < self.old.keys.now.size }
-        requires round { IsRound self.old.keys.now.flow.now ((round.now.own.first + index) / length (order_of self.old)) round.now }
+        requires round { IsRound self.old.keys.now.flow.now ((round.now.own.first + index) /
+            length (order_of self.old)) round.now }
         requires rest { (round.now.own.first + index) % length (order_of self.old) ≡ index }
         ensures scanned { IsScanned self.new (round.now.own.first + index + 1) }
         ensures same { self.new ≡ record self.old { cells = self.new.cells } }
