@@ -51,7 +51,8 @@ fn analysis_by<'a>(
     keys: &'a Keys<'a>,
 ) -> Result<Analysis, AllocError>
     requires { AreKeys keys.now }
-    ensures { IfOk result (IsAnalysis (setting_of keys.now.flow.now times.now) (length (order_in keys.now.flow.now))) }
+    ensures { IfOk result (IsAnalysis (setting_of keys.now.flow.now times.now) (length (order_in
+        keys.now.flow.now))) }
 {
     let leaps = keys.leaps(alloc, times)?;
     let scan = Scan::of(alloc, times, keys, &leaps)?;
@@ -67,7 +68,8 @@ fn analysis_of<'a>(
     times: &'a Times,
 ) -> Result<Analysis, AllocError>
     requires { CanHaveKeys flow.now }
-    ensures { IfOk result (IsAnalysis (setting_of flow.now times.now) (length (order_in flow.now))) }
+    ensures { IfOk result (IsAnalysis (setting_of flow.now times.now) (length (order_in
+        flow.now))) }
 {
     let keys: Result<Keys<'a>, AllocError> = Keys::of(alloc, flow);
     let Ok(keys) = keys else {
@@ -91,26 +93,37 @@ pub fn analyse(
 ) -> Result<Analysis, Refusal>
     ensures accepted { IfOk result (λ analysis. (executed : List ℕ)
         × IsAccepted (loads_in deck.now) notes.now (start_in deck.now) executed × (words_of analysis ≡ length executed)) }
-    ensures worst { IfOk result (λ analysis. IsWorst (setting deck.now times.now notes.now) (bound_of analysis)) }
-    ensures walk { IfOk result (λ analysis. IsWalkOf (setting deck.now times.now notes.now) (angle_of analysis) (bound_of analysis) (visits_of analysis)) }
+    ensures worst { IfOk result (λ analysis.
+        IsWorst (setting deck.now times.now notes.now) (bound_of analysis)) }
+    ensures walk { IfOk result (λ analysis.
+        IsWalkOf (setting deck.now times.now notes.now) (angle_of analysis) (bound_of analysis)
+        (visits_of analysis)) }
     ensures kept { IfOk result (λ analysis. (s : State) (steps : List Turn)
-        → IsFirstState (loads_in deck.now) (IsFixed (loads_in deck.now) notes.now (start_in deck.now)) (start_in deck.now) s
-        → IsRun (entry_in times.now) s steps → IsKept (loads_in deck.now) notes.now s steps → used_from 0 steps ≤ bound_of analysis) }
+        → IsFirstState (loads_in deck.now) (IsFixed (loads_in deck.now) notes.now (start_in
+        deck.now)) (start_in deck.now) s
+        → IsRun (entry_in times.now) s steps → IsKept (loads_in deck.now) notes.now s steps
+        → used_from 0 steps ≤ bound_of analysis) }
     ensures under { IfOk result (λ analysis. (s : State) (steps : List Turn)
-        → IsFirstState (loads_in deck.now) (IsFixed (loads_in deck.now) notes.now (start_in deck.now)) (start_in deck.now) s
+        → IsFirstState (loads_in deck.now) (IsFixed (loads_in deck.now) notes.now (start_in
+        deck.now)) (start_in deck.now) s
         → IsRun (entry_in times.now) s steps → IsKept (loads_in deck.now) notes.now s steps
         → ArriveUnder notes.now (rows_of analysis) (no_counts notes.now.marks) steps) }
-    ensures table { IfOk result (λ analysis. IsTable (setting deck.now times.now notes.now) (rows_of analysis)) }
-    ensures few { IfOk result (λ analysis. length (rows_of analysis) ≤ words_of analysis * counts_in_all analysis) }
+    ensures table { IfOk result (λ analysis.
+        IsTable (setting deck.now times.now notes.now) (rows_of analysis)) }
+    ensures few { IfOk result (λ analysis.
+        length (rows_of analysis) ≤ words_of analysis * counts_in_all analysis) }
     ensures short { IfOk result (λ analysis. (angle : ℕ) (hops : List Taken)
-        → IsWalk (setting deck.now times.now notes.now) angle hops → length hops ≤ words_of analysis * counts_in_all analysis) }
-    ensures counts { IfOk result (λ analysis. counts_in_all analysis ≡ said.counts_of notes.now.marks) }
+        → IsWalk (setting deck.now times.now notes.now) angle hops
+        → length hops ≤ words_of analysis * counts_in_all analysis) }
+    ensures counts { IfOk result (λ analysis.
+        counts_in_all analysis ≡ said.counts_of notes.now.marks) }
     ensures turns { IfOk result (λ analysis. turns_of analysis
         ≡ sum (map (λ row. length (flows.hops (loads_in deck.now) notes.now row.place)) (rows_of analysis))) }
     ensures ends { IfOk result (λ analysis. (ends : List HopEnd)
         × AreEnds (setting deck.now times.now notes.now) (rows_of analysis) ends
         × AreRaised (setting deck.now times.now notes.now) (rows_of analysis) ends × (turns_of analysis ≡ length ends)) }
-    ensures passed { IfOk result (λ analysis. (k : ℕ) (mark : Mark) → slice_get notes.now.marks k ≡ Some mark
+    ensures passed { IfOk result (λ analysis. (k : ℕ) (mark : Mark)
+        → slice_get notes.now.marks k ≡ Some mark
         → slice_index (passed_of analysis) k ≡ passes_in mark (visits_of analysis)) }
     ensures below { IfOk result (λ analysis. bound_of analysis < 2 ^ 50) }
     ensures refused { IfErr result (IsRefusal (loads_in deck.now) notes.now (start_in deck.now)) }

@@ -33,7 +33,8 @@ impl Analysis {
     /// latest end, and how often that passes each mark. (That the table is finished and the walk is
     /// one is said by who calls this.)
     pub(crate) fn of(cells: Cells, walk: Vec<Visit>, passed: [u64; MOST_MARKS]) -> Analysis
-        requires in_time { AreInTime 0 (map seen_visit walk.items) (cells.last.clock - cells.angle) }
+        requires in_time { AreInTime 0 (map seen_visit walk.items) (cells.last.clock -
+            cells.angle) }
         requires after { cells.angle ≤ cells.last.clock }
         requires on_drum { cells.angle < 50 }
         requires below { cells.last.clock - cells.angle < 2 ^ 50 }

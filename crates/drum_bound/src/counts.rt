@@ -22,7 +22,8 @@ pub struct Counts {
 impl Counts {
     /// No mark passed yet.
     pub fn none() -> Counts
-        ensures { (marks : List Mark) → length marks ≤ 8 → counts_in result marks ≡ no_counts marks }
+        ensures { (marks : List Mark) → length marks ≤ 8
+            → counts_in result marks ≡ no_counts marks }
     {
         Counts {
             counts: [0; MOST_MARKS],

@@ -47,7 +47,8 @@ pub struct Keys<'a> {
 
 /// The executed locations of an accepted deck in their order, each with its hops.
 fn sites_of<'a>(alloc: Global, flow: &'a Flow<'a>) -> Result<Vec<Site<'a>>, AllocError>
-    requires { (place : ℕ) → Contains (order_in flow.now) place → Contains (executed_in flow.now) place }
+    requires { (place : ℕ) → Contains (order_in flow.now) place
+        → Contains (executed_in flow.now) place }
     ensures order { IfOk result (λ sites. sites_in sites.items ≡ order_in flow.now) }
     ensures hops { IfOk result (λ sites. HaveHops flow.now sites.items) }
 {
@@ -108,7 +109,8 @@ impl<'a> Keys<'a> {
     /// The start's key, with no mark passed.
     pub fn start_key(&self) -> usize
         requires { AreKeys self.now }
-        ensures { IsKey (notes_of self.now.flow.now).marks (order_in self.now.flow.now) result (start_in (deck_of self.now.flow.now)) (no_counts (notes_of self.now.flow.now).marks) }
+        ensures { IsKey (notes_of self.now.flow.now).marks (order_in self.now.flow.now) result
+            (start_in (deck_of self.now.flow.now)) (no_counts (notes_of self.now.flow.now).marks) }
     {
         self.key_of(Counts::none(), self.flow.deck().start())
     }
@@ -127,8 +129,11 @@ impl<'a> Keys<'a> {
     pub fn site(&self, index: usize) -> Site<'a>
         requires keys { AreKeys self.now }
         requires there { index < length (order_in self.now.flow.now) }
-        ensures location { slice_get (order_in self.now.flow.now) index ≡ Some result.location.number }
-        ensures hops { hops_left result.hops ≡ said.hops (loads_in (deck_of self.now.flow.now)) (notes_of self.now.flow.now) result.location.number }
+        ensures location { slice_get (order_in self.now.flow.now) index
+            ≡ Some result.location.number }
+        ensures hops { hops_left result.hops
+            ≡ said.hops (loads_in (deck_of self.now.flow.now)) (notes_of self.now.flow.now)
+            result.location.number }
     {
         self.sites[index]
     }
@@ -154,9 +159,11 @@ impl<'a> Keys<'a> {
     /// The key of counts and a location of the order.
     fn key_of(&self, counts: Counts, location: Location) -> usize
         requires keys { AreKeys self.now }
-        requires within { AreWithin (notes_of self.now.flow.now).marks (counts_in counts (notes_of self.now.flow.now).marks) }
+        requires within { AreWithin (notes_of self.now.flow.now).marks (counts_in counts
+            (notes_of self.now.flow.now).marks) }
         requires there { Contains (order_in self.now.flow.now) location.number }
-        ensures { IsKey (notes_of self.now.flow.now).marks (order_in self.now.flow.now) result location.number (counts_in counts (notes_of self.now.flow.now).marks) }
+        ensures { IsKey (notes_of self.now.flow.now).marks (order_in self.now.flow.now) result
+            location.number (counts_in counts (notes_of self.now.flow.now).marks) }
     {
         counts.leading(self.marks()) * self.sites.len() + self.index_of(location)
     }

@@ -42,7 +42,8 @@ fn most_wait(op: Op, entry: Entry) -> u32
 pub fn longest(times: &Times, place: Location, hop: Hop, clock: u64) -> u64
     requires may_end { MayEnd hop.instruction (seen_way hop.way) }
     requires soon { clock ≤ 2 ^ 61 }
-    ensures value { result ≡ defined.longest (entry_in times.now) place.number hop.instruction (seen_way hop.way) clock }
+    ensures value { result ≡ defined.longest (entry_in times.now) place.number hop.instruction
+        (seen_way hop.way) clock }
     ensures later { clock ≤ result }
     ensures near { result ≤ clock + 92000099 }
 {
