@@ -1,5 +1,5 @@
 -- What a finished scan, as it is held, gives to the lemmas on its cells.
-use Rattle.std.proofs.Common.{◌≡◌, ℕ, ◌<◌, ◌≤◌, Some, arith}
+use Rattle.std.proofs.Common.{◌≡◌, ℕ, ◌<◌, ◌≤◌, Some}
 use Rattle.drum_core.specs.declared.deck.Deck.{Deck}
 use Rattle.drum_core.specs.Loads.{start_in}
 use Rattle.drum_flow.specs.Flow.{deck_of}
@@ -8,7 +8,6 @@ use Rattle.drum_bound.specs.declared.scan.Scan.{Scan}
 use Rattle.drum_bound.specs.Keys.{IsOrdered}
 use Rattle.drum_bound.specs.ScanOf.{IsDone, order_of, setting_in}
 use Rattle.drum_bound.specs.Scanned.{start_angle, cell_at}
-use Rattle.drum_bound.proofs.Raises.{kept_inside}
 use Rattle.drum_bound.specs.Held.{kept_in}
 use Rattle.drum_bound.proofs.Walked.{not_before}
 
@@ -28,7 +27,3 @@ is_ordered scan done = done.keys.ordered.0
 pub kept_after : (scan : Scan) (key : ℕ) (kept : Latest) → IsDone scan → cell_at (kept_in scan.cells) key ≡ Some kept → start_angle (setting_in scan).start ≤ kept.clock
 kept_after scan key kept done there =
     not_before (setting_in scan) (order_of scan) (kept_in scan.cells) scan.cells.last (is_ordered scan done) (starts_on_drum scan) done.scanned key kept there
-
--- something is kept at its keys alone
-pub key_below : (scan : Scan) (key : ℕ) (kept : Latest) → IsDone scan → cell_at (kept_in scan.cells) key ≡ Some kept → key < scan.keys.now.size
-key_below scan key kept done there = omega (arith, kept_inside (kept_in scan.cells) key kept there, done.scanned.size, done.keys.size)

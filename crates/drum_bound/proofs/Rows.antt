@@ -2,7 +2,7 @@
 use Rattle.std.proofs.Common.{◌≡◌, ℕ, zero, suc, ◌-◌, ◌<◌, ◌≤◌, List, [], ◌∷◌, ◌++◌, length, map, refl, ap, sym, ◌∙◌, subst, inl, inr, Option, Some, None, arith}
 use Rattle.std.specs.Prelude.{Contains, sum}
 use Rattle.std.proofs.lemmas.Bool.{cases_lt}
-use Rattle.std.proofs.lemmas.List.{append-nil, length-append}
+use Rattle.std.proofs.lemmas.List.{append-nil}
 use Rattle.std.proofs.lemmas.List.Elements.{Contains-append_left, Contains-append_right, Contains-append_cases}
 use Rattle.std.proofs.lemmas.List.Sums.{sum-map, sum_by-append}
 use Rattle.drum_times.specs.declared.notes.mark.Mark.{Mark}
@@ -73,15 +73,6 @@ module _ (g : Setting) (order : List ℕ) (cells : List (Option Latest)) where
         subst (λ (k : ℕ). Contains (rows_below g order cells (suc n)) (row_of g order k kept)) (sym same)
         (Contains-append_right (rows_below g order cells n) (rows_at g order n (cell_at cells n)) (row_of g order n kept) row))
   ]
-
-  -- There are no more rows than keys.
-  pub few_rows : (n : ℕ) → length (rows_below g order cells n) ≤ n
-  few_rows zero = omega arith
-  few_rows (suc key) = omega (arith, length-append (rows_below g order cells key) (rows_at g order key (cell_at cells key)), few_rows key, go (cell_at cells key))
-    where
-      go : (cell : Option Latest) → length (rows_at g order key cell) ≤ 1
-      go None = omega arith
-      go (Some kept) = omega arith
 
   -- how many hops a row's location has
   abbrev hops_at : Row → ℕ

@@ -1,5 +1,5 @@
 -- The locations of keys, and their places.
-use Rattle.std.proofs.Common.{◌≡◌, ℕ, suc, ◌+◌, ◌-◌, ◌*◌, ◌/◌, ◌%◌, ◌<◌, ◌≤◌, List, [], ◌∷◌, ◌++◌, length, get_or, set, ap, sym, ◌∙◌, subst, inl, inr, Some, arith, mul_comm}
+use Rattle.std.proofs.Common.{◌≡◌, ℕ, suc, ◌+◌, ◌*◌, ◌/◌, ◌%◌, ◌<◌, ◌≤◌, List, [], ◌∷◌, ◌++◌, length, get_or, set, ap, sym, ◌∙◌, subst, inl, inr, Some, arith}
 use Rattle.std.specs.Prelude.{slice_get}
 use Rattle.std.proofs.lemmas.Bool.{cases_eq}
 use Rattle.std.proofs.lemmas.Option.{slice_get_within, get_or_from_slice_get}
@@ -11,15 +11,15 @@ use Rattle.drum_flow.specs.Accepted.{counts_of}
 use Rattle.drum_flow.specs.Passes.{leading, leading-<}
 use Rattle.drum_machine.specs.Counts.{AreWithin}
 use Rattle.drum_times.specs.declared.notes.mark.Mark.{Mark}
-use Rattle.std.proofs.Math.Nat.{div-add-mod, mul-le-mul_left}
+use Rattle.std.proofs.Math.Nat.{mul-le-mul_left}
 use Rattle.std.proofs.lemmas.List.{length-map, map-append}
 use Rattle.std.proofs.lemmas.Nat.{mod-mul-add, div-mul-add}
 use Rattle.drum_bound.specs.declared.keys.Keys.{Keys}
 use Rattle.drum_bound.specs.declared.keys.Site.{Site}
 use Rattle.drum_bound.specs.Digits.{digits}
 use Rattle.drum_bound.proofs.DigitsLaws.{digits_leading}
-use Rattle.drum_bound.proofs.KeyLaws.{counts_within, leading_at, one_index}
-use Rattle.drum_bound.specs.Keys.{counts_at, keys_of, IsKey}
+use Rattle.drum_bound.proofs.KeyLaws.{one_index}
+use Rattle.drum_bound.specs.Keys.{keys_of, IsKey}
 use Rattle.drum_bound.specs.KeysOf.{AreKeys, HaveIndices, numbers, sites_in}
 
 -- each of the first locations' place stands at its number
@@ -68,16 +68,6 @@ key_of_place marks order counts k next within at =
       at = ap (λ (n : ℕ). get_or order n 0) rest ∙ get_or_from_slice_get order k next 0 at;
       passed = ap (digits marks) whole ∙ digits_leading marks counts within;
     }
-
--- the key of a place, with the counts of another key
-pub key_beside : (marks : List Mark) (order : List ℕ) (key place k next : ℕ) → key < keys_of marks order → place ≡ key % length order → slice_get order k ≡ Some next
-    → IsKey marks order (key - place + k) next (counts_at marks order key)
-key_beside marks order key place k next below is at =
-    let n : ℕ = length order in
-    let number : leading marks (counts_at marks order key) * n ≡ n * (key / n) = ap (λ (whole : ℕ). whole * n) (leading_at marks order key below) ∙ mul_comm (key / n) n in
-    let same : leading marks (counts_at marks order key) * n + k ≡ key - place + k = omega (arith, number, div-add-mod key n, is) in
-    subst (λ (one : ℕ). IsKey marks order one next (counts_at marks order key)) same
-    (key_of_place marks order (counts_at marks order key) k next (counts_within marks order key below) at)
 
 -- a key has as many locations as its order
 pub same_length : (keys : Keys) → AreKeys keys → length keys.sites.items ≡ length (order_in keys.flow.now)
