@@ -29,7 +29,7 @@ pub image_is_function : (given : List Given) → AreDistinct given → (one : Gi
 image_is_function given distinct one among = given_is_found given one among.0 distinct among.1 among.2
 
 -- texts say one list of lines
-say_one : (texts : List (List ℕ)) (lines others : List Line) → Say texts lines → Say texts others → lines ≡ others
+pub say_one : (texts : List (List ℕ)) (lines others : List Line) → Say texts lines → Say texts others → lines ≡ others
 say_one [] [] [] p q = refl
 say_one [] [] (b ∷ others) p q = absurd q
 say_one [] (a ∷ lines) others p q = absurd p

@@ -4,8 +4,11 @@ pub mod CardLines
 mod Checks
 pub mod Clockworks
 pub mod DeckLaws
+mod DeckOrFault
 pub mod FaultLaws
 pub mod Firsts
+pub mod Handed
+mod LineCases
 pub mod LineLemmas
 mod Loads
 pub mod Numerals

@@ -122,6 +122,26 @@ cards_from-push number (card n words ∷ lines) line =
 given_from-push : (lines : List Line) (line : Line) → given_from 1 (lines ++ line ∷ []) ≡ given_from 1 lines ++ given_by (1 + length lines) line
 given_from-push lines line = given_from-append 1 lines (line ∷ []) ∙ ap (λ (xs : List Given). given_from 1 lines ++ xs) (append-nil (given_by (1 + length lines) line))
 
+-- a line that gives no word leaves lines sound
+pub sound_more : (lines : List Line) (line : Line) → AreSound lines → given_by (1 + length lines) line ≡ [] → ¬ IsPastDrum line → length (starts (lines ++ line ∷ [])) ≤ 1
+    → AreSound (lines ++ line ∷ [])
+sound_more lines line sound gives on_drum one = record {
+  on_drum = all-push (λ (l : Line). ¬ IsPastDrum l) lines line sound.on_drum on_drum;
+  once = subst AreDistinct (sym (given_from-push lines line ∙ ap (λ (xs : List Given). given_from 1 lines ++ xs) gives ∙ append-nil (given_from 1 lines))) sound.once;
+  one_start = one;
+}
+
+-- and so does a card whose locations have no word yet
+pub sound_card : (lines : List Line) (first : ℕ) (words : List Word) → AreSound lines → first + length words ≤ 2000
+    → ((n : ℕ) → first ≤ n → n < first + length words → ¬ IsGiven (given_from 1 lines) n) → AreSound (lines ++ card first words ∷ [])
+sound_card lines first words sound within free = record {
+  on_drum = all-push (λ (l : Line). ¬ IsPastDrum l) lines (card first words) sound.on_drum (λ past. omega (arith, past));
+  once = subst AreDistinct (sym (given_from-push lines (card first words)))
+      (distinct-append (given_from 1 lines) (given_by_card (1 + length lines) first words) sound.once (card_distinct (1 + length lines) first words)
+      (λ n given given_too. let range = card_range (1 + length lines) first words n given_too in free n range.0 range.1 given));
+  one_start = omega (arith, ap length (starts-append lines (card first words ∷ []) ∙ append-nil (starts lines)), sound.one_start);
+}
+
 -- a line that gives no word
 holds_more : (image : List (Option held.Given)) (cards : List ℕ) (begun begun' : Option Location) (lines : List Line) (line : Line) → Holds image cards begun lines
     → given_by (1 + length lines) line ≡ [] → cards_from (1 + length lines) (line ∷ []) ≡ [] → ¬ IsPastDrum line
@@ -133,11 +153,7 @@ holds_more image cards begun begun' lines line holds gives no_card on_drum begin
       words = λ n below. holds.words n below ∙ ap (λ (xs : List Given). Some (seen (given_at xs n))) (sym same);
       numbers = holds.numbers ∙ sym (cards_from-push 1 lines line ∙ ap (λ (xs : List ℕ). cards_from 1 lines ++ xs) no_card ∙ append-nil (cards_from 1 lines));
       begins = all;
-      sound = record {
-        on_drum = all-push (λ (l : Line). ¬ IsPastDrum l) lines line holds.sound.on_drum on_drum;
-        once = subst AreDistinct (sym same) holds.sound.once;
-        one_start = omega (arith, ap length all, one);
-      };
+      sound = sound_more lines line holds.sound gives on_drum (omega (arith, ap length all, one));
     }
 
 pub holds_comment : (image : List (Option held.Given)) (cards : List ℕ) (begun : Option Location) (lines : List Line) → Holds image cards begun lines → Holds image cards begun (lines ++ comment ∷ [])
@@ -209,16 +225,10 @@ holds_card image image' cards begun lines first words holds within free put othe
       ];
       numbers = ap (λ (xs : List ℕ). xs ++ (1 + length lines) ∷ []) holds.numbers ∙ sym (cards_from-push 1 lines (card first words));
       begins = starts-append lines (card first words ∷ []) ∙ append-nil (starts lines) ∙ holds.begins;
-      sound = record {
-        on_drum = all-push (λ (l : Line). ¬ IsPastDrum l) lines (card first words) holds.sound.on_drum (λ past. omega (arith, past));
-        once = subst AreDistinct (sym all) (distinct-append before of_card holds.sound.once (card_distinct (1 + length lines) first words)
-            (λ n given given_too.
-            let range = card_range (1 + length lines) first words n given_too in
-            let at : first + (n - first) ≡ n = omega (arith, range.0) in
-            let empty : slice_get image n ≡ Some None = subst (λ (m : ℕ). slice_get image m ≡ Some None) at (free (n - first) (omega (arith, range.0, range.1))) in
-            not_given before n (none_given image cards begun lines n holds (omega (arith, range.1)) empty) given));
-        one_start = omega (arith, ap length (starts-append lines (card first words ∷ []) ∙ append-nil (starts lines)), holds.sound.one_start);
-      };
+      sound = sound_card lines first words holds.sound within (λ n low high given.
+          let at : first + (n - first) ≡ n = omega arith in
+          let empty : slice_get image n ≡ Some None = subst (λ (m : ℕ). slice_get image m ≡ Some None) at (free (n - first) (omega arith)) in
+          not_given before n (none_given image cards begun lines n holds (omega arith) empty) given);
     }
   where
     element : (xs : List Word) (k : ℕ) → k < length xs → (x : Word) × (slice_get xs k ≡ Some x)

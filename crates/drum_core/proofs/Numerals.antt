@@ -1,5 +1,5 @@
 -- Numbers that are written with a fixed number of decimal digits.
-use Rattle.std.proofs.Common.{◌≡◌, ℕ, zero, suc, ◌+◌, ◌-◌, ◌*◌, ◌^◌, ◌/◌, ◌%◌, ◌<◌, ◌≤◌, List, [], ◌∷◌, ◌++◌, length, get_or, refl, sym, ◌∙◌, subst, inl, inr, ◌⊎◌, arith, add-one, length-append}
+use Rattle.std.proofs.Common.{◌≡◌, ℕ, zero, suc, ◌+◌, ◌-◌, ◌^◌, ◌/◌, ◌%◌, ◌<◌, ◌≤◌, List, [], ◌∷◌, ◌++◌, length, get_or, refl, sym, ◌∙◌, subst, inl, inr, ◌⊎◌, arith, length-append}
 use Rattle.std.proofs.Math.ListN.{get_or-append}
 use Rattle.std.proofs.lemmas.Bool.{cases_lt}
 use Rattle.std.proofs.lemmas.List.{get_or-append_right}
@@ -25,13 +25,6 @@ digit_at (suc k) n i h =
           let here : get_or (digits_of k (n / 10) ++ (48 + n % 10) ∷ []) i 0 ≡ 48 + n % 10 = get_or-append_right (digits_of k (n / 10)) ((48 + n % 10) ∷ []) k i 0 long past ∙ rw start refl in
           (omega (arith, here), omega (arith, here))
     ]
-
--- a digit more
-pub digits_of-push : (k n d : ℕ) → d < 10 → digits_of (k + 1) (n * 10 + d) ≡ digits_of k n ++ (48 + d) ∷ []
-digits_of-push k n d h =
-    let front : (n * 10 + d) / 10 ≡ n = omega arith in
-    let last : (n * 10 + d) % 10 ≡ d = omega arith in
-    rw (add-one, front, last) refl
 
 -- numbers of at most 18 digits, and the next power
 pub pow_fits : (k : ℕ) → k < 19 → 10 ^ k ≤ 10 ^ 18

@@ -21,13 +21,13 @@ pub record Progress (text rest : List ℕ) (loading : Loading) (number : ℕ) : 
   pub holds : HoldsLines loading lines
   pub counted : number ≡ length texts
 
-say_append : (texts : List (List ℕ)) (lines : List Line) (text : List ℕ) (line : Line) → Say texts lines → IsLine text line → Say (texts ++ text ∷ []) (lines ++ line ∷ [])
+pub say_append : (texts : List (List ℕ)) (lines : List Line) (text : List ℕ) (line : Line) → Say texts lines → IsLine text line → Say (texts ++ text ∷ []) (lines ++ line ∷ [])
 say_append [] [] text line p is_line = (is_line, tt)
 say_append [] (one ∷ lines) text line p is_line = absurd p
 say_append (one ∷ texts) [] text line p is_line = absurd p
 say_append (one ∷ texts) (other ∷ lines) text line p is_line = (p.0, say_append texts lines text line p.1 is_line)
 
-say_length : (texts : List (List ℕ)) (lines : List Line) → Say texts lines → length texts ≡ length lines
+pub say_length : (texts : List (List ℕ)) (lines : List Line) → Say texts lines → length texts ≡ length lines
 say_length [] [] p = refl
 say_length [] (one ∷ lines) p = absurd p
 say_length (one ∷ texts) [] p = absurd p
@@ -57,7 +57,7 @@ one_more text rest rest' loading loading' number line says p steps is_line holds
   counted = omega (arith, p.counted, length-append p.texts (line ∷ []));
 }
 
-first_refused : (text : List ℕ) (fault : DeckFault) → (IsTooLong text → ⊥) → IsFirstFault text fault → IsRefused text fault
+pub first_refused : (text : List ℕ) (fault : DeckFault) → (IsTooLong text → ⊥) → IsFirstFault text fault → IsRefused text fault
 first_refused text faults.Read short p = absurd p.first
 first_refused text faults.Memory short p = absurd p.first
 first_refused text faults.TooLong short p = absurd p.first

@@ -22,7 +22,8 @@ abbrev pub IsLine : List ℕ → Line → Type 0
 IsLine text comment = (rest : List ℕ) × (text ≡ 42 ∷ rest)
 IsLine text (start n) = (n < 10 ^ 4) × (text ≡ codes "START " ++ digits_of 4 n)
 IsLine text (card n words) =
-    (n < 10 ^ 4) × (1 ≤ length words) × (length words ≤ 7) × (text ≡ digits_of 4 n ++ flat_map (λ word. 32 ∷ spelling word) words)
+    (n < 10 ^ 4) × (1 ≤ length words) × (length words ≤ 7)
+    × (text ≡ digits_of 4 n ++ flat_map (λ word. 32 ∷ spelling word) words)
 
 -- each line of a text, and what it says
 abbrev pub Say : List (List ℕ) → List Line → Type 0
@@ -40,7 +41,9 @@ pub record Given : Type 0 where
 -- the words of a card, from its first location on
 abbrev pub given_by_card : ℕ → ℕ → List Word → List Given
 given_by_card number location [] = []
-given_by_card number location (word ∷ words) = record { location = location; word = word; line = number } ∷ given_by_card number (location + 1) words
+given_by_card number location (word ∷ words) =
+    record { location = location; word = word; line = number }
+    ∷ given_by_card number (location + 1) words
 
 -- what the line of a number gives
 abbrev pub given_by : ℕ → Line → List Given
@@ -56,7 +59,8 @@ given_from number (line ∷ lines) = given_by number line ++ given_from (number 
 -- what is given to a location, if anything is
 abbrev pub given_at : List Given → ℕ → Option Given
 given_at [] location = None
-given_at (one ∷ given) location = if one.location == location then Some one else given_at given location
+given_at (one ∷ given) location =
+    if one.location == location then Some one else given_at given location
 
 -- the word that a deck of these lines loads into a location, and the number of the card's line
 abbrev pub loads_of : List Line → ℕ → Option Word
@@ -117,12 +121,14 @@ pub record IsDeck (text : List ℕ) (lines : List Line) : Type 0 where
 -- before.
 abbrev pub IsFaultOfLine : List Line → ℕ → List ℕ → DeckFault → Type 0
 IsFaultOfLine before number text (Card n) = (n ≡ number) × ((line : Line) → ¬ IsLine text line)
-IsFaultOfLine before number text (PastDrum n) = (n ≡ number) × ((line : Line) × IsLine text line × IsPastDrum line)
+IsFaultOfLine before number text (PastDrum n) =
+    (n ≡ number) × ((line : Line) × IsLine text line × IsPastDrum line)
 IsFaultOfLine before number text (TwoStarts n) =
     (n ≡ number) × ((at : ℕ) × IsLine text (start at) × (at < 2000) × (length (starts before) ≡ 1))
 IsFaultOfLine before number text (Twice location) =
     (n : ℕ) × (words : List Word) × IsLine text (card n words) × (n + length words ≤ 2000)
-    × (n ≤ location.number) × (location.number < n + length words) × IsGiven (given_from 1 before) location.number
+    × (n ≤ location.number) × (location.number < n + length words)
+    × IsGiven (given_from 1 before) location.number
     × ((other : ℕ) → n ≤ other → other < location.number → ¬ IsGiven (given_from 1 before) other)
 IsFaultOfLine before number text Read = ⊥
 IsFaultOfLine before number text Memory = ⊥

@@ -7,7 +7,8 @@ use Rattle.drum_core.specs.declared.word.Word.{Word}
 -- Ten digits taken apart from left to right: two of operation, four of D and four of I. The type of
 -- an instruction says how many digits each part has.
 abbrev pub IsInstructionOf : ℕ → Instruction → Type 0
-IsInstructionOf digits instruction = digits ≡ instruction.op * 10 ^ 8 + instruction.d * 10 ^ 4 + instruction.i
+IsInstructionOf digits instruction =
+    digits ≡ instruction.op * 10 ^ 8 + instruction.d * 10 ^ 4 + instruction.i
 
 pub two_digits : (n : ℕ) → n % 100 < 100
 two_digits n = omega arith

@@ -6,4 +6,6 @@ use Rattle.drum_core.specs.declared.location.Kind.TheVariants.{Drum, Switches, D
 -- what stands at the location of this number (a number that is no location has no meaning here)
 abbrev pub kind_of : ℕ → Kind
 kind_of n =
-    if nat_lt n 2000 then Drum else (if n == 8000 then Switches else (if n == 8001 then Distributor else (if n == 8002 then Lower else Upper)))
+    if nat_lt n 2000 then Drum
+    else (if n == 8000 then Switches
+    else (if n == 8001 then Distributor else (if n == 8002 then Lower else Upper)))

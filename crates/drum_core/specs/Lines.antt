@@ -10,7 +10,8 @@ with_front byte (line ∷ lines) = (byte ∷ line) ∷ lines
 -- one.
 abbrev pub lines_of : List ℕ → List (List ℕ)
 lines_of [] = []
-lines_of (byte ∷ bytes) = if byte == 10 then [] ∷ lines_of bytes else with_front byte (lines_of bytes)
+lines_of (byte ∷ bytes) =
+    if byte == 10 then [] ∷ lines_of bytes else with_front byte (lines_of bytes)
 
 -- a text of more lines, or with a line of more bytes
 abbrev pub IsLonger : ℕ → ℕ → List ℕ → Type 0

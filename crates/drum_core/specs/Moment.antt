@@ -13,7 +13,8 @@ pub record IsFirst (property : ℕ → Bool) (clock moment : ℕ) : Type 0 where
 -- the first of so many moments from a clock on at which the angle has the property
 abbrev pub first_among : ℕ → (ℕ → Bool) → ℕ → ℕ
 first_among zero property clock = clock
-first_among (suc more) property clock = if property (clock % 50) then clock else first_among more property (clock + 1)
+first_among (suc more) property clock =
+    if property (clock % 50) then clock else first_among more property (clock + 1)
 
 -- the first moment from a clock on at which the angle has the property: a revolution shows every
 -- angle

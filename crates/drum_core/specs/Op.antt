@@ -55,14 +55,19 @@ operand_of (BranchOnDigit p) = Unused
 abbrev pub ops : List Op
 ops =
     NoOperation ∷ Stop
-    ∷ Add Upper ∷ Add MinusUpper ∷ Divide ∷ Add Lower ∷ Add MinusLower ∷ Add AbsoluteLower ∷ Add MinusAbsoluteLower ∷ Multiply
-    ∷ Store stored.Lower ∷ Store stored.Upper ∷ Store DataAddress ∷ Store InstructionAddress ∷ Store Distributor
+    ∷ Add Upper ∷ Add MinusUpper ∷ Divide ∷ Add Lower ∷ Add MinusLower ∷ Add AbsoluteLower
+    ∷ Add MinusAbsoluteLower ∷ Multiply
+    ∷ Store stored.Lower ∷ Store stored.Upper ∷ Store DataAddress ∷ Store InstructionAddress
+    ∷ Store Distributor
     ∷ Shift Right ∷ Shift Round ∷ Shift Left
     ∷ Branch UpperNonZero ∷ Branch NonZero ∷ Branch Minus ∷ Branch Overflow
-    ∷ ResetAdd Upper ∷ ResetAdd MinusUpper ∷ DivideReset ∷ ResetAdd Lower ∷ ResetAdd MinusLower ∷ ResetAdd AbsoluteLower ∷ ResetAdd MinusAbsoluteLower
+    ∷ ResetAdd Upper ∷ ResetAdd MinusUpper ∷ DivideReset ∷ ResetAdd Lower ∷ ResetAdd MinusLower
+    ∷ ResetAdd AbsoluteLower ∷ ResetAdd MinusAbsoluteLower
     ∷ LoadDistributor ∷ Read ∷ Punch
-    ∷ BranchOnDigit Tenth ∷ BranchOnDigit First ∷ BranchOnDigit Second ∷ BranchOnDigit Third ∷ BranchOnDigit Fourth
-    ∷ BranchOnDigit Fifth ∷ BranchOnDigit Sixth ∷ BranchOnDigit Seventh ∷ BranchOnDigit Eighth ∷ BranchOnDigit Ninth ∷ []
+    ∷ BranchOnDigit Tenth ∷ BranchOnDigit First ∷ BranchOnDigit Second ∷ BranchOnDigit Third
+    ∷ BranchOnDigit Fourth
+    ∷ BranchOnDigit Fifth ∷ BranchOnDigit Sixth ∷ BranchOnDigit Seventh ∷ BranchOnDigit Eighth
+    ∷ BranchOnDigit Ninth ∷ []
 
 -- the operation of a number, if the profile has one
 abbrev pub op_of : ℕ → Option Op

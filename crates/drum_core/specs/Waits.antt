@@ -14,11 +14,20 @@ angle_recurs angle h = record {
   short = omega arith;
   shows = λ t.
       let at : (t + (angle + 50 - t % 50) % 50) % 50 ≡ angle = omega arith in
-      record { moment = t + (angle + 50 - t % 50) % 50; later = omega arith; near = omega arith; has = eq-eqb _ _ at };
+      record {
+        moment = t + (angle + 50 - t % 50) % 50;
+        later = omega arith;
+        near = omega arith;
+        has = eq-eqb _ _ at;
+      };
 }
 
 pub parity_recurs : (parity : Parity) → Recurs (has_parity parity) (parity_span parity)
-parity_recurs Any = record { short = omega arith; shows = λ t. record { moment = t; later = omega arith; near = omega arith; has = refl } }
+parity_recurs Any = record {
+  short = omega arith;
+  shows =
+      λ t. record { moment = t; later = omega arith; near = omega arith; has = refl };
+}
 parity_recurs Even = record {
   short = omega arith;
   shows = λ t.
@@ -29,7 +38,13 @@ parity_recurs Odd = record {
   short = omega arith;
   shows = λ t.
       let odd : (t + (t + 1) % 2) % 50 % 2 ≡ 1 = omega arith in
-      record { moment = t + (t + 1) % 2; later = omega arith; near = omega arith; has = eq-eqb _ _ odd };
+      record {
+        moment = t + (t + 1) % 2;
+        later = omega arith;
+        near = omega arith;
+        has =
+            eq-eqb _ _ odd;
+      };
 }
 
 had_recurs : (kind : Kind) (n : ℕ) → Recurs (is_had kind n) (kind_span kind)

@@ -1,6 +1,6 @@
 //! Laws of the definitions, each the contract of a function that does nothing.
 
-ghost use Rattle.std.specs.Prelude.{◌≡◌, ℕ, ◌<◌, ◌≤◌, List, [], ◌∷◌, length, Some, Contains};
+ghost use Rattle.std.specs.Prelude.{◌≡◌, ℕ, ◌<◌, ◌≤◌, ◌⊎◌, List, [], ◌∷◌, length, Some, Contains};
 ghost use Rattle.std.specs.List.Sorted.{IsStrictlyIncreasing};
 ghost use Rattle.drum_core.specs.Available.{is_angle, has_parity, is_available};
 ghost use Rattle.drum_core.specs.DeckText.{Given, Line, given_at, loads_of, starts, AreDistinct, IsDeck, IsRefused, Say};
@@ -11,6 +11,15 @@ ghost use Rattle.drum_core.specs.declared.deck.Deck.{Deck};
 ghost use Rattle.drum_core.specs.declared.deck.fault.DeckFault.{DeckFault};
 ghost use Rattle.drum_core.specs.declared.rotation.parity.Parity.{Parity};
 ghost use Rattle.drum_core.specs.declared.word.Word.{Word};
+
+/// Every text is a deck, or it has its fault; and it is the deck of one list of lines. (By the next
+/// two laws it is not both, and it has no other fault.)
+pub fn deck_or_fault()
+    ensures either { (text : List ℕ) → ((lines : List Line) × IsDeck text lines)
+        ⊎ ((fault : DeckFault) × IsRefused text fault) }
+    ensures one { (text : List ℕ) (lines others : List Line) → IsDeck text lines
+        → IsDeck text others → lines ≡ others }
+{}
 
 /// A text that is no deck has one fault.
 pub fn one_fault()

@@ -3,24 +3,28 @@
 //! bytes come from and go to.
 #![tactic(auto)]
 
-pub mod deck;
-pub mod device;
-pub mod instruction;
+mod deck;
+mod device;
+mod instruction;
 pub mod laws;
-pub mod location;
+mod location;
 pub mod numeral;
-pub mod op;
-pub mod rotation;
+mod op;
+mod rotation;
 pub mod spaced;
-pub mod word;
+mod word;
 
 pub use deck::Deck;
+pub use deck::card::Card as DeckCard;
 pub use deck::fault::DeckFault;
+pub use deck::lines::{Lines, is_longer};
 pub use deck::read::read_deck;
 pub use device::Failed;
 pub use device::input::Input;
 pub use device::output::Output;
+pub use device::pieces::{write_pieces, write_whole};
 pub use device::reading::Reading;
+pub use device::whole::{WholeError, read_whole};
 pub use device::writing::Writing;
 pub use instruction::Instruction;
 pub use location::{Kind, Location};

@@ -1,4 +1,5 @@
 use crate::location::Location;
+use std::alloc::AllocError;
 use thiserror::Error;
 
 /// Why a text isn't a deck.
@@ -28,4 +29,15 @@ pub enum DeckFault {
     /// There are more than 4000 lines, or one has more than 100 bytes.
     #[error("the deck is too long")]
     TooLong,
+}
+
+impl From<AllocError> for DeckFault {
+    ghost use Rattle.std.specs.Prelude.{◌≡◌};
+    ghost use Rattle.drum_core.specs.declared.deck.fault.DeckFault.TheVariants.{Memory};
+
+    ghost from_gives = { λ _ fault. fault ≡ Memory };
+
+    fn from(_: AllocError) -> DeckFault {
+        DeckFault::Memory
+    }
 }

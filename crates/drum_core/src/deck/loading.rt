@@ -45,7 +45,8 @@ impl Loading {
             → HoldsLines self.old lines → (one : text.Line) × text.IsLine bytes.now one
             × HoldsLines self.new (lines ++ one ∷ [])) }
         ensures err { IfErr result (λ fault. fault ≢ DeckFault.Memory → (lines : List text.Line)
-            → line ≡ 1 + length lines → HoldsLines self.old lines → text.IsFaultOfLine lines line bytes.now fault) }
+            → line ≡ 1 + length lines → HoldsLines self.old lines
+            → text.IsFaultOfLine lines line bytes.now fault) }
     {
         match Line::read(bytes) {
             None => Err(DeckFault::Card(line)),
@@ -59,7 +60,8 @@ impl Loading {
         ensures ok { OnOk result ((lines : List text.Line) → HoldsLines self.old lines
             → HoldsLines self.new (lines ++ text.start address ∷ [])) }
         ensures err { IfErr result (λ fault. (lines : List text.Line) (bytes : List ℕ)
-            → HoldsLines self.old lines → text.IsLine bytes (text.start address) → text.IsFaultOfLine lines line bytes fault) }
+            → HoldsLines self.old lines → text.IsLine bytes (text.start address)
+            → text.IsFaultOfLine lines line bytes fault) }
     {
         if address >= 2000 {
             return Err(DeckFault::PastDrum(line));

@@ -59,15 +59,11 @@ fn read_lines(alloc: Global, text: &[u8]) -> Result<Deck, DeckFault>
     ensures err { IfErr result (λ fault. fault ≢ DeckFault.Memory → IsRefused text.now fault) }
     ensures read { ¬ IsErrOf result DeckFault.Read }
 {
-    let Ok(mut loading) = Loading::new(alloc) else {
-        return Err(DeckFault::Memory);
-    };
+    let mut loading = Loading::new(alloc)?;
     let mut number = 0;
     for line in (Lines { rest: text }) {
         number += 1;
-        if let Err(fault) = loading.take(line, number) {
-            return Err(fault);
-        }
+        loading.take(line, number)?;
     }
     loading.finish()
 }

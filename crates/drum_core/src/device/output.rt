@@ -26,7 +26,8 @@ pub trait Output {
         ensures bound { WritesAtMost result buf.now }
         ensures bytes { WriteAppends (written self.old) (written self.new) result buf.now }
         ensures calls { called self.new ≡ called self.old + 1 }
-        ensures failures { failed self.new ≡ failed self.old + (if took_none result buf.now then 1 else 0) };
+        ensures failures { failed self.new
+            ≡ failed self.old + (if took_none result buf.now then 1 else 0) };
 
     /// How often it was written to.
     fn calls(&self) -> u64

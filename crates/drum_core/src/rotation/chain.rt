@@ -13,13 +13,15 @@ use super::seek::Seek;
 
 /// One wait and then another never lets an earlier clock overtake a later one.
 pub fn never_overtakes<A: Clockwork, B: Clockwork>()
-    ensures { (first : A) (second : B) (s t : ℕ) → s ≤ t → B.moment second (A.moment first s) ≤ B.moment second (A.moment first t) }
+    ensures { (first : A) (second : B) (s t : ℕ) → s ≤ t
+        → B.moment second (A.moment first s) ≤ B.moment second (A.moment first t) }
 {}
 
 /// A longer delay between two waits never ends earlier.
 pub fn longer_never_earlier<A: Clockwork, B: Clockwork>()
     ensures { (first : A) (second : B) (t shorter longer : ℕ) → shorter ≤ longer
-        → B.moment second (A.moment first t + shorter) ≤ B.moment second (A.moment first t + longer) }
+        → B.moment second (A.moment first t + shorter)
+        ≤ B.moment second (A.moment first t + longer) }
 {}
 
 /// A wait that begins when it is over takes no time: for an angle, for a parity, for a location.

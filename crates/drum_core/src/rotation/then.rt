@@ -36,13 +36,22 @@ impl<A: Clockwork, B: Clockwork> Clockwork for Then<A, B> {
 
     ghost most = { λ then. A.most then.first + B.most then.second };
 
-    ghost never_earlier = { λ then t. Prim.omega (arith, A.never_earlier then.first t, B.never_earlier then.second (A.moment then.first t)) };
+    ghost never_earlier = { λ then t. Prim.omega (
+      arith,
+      A.never_earlier then.first t,
+      B.never_earlier then.second (A.moment then.first t),
+    ) };
 
-    ghost within_span = { λ then t. Prim.omega (arith, A.within_span then.first t, B.within_span then.second (A.moment then.first t)) };
+    ghost within_span = { λ then t. Prim.omega (
+      arith,
+      A.within_span then.first t,
+      B.within_span then.second (A.moment then.first t),
+    ) };
 
     ghost monotone = { λ then s t h. B.monotone then.second _ _ (A.monotone then.first s t h) };
 
-    ghost periodic = { λ then t. ap (B.moment then.second) (A.periodic then.first t) ∙ B.periodic then.second (A.moment then.first t) };
+    ghost periodic = { λ then t. ap (B.moment then.second) (A.periodic then.first t)
+        ∙ B.periodic then.second (A.moment then.first t) };
 
     fn go(&self, clock: u64) -> u64 {
         self.second.go(self.first.go(clock))

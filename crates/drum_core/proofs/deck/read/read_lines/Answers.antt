@@ -3,6 +3,7 @@ use Rattle.drum_core.specs.declared.deck.fault.DeckFault.TheVariants as faults
 use Rattle.drum_core.specs.declared.deck.lines.Lines.{Lines}
 use Rattle.drum_core.specs.Lines.{lines_of}
 use Rattle.drum_core.specs.DeckText.{IsRefused}
+use Rattle.drum_core.proofs.Handed.{handed, handed_is}
 use Rattle.drum_core.proofs.Progress.{next_number, few_left, few_lines, one_more, refused_here, deck_of_all, no_start_at_all}
 use Rattle.drum_core.proofs.deck.read.read_lines.Goals as goal
 
@@ -13,7 +14,7 @@ loop-line-init c = record {
     lines = [];
     split = ap (λ (lines : Lines). lines_of lines.rest.now) (sym c.into_iter-line-iterator.ensures.into_iter_gives);
     said = tt;
-    holds = c.in-Ok.ensures;
+    holds = c.in_ok-loading.ensures;
     counted = refl;
   };
 }
@@ -23,21 +24,26 @@ overflow_add-number c =
     let few = few_left c.args.text.now c.loop-line.line-iterator.rest.now c.loop-line.loading c.loop-line.number c.requires.short c.loop-line.invariant.so_far in
     omega (arith, few)
 
-pub returns-in-Err-clause-err : goal.returns-in-Err-clause-err
-returns-in-Err-clause-err c not_memory =
+pub returns-in_err-take-clause-err : goal.returns-in_err-take-clause-err
+returns-in_err-take-clause-err c =
     let p = c.loop-line.invariant.so_far in
-    refused_here c.args.text.now c.loop-line.line-iterator.rest.now c.next.new.self.rest.now c.loop-line.loading c.loop-line.number c.in-Some.line.now c.in-Err.fault c.requires.short p c.in-Some.ensures.steps
-    (c.in-Err.ensures.err not_memory p.lines (next_number c.args.text.now c.loop-line.line-iterator.rest.now c.loop-line.loading c.loop-line.number p) p.holds)
+    handed c.from_residual-in_err-take.result _ c.in_err-take.field-0.0 c.from_residual-in_err-take.ensures.1
+    (λ not_memory. refused_here c.args.text.now c.loop-line.line-iterator.rest.now c.next.new.self.rest.now c.loop-line.loading c.loop-line.number c.in-Some.line.now c.in_err-take.field-0.0 c.requires.short p
+    c.in-Some.ensures.steps (c.in_err-take.ensures.err not_memory p.lines (next_number c.args.text.now c.loop-line.line-iterator.rest.now c.loop-line.loading c.loop-line.number p) p.holds))
 
-pub returns-in-Err-clause-read : goal.returns-in-Err-clause-read
-returns-in-Err-clause-read c is_read =
-    let same : c.in-Err.fault ≡ faults.Read = cc in
-    subst (IsRefused c.args.text.now) same (returns-in-Err-clause-err c (λ is_memory. cc))
+pub returns-in_err-take-clause-read : goal.returns-in_err-take-clause-read
+returns-in_err-take-clause-read c is_read =
+    let p = c.loop-line.invariant.so_far in
+    let same : c.in_err-take.field-0.0 ≡ faults.Read = handed_is c.from_residual-in_err-take.result c.in_err-take.field-0.0 faults.Read c.from_residual-in_err-take.ensures.1 is_read in
+    subst (IsRefused c.args.text.now) same
+    (refused_here c.args.text.now c.loop-line.line-iterator.rest.now c.next.new.self.rest.now c.loop-line.loading c.loop-line.number c.in-Some.line.now c.in_err-take.field-0.0 c.requires.short p
+    c.in-Some.ensures.steps
+    (c.in_err-take.ensures.err (λ is_memory. cc) p.lines (next_number c.args.text.now c.loop-line.line-iterator.rest.now c.loop-line.loading c.loop-line.number p) p.holds))
 
 pub loop-line-preserved : goal.loop-line-preserved
 loop-line-preserved c =
     let p = c.loop-line.invariant.so_far in
-    let next = c.in_default-take.ensures.ok p.lines (next_number c.args.text.now c.loop-line.line-iterator.rest.now c.loop-line.loading c.loop-line.number p) p.holds in
+    let next = c.in_ok-take.ensures.ok p.lines (next_number c.args.text.now c.loop-line.line-iterator.rest.now c.loop-line.loading c.loop-line.number p) p.holds in
     record {
       so_far = one_more c.args.text.now c.loop-line.line-iterator.rest.now c.next.new.self.rest.now c.loop-line.loading c.take.new.self c.loop-line.number c.in-Some.line.now next.0 p c.in-Some.ensures.steps next.1 next.2;
     }
