@@ -59,7 +59,7 @@ load_cards_are_right fields false has = text_is_right [] (codes "load_cards") fi
 load_cards_are_right fields true has = text_is_right [] (codes "load_cards") fields (map said.load_text_of (false ∷ true ∷ [])) (codes "any") has refl
 
 -- the number at a key is the one that the table has there
-number_is : (fields : Members) (key : List ℕ) (n : ℕ) → HasNumber fields key n → number_at key fields ≡ n
+pub number_is : (fields : Members) (key : List ℕ) (n : ℕ) → HasNumber fields key n → number_at key fields ≡ n
 number_is fields key n has = ap (λ (found : Option Data). elim found [ None ↦ 0 | Some value ↦ number_in value ]) has
 
 -- what is made of each table of an array is made of what the tables say

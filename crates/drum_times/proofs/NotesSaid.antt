@@ -6,18 +6,16 @@ use Rattle.drum_core.specs.Location.{is_location}
 use Rattle.drum_times.specs.declared.notes.mark.Mark.{Mark}
 use Rattle.drum_times.specs.declared.notes.pattern.Pattern.{Pattern}
 use Rattle.drum_times.specs.Allowed.{Notes, Listed, HaveOwnEdges, HaveOwnLocations, same_edge}
-use Rattle.drum_times.specs.Document.{Fault, is_count, count_of, missing_in, whole, location, tables, element_faults, elements_faults, array_faults, number_at, number_in, number_faults, range, two_marks, two_lists}
+use Rattle.drum_times.specs.Document.{Fault, is_count, count_of, missing_in, whole, location, tables, element_faults, elements_faults, array_faults, number_at, number_faults, range, two_marks, two_lists}
 use Rattle.drum_times.specs.NotesDocument as said
 use Rattle.drum_times.specs.TimesDocument.{HasNumber}
 use Rattle.drum_times.proofs.EntryFaults.{number_is_right}
 use Rattle.drum_times.proofs.NotesFaults.{none_in, location_is_right}
-use Rattle.drum_times.proofs.NotesLaws.{programmed_is_right, load_cards_are_right, edges_same, made_at}
+use Rattle.drum_times.proofs.NotesLaws.{number_is, programmed_is_right, load_cards_are_right, edges_same, made_at}
+use Rattle.drum_times.proofs.NotesSound.{place_of}
 use Rattle.drum_times.proofs.Sequences.{no_faults, known_anywhere}
 use Rattle.drum_times.proofs.TimesSaid.{there}
 use Rattle.toml.specs.Data.{Data, Items, no_items, item, Members, get_member}
-
-number_is : (fields : Members) (key : List ℕ) (n : ℕ) → HasNumber fields key n → number_at key fields ≡ n
-number_is fields key n has = ap (λ (found : Option Data). elim found [ None ↦ 0 | Some value ↦ number_in value ]) has
 
 -- the number of a location has no fault
 place_right : (at key : List ℕ) (fields : Members) (n : ℕ) → HasNumber fields key n → is_location n ≡ true → location at key fields ≡ []
@@ -80,7 +78,7 @@ elements_right Say Fine check right path place (item value items) (one ∷ more)
     (ap (λ (v : Data). element_faults check (place + 1) (path ++ codes "." ++ decimal (place + 1)) v) is ∙ right place (path ++ codes "." ++ decimal (place + 1) ++ codes ".") fields one fine.0 says)
     (elements_right Say Fine check right path (place + 1) items more fine.1 are)
 
-count_same : {A : Type 0} (Say : ℕ → Members → A → Type 0) (place : ℕ) (items : Items) (values : List A) → said.AreTables Say place items values → count_of items ≡ length values
+pub count_same : {A : Type 0} (Say : ℕ → Members → A → Type 0) (place : ℕ) (items : Items) (values : List A) → said.AreTables Say place items values → count_of items ≡ length values
 count_same Say place no_items [] are = refl
 count_same Say place no_items (one ∷ more) are = absurd are
 count_same Say place (item value items) [] are = absurd are
@@ -106,7 +104,7 @@ tables_right {A} Say Fine check right low high at key fields values fine count =
         ∙ ap (λ (b : Bool). cond b (elements_faults check (at ++ key) 1 items) (range (at ++ key) ∷ [])) count ∙ elements_right Say Fine check right (at ++ key) 0 items values fine are
 
 -- what is so of a sound list
-abbrev IsFine : Listed → Type 0
+abbrev pub IsFine : Listed → Type 0
 IsFine list = IsTrue (is_location list.location) × ((1 ≤ length list.patterns) × (length list.patterns ≤ 64))
 
 fine_lists : (lists : List Listed) → AllByRecursion (λ list. IsTrue (is_location list.location)) lists → AllByRecursion (λ list. (1 ≤ length list.patterns) × (length list.patterns ≤ 64)) lists → AllByRecursion IsFine lists
@@ -181,9 +179,6 @@ none_earlier : (marks : List Mark) → AllByRecursion (λ mark. said.has_edge []
 none_earlier [] = tt
 none_earlier (mark ∷ marks) = (refl, none_earlier marks)
 
-abbrev place_of : Listed → ℕ
-place_of list = list.location
-
 locations_right : (earlier : List ℕ) (lists : List Listed) → AllByRecursion (λ list. said.has_location earlier list.location ≡ false) lists → HaveOwnLocations lists → said.location_faults earlier (map place_of lists) ≡ []
 locations_right earlier [] apart own = refl
 locations_right earlier (list ∷ lists) apart own =
@@ -199,7 +194,7 @@ none_before_them : (lists : List Listed) → AllByRecursion (λ list. said.has_l
 none_before_them [] = tt
 none_before_them (list ∷ lists) = (refl, none_before_them lists)
 
-places_same : (fields : Members) (lists : List Listed) → said.HasTables (λ place fields listed. said.IsListed fields listed) fields (codes "list") lists
+pub places_same : (fields : Members) (lists : List Listed) → said.HasTables (λ place fields listed. said.IsListed fields listed) fields (codes "list") lists
     → map (number_at (codes "location")) (said.tables_at (codes "list") fields) ≡ map place_of lists
 places_same fields lists has =
     made_at (λ place fields listed. said.IsListed fields listed) (number_at (codes "location")) place_of (λ place one list says. number_is one (codes "location") list.location says.location) fields (codes "list") lists has

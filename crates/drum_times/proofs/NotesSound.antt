@@ -7,7 +7,7 @@ use Rattle.drum_core.specs.Location.{is_location}
 use Rattle.drum_times.specs.declared.notes.listing.Listing.{Listing}
 use Rattle.drum_times.specs.declared.notes.mark.Mark.{Mark}
 use Rattle.drum_times.specs.declared.notes.programmed.Programmed.{Programmed}
-use Rattle.drum_times.specs.Allowed.{HaveOwnEdges, HaveOwnLocations, IsEarlier, StandInEarlier, AreSound}
+use Rattle.drum_times.specs.Allowed.{Listed, HaveOwnEdges, HaveOwnLocations, IsEarlier, StandInEarlier, AreSound}
 use Rattle.drum_times.specs.Document.{Fault, two_marks, two_lists, is_count}
 use Rattle.drum_times.specs.Listed.{listed}
 use Rattle.drum_times.specs.NotesDocument as said
@@ -61,6 +61,10 @@ own_edges earlier (mark ∷ marks) none =
     none_behind (cond (said.has_edge earlier (said.edge_of mark)) (two_marks mark.from.number mark.onto.number ∷ []) []) _ none in
     (sym (any_of_edges (said.edge_of mark) marks) ∙ no_edge_like earlier (said.edge_of mark) [] (map said.edge_of marks) rest, own_edges (earlier ++ said.edge_of mark ∷ []) marks rest)
 
+-- the location of a list
+abbrev pub place_of : Listed → ℕ
+place_of list = list.location
+
 -- no later location is an earlier one
 no_location_like : (before : List ℕ) (one : ℕ) (behind places : List ℕ) → said.location_faults (before ++ one ∷ behind) places ≡ [] → list_any (λ place. one == place) places ≡ false
 no_location_like before one behind [] none = refl
@@ -71,17 +75,16 @@ no_location_like before one behind (place ∷ places) none =
     both_false (one == place) (list_any (λ place. one == place) places) here
     (no_location_like before one (behind ++ place ∷ []) places (ap (λ (ps : List ℕ). said.location_faults ps places) (sym (append_assoc before (one ∷ behind) (place ∷ []))) ∙ rest))
 
-any_of_locations : (one : ℕ) (lists : List Listing) → list_any (λ place. one == place) (map (λ list. list.location.number) lists) ≡ list_any (λ other. one == other.location) (map listed lists)
+any_of_locations : (one : ℕ) (lists : List Listed) → list_any (λ place. one == place) (map place_of lists) ≡ list_any (λ other. one == other.location) lists
 any_of_locations one [] = refl
-any_of_locations one (list ∷ lists) = ap (λ (b : Bool). one == list.location.number || b) (any_of_locations one lists)
+any_of_locations one (list ∷ lists) = ap (λ (b : Bool). one == list.location || b) (any_of_locations one lists)
 
-pub own_locations : (earlier : List ℕ) (lists : List Listing) → said.location_faults earlier (map (λ list. list.location.number) lists) ≡ [] → HaveOwnLocations (map listed lists)
+pub own_locations : (earlier : List ℕ) (lists : List Listed) → said.location_faults earlier (map place_of lists) ≡ [] → HaveOwnLocations lists
 own_locations earlier [] none = tt
 own_locations earlier (list ∷ lists) none =
-    let places : List ℕ = map (λ (list : Listing). list.location.number) lists in
-    let rest : said.location_faults (earlier ++ list.location.number ∷ []) (map (λ list. list.location.number) lists) ≡ [] =
-    none_behind (cond (said.has_location earlier list.location.number) (two_lists list.location.number ∷ []) []) _ none in
-    (sym (any_of_locations list.location.number lists) ∙ no_location_like earlier list.location.number [] (map (λ list. list.location.number) lists) rest, own_locations (earlier ++ list.location.number ∷ []) lists rest)
+    let rest : said.location_faults (earlier ++ list.location ∷ []) (map place_of lists) ≡ [] =
+    none_behind (cond (said.has_location earlier list.location) (two_lists list.location ∷ []) []) _ none in
+    (sym (any_of_locations list.location lists) ∙ no_location_like earlier list.location [] (map place_of lists) rest, own_locations (earlier ++ list.location ∷ []) lists rest)
 
 -- each mark stands inside of an earlier one, if of any
 earlier_outer : (place : ℕ) (fields : Members) (inside : Option ℕ) → said.HasInside place fields inside → IsEarlier place inside
@@ -126,7 +129,11 @@ sound_notes fields programmed load_cards marks lists has count no_edge no_locati
   few_marks = few_marks fields marks has count;
   own_edges = own_edges [] marks no_edge;
   nested = nested fields marks has;
-  own_locations = own_locations [] lists no_location;
+  own_locations = own_locations [] (map listed lists) (ap (said.location_faults []) (map-map lists) ∙ no_location);
   locations = on_locations lists;
   patterns = some_patterns lists;
 }
+  where
+    map-map : (lists : List Listing) → map place_of (map listed lists) ≡ map (λ list. list.location.number) lists
+    map-map [] = refl
+    map-map (list ∷ lists) = ap (λ (ps : List ℕ). list.location.number ∷ ps) (map-map lists)

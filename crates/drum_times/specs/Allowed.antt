@@ -33,7 +33,8 @@ HaveOwnEdges (mark ∷ marks) = (list_any (same_edge mark) marks ≡ false) × H
 -- no two lists are for one location
 abbrev pub HaveOwnLocations : List Listed → Type 0
 HaveOwnLocations [] = Unit {0}
-HaveOwnLocations (list ∷ lists) = (list_any (λ other. list.location == other.location) lists ≡ false) × HaveOwnLocations lists
+HaveOwnLocations (list ∷ lists) =
+    (list_any (λ other. list.location == other.location) lists ≡ false) × HaveOwnLocations lists
 
 -- an outer mark, if there is one, stands before this place
 abbrev pub IsEarlier : ℕ → Option ℕ → Type 0
@@ -53,7 +54,8 @@ pub record AreSound (notes : Notes) : Type 0 where
   pub nested : StandInEarlier 0 notes.marks
   pub own_locations : HaveOwnLocations notes.lists
   pub locations : AllByRecursion (λ list. IsTrue (is_location list.location)) notes.lists
-  pub patterns : AllByRecursion (λ list. (1 ≤ length list.patterns) × (length list.patterns ≤ 64)) notes.lists
+  pub patterns : AllByRecursion
+      (λ list. (1 ≤ length list.patterns) × (length list.patterns ≤ 64)) notes.lists
 
 -- the instruction has the pattern's operation and I, and its D is within the pattern's range
 pub record Matches (pattern : Pattern) (ins : Instruction) : Type 0 where
@@ -64,12 +66,15 @@ pub record Matches (pattern : Pattern) (ins : Instruction) : Type 0 where
 
 -- the instructions that match a pattern, D ascending
 abbrev pub matching : Pattern → List Instruction
-matching pattern = map (λ d. instruction pattern.op d pattern.i) (range_with_len pattern.d_from (suc pattern.d_to - pattern.d_from))
+matching pattern =
+    map (λ d. instruction pattern.op d pattern.i)
+    (range_with_len pattern.d_from (suc pattern.d_to - pattern.d_from))
 
 -- the patterns of a location, where it is listed
 abbrev pub patterns_in : List Listed → ℕ → Option (List Pattern)
 patterns_in [] location = None
-patterns_in (list ∷ lists) location = if list.location == location then Some list.patterns else patterns_in lists location
+patterns_in (list ∷ lists) location =
+    if list.location == location then Some list.patterns else patterns_in lists location
 
 abbrev pub patterns_of : Notes → ℕ → Option (List Pattern)
 patterns_of notes location = patterns_in notes.lists location

@@ -28,11 +28,13 @@ is_among key keys = list_any (λ one. same_key one key) keys
 -- table: nothing, or it ends in a dot. (A table's fields are in byte order of their keys.)
 abbrev pub unknown_in : List ℕ → List (List ℕ) → Members → List Fault
 unknown_in at keys no_members = []
-unknown_in at keys (member key value fields) = (if is_among key keys then [] else unknown (at ++ key) ∷ []) ++ unknown_in at keys fields
+unknown_in at keys (member key value fields) =
+    (if is_among key keys then [] else unknown (at ++ key) ∷ []) ++ unknown_in at keys fields
 
 -- a fault for each of these keys that the table lacks
 abbrev pub missing_in : List ℕ → List (List ℕ) → Members → List Fault
-missing_in at keys fields = flat_map (λ key. if is_some (get_member key fields) then [] else missing (at ++ key) ∷ []) keys
+missing_in at keys fields =
+    flat_map (λ key. if is_some (get_member key fields) then [] else missing (at ++ key) ∷ []) keys
 
 -- the fault of a value that is to be a whole number with a property
 abbrev pub number_faults : List ℕ → (ℕ → Bool) → Data → List Fault
@@ -47,11 +49,21 @@ text_faults path texts _ = kind path ∷ []
 
 -- what a check says of the value at a key, if there is one
 abbrev pub at_key : (List ℕ → Data → List Fault) → List ℕ → List ℕ → Members → List Fault
-at_key check at key fields = elim (get_member key fields) [ None ↦ [] | Some value ↦ check (at ++ key) value ]
+at_key check at key fields = elim (get_member key fields) [
+  | None ↦ []
+  | Some value ↦ check (at ++ key) value
+]
+
+-- the same of a key that has to be there
+abbrev pub required : (List ℕ → List ℕ → Members → List Fault) → List ℕ → List ℕ → Members
+    → List Fault
+required check at key fields = missing_in at (key ∷ []) fields ++ check at key fields
 
 -- a whole number from low to high; a location; one of some texts
 abbrev pub whole : ℕ → ℕ → List ℕ → List ℕ → Members → List Fault
-whole low high at key fields = at_key (λ path value. number_faults path (λ n. nat_le low n && nat_le n high) value) at key fields
+whole low high at key fields =
+    at_key (λ path value. number_faults path (λ n. nat_le low n && nat_le n high) value)
+    at key fields
 
 abbrev pub location : List ℕ → List ℕ → Members → List Fault
 location at key fields = at_key (λ path value. number_faults path is_location value) at key fields
@@ -80,7 +92,8 @@ element_faults check number path _ = kind path ∷ []
 abbrev pub elements_faults : (ℕ → List ℕ → Members → List Fault) → List ℕ → ℕ → Items → List Fault
 elements_faults check path number no_items = []
 elements_faults check path number (item value items) =
-    element_faults check number (path ++ codes "." ++ decimal number) value ++ elements_faults check path (number + 1) items
+    element_faults check number (path ++ codes "." ++ decimal number) value
+    ++ elements_faults check path (number + 1) items
 
 -- it is a number from low up to high, if there is a high
 abbrev pub is_count : ℕ → Option ℕ → ℕ → Bool
@@ -89,11 +102,14 @@ is_count low (Some high) n = nat_le low n && nat_le n high
 
 -- the faults of a value that is to be an array of tables, from low up to high of them, if there is
 -- a high
-abbrev pub array_faults : ℕ → Option ℕ → (ℕ → List ℕ → Members → List Fault) → List ℕ → Data → List Fault
+abbrev pub array_faults : ℕ → Option ℕ → (ℕ → List ℕ → Members → List Fault) → List ℕ → Data
+    → List Fault
 array_faults low high check path (array items) =
-    if is_count low high (count_of items) then elements_faults check path 1 items else range path ∷ []
+    if is_count low high (count_of items) then elements_faults check path 1 items
+    else range path ∷ []
 array_faults low high check path _ = kind path ∷ []
 
 -- an array of tables at a key; its elements are numbered from 1
-abbrev pub tables : ℕ → Option ℕ → (ℕ → List ℕ → Members → List Fault) → List ℕ → List ℕ → Members → List Fault
+abbrev pub tables : ℕ → Option ℕ → (ℕ → List ℕ → Members → List Fault) → List ℕ → List ℕ → Members
+    → List Fault
 tables low high check at key fields = at_key (array_faults low high check) at key fields

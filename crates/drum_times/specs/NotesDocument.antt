@@ -35,7 +35,8 @@ pattern_keys = codes "op" ∷ codes "d_from" ∷ codes "d_to" ∷ codes "i" ∷ 
 -- counted from 1
 abbrev pub HasInside : ℕ → Members → Option ℕ → Type 0
 HasInside place fields None = get_member (codes "inside") fields ≡ None
-HasInside place fields (Some outer) = HasNumber fields (codes "inside") (outer + 1) × (outer < place)
+HasInside place fields (Some outer) = HasNumber fields (codes "inside") (outer + 1)
+    × (outer < place)
 
 -- The table says this mark, the one at this place, from 0.
 pub record IsMark (place : ℕ) (fields : Members) (mark : Mark) : Type 0 where
@@ -60,17 +61,20 @@ IsTable Say place value one = (fields : Members) × (value ≡ table fields) × 
 -- the elements are tables that say these values, the first of which has this place
 abbrev pub AreTables : {A : Type 0} → (ℕ → Members → A → Type 0) → ℕ → Items → List A → Type 0
 AreTables Say place no_items [] = Unit {0}
-AreTables Say place (item value items) (one ∷ more) = IsTable Say place value one × AreTables Say (place + 1) items more
+AreTables Say place (item value items) (one ∷ more) = IsTable Say place value one
+    × AreTables Say (place + 1) items more
 AreTables Say place no_items (one ∷ more) = ⊥
 AreTables Say place (item value items) [] = ⊥
 
 -- an array of tables that say these values; without it there are none
 abbrev pub AreFound : {A : Type 0} → (ℕ → Members → A → Type 0) → Option Data → List A → Type 0
 AreFound Say None values = values ≡ []
-AreFound Say (Some value) values = (items : Items) × (value ≡ array items) × AreTables Say 0 items values
+AreFound Say (Some value) values = (items : Items) × (value ≡ array items)
+    × AreTables Say 0 items values
 
 -- the array of tables at a key says these values
-abbrev pub HasTables : {A : Type 0} → (ℕ → Members → A → Type 0) → Members → List ℕ → List A → Type 0
+abbrev pub HasTables : {A : Type 0} → (ℕ → Members → A → Type 0) → Members → List ℕ → List A
+    → Type 0
 HasTables Say fields key values = AreFound Say (get_member key fields) values
 
 -- The table says this list. (How many patterns it has, and that it is for a location, is a fact of
@@ -78,15 +82,19 @@ HasTables Say fields key values = AreFound Say (get_member key fields) values
 pub record IsListed (fields : Members) (listed : Listed) : Type 0 where
   pub only : unknown_in [] list_keys fields ≡ []
   pub location : HasNumber fields (codes "location") listed.location
-  pub patterns : HasTables (λ place one pattern. IsPattern one pattern) fields (codes "pattern") listed.patterns
+  pub patterns : HasTables (λ place one pattern. IsPattern one pattern) fields
+      (codes "pattern") listed.patterns
 
 -- The document says these notes, and nothing else.
 pub record IsNotes (document : Members) (notes : Notes) : Type 0 where
   pub only : unknown_in [] note_keys document ≡ []
-  pub programmed : get_member (codes "programmed") document ≡ Some (string (text_of notes.programmed))
-  pub load_cards : get_member (codes "load_cards") document ≡ Some (string (load_text_of notes.load_cards))
+  pub programmed : get_member (codes "programmed") document
+      ≡ Some (string (text_of notes.programmed))
+  pub load_cards : get_member (codes "load_cards") document
+      ≡ Some (string (load_text_of notes.load_cards))
   pub marks : HasTables IsMark document (codes "mark") notes.marks
-  pub lists : HasTables (λ place fields listed. IsListed fields listed) document (codes "list") notes.lists
+  pub lists : HasTables (λ place fields listed. IsListed fields listed) document
+      (codes "list") notes.lists
   pub sound : AreSound notes
 
 -- the fault of the number of a mark's outer one, which is one of so many earlier ones
@@ -97,15 +105,18 @@ inside_faults earlier at fields = whole 1 earlier at (codes "inside") fields
 -- and then the values
 abbrev pub mark_checks : ℕ → List ℕ → Members → List (List Fault)
 mark_checks number at fields =
-    unknown_in at mark_keys fields ∷ missing_in at (codes "from" ∷ codes "to" ∷ codes "most" ∷ []) fields
-    ∷ location at (codes "from") fields ∷ location at (codes "to") fields ∷ whole 0 9999 at (codes "most") fields
+    unknown_in at mark_keys fields
+    ∷ missing_in at (codes "from" ∷ codes "to" ∷ codes "most" ∷ []) fields
+    ∷ location at (codes "from") fields ∷ location at (codes "to") fields
+    ∷ whole 0 9999 at (codes "most") fields
     ∷ inside_faults (number - 1) at fields ∷ []
 
 abbrev pub pattern_checks : List ℕ → Members → List (List Fault)
 pattern_checks at fields =
     unknown_in at pattern_keys fields ∷ missing_in at pattern_keys fields
     ∷ whole 0 99 at (codes "op") fields ∷ whole 0 9999 at (codes "d_from") fields
-    ∷ whole (number_at (codes "d_from") fields) 9999 at (codes "d_to") fields ∷ whole 0 9999 at (codes "i") fields ∷ []
+    ∷ whole (number_at (codes "d_from") fields) 9999 at (codes "d_to") fields
+    ∷ whole 0 9999 at (codes "i") fields ∷ []
 
 -- the faults of a mark, and of a pattern
 abbrev pub mark_faults : ℕ → List ℕ → Members → List Fault
@@ -118,7 +129,8 @@ pattern_faults number at fields = in_turn (pattern_checks at fields)
 abbrev pub list_checks : List ℕ → Members → List (List Fault)
 list_checks at fields =
     unknown_in at list_keys fields ∷ missing_in at list_keys fields
-    ∷ location at (codes "location") fields ∷ tables 1 (Some 64) pattern_faults at (codes "pattern") fields ∷ []
+    ∷ location at (codes "location") fields
+    ∷ tables 1 (Some 64) pattern_faults at (codes "pattern") fields ∷ []
 
 abbrev pub list_faults : ℕ → List ℕ → Members → List Fault
 list_faults number at fields = in_turn (list_checks at fields)
@@ -126,7 +138,8 @@ list_faults number at fields = in_turn (list_checks at fields)
 -- those of an array's elements, and of the array at a key, that are tables
 abbrev pub tables_of : Items → List Members
 tables_of no_items = []
-tables_of (item value items) = (elim value [ table fields ↦ fields ∷ [] | _ ↦ [] ]) ++ tables_of items
+tables_of (item value items) =
+    (elim value [ table fields ↦ fields ∷ [] | _ ↦ [] ]) ++ tables_of items
 
 abbrev pub tables_in : Option Data → List Members
 tables_in None = []
@@ -149,7 +162,9 @@ has_edge edges edge = list_any (λ one. one.0 == edge.0 && one.1 == edge.1) edge
 -- a fault for each edge that is among these earlier ones, or among those before it
 abbrev pub edge_faults : List (ℕ × ℕ) → List (ℕ × ℕ) → List Fault
 edge_faults earlier [] = []
-edge_faults earlier (edge ∷ edges) = (if has_edge earlier edge then two_marks edge.0 edge.1 ∷ [] else []) ++ edge_faults (earlier ++ edge ∷ []) edges
+edge_faults earlier (edge ∷ edges) =
+    (if has_edge earlier edge then two_marks edge.0 edge.1 ∷ [] else [])
+    ++ edge_faults (earlier ++ edge ∷ []) edges
 
 -- the location is among these
 abbrev pub has_location : List ℕ → ℕ → Bool
@@ -158,17 +173,22 @@ has_location places place = list_any (λ one. one == place) places
 -- the same of the locations of lists
 abbrev pub location_faults : List ℕ → List ℕ → List Fault
 location_faults earlier [] = []
-location_faults earlier (place ∷ places) = (if has_location earlier place then two_lists place ∷ [] else []) ++ location_faults (earlier ++ place ∷ []) places
+location_faults earlier (place ∷ places) =
+    (if has_location earlier place then two_lists place ∷ [] else [])
+    ++ location_faults (earlier ++ place ∷ []) places
 
 -- The faults that each check of a document finds.
 abbrev pub notes_checks : Members → List (List Fault)
 notes_checks document =
-    unknown_in [] note_keys document ∷ missing_in [] (codes "programmed" ∷ codes "load_cards" ∷ []) document
+    unknown_in [] note_keys document
+    ∷ missing_in [] (codes "programmed" ∷ codes "load_cards" ∷ []) document
     ∷ text (map text_of (Stop ∷ Run ∷ Any ∷ [])) [] (codes "programmed") document
     ∷ text (map load_text_of (false ∷ true ∷ [])) [] (codes "load_cards") document
-    ∷ tables 0 (Some 8) mark_faults [] (codes "mark") document ∷ tables 0 None list_faults [] (codes "list") document
+    ∷ tables 0 (Some 8) mark_faults [] (codes "mark") document
+    ∷ tables 0 None list_faults [] (codes "list") document
     ∷ edge_faults [] (map edge_in (tables_at (codes "mark") document))
-    ∷ location_faults [] (map (number_at (codes "location")) (tables_at (codes "list") document)) ∷ []
+    ∷ location_faults [] (map (number_at (codes "location")) (tables_at (codes "list") document))
+    ∷ []
 
 -- The faults of a document, in their order. The first is why it is refused, and what follows it has
 -- no meaning.

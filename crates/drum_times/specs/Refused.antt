@@ -37,4 +37,5 @@ IsFirst faults (TwoLists location) = Begin faults (two_lists location.number)
 abbrev pub IsRefused : (Members → List Fault) → List ℕ → NoteFault → Type 0
 IsRefused faults_of bytes Memory = Unit {0}
 IsRefused faults_of bytes Toml = (document : Members) → ¬ IsDocument bytes document
-IsRefused faults_of bytes fault = (document : Members) × IsDocument bytes document × IsFirst (faults_of document) fault
+IsRefused faults_of bytes fault = (document : Members) × IsDocument bytes document
+    × IsFirst (faults_of document) fault

@@ -31,7 +31,8 @@ form_of _ = Plain
 abbrev pub keys_of : Form → List (List ℕ)
 keys_of Plain = codes "before" ∷ codes "after" ∷ codes "parity" ∷ []
 keys_of Units = codes "before" ∷ codes "after" ∷ codes "parity" ∷ codes "per" ∷ []
-keys_of Waits = codes "before" ∷ codes "after" ∷ codes "parity" ∷ codes "wait_min" ∷ codes "wait_max" ∷ []
+keys_of Waits =
+    codes "before" ∷ codes "after" ∷ codes "parity" ∷ codes "wait_min" ∷ codes "wait_max" ∷ []
 
 abbrev pub text_of : Parity → List ℕ
 text_of Any = codes "any"
@@ -50,8 +51,11 @@ HasNumber fields key n = get_member key fields ≡ Some (integer (pos n))
 -- they are 0
 abbrev pub HasRest : Form → Members → ℕ → ℕ → ℕ → Type 0
 HasRest Plain fields per wait_min wait_max = (per ≡ 0) × (wait_min ≡ 0) × (wait_max ≡ 0)
-HasRest Units fields per wait_min wait_max = HasNumber fields (codes "per") per × (wait_min ≡ 0) × (wait_max ≡ 0)
-HasRest Waits fields per wait_min wait_max = (per ≡ 0) × HasNumber fields (codes "wait_min") wait_min × HasNumber fields (codes "wait_max") wait_max
+HasRest Units fields per wait_min wait_max =
+    HasNumber fields (codes "per") per × (wait_min ≡ 0) × (wait_max ≡ 0)
+HasRest Waits fields per wait_min wait_max =
+    (per ≡ 0) × HasNumber fields (codes "wait_min") wait_min
+    × HasNumber fields (codes "wait_max") wait_max
 
 -- The table says what each operation's entry says.
 pub record IsPlain (fields : Members) (entry : Entry) : Type 0 where
@@ -67,7 +71,9 @@ pub record IsEntry (op : Op) (fields : Members) (entry : Entry) : Type 0 where
 
 -- The table of operations says this entry of an operation.
 abbrev pub SaysOperation : Members → Op → Entry → Type 0
-SaysOperation operations op entry = (fields : Members) × (get_member (key_of op) operations ≡ Some (table fields)) × IsEntry op fields entry
+SaysOperation operations op entry =
+    (fields : Members) × (get_member (key_of op) operations ≡ Some (table fields))
+    × IsEntry op fields entry
 
 -- The document says these entries, one for each operation, and nothing else.
 pub record IsTimes (document : Members) (times : Op → Entry) : Type 0 where
@@ -80,19 +86,23 @@ pub record IsTimes (document : Members) (times : Op → Entry) : Type 0 where
 -- the faults of the values that each entry has
 abbrev pub plain_faults : List ℕ → Members → List Fault
 plain_faults at fields =
-    whole 1 longest at (codes "before") fields ++ whole 0 longest at (codes "after") fields ++ text (map text_of (Any ∷ Even ∷ Odd ∷ [])) at (codes "parity") fields
+    whole 1 longest at (codes "before") fields ++ whole 0 longest at (codes "after") fields
+    ++ text (map text_of (Any ∷ Even ∷ Odd ∷ [])) at (codes "parity") fields
 
 -- the faults of the values of an entry that not every operation has
 abbrev pub rest_faults : Form → List ℕ → Members → List Fault
 rest_faults Plain at fields = []
 rest_faults Units at fields = whole 0 longest at (codes "per") fields
-rest_faults Waits at fields = whole 0 longest at (codes "wait_min") fields ++ whole (number_at (codes "wait_min") fields) longest at (codes "wait_max") fields
+rest_faults Waits at fields =
+    whole 0 longest at (codes "wait_min") fields
+    ++ whole (number_at (codes "wait_min") fields) longest at (codes "wait_max") fields
 
 -- The faults of an entry: unknown keys, missing keys, and then the values, each in the order of the
 -- keys.
 abbrev pub entry_faults : Op → List ℕ → Members → List Fault
 entry_faults op at fields =
-    unknown_in at (keys_of (form_of op)) fields ++ missing_in at (keys_of (form_of op)) fields ++ plain_faults at fields ++ rest_faults (form_of op) at fields
+    unknown_in at (keys_of (form_of op)) fields ++ missing_in at (keys_of (form_of op)) fields
+    ++ plain_faults at fields ++ rest_faults (form_of op) at fields
 
 -- the faults of what stands for an operation
 abbrev pub operation_faults : Members → Op → List Fault
@@ -100,12 +110,17 @@ operation_faults operations op =
     let path = codes "op." ++ key_of op in
     elim (get_member (key_of op) operations) [
       | None ↦ missing path ∷ []
-      | Some value ↦ (elim value [ table fields ↦ entry_faults op (path ++ codes ".") fields | _ ↦ kind path ∷ [] ])
+      | Some value ↦ (elim value [
+        | table fields ↦ entry_faults op (path ++ codes ".") fields
+        | _ ↦ kind path ∷ []
+      ])
     ]
 
 -- the faults of the table of operations: unknown keys, and then each operation in ascending order
 abbrev pub operations_faults : Data → List Fault
-operations_faults (table operations) = unknown_in (codes "op.") (map key_of ops) operations ++ flat_map (operation_faults operations) ops
+operations_faults (table operations) =
+    unknown_in (codes "op.") (map key_of ops) operations
+    ++ flat_map (operation_faults operations) ops
 operations_faults _ = kind (codes "op") ∷ []
 
 -- The faults of a document, in their order. The first is why it is refused, and what follows it has
@@ -113,4 +128,7 @@ operations_faults _ = kind (codes "op") ∷ []
 abbrev pub times_faults : Members → List Fault
 times_faults document =
     unknown_in [] (codes "op" ∷ []) document
-    ++ (elim (get_member (codes "op") document) [ None ↦ missing (codes "op") ∷ [] | Some value ↦ operations_faults value ])
+    ++ (elim (get_member (codes "op") document) [
+      | None ↦ missing (codes "op") ∷ []
+      | Some value ↦ operations_faults value
+    ])

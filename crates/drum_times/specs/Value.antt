@@ -12,4 +12,5 @@ fault_of Range path = range path
 
 -- the value is one of these texts, and it stands for this
 abbrev pub StandsFor : {T : Type 0} → List (List ℕ × T) → Data → T → Type 0
-StandsFor {T} choices value chosen = (text : List ℕ) × (value ≡ string text) × Contains {X = List ℕ × T} choices (text, chosen)
+StandsFor {T} choices value chosen = (text : List ℕ) × (value ≡ string text)
+    × Contains {X = List ℕ × T} choices (text, chosen)

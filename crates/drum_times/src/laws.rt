@@ -1,19 +1,45 @@
 //! Laws of the definitions, each the contract of a function that does nothing.
 
-ghost use Rattle.std.specs.Prelude.{◌≡◌, []};
+ghost use Rattle.std.specs.Prelude.{◌≡◌, ℕ, ◌⊎◌, ◌↔◌, List, [], map, Option, Any, Contains, IsSomeAnd};
+ghost use Rattle.std.specs.List.Sorted.{IsStrictlyIncreasing};
+ghost use Rattle.drum_core.specs.declared.instruction.Instruction.{Instruction};
 ghost use Rattle.drum_core.specs.declared.op.Op.{Op};
+ghost use Rattle.drum_core.specs.declared.word.Word.{Word};
+ghost use Rattle.drum_core.specs.Instruction.{instruction_of};
 ghost use Rattle.drum_times.specs.declared.entry.Entry.{Entry};
-ghost use Rattle.drum_times.specs.Allowed.{Notes};
+ghost use Rattle.drum_times.specs.declared.notes.pattern.Pattern.{Pattern};
+ghost use Rattle.drum_times.specs.Allowed.{Notes, allowed, matching, patterns_of, Matches};
 ghost use Rattle.drum_times.specs.NotesDocument.{IsNotes, notes_faults};
 ghost use Rattle.drum_times.specs.TimesDocument.{IsTimes, times_faults};
 ghost use Rattle.toml.specs.Data.{Members};
 
-/// A document that says a timing table has no fault: so what says one is read, memory aside.
+/// A document says a timing table exactly if it has no fault: so what says one is read, memory
+/// aside, and what says none is refused.
 pub fn says_times()
-    ensures { (document : Members) (times : Op → Entry) → IsTimes document times → times_faults document ≡ [] }
+    ensures right { (document : Members) (times : Op → Entry) → IsTimes document times
+        → times_faults document ≡ [] }
+    ensures said { (document : Members) → times_faults document ≡ []
+        → (times : Op → Entry) × IsTimes document times }
 {}
 
-/// A document that says notes has no fault: so what says them is read, memory aside.
+/// And notes likewise.
 pub fn says_notes()
-    ensures { (document : Members) (notes : Notes) → IsNotes document notes → notes_faults document ≡ [] }
+    ensures right { (document : Members) (notes : Notes) → IsNotes document notes
+        → notes_faults document ≡ [] }
+    ensures said { (document : Members) → notes_faults document ≡ []
+        → (notes : Notes) × IsNotes document notes }
+{}
+
+/// The instructions that are listed for a pattern are those that match it, each once, D ascending.
+/// So what is allowed at a location is what the deck loads there, and what matches a pattern of its
+/// list.
+pub fn listed_is_what_matches()
+    ensures listed { (pattern : Pattern) (ins : Instruction) → Contains (matching pattern) ins
+        ↔ Matches pattern ins }
+    ensures once { (pattern : Pattern)
+        → IsStrictlyIncreasing (map (λ ins. ins.d) (matching pattern)) }
+    ensures allowed { (loads : ℕ → Option Word) (notes : Notes) (location : ℕ) (ins : Instruction)
+        → Contains (allowed loads notes location) ins
+        ↔ (IsSomeAnd (loads location) (λ word. instruction_of word ≡ ins)
+        ⊎ IsSomeAnd (patterns_of notes location) (Any (λ pattern. Matches pattern ins))) }
 {}

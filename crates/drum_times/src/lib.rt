@@ -2,12 +2,12 @@
 #![tactic(auto)]
 
 mod document;
-pub mod entry;
-pub mod fault;
-pub mod key_path;
+mod entry;
+mod fault;
+mod key_path;
 pub mod laws;
-pub mod notes;
-pub mod times;
+mod notes;
+mod times;
 
 pub use entry::Entry;
 pub use fault::NoteFault;

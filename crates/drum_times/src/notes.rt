@@ -50,7 +50,8 @@ impl Model for Notes {
 impl Notes {
     /// The patterns of a listed location, 1 to 64; `None` for one that isn't listed.
     pub fn patterns(&self, location: Location) -> Option<&[Pattern]>
-        ensures { option_map (λ patterns. patterns.now) result ≡ said.patterns_of self.now location.number }
+        ensures { option_map (λ patterns. patterns.now) result
+            ≡ said.patterns_of self.now location.number }
     {
         Listing::patterns_in(&self.lists, location)
     }

@@ -24,8 +24,10 @@ pub trait Element: Sized {
     /// The element at a place, from 0.
     fn read(fields: &Fields<'_>, place: usize) -> Result<Self, NoteFault>
         ensures said { IfOk result (says place (table_view fields.now.table.now)) }
-        ensures none { IfOk result (λ _. faults (place + 1) fields.now.at.now (table_view fields.now.table.now) ≡ []) }
-        ensures first { IfErr result (IsFirst (faults (place + 1) fields.now.at.now (table_view fields.now.table.now))) };
+        ensures none { IfOk result (λ _. faults (place + 1) fields.now.at.now
+            (table_view fields.now.table.now) ≡ []) }
+        ensures first { IfErr result (IsFirst
+            (faults (place + 1) fields.now.at.now (table_view fields.now.table.now))) };
 }
 
 impl Fields<'_> {
@@ -37,10 +39,15 @@ impl Fields<'_> {
         low: usize,
         high: Option<usize>,
     ) -> Result<Vec<T>, NoteFault>
-        ensures said { IfOk result (λ elements. HasTables T.says (table_view self.now.table.now) key.now elements.items) }
-        ensures count { IfOk result (λ elements. IsSome (get_member key.now (table_view self.now.table.now)) → document.is_count low high (length elements.items) ≡ true) }
-        ensures none { IfOk result (λ _. document.tables low high T.faults self.now.at.now key.now (table_view self.now.table.now) ≡ []) }
-        ensures first { IfErr result (IsFirst (document.tables low high T.faults self.now.at.now key.now (table_view self.now.table.now))) }
+        ensures said { IfOk result (λ elements.
+            HasTables T.says (table_view self.now.table.now) key.now elements.items) }
+        ensures count { IfOk result (λ elements.
+            IsSome (get_member key.now (table_view self.now.table.now))
+            → document.is_count low high (length elements.items) ≡ true) }
+        ensures none { IfOk result (λ _. document.tables low high T.faults
+            self.now.at.now key.now (table_view self.now.table.now) ≡ []) }
+        ensures first { IfErr result (IsFirst (document.tables low high T.faults
+            self.now.at.now key.now (table_view self.now.table.now))) }
     {
         let Some(value) = self.get(key) else {
             return Ok(Vec::new(self.alloc));
@@ -72,10 +79,13 @@ fn read_elements<T: Element + Drop>(
     path: &str,
     items: &[Value],
 ) -> Result<Vec<T>, NoteFault>
-    ensures said { IfOk result (λ elements. AreTables T.says 0 (items_view items.now) elements.items) }
+    ensures said { IfOk result (λ elements.
+        AreTables T.says 0 (items_view items.now) elements.items) }
     ensures count { IfOk result (λ elements. length elements.items ≡ length items.now) }
-    ensures none { IfOk result (λ _. document.elements_faults T.faults path.now 1 (items_view items.now) ≡ []) }
-    ensures first { IfErr result (IsFirst (document.elements_faults T.faults path.now 1 (items_view items.now))) }
+    ensures none { IfOk result (λ _.
+        document.elements_faults T.faults path.now 1 (items_view items.now) ≡ []) }
+    ensures first { IfErr result (IsFirst
+        (document.elements_faults T.faults path.now 1 (items_view items.now))) }
 {
     let mut elements = Vec::new(alloc);
     for (place, value) in items.iter().enumerate() {
@@ -96,8 +106,10 @@ fn read_element<T: Element>(
 ) -> Result<T, NoteFault>
     requires { place + 1 < 2 ^ 64 }
     ensures said { IfOk result (IsTable T.says place (view value.now)) }
-    ensures none { IfOk result (λ _. document.element_faults T.faults (place + 1) (path.now ++ codes "." ++ decimal (place + 1)) (view value.now) ≡ []) }
-    ensures first { IfErr result (IsFirst (document.element_faults T.faults (place + 1) (path.now ++ codes "." ++ decimal (place + 1)) (view value.now))) }
+    ensures none { IfOk result (λ _. document.element_faults T.faults (place + 1)
+        (path.now ++ codes "." ++ decimal (place + 1)) (view value.now) ≡ []) }
+    ensures first { IfErr result (IsFirst (document.element_faults T.faults (place + 1)
+        (path.now ++ codes "." ++ decimal (place + 1)) (view value.now))) }
 {
     let mut at = element_path(alloc, path, place)?;
     let Some(table) = value.as_table() else {

@@ -29,8 +29,12 @@ impl Fields<'_> {
 
     /// The table at a key.
     pub fn table(&self, key: &str) -> Result<&Table, NoteFault>
-        ensures found { IfOk result (λ found. get_member key.now (table_view self.now.table.now) ≡ Some (toml_table (table_view found.now))) }
-        ensures first { IfErr result (IsFirst (document.missing_in self.now.at.now (key.now ∷ []) (table_view self.now.table.now) ++ document.at_key (document.element_faults (λ _ _ _. []) 0) self.now.at.now key.now (table_view self.now.table.now))) }
+        ensures found { IfOk result (λ found. get_member key.now (table_view self.now.table.now)
+            ≡ Some (toml_table (table_view found.now))) }
+        ensures first { IfErr result (IsFirst
+            (document.required
+            (document.at_key (document.element_faults (λ _ _ _. []) 0)) self.now.at.now key.now
+            (table_view self.now.table.now))) }
     {
         match self.value(key)?.as_table() {
             Some(table) => Ok(table),
@@ -43,7 +47,9 @@ impl Fields<'_> {
         ensures found { IfOk result (HasNumber (table_view self.now.table.now) key.now) }
         ensures low { IfOk result (λ number. low ≤ number) }
         ensures high { IfOk result (λ number. number ≤ high) }
-        ensures first { IfErr result (IsFirst (document.missing_in self.now.at.now (key.now ∷ []) (table_view self.now.table.now) ++ document.whole low high self.now.at.now key.now (table_view self.now.table.now))) }
+        ensures first { IfErr result (IsFirst
+            (document.required (document.whole low high)
+            self.now.at.now key.now (table_view self.now.table.now))) }
     {
         match wrong::whole_number(self.value(key)?, low, high) {
             Ok(number) => Ok(number),
@@ -53,8 +59,11 @@ impl Fields<'_> {
 
     /// The location at a key.
     pub fn location(&self, key: &str) -> Result<Location, NoteFault>
-        ensures found { IfOk result (λ location. HasNumber (table_view self.now.table.now) key.now location.number) }
-        ensures first { IfErr result (IsFirst (document.missing_in self.now.at.now (key.now ∷ []) (table_view self.now.table.now) ++ document.location self.now.at.now key.now (table_view self.now.table.now))) }
+        ensures found { IfOk result (λ location.
+            HasNumber (table_view self.now.table.now) key.now location.number) }
+        ensures first { IfErr result (IsFirst
+            (document.required document.location
+            self.now.at.now key.now (table_view self.now.table.now))) }
     {
         match wrong::location(self.value(key)?) {
             Ok(location) => Ok(location),
@@ -64,10 +73,13 @@ impl Fields<'_> {
 
     /// What the text at a key stands for.
     pub fn choice<T: Copy + Drop>(&self, key: &str, choices: &[(&str, T)]) -> Result<T, NoteFault>
-        ensures found { IfOk result (λ chosen. (value : Data) × (get_member key.now (table_view self.now.table.now) ≡ Some value)
+        ensures found { IfOk result (λ chosen. (value : Data)
+            × (get_member key.now (table_view self.now.table.now) ≡ Some value)
             × StandsFor (map (λ choice. (choice.0.now, choice.1)) choices.now) value chosen) }
-        ensures first { IfErr result (IsFirst (document.missing_in self.now.at.now (key.now ∷ []) (table_view self.now.table.now)
-            ++ document.text (map (λ choice. choice.0.now) choices.now) self.now.at.now key.now (table_view self.now.table.now))) }
+        ensures first { IfErr result (IsFirst
+            (document.required
+            (document.text (map (λ choice. choice.0.now) choices.now)) self.now.at.now key.now
+            (table_view self.now.table.now))) }
     {
         match wrong::choice(self.value(key)?, choices) {
             Ok(chosen) => Ok(chosen),

@@ -23,7 +23,9 @@ pub fn whole_number(value: &Value, low: u64, high: u64) -> Result<u64, Wrong>
     ensures found { IfOk result (λ n. view value.now ≡ integer (pos n)) }
     ensures low { IfOk result (λ n. low ≤ n) }
     ensures high { IfOk result (λ n. n ≤ high) }
-    ensures wrong { IfErr result (λ wrong. (path : List ℕ) → document.number_faults path (λ n. nat_le low n && nat_le n high) (view value.now) ≡ fault_of wrong path ∷ []) }
+    ensures wrong { IfErr result (λ wrong. (path : List ℕ)
+        → document.number_faults path (λ n. nat_le low n && nat_le n high) (view value.now)
+        ≡ fault_of wrong path ∷ []) }
 {
     let Some(number) = value.as_integer() else {
         return Err(Wrong::Kind);
@@ -37,7 +39,8 @@ pub fn whole_number(value: &Value, low: u64, high: u64) -> Result<u64, Wrong>
 /// The location whose number a value is.
 pub fn location(value: &Value) -> Result<Location, Wrong>
     ensures found { IfOk result (λ location. view value.now ≡ integer (pos location.number)) }
-    ensures wrong { IfErr result (λ wrong. (path : List ℕ) → document.number_faults path is_location (view value.now) ≡ fault_of wrong path ∷ []) }
+    ensures wrong { IfErr result (λ wrong. (path : List ℕ)
+        → document.number_faults path is_location (view value.now) ≡ fault_of wrong path ∷ []) }
 {
     let number = whole_number(value, 0, 9999)?;
     Location::new(number as u16).ok_or(Wrong::Range)
@@ -45,8 +48,11 @@ pub fn location(value: &Value) -> Result<Location, Wrong>
 
 /// What the text that a value is stands for.
 pub fn choice<T: Copy + Drop>(value: &Value, choices: &[(&str, T)]) -> Result<T, Wrong>
-    ensures found { IfOk result (StandsFor (map (λ choice. (choice.0.now, choice.1)) choices.now) (view value.now)) }
-    ensures wrong { IfErr result (λ wrong. (path : List ℕ) → document.text_faults path (map (λ choice. choice.0.now) choices.now) (view value.now) ≡ fault_of wrong path ∷ []) }
+    ensures found { IfOk result (StandsFor (map (λ choice. (choice.0.now, choice.1)) choices.now)
+        (view value.now)) }
+    ensures wrong { IfErr result (λ wrong. (path : List ℕ)
+        → document.text_faults path (map (λ choice. choice.0.now) choices.now) (view value.now)
+        ≡ fault_of wrong path ∷ []) }
 {
     let Some(text) = value.as_str() else {
         return Err(Wrong::Kind);

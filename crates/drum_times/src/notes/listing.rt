@@ -19,7 +19,8 @@ impl Listing {
 
     /// The patterns of a location, where one of the lists is for it.
     pub fn patterns_in(lists: &[Listing], location: Location) -> Option<&[Pattern]>
-        ensures { option_map (λ patterns. patterns.now) result ≡ said.patterns_in (map listed lists.now) location.number }
+        ensures { option_map (λ patterns. patterns.now) result
+            ≡ said.patterns_in (map listed lists.now) location.number }
     {
         for list in lists {
             if list.location.number == location.number {

@@ -30,10 +30,12 @@ const LOAD_CARDS: [(&str, bool); 2] = [("none", false), ("any", true)];
 ///
 /// # Errors
 ///
-/// Toml or Memory; then the first of: the unknown keys in byte order, the missing keys, what is wrong with
-/// `programmed`, `load_cards`, the marks and the lists; two marks on one edge, two lists for one location.
+/// Toml or Memory; then the first of: the unknown keys in byte order, the missing keys, what is
+/// wrong with `programmed`, `load_cards`, the marks and the lists; two marks on one edge, two lists
+/// for one location.
 pub fn read_notes(alloc: Global, bytes: &[u8]) -> Result<Notes, NoteFault>
-    ensures read { IfOk result (λ notes. (whole : Members) × IsDocument bytes.now whole × said.IsNotes whole notes) }
+    ensures read { IfOk result (λ notes. (whole : Members) × IsDocument bytes.now whole
+        × said.IsNotes whole notes) }
     ensures refused { IfErr result (IsRefused said.notes_faults bytes.now) }
 {
     let table = read_document(alloc, bytes)?;

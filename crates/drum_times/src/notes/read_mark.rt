@@ -32,8 +32,10 @@ impl Element for Mark {
 /// The place of the mark that the one at this place stands inside of.
 fn read_inside(fields: &Fields<'_>, place: usize) -> Result<Option<usize>, NoteFault>
     ensures said { IfOk result (said.HasInside place (table_view fields.now.table.now)) }
-    ensures none { IfOk result (λ _. said.inside_faults place fields.now.at.now (table_view fields.now.table.now) ≡ []) }
-    ensures first { IfErr result (IsFirst (said.inside_faults place fields.now.at.now (table_view fields.now.table.now))) }
+    ensures none { IfOk result (λ _.
+        said.inside_faults place fields.now.at.now (table_view fields.now.table.now) ≡ []) }
+    ensures first { IfErr result (IsFirst
+        (said.inside_faults place fields.now.at.now (table_view fields.now.table.now))) }
 {
     if fields.get("inside").is_none() {
         return Ok(None);

@@ -12,7 +12,8 @@ use drum_core::Location;
 /// The edge of the first mark whose edge an earlier one has.
 pub fn repeated_edge(marks: &[Mark]) -> Option<(Location, Location)>
     ensures none { IfNone result (said.edge_faults [] (map said.edge_of marks.now) ≡ []) }
-    ensures first { IfSome result (λ edge. Begin (said.edge_faults [] (map said.edge_of marks.now)) (two_marks edge.0.number edge.1.number)) }
+    ensures first { IfSome result (λ edge. Begin (said.edge_faults [] (map said.edge_of marks.now))
+        (two_marks edge.0.number edge.1.number)) }
 {
     for (place, mark) in marks.iter().enumerate() {
         if has_edge(&marks[..place], mark) {
@@ -35,8 +36,10 @@ fn has_edge(marks: &[Mark], mark: &Mark) -> bool
 
 /// The location of the first list for whose location an earlier one is.
 pub fn repeated_location(lists: &[Listing]) -> Option<Location>
-    ensures none { IfNone result (said.location_faults [] (map (λ list. list.location.number) lists.now) ≡ []) }
-    ensures first { IfSome result (λ location. Begin (said.location_faults [] (map (λ list. list.location.number) lists.now)) (two_lists location.number)) }
+    ensures none { IfNone result (said.location_faults []
+        (map (λ list. list.location.number) lists.now) ≡ []) }
+    ensures first { IfSome result (λ location. Begin (said.location_faults []
+        (map (λ list. list.location.number) lists.now)) (two_lists location.number)) }
 {
     for (place, list) in lists.iter().enumerate() {
         if has_location(&lists[..place], list.location) {
@@ -47,7 +50,8 @@ pub fn repeated_location(lists: &[Listing]) -> Option<Location>
 }
 
 fn has_location(lists: &[Listing], location: Location) -> bool
-    ensures { result ≡ said.has_location (map (λ list. list.location.number) lists.now) location.number }
+    ensures { result
+        ≡ said.has_location (map (λ list. list.location.number) lists.now) location.number }
 {
     for one in lists {
         if one.location.number == location.number {

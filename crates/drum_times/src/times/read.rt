@@ -27,7 +27,8 @@ use toml::Table;
 /// another kind; in `op` the unknown keys in byte order; and each operation in ascending order, as
 /// [`NoteFault`] names them.
 pub fn read_times(alloc: Global, bytes: &[u8]) -> Result<Times, NoteFault>
-    ensures read { IfOk result (λ times. (whole : Members) × IsDocument bytes.now whole × document.IsTimes whole (entry_in times)) }
+    ensures read { IfOk result (λ times. (whole : Members) × IsDocument bytes.now whole
+        × document.IsTimes whole (entry_in times)) }
     ensures refused { IfErr result (IsRefused document.times_faults bytes.now) }
 {
     let table = read_document(alloc, bytes)?;
@@ -59,8 +60,10 @@ fn read_table(alloc: Global, table: &Table) -> Result<Times, NoteFault>
 fn read_entries(operations: &Fields<'_>, keys: &[&str], ops: &[Op]) -> Result<Times, NoteFault>
     requires here { operations.now.at.now ≡ codes "op." }
     requires keyed { map (λ key. key.now) keys.now ≡ map document.key_of ops.now }
-    ensures said { IfOk result (λ times. (k : ℕ) (op : Op) → slice_get ops.now k ≡ Some op → document.SaysOperation (table_view operations.now.table.now) op (entry_in times op)) }
-    ensures first { IfErr result (IsFirst (flat_map (document.operation_faults (table_view operations.now.table.now)) ops.now)) }
+    ensures said { IfOk result (λ times. (k : ℕ) (op : Op) → slice_get ops.now k ≡ Some op
+        → document.SaysOperation (table_view operations.now.table.now) op (entry_in times op)) }
+    ensures first { IfErr result (IsFirst (flat_map
+        (document.operation_faults (table_view operations.now.table.now)) ops.now)) }
 {
     let blank = Entry {
         before: 1,
@@ -85,8 +88,10 @@ fn read_operation(operations: &Fields<'_>, key: &str, op: Op) -> Result<Entry, N
     requires here { operations.now.at.now ≡ codes "op." }
     requires keyed { key.now ≡ document.key_of op }
     ensures said { IfOk result (document.SaysOperation (table_view operations.now.table.now) op) }
-    ensures none { IfOk result (λ _. document.operation_faults (table_view operations.now.table.now) op ≡ []) }
-    ensures first { IfErr result (IsFirst (document.operation_faults (table_view operations.now.table.now) op)) }
+    ensures none { IfOk result (λ _.
+        document.operation_faults (table_view operations.now.table.now) op ≡ []) }
+    ensures first { IfErr result (IsFirst
+        (document.operation_faults (table_view operations.now.table.now) op)) }
 {
     let at = operations.inside(key)?;
     let fields = Fields {

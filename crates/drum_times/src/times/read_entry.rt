@@ -53,10 +53,13 @@ const PARITIES: [(&str, Parity); 3] = [
 /// What each operation's entry says, and nothing of what only some have. None of its keys is
 /// missing.
 fn read_plain(fields: &Fields<'_>) -> Result<Entry, NoteFault>
-    requires { missing_in fields.now.at.now (document.keys_of Form.Plain) (table_view fields.now.table.now) ≡ [] }
+    requires { missing_in fields.now.at.now (document.keys_of Form.Plain)
+        (table_view fields.now.table.now) ≡ [] }
     ensures said { IfOk result (document.IsPlain (table_view fields.now.table.now)) }
-    ensures none { IfOk result (λ _. document.plain_faults fields.now.at.now (table_view fields.now.table.now) ≡ []) }
-    ensures first { IfErr result (IsFirst (document.plain_faults fields.now.at.now (table_view fields.now.table.now))) }
+    ensures none { IfOk result (λ _.
+        document.plain_faults fields.now.at.now (table_view fields.now.table.now) ≡ []) }
+    ensures first { IfErr result (IsFirst
+        (document.plain_faults fields.now.at.now (table_view fields.now.table.now))) }
 {
     let before = fields.whole_number("before", 1, LONGEST)?;
     let after = fields.whole_number("after", 0, LONGEST)?;
@@ -83,10 +86,14 @@ struct Rest {
 
 /// What an entry of a form says beside what each says. None of its keys is missing.
 fn read_rest(fields: &Fields<'_>, form: Form) -> Result<Rest, NoteFault>
-    requires { missing_in fields.now.at.now (document.keys_of form) (table_view fields.now.table.now) ≡ [] }
-    ensures said { IfOk result (λ rest. document.HasRest form (table_view fields.now.table.now) rest.per rest.wait_min rest.wait_max) }
-    ensures none { IfOk result (λ _. document.rest_faults form fields.now.at.now (table_view fields.now.table.now) ≡ []) }
-    ensures first { IfErr result (IsFirst (document.rest_faults form fields.now.at.now (table_view fields.now.table.now))) }
+    requires { missing_in fields.now.at.now (document.keys_of form)
+        (table_view fields.now.table.now) ≡ [] }
+    ensures said { IfOk result (λ rest. document.HasRest form
+        (table_view fields.now.table.now) rest.per rest.wait_min rest.wait_max) }
+    ensures none { IfOk result (λ _.
+        document.rest_faults form fields.now.at.now (table_view fields.now.table.now) ≡ []) }
+    ensures first { IfErr result (IsFirst
+        (document.rest_faults form fields.now.at.now (table_view fields.now.table.now))) }
 {
     let (per, wait_min, wait_max) = match form {
         Form::Plain => (0, 0, 0),
@@ -110,8 +117,10 @@ fn read_rest(fields: &Fields<'_>, form: Form) -> Result<Rest, NoteFault>
 /// The entry of an operation, from the table that stands for it.
 pub fn read_entry(fields: &Fields<'_>, op: Op) -> Result<Entry, NoteFault>
     ensures said { IfOk result (document.IsEntry op (table_view fields.now.table.now)) }
-    ensures none { IfOk result (λ _. document.entry_faults op fields.now.at.now (table_view fields.now.table.now) ≡ []) }
-    ensures first { IfErr result (IsFirst (document.entry_faults op fields.now.at.now (table_view fields.now.table.now))) }
+    ensures none { IfOk result (λ _.
+        document.entry_faults op fields.now.at.now (table_view fields.now.table.now) ≡ []) }
+    ensures first { IfErr result (IsFirst
+        (document.entry_faults op fields.now.at.now (table_view fields.now.table.now))) }
 {
     let form = form_of(op);
     let keys = keys_of(form);
