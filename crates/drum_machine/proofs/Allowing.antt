@@ -1,46 +1,15 @@
 -- Which instructions lists allow, of what is compared.
-use Rattle.std.proofs.Common.{◌≡◌, Bool, true, false, subst, ℕ, zero, suc, ◌+◌, ◌-◌, ◌<◌, List, [], ◌∷◌, ◌++◌, length, get_or, refl, ap, sym, ◌∙◌, inl, inr, arith}
+use Rattle.std.proofs.Common.{◌≡◌, Bool, true, false, subst, ℕ, zero, suc, ◌<◌, List, [], ◌∷◌, ◌++◌, length, get_or, refl, ap, inl, inr, arith}
 use Rattle.std.specs.Prelude.{flat_map, ◌==◌, ◌&&◌, IsTrue, is_some, Option, Some}
 use Rattle.std.specs.Bool.{MatchBool}
 use Rattle.std.proofs.lemmas.Bool.Decides.{nat_tests}
 use Rattle.std.specs.List.{Contains}
 use Rattle.std.proofs.lemmas.List.Elements.{Contains-append_left, Contains-append_right, Contains-append_cases}
-use Rattle.std.proofs.lemmas.List.FromFn.{length-map-range_with_len, get_or-map-range_with_len}
 use Rattle.drum_core.specs.declared.instruction.Instruction.{Instruction}
-use Rattle.drum_core.specs.Instruction.{instruction}
 use Rattle.drum_core.proofs.Same.{same_instruction}
 use Rattle.drum_times.specs.declared.notes.pattern.Pattern.{Pattern}
 use Rattle.drum_times.specs.Allowed.{Matches, matching, listed}
-
--- the instruction of a pattern with this D
-abbrev instruction_at : Pattern → ℕ → Instruction
-instruction_at p d = instruction p.op d p.i
-
--- what matches a pattern is among its instructions
-pub matching_has : (p : Pattern) (ins : Instruction) → Matches p ins → Contains (matching p) ins
-matching_has p ins matches =
-    let all : length (matching p) ≡ suc p.d_to - p.d_from = length-map-range_with_len (instruction_at p) p.d_from (suc p.d_to - p.d_from) in
-    let within : ins.d - p.d_from < suc p.d_to - p.d_from = omega (arith, matches.from, matches.to) in
-    let there = get_or-map-range_with_len (instruction_at p) p.d_from (suc p.d_to - p.d_from) (ins.d - p.d_from) (p.d_from + (ins.d - p.d_from)) ins within refl in
-    let same : instruction_at p (p.d_from + (ins.d - p.d_from)) ≡ ins =
-    same_instruction (instruction_at p (p.d_from + (ins.d - p.d_from))) ins (omega (arith, matches.same_op, p.two)) (omega (arith, matches.from, ins.four)) (omega (arith, matches.same_i, p.next_four)) in
-    (ins.d - p.d_from, omega (arith, all, within), there ∙ same)
-
--- and what is among them matches
-pub has_matching : (p : Pattern) (ins : Instruction) → Contains (matching p) ins → Matches p ins
-has_matching p ins has =
-    let all : length (matching p) ≡ suc p.d_to - p.d_from = length-map-range_with_len (instruction_at p) p.d_from (suc p.d_to - p.d_from) in
-    let within : has.0 < suc p.d_to - p.d_from = omega (arith, all, has.1) in
-    let same : instruction_at p (p.d_from + has.0) ≡ ins = sym (get_or-map-range_with_len (instruction_at p) p.d_from (suc p.d_to - p.d_from) has.0 (p.d_from + has.0) ins within refl) ∙ has.2 in
-    let op : (instruction_at p (p.d_from + has.0)).op ≡ ins.op = ap (λ (v : Instruction). v.op) same in
-    let d : (instruction_at p (p.d_from + has.0)).d ≡ ins.d = ap (λ (v : Instruction). v.d) same in
-    let i : (instruction_at p (p.d_from + has.0)).i ≡ ins.i = ap (λ (v : Instruction). v.i) same in
-    record {
-      same_op = omega (arith, op, p.two);
-      from = omega (arith, d, within, p.four, p.ordered);
-      to = omega (arith, d, within, p.four, p.ordered);
-      same_i = omega (arith, i, p.next_four);
-    }
+use Rattle.drum_times.proofs.Matching.{matching_has, has_matching}
 
 -- what matches one of the patterns is allowed by them
 pub allowed_by_one : (ps : List Pattern) (k : ℕ) (d : Pattern) (ins : Instruction) → k < length ps → Matches (get_or ps k d) ins → Contains (flat_map matching ps) ins

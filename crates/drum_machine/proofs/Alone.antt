@@ -13,8 +13,8 @@ use Rattle.drum_times.specs.declared.entry.Entry.{Entry}
 use Rattle.drum_machine.specs.declared.card.Card.{Card}
 use Rattle.drum_machine.specs.Contents.{Contents, word_at}
 use Rattle.drum_machine.specs.Effect.{effect, with_words, band, reads, takes, after_test, digit_at, is_too_large, amount_of, product}
-use Rattle.drum_machine.proofs.Going.{IfGoes, goes_if, keeps_goes, divides, digit_goes, step_on}
-use Rattle.drum_machine.specs.Step.{State, on, step, instruction_in, is_operand}
+use Rattle.drum_machine.proofs.Going.{left_by, left_if, keeps_left, division_left, digit_left, step_leaves}
+use Rattle.drum_machine.specs.Step.{State, contents_after, step, instruction_in, is_operand}
 use Rattle.drum_machine.specs.Writes.{written_by, writes_with, writes}
 
 -- a word that is put in one place leaves the others
@@ -44,8 +44,8 @@ module _ (place : ℕ) where
   abbrev Keeps : Contents → Contents → Type 0
   Keeps c after = slice_get after.drum place ≡ slice_get c.drum place
 
-  read_keeps : (c : Contents) (cards : List Card) (d i : ℕ) → ¬ Contains (range_with_len (band d + 1) 10) place → IfGoes (Keeps c) (reads c cards d i)
-  read_keeps c [] d i free = tt
+  read_keeps : (c : Contents) (cards : List Card) (d i : ℕ) → ¬ Contains (range_with_len (band d + 1) 10) place → Keeps c (left_by (reads c cards d i))
+  read_keeps c [] d i free = refl
   read_keeps c (card ∷ cards) d i free =
       words_elsewhere card.words c.drum (band d + 1) place
       (λ k below same. free (subst (Contains (range_with_len (band d + 1) 10)) (sym same) (range_has (band d + 1) 10 k (omega (arith, below, card.ten)))))
@@ -59,14 +59,14 @@ module _ (place : ℕ) where
   test_keeps branch.Minus c = refl
   test_keeps branch.Overflow c = refl
 
-  effect_keeps : (c : Contents) (op : Op) (d i : ℕ) → is_operand (operand_of op) d ≡ true → ¬ Contains (writes_with (Some op) d) place → IfGoes (Keeps c) (effect c op d i)
+  effect_keeps : (c : Contents) (op : Op) (d i : ℕ) → is_operand (operand_of op) d ≡ true → ¬ Contains (writes_with (Some op) d) place → Keeps c (left_by (effect c op d i))
   effect_keeps c NoOperation d i wanted free = refl
-  effect_keeps c Stop d i wanted free = goes_if (Keeps c) c.programmed_stops _ _ tt refl
-  effect_keeps c (Add a) d i wanted free = keeps_goes (Keeps c) (takes c (word_at c d)) (c.accumulator +ℤ amount_of a (number_in (word_at c d))) i refl (λ _. refl)
+  effect_keeps c Stop d i wanted free = left_if (Keeps c) c.programmed_stops _ _ refl refl
+  effect_keeps c (Add a) d i wanted free = keeps_left (Keeps c) (takes c (word_at c d)) (c.accumulator +ℤ amount_of a (number_in (word_at c d))) i refl (λ _. refl)
   effect_keeps c (ResetAdd a) d i wanted free = refl
-  effect_keeps c Divide d i wanted free = divides (Keeps c) (is_too_large c.accumulator (number_in (word_at c d))) _ i (λ _. refl)
-  effect_keeps c DivideReset d i wanted free = divides (Keeps c) (is_too_large c.accumulator (number_in (word_at c d))) _ i (λ _. refl)
-  effect_keeps c Multiply d i wanted free = keeps_goes (Keeps c) (takes c (word_at c d)) (product c.accumulator (number_in (word_at c d))) i refl (λ _. refl)
+  effect_keeps c Divide d i wanted free = division_left (Keeps c) (is_too_large c.accumulator (number_in (word_at c d))) _ _ i refl (λ _. refl)
+  effect_keeps c DivideReset d i wanted free = division_left (Keeps c) (is_too_large c.accumulator (number_in (word_at c d))) _ _ i refl (λ _. refl)
+  effect_keeps c Multiply d i wanted free = keeps_left (Keeps c) (takes c (word_at c d)) (product c.accumulator (number_in (word_at c d))) i refl (λ _. refl)
   effect_keeps c (Store s) d i wanted free =
       put_elsewhere c.drum d place _ (λ same. wanted_free (Store s) d wanted free (0, omega arith, sym same))
   effect_keeps c (Shift s) d i wanted free = refl
@@ -74,13 +74,13 @@ module _ (place : ℕ) where
   effect_keeps c LoadDistributor d i wanted free = refl
   effect_keeps c Read d i wanted free = read_keeps c c.cards d i (wanted_free Read d wanted free)
   effect_keeps c Punch d i wanted free = refl
-  effect_keeps c (BranchOnDigit p) d i wanted free = digit_goes (Keeps c) c (digit_at p c.distributor) d i refl
+  effect_keeps c (BranchOnDigit p) d i wanted free = digit_left (Keeps c) c (digit_at p c.distributor) d i refl
 
 -- A step alters no drum word but those that its instruction writes.
-pub writes_no_other : (times : Op → Entry) (s : State) (wait : ℕ) (next : State) (place : ℕ) → step times s wait ≡ on next
-    → ¬ Contains (writes (instruction_in s)) place → slice_get next.contents.drum place ≡ slice_get s.contents.drum place
-writes_no_other times s wait next place goes_on free =
-    step_on (λ after. slice_get after.drum place ≡ slice_get s.contents.drum place) times s wait next goes_on
+pub writes_no_other : (times : Op → Entry) (s : State) (wait place : ℕ) → ¬ Contains (writes (instruction_in s)) place
+    → slice_get (contents_after (step times s wait)).drum place ≡ slice_get s.contents.drum place
+writes_no_other times s wait place free =
+    step_leaves (λ after. slice_get after.drum place ≡ slice_get s.contents.drum place) times s wait refl
     (λ op is wanted. effect_keeps place s.contents op (instruction_in s).d (instruction_in s).i wanted
     (subst (λ (o : Option Op). ¬ Contains (writes_with o (instruction_in s).d) place) is free))
 
@@ -93,28 +93,27 @@ test_switch branch.NonZero c = refl
 test_switch branch.Minus c = refl
 test_switch branch.Overflow c = refl
 
-read_switch : (c : Contents) (cards : List Card) (d i : ℕ) → IfGoes (SameSwitch c) (reads c cards d i)
-read_switch c [] d i = tt
+read_switch : (c : Contents) (cards : List Card) (d i : ℕ) → SameSwitch c (left_by (reads c cards d i))
+read_switch c [] d i = refl
 read_switch c (card ∷ cards) d i = refl
 
-effect_switch : (c : Contents) (op : Op) (d i : ℕ) → IfGoes (SameSwitch c) (effect c op d i)
+effect_switch : (c : Contents) (op : Op) (d i : ℕ) → SameSwitch c (left_by (effect c op d i))
 effect_switch c NoOperation d i = refl
-effect_switch c Stop d i = goes_if (SameSwitch c) c.programmed_stops _ _ tt refl
-effect_switch c (Add a) d i = keeps_goes (SameSwitch c) (takes c (word_at c d)) (c.accumulator +ℤ amount_of a (number_in (word_at c d))) i refl (λ _. refl)
+effect_switch c Stop d i = left_if (SameSwitch c) c.programmed_stops _ _ refl refl
+effect_switch c (Add a) d i = keeps_left (SameSwitch c) (takes c (word_at c d)) (c.accumulator +ℤ amount_of a (number_in (word_at c d))) i refl (λ _. refl)
 effect_switch c (ResetAdd a) d i = refl
-effect_switch c Divide d i = divides (SameSwitch c) (is_too_large c.accumulator (number_in (word_at c d))) _ i (λ _. refl)
-effect_switch c DivideReset d i = divides (SameSwitch c) (is_too_large c.accumulator (number_in (word_at c d))) _ i (λ _. refl)
-effect_switch c Multiply d i = keeps_goes (SameSwitch c) (takes c (word_at c d)) (product c.accumulator (number_in (word_at c d))) i refl (λ _. refl)
+effect_switch c Divide d i = division_left (SameSwitch c) (is_too_large c.accumulator (number_in (word_at c d))) _ _ i refl (λ _. refl)
+effect_switch c DivideReset d i = division_left (SameSwitch c) (is_too_large c.accumulator (number_in (word_at c d))) _ _ i refl (λ _. refl)
+effect_switch c Multiply d i = keeps_left (SameSwitch c) (takes c (word_at c d)) (product c.accumulator (number_in (word_at c d))) i refl (λ _. refl)
 effect_switch c (Store s) d i = refl
 effect_switch c (Shift s) d i = refl
 effect_switch c (Branch b) d i = test_switch b c
 effect_switch c LoadDistributor d i = refl
 effect_switch c Read d i = read_switch c c.cards d i
 effect_switch c Punch d i = refl
-effect_switch c (BranchOnDigit p) d i = digit_goes (SameSwitch c) c (digit_at p c.distributor) d i refl
+effect_switch c (BranchOnDigit p) d i = digit_left (SameSwitch c) c (digit_at p c.distributor) d i refl
 
 -- No step turns the programmed switch.
-pub leaves_switch : (times : Op → Entry) (s : State) (wait : ℕ) (next : State) → step times s wait ≡ on next
-    → next.contents.programmed_stops ≡ s.contents.programmed_stops
-leaves_switch times s wait next goes_on =
-    step_on (SameSwitch s.contents) times s wait next goes_on (λ op is wanted. effect_switch s.contents op (instruction_in s).d (instruction_in s).i)
+pub leaves_switch : (times : Op → Entry) (s : State) (wait : ℕ) → (contents_after (step times s wait)).programmed_stops ≡ s.contents.programmed_stops
+leaves_switch times s wait =
+    step_leaves (SameSwitch s.contents) times s wait refl (λ op is wanted. effect_switch s.contents op (instruction_in s).d (instruction_in s).i)

@@ -5,12 +5,12 @@ use Rattle.drum_core.specs.Word.{word}
 use Rattle.drum_machine.specs.declared.why.Why.TheVariants as why
 use Rattle.drum_machine.specs.Contents.{Contents, lower_word, upper_word}
 use Rattle.drum_machine.specs.Run.{time_of}
-use Rattle.drum_machine.specs.Step.{State, stopped, step}
-use Rattle.drum_machine.proofs.Setting.{times, state, left_by, zero_word, word_in}
+use Rattle.drum_machine.specs.Step.{State, stopped, contents_after, step}
+use Rattle.drum_machine.proofs.Setting.{times, state, zero_word, word_in}
 
 -- what a step leaves
 abbrev after : State → Contents
-after s = (left_by s (step times s 0)).contents
+after s = contents_after (step times s 0)
 
 -- multiply -4 by an upper half of 3, with a lower half of 2
 abbrev multiplied : State
@@ -42,13 +42,20 @@ quotient_alone : (time_of (step times divided_and_reset 0) ≡ 64) × (lower_wor
 unfolding first
 quotient_alone = (refl, refl, refl)
 
--- a quotient of more than ten digits: no units
-large_quotient : step times (state (word false 1401030106) (word false 1) zero_word (pos 10000000000) true) 0 ≡ stopped why.Quotient 58
-unfolding first
-large_quotient = refl
+-- A quotient of more than ten digits: no units. The latch goes on, and the divisor into the distributor; the rest stays.
+abbrev large_quotient : State
+large_quotient = state (word false 1401030106) (word true 1) zero_word (pos 10000000000) true
 
--- an overflow, with the overflow switch at STOP and at SENSE
-overflow_stops : step times (state (word false 1001030106) (word false 1) zero_word (pos 99999999990000000000) true) 0 ≡ stopped why.Overflow 55
+quotient_stop : step times large_quotient 0 ≡ stopped (record large_quotient.contents { distributor = word true 1; latch = true }) why.Quotient 58
+unfolding first
+quotient_stop = refl
+
+-- an overflow, with the overflow switch at STOP and at SENSE: the machine holds the same
+abbrev overflow_at_stop : State
+overflow_at_stop = state (word false 1001030106) (word false 1) zero_word (pos 99999999990000000000) true
+
+overflow_stops : step times overflow_at_stop 0
+    ≡ stopped (record overflow_at_stop.contents { distributor = word false 1; accumulator = pos 0; latch = true }) why.Overflow 55
 unfolding first
 overflow_stops = refl
 
@@ -87,27 +94,46 @@ rounded_to_zero : (after (state (word false 3100000106) zero_word zero_word (neg
 unfolding first
 rounded_to_zero = refl
 
--- the other stops: the operation at f; the operand and the card at x; the programmed stop and the next location at e
-no_operation : step times (state (word false 8400000106) zero_word zero_word (pos 0) true) 0 ≡ stopped why.Operation 49
+-- The other stops: the operation at f; the operand and the card at x; the programmed stop and the next location at e.
+-- Nothing changes, but for what the operation did that goes on at no location.
+abbrev outside : State
+outside = state (word false 8400000106) zero_word zero_word (pos 0) true
+
+no_operation : step times outside 0 ≡ stopped outside.contents why.Operation 49
 unfolding first
 no_operation = refl
 
-no_operand : step times (state (word false 2480000106) zero_word zero_word (pos 0) true) 0 ≡ stopped why.Operand 52
+abbrev off_the_drum : State
+off_the_drum = state (word false 2480000106) zero_word zero_word (pos 0) true
+
+no_operand : step times off_the_drum 0 ≡ stopped off_the_drum.contents why.Operand 52
 unfolding first
 no_operand = refl
 
-no_card : step times (state (word false 7000490011) zero_word zero_word (pos 0) true) 3125 ≡ stopped why.Card 50
+abbrev without_cards : State
+without_cards = state (word false 7000490011) zero_word zero_word (pos 0) true
+
+no_card : step times without_cards 3125 ≡ stopped without_cards.contents why.Card 50
 unfolding first
 no_card = refl
 
-programmed_stop : step times (state (word false 100000106) zero_word zero_word (pos 0) true) 0 ≡ stopped why.Programmed 50
+abbrev programmed : State
+programmed = state (word false 100000106) zero_word zero_word (pos 0) true
+
+programmed_stop : step times programmed 0 ≡ stopped programmed.contents why.Programmed 50
 unfolding first
 programmed_stop = refl
 
-no_next : step times (state (word false 2500) zero_word zero_word (pos 0) true) 0 ≡ stopped why.Next 50
+abbrev loading : State
+loading = state (word false 6901032500) (word true 3) zero_word (pos 0) true
+
+no_next : step times loading 0 ≡ stopped (record loading.contents { distributor = word true 3 }) why.Next 55
 unfolding first
 no_next = refl
 
-no_digit : step times (state (word false 9000000106) zero_word (word false 7999999999) (pos 0) true) 0 ≡ stopped why.Digit 52
+abbrev without_digit : State
+without_digit = state (word false 9000000106) zero_word (word false 7999999999) (pos 0) true
+
+no_digit : step times without_digit 0 ≡ stopped without_digit.contents why.Digit 52
 unfolding first
 no_digit = refl

@@ -81,7 +81,7 @@ going_later next other = go (is_location next) (is_location other)
 -- an outcome ends by one of these ways
 abbrev pub EndsIn : List Way → Outcome → Type 0
 EndsIn among (goes after next) = Contains among (onward next)
-EndsIn among (stops because) = (stops_by because ≡ late) × Contains among late
+EndsIn among (stops held because) = (stops_by because ≡ late) × Contains among late
 
 ends_if : (among : List Way) (b : Bool) (x y : Outcome) → EndsIn among x → EndsIn among y → EndsIn among (if b then x else y)
 ends_if among true x y p q = p
@@ -93,7 +93,7 @@ keeps_ends c z i =
     (ends_if (in_order false (i ∷ []) true) c.overflow_stops _ _ (refl, stop_last (i ∷ [])) (going_first i [] true)) (going_first i [] true)
 
 stop_ends : (c : Contents) (i : ℕ) (programmed : switches.Programmed) (stopping : Bool) → IsAsDeclared programmed stopping
-    → EndsIn (ways_of_stop programmed i) (if stopping then stops why.Programmed else goes c i)
+    → EndsIn (ways_of_stop programmed i) (if stopping then stops c why.Programmed else goes c i)
 stop_ends c i switch.Stop true as_declared = (refl, stop_last [])
 stop_ends c i switch.Stop false as_declared = cc
 stop_ends c i switch.Run true as_declared = cc
@@ -117,9 +117,9 @@ digit_ends c digit d i =
     ends_if (in_order false (d ∷ i ∷ []) true) (digit == 8) _ _ (going_first d (i ∷ []) true)
     (ends_if (in_order false (d ∷ i ∷ []) true) (digit == 9) _ _ (going_later d i) (refl, stop_last (d ∷ i ∷ [])))
 
-divides_ends : (large : Bool) (after : Contents) (i : ℕ) → EndsIn (in_order false (i ∷ []) true) (if large then stops why.Quotient else goes after i)
-divides_ends true after i = (refl, stop_last (i ∷ []))
-divides_ends false after i = going_first i [] true
+divides_ends : (large : Bool) (held after : Contents) (i : ℕ) → EndsIn (in_order false (i ∷ []) true) (if large then stops held why.Quotient else goes after i)
+divides_ends true held after i = (refl, stop_last (i ∷ []))
+divides_ends false held after i = going_first i [] true
 
 -- 70 that has a card
 supplied : (has : Bool) → not has ≡ false → has ≡ true
@@ -132,8 +132,8 @@ effect_ends notes c NoOperation d i as_declared card without = going_first i [] 
 effect_ends notes c Stop d i as_declared card without = stop_ends c i notes.programmed c.programmed_stops as_declared
 effect_ends notes c (Add a) d i as_declared card without = keeps_ends (takes c (word_at c d)) (c.accumulator +ℤ amount_of a (number_in (word_at c d))) i
 effect_ends notes c (ResetAdd a) d i as_declared card without = going_first i [] false
-effect_ends notes c Divide d i as_declared card without = divides_ends (is_too_large c.accumulator (number_in (word_at c d))) _ i
-effect_ends notes c DivideReset d i as_declared card without = divides_ends (is_too_large c.accumulator (number_in (word_at c d))) _ i
+effect_ends notes c Divide d i as_declared card without = divides_ends (is_too_large c.accumulator (number_in (word_at c d))) _ _ i
+effect_ends notes c DivideReset d i as_declared card without = divides_ends (is_too_large c.accumulator (number_in (word_at c d))) _ _ i
 effect_ends notes c Multiply d i as_declared card without = keeps_ends (takes c (word_at c d)) (product c.accumulator (number_in (word_at c d))) i
 effect_ends notes c (Store s) d i as_declared card without = going_first i [] false
 effect_ends notes c (Shift s) d i as_declared card without = going_first i [] false
@@ -146,7 +146,7 @@ effect_ends notes c (BranchOnDigit p) d i as_declared card without = digit_ends 
 -- a step that goes on keeps the angle at time 0
 abbrev pub KeepsStart : ℕ → Stepped → Type 0
 KeepsStart start (on next) = next.start ≡ start
-KeepsStart start (stopped because moment) = Unit {0}
+KeepsStart start (stopped held because moment) = Unit {0}
 
 -- How a step ends: by one of these ways, at x if Early and else at e.
 pub record Ends (among : List Way) (start x e : ℕ) (outcome : Stepped) : Type 0 where
@@ -155,7 +155,7 @@ pub record Ends (among : List Way) (start x e : ℕ) (outcome : Stepped) : Type 
   pub from : KeepsStart start outcome
 
 left_ends : (among : List Way) (s : State) (x e : ℕ) (outcome : Outcome) → s.start ≤ e → EndsIn among outcome → Ends among s.start x e (leaves s e outcome)
-left_ends among s x e (stops because) later p = record {
+left_ends among s x e (stops held because) later p = record {
   by = subst (Contains among) (sym p.0) p.1;
   at = let same : clock_by (stops_by because) x e ≡ e = ap (λ (w : Way). clock_by w x e) p.0 in omega (arith, same, later);
   from = tt;
@@ -163,7 +163,7 @@ left_ends among s x e (stops because) later p = record {
 left_ends among s x e (goes after next) later p = go (is_location next) p
   where
     go : (b : Bool) → Contains among (if b then to next else late)
-        → Ends among s.start x e (if b then on (record { contents = after; sought = next; time = e - s.start; start = s.start }) else stopped why.Next (e - s.start))
+        → Ends among s.start x e (if b then on (record { contents = after; sought = next; time = e - s.start; start = s.start }) else stopped after why.Next (e - s.start))
     go true q = record { by = q; at = omega (arith, later); from = refl }
     go false q = record { by = q; at = omega (arith, later); from = tt }
 
@@ -235,7 +235,7 @@ op_ends times s wait op notes is as_declared without =
 
     go : (wanted lacks : Bool) → (wanted ≡ true → lacks ≡ false → EndsIn among outcome) → (lacks ≡ true → Contains among early)
         → Ends (if wanted then among else early ∷ []) s.start x e
-        (if not wanted then stopped why.Operand (x - s.start) else (if lacks then stopped why.Card (x - s.start) else leaves s e outcome))
+        (if not wanted then stopped s.contents why.Operand (x - s.start) else (if lacks then stopped s.contents why.Card (x - s.start) else leaves s e outcome))
     go false lacks acts stops_early = record { by = here early []; at = omega (arith, before_x); from = tt }
     go true true acts stops_early = record { by = stops_early refl; at = omega (arith, before_x); from = tt }
     go true false acts stops_early = left_ends among s x e outcome before_e (acts refl refl)

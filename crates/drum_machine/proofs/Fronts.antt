@@ -17,7 +17,7 @@ nothing_taken (suc n) = refl
 front_follows : (outcome : Stepped) (Right Front : State → Type 0) (turns : List Turn) (n : ℕ) → ((next : State) → Right next → Front next)
     → Follow outcome Right turns → Follow outcome Front (take n turns)
 front_follows (on next) Right Front turns n front follows = front next follows
-front_follows (stopped because moment) Right Front turns n front follows = ap (take n) follows ∙ nothing_taken n
+front_follows (stopped held because moment) Right Front turns n front follows = ap (take n) follows ∙ nothing_taken n
 
 pub run_front : (times : Op → Entry) (s : State) (turns : List Turn) (n : ℕ) → IsRun times s turns → IsRun times s (take n turns)
 run_front times s turns zero is_run = tt

@@ -30,12 +30,12 @@ use Rattle.drum_machine.proofs.Stepping.{acts}
 pub told_going : (t : Stepped) (origin : Location) (w : Word) (l : Bool) (p : Option (List Word)) (location : Location) (word : Word) (next : Location) (used : ℕ) (load : Bool) (punched : Option (List Word))
     → Tells t origin w l p (Went location word next used load punched) → (location ≡ origin) × (word ≡ w)
 told_going (on s) origin w l p location word next used load punched told = (told.0, told.1)
-told_going (stopped because moment) origin w l p location word next used load punched told = (cc, cc)
+told_going (stopped held because moment) origin w l p location word next used load punched told = (cc, cc)
 
 pub told_stop : (t : Stepped) (origin : Location) (w : Word) (l : Bool) (p : Option (List Word)) (location : Location) (word : Word) (why : whys.Why) (used : ℕ)
-    → Tells t origin w l p (Stopped location word why used) → (location ≡ origin) × (word ≡ w) × (t ≡ stopped why used)
+    → Tells t origin w l p (Stopped location word why used) → (location ≡ origin) × (word ≡ w) × ((held : Contents) × (t ≡ stopped held why used))
 told_stop (on s) origin w l p location word why used told = absurd told
-told_stop (stopped because moment) origin w l p location word why used told = (cc, cc, cc)
+told_stop (stopped held because moment) origin w l p location word why used told = (cc, cc, (held, cc))
 
 -- what is allowed at a location of this number, of this word
 abbrev AllowedAt : (ℕ → Option Word) → Notes → ℕ → Word → Type 0
@@ -58,7 +58,7 @@ unlisted_leaves loads notes counts turn location word left numbers words is othe
 -- a step that reads a load card goes on
 abbrev IsOn : Stepped → Type 0
 IsOn (on s) = Unit {0}
-IsOn (stopped because moment) = ⊥
+IsOn (stopped held because moment) = ⊥
 
 and_false : (a : Bool) → (a && false) ≡ false
 and_false true = refl
@@ -73,17 +73,17 @@ on_drum d below = ap (λ (is : Bool). is || (nat_le 8000 d && nat_lt d 8004)) be
 abbrev lacks_in : List Card → Bool
 lacks_in cards = not (has_cards cards)
 
-read_stops : (times : Op → Entry) (s : State) (wait : ℕ) (why : whys.Why) (moment : ℕ) (cards : List Card) (operand load : Bool) → s.contents.cards ≡ cards
-    → nat_lt (instruction_in s).d 2000 ≡ operand → is_load cards ≡ load → step_of times s wait Read ≡ stopped why moment → (operand && load) ≡ false
-read_stops times s wait why moment cards operand false same at loads stops = and_false operand
-read_stops times s wait why moment cards false true same at loads stops = refl
-read_stops times s wait why moment [] true true same at loads stops = absurd (cc)
-read_stops times s wait why moment (card ∷ cards) true true same at loads stops =
+read_stops : (times : Op → Entry) (s : State) (wait : ℕ) (held : Contents) (why : whys.Why) (moment : ℕ) (cards : List Card) (operand load : Bool) → s.contents.cards ≡ cards
+    → nat_lt (instruction_in s).d 2000 ≡ operand → is_load cards ≡ load → step_of times s wait Read ≡ stopped held why moment → (operand && load) ≡ false
+read_stops times s wait held why moment cards operand false same at loads stops = and_false operand
+read_stops times s wait held why moment cards false true same at loads stops = refl
+read_stops times s wait held why moment [] true true same at loads stops = absurd (cc)
+read_stops times s wait held why moment (card ∷ cards) true true same at loads stops =
     let d = (instruction_in s).d in
     let end = ended (times Read) Read (instruction_in s).d s.sought (units_of Read (instruction_in s).d s.contents) wait (clock_of s) in
-    let supplied : lacks_card Read s.contents ≡ false = ap (λ (held : List Card). lacks_in held) same in
+    let supplied : lacks_card Read s.contents ≡ false = ap (λ (left : List Card). lacks_in left) same in
     let past = acts times s Read wait at supplied in
-    let read = ap (λ (held : List Card). reads s.contents held (instruction_in s).d (instruction_in s).i) same in
+    let read = ap (λ (left : List Card). reads s.contents left (instruction_in s).d (instruction_in s).i) same in
     let onto = ap (λ (is : Bool). if is then (instruction_in s).d else (instruction_in s).i) loads in
     let goes : IsOn (step_of times s wait Read) =
     subst IsOn (sym (past ∙ ap (leaves s end) read))
@@ -91,33 +91,33 @@ read_stops times s wait why moment (card ∷ cards) true true same at loads stop
     absurd (subst IsOn stops goes)
 
 -- a step of an operation that stops has read no load card
-stops_without_load : (times : Op → Entry) (s : State) (wait : ℕ) (why : whys.Why) (moment : ℕ) (op : Option Op) → step_with times s wait op ≡ stopped why moment
+stops_without_load : (times : Op → Entry) (s : State) (wait : ℕ) (held : Contents) (why : whys.Why) (moment : ℕ) (op : Option Op) → step_with times s wait op ≡ stopped held why moment
     → (reads_with s op && is_load s.contents.cards) ≡ false
-stops_without_load times s wait why moment None stops = refl
-stops_without_load times s wait why moment (Some Read) stops = read_stops times s wait why moment s.contents.cards (nat_lt (instruction_in s).d 2000) (is_load s.contents.cards) refl refl refl stops
-stops_without_load times s wait why moment (Some NoOperation) stops = refl
-stops_without_load times s wait why moment (Some Stop) stops = refl
-stops_without_load times s wait why moment (Some (Add a)) stops = refl
-stops_without_load times s wait why moment (Some (ResetAdd a)) stops = refl
-stops_without_load times s wait why moment (Some Divide) stops = refl
-stops_without_load times s wait why moment (Some DivideReset) stops = refl
-stops_without_load times s wait why moment (Some Multiply) stops = refl
-stops_without_load times s wait why moment (Some (Store a)) stops = refl
-stops_without_load times s wait why moment (Some (Shift a)) stops = refl
-stops_without_load times s wait why moment (Some (Branch a)) stops = refl
-stops_without_load times s wait why moment (Some LoadDistributor) stops = refl
-stops_without_load times s wait why moment (Some Punch) stops = refl
-stops_without_load times s wait why moment (Some (BranchOnDigit p)) stops = refl
+stops_without_load times s wait held why moment None stops = refl
+stops_without_load times s wait held why moment (Some Read) stops = read_stops times s wait held why moment s.contents.cards (nat_lt (instruction_in s).d 2000) (is_load s.contents.cards) refl refl refl stops
+stops_without_load times s wait held why moment (Some NoOperation) stops = refl
+stops_without_load times s wait held why moment (Some Stop) stops = refl
+stops_without_load times s wait held why moment (Some (Add a)) stops = refl
+stops_without_load times s wait held why moment (Some (ResetAdd a)) stops = refl
+stops_without_load times s wait held why moment (Some Divide) stops = refl
+stops_without_load times s wait held why moment (Some DivideReset) stops = refl
+stops_without_load times s wait held why moment (Some Multiply) stops = refl
+stops_without_load times s wait held why moment (Some (Store a)) stops = refl
+stops_without_load times s wait held why moment (Some (Shift a)) stops = refl
+stops_without_load times s wait held why moment (Some (Branch a)) stops = refl
+stops_without_load times s wait held why moment (Some LoadDistributor) stops = refl
+stops_without_load times s wait held why moment (Some Punch) stops = refl
+stops_without_load times s wait held why moment (Some (BranchOnDigit p)) stops = refl
 
-pub stop_reads_none : (times : Op → Entry) (s : State) (wait : ℕ) (why : whys.Why) (moment : ℕ) → step times s wait ≡ stopped why moment → reads_load s ≡ false
-stop_reads_none times s wait why moment stops = stops_without_load times s wait why moment (op_of (instruction_in s).op) stops
+pub stop_reads_none : (times : Op → Entry) (s : State) (wait : ℕ) (held : Contents) (why : whys.Why) (moment : ℕ) → step times s wait ≡ stopped held why moment → reads_load s ≡ false
+stop_reads_none times s wait held why moment stops = stops_without_load times s wait held why moment (op_of (instruction_in s).op) stops
 
 -- a turn that stops is judged by its fetched word alone
-pub stop_judged : (loads : ℕ → Option Word) (notes : Notes) (counts : List ℕ) (turn : Turn) (location : Location) (word : Word) (why : whys.Why) (moment : ℕ) (left : Option Left)
-    → location.number ≡ turn.origin.sought → word ≡ fetched turn.origin → turn.outcome ≡ stopped why moment → reads_load turn.origin ≡ false
+pub stop_judged : (loads : ℕ → Option Word) (notes : Notes) (counts : List ℕ) (turn : Turn) (location : Location) (word : Word) (held : Contents) (why : whys.Why) (moment : ℕ) (left : Option Left)
+    → location.number ≡ turn.origin.sought → word ≡ fetched turn.origin → turn.outcome ≡ stopped held why moment → reads_load turn.origin ≡ false
     → MatchOption left (AllowedAt loads notes location.number word) (λ l. (l ≡ Unlisted location word) × ¬ AllowedAt loads notes location.number word)
     → MatchOption left (AreWithin notes.marks counts → IsKeptTurn loads notes counts turn × (counts ≡ counts_after notes counts turn)) (λ l. Leaves loads notes counts turn l)
-stop_judged loads notes counts turn location word why moment None numbers words stops unread listed = λ within.
+stop_judged loads notes counts turn location word held why moment None numbers words stops unread listed = λ within.
     let same : counts ≡ counts_after notes counts turn = sym (ap (counts_by notes counts turn.origin.sought) stops) in (
       record {
         listed = allowed_there loads notes turn.origin location.number word numbers words listed;
@@ -126,5 +126,5 @@ stop_judged loads notes counts turn location word why moment None numbers words 
       },
       same,
     )
-stop_judged loads notes counts turn location word why moment (Some left) numbers words stops unread other =
+stop_judged loads notes counts turn location word held why moment (Some left) numbers words stops unread other =
     unlisted_leaves loads notes counts turn location word left numbers words other.0 other.1

@@ -11,7 +11,7 @@ use Rattle.drum_core.specs.Word.{word}
 use Rattle.drum_times.specs.declared.entry.Entry.{Entry}
 use Rattle.drum_machine.specs.Contents.{Contents}
 use Rattle.drum_machine.specs.Effect.{Outcome, goes, stops}
-use Rattle.drum_machine.specs.Step.{State, Stepped, on, stopped}
+use Rattle.drum_machine.specs.Step.{State}
 
 -- that the word times of an entry are in their ranges
 pub record InRange (before after per wait_min wait_max : ℕ) : Type 0 where
@@ -107,11 +107,6 @@ state first second distributor accumulator overflow_stops = record {
   start = 1;
 }
 
--- what a step leaves; where it stopped, what was there before
-abbrev pub left_by : State → Stepped → State
-left_by s (on next) = next
-left_by s (stopped because moment) = s
-
 abbrev pub zero_word : Word
 zero_word = word false 0
 
@@ -119,10 +114,6 @@ zero_word = word false 0
 abbrev pub word_in : Contents → ℕ → Word
 word_in c n = slice_index_or c.drum n zero_word
 
-abbrev pub contents_of : Contents → Outcome → Contents
-contents_of c (goes left next) = left
-contents_of c (stops because) = c
-
 abbrev pub next_of : Outcome → ℕ
 next_of (goes left next) = next
-next_of (stops because) = 0
+next_of (stops held because) = 0

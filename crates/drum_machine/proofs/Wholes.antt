@@ -19,9 +19,9 @@ use Rattle.drum_times.specs.declared.entry.Entry.{Entry}
 use Rattle.drum_machine.specs.declared.card.Card.{Card}
 use Rattle.drum_machine.specs.Contents.{Contents, is_minus, upper, word_at}
 use Rattle.drum_machine.specs.Effect.{effect, takes, keeps, with_words, band, reads, amount_of, product, quotient, rest, is_too_large, places, shifted, after_test, digit_at, differ}
-use Rattle.drum_machine.proofs.Going.{IfGoes, goes_if, keeps_goes, divides, digit_goes, step_on}
+use Rattle.drum_machine.proofs.Going.{left_by, left_if, keeps_left, division_left, digit_left, step_leaves}
 use Rattle.drum_machine.specs.Run.{IsWhole}
-use Rattle.drum_machine.specs.Step.{State, on, step, instruction_in}
+use Rattle.drum_machine.specs.Step.{State, contents_after, step, instruction_in}
 
 abs_neg : (z : ℤ) → unsigned_abs (neg_ℤ z) ≡ unsigned_abs z
 abs_neg (pos zero) = refl
@@ -84,9 +84,9 @@ words_length : (drum : List Word) (at : ℕ) (ws : List Word) → length (with_w
 words_length drum at [] = refl
 words_length drum at (w ∷ ws) = words_length (slice_set drum at w) (at + 1) ws ∙ length-set drum at w
 
-keeps_whole : (c : Contents) (z : ℤ) (next : ℕ) → length c.drum ≡ 2000 → IfGoes IsWhole (keeps c z next)
+keeps_whole : (c : Contents) (z : ℤ) (next : ℕ) → length c.drum ≡ 2000 → IsWhole (left_by (keeps c z next))
 keeps_whole c z next drum =
-    keeps_goes IsWhole c z next (record { drum = drum; accumulator = signed_below (is_minus z) (unsigned_abs z % 10 ^ 20) (omega arith) })
+    keeps_left IsWhole c z next (record { drum = drum; accumulator = signed_below (is_minus z) (unsigned_abs z % 10 ^ 20) (omega arith) })
     (λ small. record { drum = drum; accumulator = leb-false (10 ^ 20) (unsigned_abs z) small })
 
 test_whole : (b : branches.Branch) (c : Contents) → IsWhole c → IsWhole (after_test b c)
@@ -95,18 +95,18 @@ test_whole branch.NonZero c whole = whole
 test_whole branch.Minus c whole = whole
 test_whole branch.Overflow c whole = record { drum = whole.drum; accumulator = whole.accumulator }
 
-reads_whole : (c : Contents) (cards : List Card) (d i : ℕ) → IsWhole c → IfGoes IsWhole (reads c cards d i)
-reads_whole c [] d i whole = tt
+reads_whole : (c : Contents) (cards : List Card) (d i : ℕ) → IsWhole c → IsWhole (left_by (reads c cards d i))
+reads_whole c [] d i whole = whole
 reads_whole c (card ∷ cards) d i whole = record { drum = words_length c.drum (band d + 1) card.words ∙ whole.drum; accumulator = whole.accumulator }
 
-effect_whole : (c : Contents) (op : Op) (d i : ℕ) → IsWhole c → IfGoes IsWhole (effect c op d i)
+effect_whole : (c : Contents) (op : Op) (d i : ℕ) → IsWhole c → IsWhole (left_by (effect c op d i))
 effect_whole c NoOperation d i whole = whole
-effect_whole c Stop d i whole = goes_if IsWhole c.programmed_stops _ _ tt whole
+effect_whole c Stop d i whole = left_if IsWhole c.programmed_stops _ _ whole whole
 effect_whole c (Add a) d i whole = keeps_whole (takes c (word_at c d)) (c.accumulator +ℤ amount_of a (number_in (word_at c d))) i whole.drum
 effect_whole c (ResetAdd a) d i whole = record { drum = whole.drum; accumulator = amount_below a (number_in (word_at c d)) (abs_number (word_at c d)) }
 effect_whole c Divide d i whole =
     let v : ℤ = number_in (word_at c d) in
-    divides IsWhole (is_too_large c.accumulator v) _ i
+    division_left IsWhole (is_too_large c.accumulator v) _ _ i (record { drum = whole.drum; accumulator = whole.accumulator })
     (λ small. record {
       drum = whole.drum;
       accumulator =
@@ -115,7 +115,7 @@ effect_whole c Divide d i whole =
     })
 effect_whole c DivideReset d i whole =
     let v : ℤ = number_in (word_at c d) in
-    divides IsWhole (is_too_large c.accumulator v) _ i
+    division_left IsWhole (is_too_large c.accumulator v) _ _ i (record { drum = whole.drum; accumulator = whole.accumulator })
     (λ small. record {
       drum = whole.drum;
       accumulator =
@@ -132,9 +132,9 @@ effect_whole c (Branch b) d i whole = test_whole b c whole
 effect_whole c LoadDistributor d i whole = record { drum = whole.drum; accumulator = whole.accumulator }
 effect_whole c Read d i whole = reads_whole c c.cards d i whole
 effect_whole c Punch d i whole = whole
-effect_whole c (BranchOnDigit p) d i whole = digit_goes IsWhole c (digit_at p c.distributor) d i whole
+effect_whole c (BranchOnDigit p) d i whole = digit_left IsWhole c (digit_at p c.distributor) d i whole
 
 -- The drum keeps its words, and the accumulator its twenty digits.
-pub step_whole : (times : Op → Entry) (s : State) (wait : ℕ) (next : State) → IsWhole s.contents → step times s wait ≡ on next → IsWhole next.contents
-step_whole times s wait next whole goes_on =
-    step_on IsWhole times s wait next goes_on (λ op is wanted. effect_whole s.contents op (instruction_in s).d (instruction_in s).i whole)
+pub step_whole : (times : Op → Entry) (s : State) (wait : ℕ) → IsWhole s.contents → IsWhole (contents_after (step times s wait))
+step_whole times s wait whole =
+    step_leaves IsWhole times s wait whole (λ op is wanted. effect_whole s.contents op (instruction_in s).d (instruction_in s).i whole)

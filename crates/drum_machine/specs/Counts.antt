@@ -10,7 +10,8 @@ is_on mark from onto = mark.from.number == from && mark.onto.number == onto
 -- the place of the mark on an edge, if there is one, the first of these marks having this place
 abbrev pub mark_from : ℕ → List Mark → ℕ → ℕ → Option ℕ
 mark_from place [] from onto = None
-mark_from place (mark ∷ marks) from onto = if is_on mark from onto then Some place else mark_from (place + 1) marks from onto
+mark_from place (mark ∷ marks) from onto =
+    if is_on mark from onto then Some place else mark_from (place + 1) marks from onto
 
 abbrev pub mark_on : List Mark → ℕ → ℕ → Option ℕ
 mark_on marks from onto = mark_from 0 marks from onto
@@ -24,7 +25,10 @@ outer_of (Some mark) = mark.inside
 abbrev pub is_inside_by : ℕ → List Mark → ℕ → ℕ → Bool
 is_inside_by zero marks inner outer = false
 is_inside_by (suc more) marks inner outer =
-    elim (outer_of (slice_get marks inner)) [ None ↦ false | Some next ↦ next == outer || is_inside_by more marks next outer ]
+    elim (outer_of (slice_get marks inner)) [
+      | None ↦ false
+      | Some next ↦ next == outer || is_inside_by more marks next outer
+    ]
 
 -- directly or through others: a mark stands inside of an earlier one alone, so there are fewer
 -- steps than marks
@@ -35,12 +39,16 @@ is_inside marks inner outer = is_inside_by (length marks) marks inner outer
 abbrev pub passed_from : List Mark → ℕ → ℕ → List ℕ → List ℕ
 passed_from marks passed place [] = []
 passed_from marks passed place (count ∷ counts) =
-    (if place == passed then count + 1 else (if is_inside marks place passed then 0 else count)) ∷ passed_from marks passed (place + 1) counts
+    (if place == passed then count + 1 else (if is_inside marks place passed then 0 else count))
+    ∷ passed_from marks passed (place + 1) counts
 
 -- the counts after a step from one location to another
 abbrev pub after_pass : List Mark → ℕ → ℕ → List ℕ → List ℕ
 after_pass marks from onto counts =
-    elim (mark_on marks from onto) [ None ↦ counts | Some passed ↦ passed_from marks passed 0 counts ]
+    elim (mark_on marks from onto) [
+      | None ↦ counts
+      | Some passed ↦ passed_from marks passed 0 counts
+    ]
 
 -- nothing passed yet
 abbrev pub no_counts : List Mark → List ℕ

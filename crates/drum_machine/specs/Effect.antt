@@ -1,7 +1,9 @@
 -- What an instruction does (IBM 650 Manual of Operation). This project's choices are: that 0 is
 -- plus, also as the number of minus zero; what the accumulator holds after an overflow; that a
 -- stored word is also in the distributor; that a product adds the lower half; that 31 with digit 0
--- shifts by ten places; that a left shift is no overflow; and that 47 turns the latch off.
+-- shifts by ten places; that a left shift is no overflow; that 47 turns the latch off; that at a
+-- quotient stop the latch is on and the divisor in the distributor, and the accumulator and the
+-- remainder's sign stay; and that an overflow leaves the same whether or not the machine stops.
 use Rattle.std.specs.Prelude.{ℕ, ◌+◌, ◌-◌, ◌*◌, ◌/◌, ◌%◌, ◌^◌, ◌==◌, Bool, true, false, not, if◌then◌else◌, nat_le, List, [], ◌∷◌, Some, None, ℤ, pos, neg_ℤ, ◌+ℤ◌, ◌*ℤ◌, unsigned_abs, slice_set, slice_range}
 use Rattle.drum_core.specs.declared.op.Op.{Op}
 use Rattle.drum_core.specs.declared.op.Op.TheVariants.{NoOperation, Stop, Add, ResetAdd, Divide, DivideReset, Multiply, Store, Shift, Branch, LoadDistributor, Read, Punch, BranchOnDigit}
@@ -22,11 +24,10 @@ use Rattle.drum_machine.specs.declared.why.Why as whys
 use Rattle.drum_machine.specs.declared.why.Why.TheVariants as why
 use Rattle.drum_machine.specs.Contents.{Contents, is_minus, upper, lower, lower_word, upper_word, word_at}
 
--- An instruction leaves new contents and the number of the next location, or it stops. What is held
--- at a stop isn't said: no later step sees it.
+-- An instruction leaves new contents, and the number of the next location or why it stops.
 pub data Outcome : Type 0 where
   goes : Contents → ℕ → Outcome
-  stops : whys.Why → Outcome
+  stops : Contents → whys.Why → Outcome
 
 -- the distributor takes a word
 abbrev pub takes : Contents → Word → Contents
@@ -36,12 +37,16 @@ takes c w = record c { distributor = w }
 abbrev pub becomes : Contents → ℤ → Contents
 becomes c z = record c { accumulator = z; remainder = None }
 
--- It becomes what twenty digits hold of the number. Where more are wanted, that is an overflow: the
--- machine stops if the overflow switch is at STOP, and else the latch goes on.
+-- It becomes what twenty digits hold of a number that wants more, and the latch goes on.
+abbrev pub overflows : Contents → ℤ → Contents
+overflows c z = record (becomes c (signed (is_minus z) (unsigned_abs z % 10 ^ 20))) { latch = true }
+
+-- It becomes a number. Where more than twenty digits are wanted, that is an overflow, after which
+-- the machine stops if the overflow switch is at STOP.
 abbrev pub keeps : Contents → ℤ → ℕ → Outcome
 keeps c z next =
     if nat_le (10 ^ 20) (unsigned_abs z) then
-    (if c.overflow_stops then stops why.Overflow else goes (record (becomes c (signed (is_minus z) (unsigned_abs z % 10 ^ 20))) { latch = true }) next)
+    (if c.overflow_stops then stops (overflows c z) why.Overflow else goes (overflows c z) next)
     else goes (becomes c z) next
 
 -- a word goes into a drum location and into the distributor
@@ -90,9 +95,11 @@ stored store.Lower c = lower_word c
 stored store.Upper c = upper_word c
 stored store.DataAddress c =
     let w = c.distributor in
-    word w.minus (w.digits / 10 ^ 8 * 10 ^ 8 + lower c.accumulator / 10 ^ 4 % 10 ^ 4 * 10 ^ 4 + w.digits % 10 ^ 4)
+    let address = lower c.accumulator / 10 ^ 4 % 10 ^ 4 in
+    word w.minus (w.digits / 10 ^ 8 * 10 ^ 8 + address * 10 ^ 4 + w.digits % 10 ^ 4)
 stored store.InstructionAddress c =
-    let w = c.distributor in word w.minus (w.digits / 10 ^ 4 * 10 ^ 4 + lower c.accumulator % 10 ^ 4)
+    let w = c.distributor in
+    word w.minus (w.digits / 10 ^ 4 * 10 ^ 4 + lower c.accumulator % 10 ^ 4)
 stored store.Distributor c = c.distributor
 
 -- how many places an instruction with this D shifts
@@ -139,12 +146,15 @@ digit_at p w = w.digits / 10 ^ behind p % 10
 
 -- an 8 goes to D, a 9 to I, another digit stops
 abbrev pub branches_on : Contents → ℕ → ℕ → ℕ → Outcome
-branches_on c digit d i = if digit == 8 then goes c d else (if digit == 9 then goes c i else stops why.Digit)
+branches_on c digit d i =
+    if digit == 8 then goes c d else (if digit == 9 then goes c i else stops c why.Digit)
 
 -- a card's words go into words 01 to 10 of D's band; a load card goes on at D
 abbrev pub reads : Contents → List Card → ℕ → ℕ → Outcome
-reads c [] d i = stops why.Card
-reads c (card ∷ cards) d i = goes (record c { drum = with_words c.drum (band d + 1) card.words; cards = cards }) (if card.load then d else i)
+reads c [] d i = stops c why.Card
+reads c (card ∷ cards) d i =
+    goes (record c { drum = with_words c.drum (band d + 1) card.words; cards = cards })
+    (if card.load then d else i)
 
 -- the ten words that 71 punches: 27 to 36 of D's band
 abbrev pub punched : Contents → ℕ → List Word
@@ -154,7 +164,7 @@ punched c d = slice_range c.drum (band d + 27) (band d + 37)
 -- the operation wants. The word at D is read before anything changes.
 abbrev pub effect : Contents → Op → ℕ → ℕ → Outcome
 effect c NoOperation d i = goes c i
-effect c Stop d i = if c.programmed_stops then stops why.Programmed else goes c i
+effect c Stop d i = if c.programmed_stops then stops c why.Programmed else goes c i
 effect c (Add a) d i =
     let w = word_at c d in keeps (takes c w) (c.accumulator +ℤ amount_of a (number_in w)) i
 effect c (ResetAdd a) d i =
@@ -165,16 +175,24 @@ effect c Divide d i =
     let w = word_at c d in
     let v = number_in w in
     let a = c.accumulator in
-    if is_too_large a v then stops why.Quotient
-    else goes (record (takes c w) { accumulator = signed (differ a v) (rest a v * 10 ^ 10 + quotient a v); remainder = Some (is_minus a) }) i
+    if is_too_large a v then stops (record (takes c w) { latch = true }) why.Quotient
+    else
+    (let size = rest a v * 10 ^ 10 + quotient a v in
+    goes
+    (record (takes c w) {
+      accumulator = signed (differ a v) size;
+      remainder = Some (is_minus a);
+    }) i)
 effect c DivideReset d i =
     let w = word_at c d in
     let v = number_in w in
     let a = c.accumulator in
-    if is_too_large a v then stops why.Quotient
+    if is_too_large a v then stops (record (takes c w) { latch = true }) why.Quotient
     else goes (becomes (takes c w) (signed (differ a v) (quotient a v))) i
 effect c (Store s) d i = goes (puts c d (stored s c)) i
-effect c (Shift s) d i = goes (becomes c (signed (is_minus c.accumulator) (shifted s (places s d) (unsigned_abs c.accumulator)))) i
+effect c (Shift s) d i =
+    let a = c.accumulator in
+    goes (becomes c (signed (is_minus a) (shifted s (places s d) (unsigned_abs a)))) i
 effect c (Branch b) d i = goes (after_test b c) (if holds b c then d else i)
 effect c LoadDistributor d i = goes (takes c (word_at c d)) i
 effect c Read d i = reads c c.cards d i

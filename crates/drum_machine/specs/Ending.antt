@@ -23,7 +23,7 @@ stops_by why.Next = late
 -- the way in which a step ended (one of an operation outside the profile has none of its own)
 abbrev pub ended_by : Stepped → Way
 ended_by (on next) = to next.sought
-ended_by (stopped because moment) = stops_by because
+ended_by (stopped held because moment) = stops_by because
 
 -- the clock at which a step ends by a way: x for Early, else e
 abbrev pub clock_by : Way → ℕ → ℕ → ℕ
@@ -39,4 +39,9 @@ declared false = switch.Run
 -- Notes that are true of one step: the machine's own switch, and load cards where its next card is
 -- one.
 abbrev pub own_notes : State → Notes
-own_notes s = record { programmed = declared s.contents.programmed_stops; load_cards = is_load s.contents.cards; marks = []; lists = [] }
+own_notes s = record {
+  programmed = declared s.contents.programmed_stops;
+  load_cards = is_load s.contents.cards;
+  marks = [];
+  lists = [];
+}

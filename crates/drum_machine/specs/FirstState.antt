@@ -9,15 +9,19 @@ use Rattle.drum_machine.specs.Step.{State}
 
 -- the word at a drum location: the deck's, elsewhere the setup's, else +0
 abbrev pub first_word : (ℕ → Option Word) → List (Location × Word) → ℕ → Word
-first_word loads words location = unwrap_or (loads location) (unwrap_or (given_to location words) (word false 0))
+first_word loads words location =
+    unwrap_or (loads location) (unwrap_or (given_to location words) (word false 0))
 
 -- the drum holds the first word at each of its 2000 locations
-pub record IsFirstDrum (loads : ℕ → Option Word) (words : List (Location × Word)) (drum : List Word) : Type 0 where
+pub record IsFirstDrum (loads : ℕ → Option Word) (words : List (Location × Word))
+    (drum : List Word) : Type 0 where
   pub whole : length drum ≡ 2000
-  pub first : (location : ℕ) → location < 2000 → slice_get drum location ≡ Some (first_word loads words location)
+  pub first : (location : ℕ) → location < 2000
+      → slice_get drum location ≡ Some (first_word loads words location)
 
 -- a machine of this deck and this setup, at time 0
-pub record IsSetUp (loads : ℕ → Option Word) (start_location : ℕ) (setup : Setup) (s : State) : Type 0 where
+pub record IsSetUp (loads : ℕ → Option Word) (start_location : ℕ) (setup : Setup)
+    (s : State) : Type 0 where
   pub at_once : s.time ≡ 0
   pub seeks : s.sought ≡ start_location
   pub angle : s.start ≡ setup.angle

@@ -21,7 +21,8 @@ IsAsDeclared switch.Any stops = Unit {0}
 
 -- the word fetched at a listed location is allowed there
 abbrev pub IsAllowed : (ℕ → Option Word) → Notes → State → Type 0
-IsAllowed loads notes s = IsTrue (is_listed notes s.sought) → Contains (allowed loads notes s.sought) (instruction_in s)
+IsAllowed loads notes s =
+    IsTrue (is_listed notes s.sought) → Contains (allowed loads notes s.sought) (instruction_in s)
 
 -- the next card is a load card
 abbrev pub is_load : List Card → Bool
@@ -43,7 +44,7 @@ IsWithoutLoad notes s = notes.load_cards ≡ false → reads_load s ≡ false
 -- the counts after a step from a location: one that goes on may pass a mark
 abbrev pub counts_by : Notes → List ℕ → ℕ → Stepped → List ℕ
 counts_by notes counts from (on next) = after_pass notes.marks from next.sought counts
-counts_by notes counts from (stopped because moment) = counts
+counts_by notes counts from (stopped held because moment) = counts
 
 abbrev pub counts_after : Notes → List ℕ → Turn → List ℕ
 counts_after notes counts turn = counts_by notes counts turn.origin.sought turn.outcome
@@ -51,20 +52,24 @@ counts_after notes counts turn = counts_by notes counts turn.origin.sought turn.
 -- the step goes on to this location
 abbrev pub GoesTo : Stepped → ℕ → Type 0
 GoesTo (on next) location = next.sought ≡ location
-GoesTo (stopped because moment) location = ⊥
+GoesTo (stopped held because moment) location = ⊥
 
 -- the turn keeps to the notes, where marks were passed so often before it
-pub record IsKeptTurn (loads : ℕ → Option Word) (notes : Notes) (counts : List ℕ) (turn : Turn) : Type 0 where
+pub record IsKeptTurn (loads : ℕ → Option Word) (notes : Notes) (counts : List ℕ)
+    (turn : Turn) : Type 0 where
   pub listed : IsAllowed loads notes turn.origin
   pub cards : IsWithoutLoad notes turn.origin
   pub marks : AreWithin notes.marks (counts_after notes counts turn)
 
 abbrev pub AreKept : (ℕ → Option Word) → Notes → List ℕ → List Turn → Type 0
 AreKept loads notes counts [] = Unit {0}
-AreKept loads notes counts (turn ∷ turns) = IsKeptTurn loads notes counts turn × AreKept loads notes (counts_after notes counts turn) turns
+AreKept loads notes counts (turn ∷ turns) =
+    IsKeptTurn loads notes counts turn
+    × AreKept loads notes (counts_after notes counts turn) turns
 
 -- A run keeps to the notes.
-pub record IsKept (loads : ℕ → Option Word) (notes : Notes) (s : State) (turns : List Turn) : Type 0 where
+pub record IsKept (loads : ℕ → Option Word) (notes : Notes) (s : State)
+    (turns : List Turn) : Type 0 where
   pub declared : IsAsDeclared notes.programmed s.contents.programmed_stops
   pub kept : AreKept loads notes (no_counts notes.marks) turns
 
@@ -72,9 +77,12 @@ pub record IsKept (loads : ℕ → Option Word) (notes : Notes) (s : State) (tur
 -- is decided before any turn.)
 abbrev pub Leaves : (ℕ → Option Word) → Notes → List ℕ → Turn → Left → Type 0
 Leaves loads notes counts turn (Unlisted location w) =
-    (location.number ≡ turn.origin.sought) × (w ≡ fetched turn.origin) × ¬ IsAllowed loads notes turn.origin
-Leaves loads notes counts turn LoadCard = IsAllowed loads notes turn.origin × ¬ IsWithoutLoad notes turn.origin
+    (location.number ≡ turn.origin.sought) × (w ≡ fetched turn.origin)
+    × ¬ IsAllowed loads notes turn.origin
+Leaves loads notes counts turn LoadCard =
+    IsAllowed loads notes turn.origin × ¬ IsWithoutLoad notes turn.origin
 Leaves loads notes counts turn (TooOften from onto) =
-    IsAllowed loads notes turn.origin × IsWithoutLoad notes turn.origin × ¬ AreWithin notes.marks (counts_after notes counts turn)
+    IsAllowed loads notes turn.origin × IsWithoutLoad notes turn.origin
+    × ¬ AreWithin notes.marks (counts_after notes counts turn)
     × (from.number ≡ turn.origin.sought) × GoesTo turn.outcome onto.number
 Leaves loads notes counts turn Switch = ⊥

@@ -39,7 +39,12 @@ used_by m = m.used
 
 -- the state of a machine that goes on, with the cards in the reader
 abbrev pub state_in : Machine → List Card → State
-state_in m cards = record { contents = contents_with m.registers cards; sought = m.sought.number; time = m.used; start = m.start }
+state_in m cards = record {
+  contents = contents_with m.registers cards;
+  sought = m.sought.number;
+  time = m.used;
+  start = m.start;
+}
 
 -- the words that an operation punches
 abbrev pub punched_by : Op → State → Option (List Word)
@@ -55,16 +60,19 @@ punched_with (Some op) s = punched_by op s
 -- it punched.
 abbrev pub Tells : Stepped → Location → Word → Bool → Option (List Word) → Step → Type 0
 Tells (on next) origin word load words (Went from fetch onto used read punch) =
-    (from ≡ origin) × (fetch ≡ word) × (onto.number ≡ next.sought) × (used ≡ next.time) × (read ≡ load) × (punch ≡ words)
+    (from ≡ origin) × (fetch ≡ word) × (onto.number ≡ next.sought) × (used ≡ next.time)
+    × (read ≡ load) × (punch ≡ words)
 Tells (on next) origin word load words (Stopped from fetch why used) = ⊥
-Tells (stopped because moment) origin word load words answer = answer ≡ Stopped origin word because moment
+Tells (stopped held because moment) origin word load words answer =
+    answer ≡ Stopped origin word because moment
 
 -- What the machine is after a step, with these cards left. One that has stopped seeks what it
--- sought, and what its registers hold isn't said.
+-- sought, and holds what the step left.
 abbrev pub Becomes : Stepped → Location → Word → Machine → List Card → Type 0
 Becomes (on next) origin word m cards = GoesOn m × (state_in m cards ≡ next)
-Becomes (stopped because moment) origin word m cards =
+Becomes (stopped held because moment) origin word m cards =
     HasStopped m word because × (sought_by m ≡ origin) × (used_by m ≡ moment)
+    × (contents_with m.registers cards ≡ held)
 
 -- the operation of the fetched word, where the profile has it
 abbrev pub op_in : State → Option Op
@@ -90,17 +98,25 @@ waits_with (Some op) s waits = if goes_past_x op s then waits_after op waits els
 
 -- A machine takes a step and answers it: a step of the definitions, with the feed's cards as the
 -- cards left, and the wait that the feed gives.
-pub record TakesStep (times : Op → Entry) (before : Machine) (fed : Feed) (answer : Step) (after : Machine) (left : Feed) : Type 0 where
+pub record TakesStep (times : Op → Entry) (before : Machine) (fed : Feed) (answer : Step)
+    (after : Machine) (left : Feed) : Type 0 where
   pub may_wait :
-      let s = state_in before (cards_left fed) in MayWait times (op_in s) (wait_with times (op_in s) (waits_left fed))
+      let s = state_in before (cards_left fed) in
+      MayWait times (op_in s) (wait_with times (op_in s) (waits_left fed))
   pub tells :
       let s = state_in before (cards_left fed) in
-      Tells (step times s (wait_with times (op_in s) (waits_left fed))) before.sought (fetched s) (reads_load s) (punched_with (op_in s) s) answer
+      Tells (step times s (wait_with times (op_in s) (waits_left fed))) before.sought (fetched s)
+      (reads_load s) (punched_with (op_in s) s) answer
   pub becomes :
       let s = state_in before (cards_left fed) in
-      Becomes (step times s (wait_with times (op_in s) (waits_left fed))) before.sought (fetched s) after (cards_left left)
-  pub cards : let s = state_in before (cards_left fed) in cards_left left ≡ cards_with (op_in s) s (cards_left fed)
-  pub waits : let s = state_in before (cards_left fed) in waits_left left ≡ waits_with (op_in s) s (waits_left fed)
+      Becomes (step times s (wait_with times (op_in s) (waits_left fed))) before.sought (fetched s)
+      after (cards_left left)
+  pub cards :
+      let s = state_in before (cards_left fed) in
+      cards_left left ≡ cards_with (op_in s) s (cards_left fed)
+  pub waits :
+      let s = state_in before (cards_left fed) in
+      waits_left left ≡ waits_with (op_in s) s (waits_left fed)
 
 -- the way by which the step of an answer ended
 abbrev pub way_told : Step → Way
@@ -110,9 +126,13 @@ way_told (Stopped from fetch why used) = stops_by why
 -- A step alters no drum word but those that its instruction writes: what the state after it has at
 -- another location, the one before had.
 abbrev pub WritesAlone : State → State → Type 0
-WritesAlone s next = (place : ℕ) → ¬ Contains (writes (instruction_in s)) place → slice_get next.contents.drum place ≡ slice_get s.contents.drum place
+WritesAlone s next =
+    (place : ℕ) → ¬ Contains (writes (instruction_in s)) place
+    → slice_get next.contents.drum place ≡ slice_get s.contents.drum place
 
 -- A step of an operation in the profile ends by one of its instruction's ways, under notes that are
 -- true of this step.
 abbrev pub EndsByAWay : State → Step → Type 0
-EndsByAWay s answer = (op : Op) → op_in s ≡ Some op → Contains (ways (own_notes s) (instruction_in s)) (way_told answer)
+EndsByAWay s answer =
+    (op : Op) → op_in s ≡ Some op
+    → Contains (ways (own_notes s) (instruction_in s)) (way_told answer)

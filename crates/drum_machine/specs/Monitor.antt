@@ -28,7 +28,8 @@ counts_over notes counts [] = counts
 counts_over notes counts (turn ∷ turns) = counts_over notes (counts_after notes counts turn) turns
 
 -- a monitor has seen these turns, which keep to the notes
-pub record HasSeen (loads : ℕ → Option Word) (notes : Notes) (m : Monitor) (turns : List Turn) : Type 0 where
+pub record HasSeen (loads : ℕ → Option Word) (notes : Notes) (m : Monitor)
+    (turns : List Turn) : Type 0 where
   pub counts : counts_in m notes ≡ counts_over notes (no_counts notes.marks) turns
   pub kept : AreKept loads notes (no_counts notes.marks) turns
 
@@ -38,4 +39,5 @@ pub record IsToldOf (times : Op → Entry) (turn : Turn) (answer : answers.Step)
   pub origin : Location
   pub sought : origin.number ≡ turn.origin.sought
   pub punched : Option (List Word)
-  pub tells : Tells turn.outcome origin (fetched turn.origin) (reads_load turn.origin) punched answer
+  pub tells :
+      Tells turn.outcome origin (fetched turn.origin) (reads_load turn.origin) punched answer

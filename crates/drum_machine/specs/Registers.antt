@@ -27,9 +27,11 @@ cards_before (Some card) cards = card ∷ cards
 -- the outcome of which code answers the next location or the stop, and leaves these contents
 abbrev pub outcome_of : Result ℕ whys.Why → Contents → Outcome
 outcome_of (Ok next) c = goes c next
-outcome_of (Err because) c = stops because
+outcome_of (Err because) c = stops c because
 
 -- Where the registers were these, they become those and answer this: that is an effect, whatever
 -- cards are left.
 abbrev pub HasEffect : (Contents → Outcome) → Registers → Registers → Result ℕ whys.Why → Type 0
-HasEffect does before after answer = (cards : List Card) → does (contents_with before cards) ≡ outcome_of answer (contents_with after cards)
+HasEffect does before after answer =
+    (cards : List Card)
+    → does (contents_with before cards) ≡ outcome_of answer (contents_with after cards)

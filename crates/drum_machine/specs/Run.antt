@@ -22,18 +22,19 @@ pub record IsTurn (times : Op → Entry) (s : State) (turn : Turn) : Type 0 wher
 -- nothing follows a stop, and what follows a step that goes on is right for the state that it left
 abbrev pub Follow : Stepped → (State → Type 0) → List Turn → Type 0
 Follow (on next) Right turns = Right next
-Follow (stopped because moment) Right turns = turns ≡ []
+Follow (stopped held because moment) Right turns = turns ≡ []
 
 -- A run from a state: each turn is a step from the state that the one before left, and only the
 -- last may stop.
 abbrev pub IsRun : (Op → Entry) → State → List Turn → Type 0
 IsRun times s [] = Unit {0}
-IsRun times s (turn ∷ turns) = IsTurn times s turn × Follow turn.outcome (λ next. IsRun times next turns) turns
+IsRun times s (turn ∷ turns) =
+    IsTurn times s turn × Follow turn.outcome (λ next. IsRun times next turns) turns
 
 -- the word times used at the end of a step
 abbrev pub time_of : Stepped → ℕ
 time_of (on s) = s.time
-time_of (stopped why moment) = moment
+time_of (stopped held why moment) = moment
 
 -- the word times used after a run that begins when so many are
 abbrev pub used_from : ℕ → List Turn → ℕ
@@ -47,9 +48,11 @@ pub record IsWhole (c : Contents) : Type 0 where
 
 -- A state in which a run may begin: at time 0, seeking this location from some angle, with the
 -- deck's word at each of some locations that the deck loads. All else in it is free.
-pub record IsFirstState (loads : ℕ → Option Word) (Agreed : ℕ → Type 0) (start_location : ℕ) (s : State) : Type 0 where
+pub record IsFirstState (loads : ℕ → Option Word) (Agreed : ℕ → Type 0) (start_location : ℕ)
+    (s : State) : Type 0 where
   pub at_once : s.time ≡ 0
   pub seeks : s.sought ≡ start_location
   pub angle : s.start < 50
   pub whole : IsWhole s.contents
-  pub agrees : (place : ℕ) (w : Word) → Agreed place → loads place ≡ Some w → word_at s.contents place ≡ w
+  pub agrees : (place : ℕ) (w : Word) → Agreed place → loads place ≡ Some w
+      → word_at s.contents place ≡ w

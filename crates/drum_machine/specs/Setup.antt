@@ -19,8 +19,10 @@ pub record IsSetup (angle : ℕ) (accumulator : ℤ) (words : List (Location × 
 
 -- the word that is given to the location of this number
 abbrev pub given_to : ℕ → List (Location × Word) → Option Word
-given_to number words = option_map (λ given. given.1) (find (λ given. given.0.number == number) words)
+given_to number words =
+    option_map (λ given. given.1) (find (λ given. given.0.number == number) words)
 
 -- the first location, in their order, that is loaded
 abbrev pub first_loaded : (ℕ → Option Word) → List (Location × Word) → Option Location
-first_loaded loads words = find (λ location. is_some (loads location.number)) (map (λ given. given.0) words)
+first_loaded loads words =
+    find (λ location. is_some (loads location.number)) (map (λ given. given.0) words)

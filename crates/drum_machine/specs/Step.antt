@@ -28,10 +28,16 @@ pub record State : Type 0 where
   -- the drum's angle at time 0
   pub start : ℕ
 
--- A step goes on to a state, or stops, at a time.
+-- A step goes on to a state, or it stops: with what the machine that has stopped holds, why, and
+-- the word times used.
 pub data Stepped : Type 0 where
   on : State → Stepped
-  stopped : whys.Why → ℕ → Stepped
+  stopped : Contents → whys.Why → ℕ → Stepped
+
+-- what the machine holds after a step
+abbrev pub contents_after : Stepped → Contents
+contents_after (on next) = next.contents
+contents_after (stopped held because moment) = held
 
 -- the drum's clock at a time: its angle is what is left of it by 50
 abbrev pub clock_of : State → ℕ
@@ -64,25 +70,32 @@ lacks_card op c = is_read op && not (has_cards c.cards)
 
 -- what an outcome leaves at the clock at which the step ends
 abbrev pub leaves : State → ℕ → Outcome → Stepped
-leaves s clock (stops because) = stopped because (clock - s.start)
+leaves s clock (stops c because) = stopped c because (clock - s.start)
 leaves s clock (goes c next) =
-    if is_location next then on (record { contents = c; sought = next; time = clock - s.start; start = s.start })
-    else stopped why.Next (clock - s.start)
+    let used = clock - s.start in
+    if is_location next
+    then on (record { contents = c; sought = next; time = used; start = s.start })
+    else stopped c why.Next used
 
 -- The step of an operation, with a wait for the card machine: it stops at x if D isn't what the
--- operation wants, or if there is no card; else it ends at e.
+-- operation wants, or if there is no card, and nothing changes; else it ends at e.
 abbrev pub step_of : (Op → Entry) → State → ℕ → Op → Stepped
 step_of times s wait op =
     let ins = instruction_in s in
     let entry = times op in
     let x = ready entry s.sought (clock_of s) in
-    if not (is_operand (operand_of op) ins.d) then stopped why.Operand (x - s.start)
-    else (if lacks_card op s.contents then stopped why.Card (x - s.start)
-    else leaves s (ended entry op ins.d s.sought (units_of op ins.d s.contents) wait (clock_of s)) (effect s.contents op ins.d ins.i))
+    if not (is_operand (operand_of op) ins.d) then stopped s.contents why.Operand (x - s.start)
+    else (if lacks_card op s.contents then stopped s.contents why.Card (x - s.start)
+    else
+    (let units = units_of op ins.d s.contents in
+    leaves s (ended entry op ins.d s.sought units wait (clock_of s))
+    (effect s.contents op ins.d ins.i)))
 
--- a step, where the fetched operation may be outside the profile: then it stops at f
+-- a step, where the fetched operation may be outside the profile: then it stops at f, and nothing
+-- changes
 abbrev pub step_with : (Op → Entry) → State → ℕ → Option Op → Stepped
-step_with times s wait None = stopped why.Operation (found s.sought (clock_of s) - s.start)
+step_with times s wait None =
+    stopped s.contents why.Operation (found s.sought (clock_of s) - s.start)
 step_with times s wait (Some op) = step_of times s wait op
 
 abbrev pub step : (Op → Entry) → State → ℕ → Stepped

@@ -37,7 +37,8 @@ reached op d x = if waits_for_operand op then found d x else x
 -- its wait
 abbrev pub ended : Entry → Op → ℕ → ℕ → ℕ → ℕ → ℕ → ℕ
 ended entry op d location units wait clock =
-    first (has_parity entry.parity) (reached op d (ready entry location clock)) + entry.after + entry.per * units + wait
+    first (has_parity entry.parity) (reached op d (ready entry location clock)) + entry.after
+    + entry.per * units + wait
 
 -- the sum of the last digits of n
 abbrev pub digit_sum : ℕ → ℕ → ℕ
@@ -47,8 +48,12 @@ digit_sum (suc count) n = n % 10 + digit_sum count (n / 10)
 -- The units of an operation's work: the places of a shift, the digit sum of the multiplier or of
 -- the quotient.
 abbrev pub units_of : Op → ℕ → Contents → ℕ
-units_of Divide d c = let v = number_in (word_at c d) in if is_too_large c.accumulator v then 0 else digit_sum 10 (quotient c.accumulator v)
-units_of DivideReset d c = let v = number_in (word_at c d) in if is_too_large c.accumulator v then 0 else digit_sum 10 (quotient c.accumulator v)
+units_of Divide d c =
+    let v = number_in (word_at c d) in
+    if is_too_large c.accumulator v then 0 else digit_sum 10 (quotient c.accumulator v)
+units_of DivideReset d c =
+    let v = number_in (word_at c d) in
+    if is_too_large c.accumulator v then 0 else digit_sum 10 (quotient c.accumulator v)
 units_of Multiply d c = digit_sum 10 (upper c.accumulator)
 units_of (Shift s) d c = places s d
 units_of _ d c = 0

@@ -50,7 +50,8 @@ ways_of notes (BranchOnDigit p) d i = in_order false (d ∷ i ∷ []) true
 
 abbrev pub ways_with : Notes → Option Op → ℕ → ℕ → List Way
 ways_with notes None d i = []
-ways_with notes (Some op) d i = if is_operand (operand_of op) d then ways_of notes op d i else early ∷ []
+ways_with notes (Some op) d i =
+    if is_operand (operand_of op) d then ways_of notes op d i else early ∷ []
 
 -- the ways of an instruction; of one outside the profile, which no accepted deck executes, none
 abbrev pub ways : Notes → Instruction → List Way

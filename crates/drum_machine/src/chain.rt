@@ -14,8 +14,8 @@ use drum_times::Entry;
 /// looks for its operand.
 pub type ToReady = Then<Seek, Delay>;
 
-/// A step from x on: the search for the operand, where the operation waits for one, then an angle of
-/// its parity, and then what it takes from there on.
+/// A step from x on: the search for the operand, where the operation waits for one, then an angle
+/// of its parity, and then what it takes from there on.
 pub type FromReady = Then<Then<Option<Seek>, AtParity>, Delay>;
 
 /// A step from its begin to its end. Where it stops early, it takes the first part alone.

@@ -1,8 +1,8 @@
 ghost use Rattle.std.specs.Prelude.{◌≡◌, ◌≤◌, ◌&&◌, is_some};
 ghost use Rattle.drum_machine.specs.Registers.{cards_before};
-ghost use Rattle.drum_machine.specs.Step.{is_read, has_cards};
+ghost use Rattle.drum_machine.specs.Step.{is_read as read_is, has_cards};
 ghost use Rattle.drum_machine.specs.Timing.{IsWait};
-ghost use Rattle.drum_machine.specs.Feed.{cards_left, waits_left, card_for, cards_after, wait_for, waits_after};
+ghost use Rattle.drum_machine.specs.Feed.{is_load as load_of, cards_left, waits_left, card_for, cards_after, wait_for, waits_after};
 
 use crate::card::Card;
 use drum_core::Op;
@@ -36,7 +36,7 @@ impl Feed {
         ensures cards { cards_left self.new ≡ cards_after op (cards_left self.old) }
         ensures waits { waits_left self.new ≡ waits_left self.old }
         ensures before { cards_before result (cards_left self.new) ≡ cards_left self.old }
-        ensures taken { is_some result ≡ (is_read op && has_cards (cards_left self.old)) }
+        ensures taken { is_some result ≡ (read_is op && has_cards (cards_left self.old)) }
     {
         match op {
             Op::Read => self.cards.next(),
@@ -59,5 +59,22 @@ impl Feed {
             },
             _ => 0,
         }
+    }
+}
+
+/// Whether the operation reads a card.
+pub(crate) fn is_read(op: Op) -> bool
+    ensures { result ≡ read_is op }
+{
+    matches!(op, Op::Read)
+}
+
+/// Whether a load card was read.
+pub(crate) fn is_load(card: Option<Card>) -> bool
+    ensures { result ≡ load_of card }
+{
+    match card {
+        Some(card) => card.load,
+        None => false,
     }
 }

@@ -28,7 +28,8 @@ fn first_word(deck: &Deck, setup: &Setup, location: Location) -> Word
 
 /// The words of the drum.
 pub fn first_drum(alloc: Global, deck: &Deck, setup: &Setup) -> Result<Vec<Word>, Memory>
-    ensures { IfOk result (λ drum. IsFirstDrum (loads_in deck.now) setup.now.words.items drum.items) }
+    ensures { IfOk result (λ drum.
+        IsFirstDrum (loads_in deck.now) setup.now.words.items drum.items) }
 {
     let mut drum = Vec::with_capacity(alloc, DRUM as usize)?;
     for number in 0..DRUM {

@@ -3,32 +3,33 @@
 #![tactic(auto)]
 
 mod arithmetic;
-pub mod card;
+mod card;
 pub mod chain;
-pub mod feed;
+mod feed;
 mod fetch;
 mod first_drum;
 pub mod laws;
-pub mod left;
-pub mod machine;
-pub mod memory;
+mod left;
+mod machine;
+mod memory;
 pub mod moments;
-pub mod monitor;
+mod monitor;
+mod operand;
 pub mod passes;
 mod registers;
-pub mod setup;
-pub mod step;
+mod setup;
+mod step;
 mod stop;
-pub mod why;
+mod why;
 
 pub use arithmetic::places;
 pub use card::Card;
 pub use feed::Feed;
-pub use fetch::is_operand;
 pub use left::Left;
 pub use machine::Machine;
 pub use memory::Memory;
 pub use monitor::Monitor;
+pub use operand::is_operand;
 pub use setup::Setup;
 pub use step::Step;
 pub use why::Why;

@@ -1,11 +1,12 @@
 ghost use Rattle.std.specs.Prelude.{◌≡◌, ◌+◌, ◌-◌, ◌^◌, ◌<◌, ◌≤◌, ℕ, IfOk};
 
 use crate::chain::to_ready;
-use crate::feed::Feed;
-use crate::fetch::{instruction_of, is_load, is_operand, is_read};
+use crate::feed::{Feed, is_load, is_read};
+use crate::fetch::instruction_of;
 use crate::first_drum::first_drum;
 use crate::memory::Memory;
 use crate::moments::{ended, found};
+use crate::operand::is_operand;
 use crate::registers::Registers;
 use crate::setup::Setup;
 use crate::step::Step;
@@ -53,7 +54,8 @@ impl Machine {
             → IsSetUp (loads_in deck.now) (start_in deck.now) setup.now (state_in machine cards)) }
         // it agrees with the deck at every location
         ensures first { IfOk result (λ machine. (cards : List Card)
-            → IsFirstState (loads_in deck.now) (λ _. Unit {0}) (start_in deck.now) (state_in machine cards)) }
+            → IsFirstState (loads_in deck.now) (λ _. Unit {0}) (start_in deck.now)
+            (state_in machine cards)) }
     {
         let drum = first_drum(alloc, deck, setup)?;
         Ok(Machine {
@@ -106,7 +108,10 @@ impl Machine {
     fn halt(&mut self, word: Word, why: Why, clock: u64) -> Step
         requires { self.old.start ≤ clock }
         ensures told { result ≡ Step.Stopped self.old.sought word why (clock - self.old.start) }
-        ensures held { self.new ≡ record self.old { used = clock - self.old.start; stop = Some (record { word = word; why = why }) } }
+        ensures held { self.new ≡ record self.old {
+          used = clock - self.old.start;
+          stop = Some (record { word = word; why = why });
+        } }
     {
         self.used = clock - u64::from(self.start);
         self.stop = Some(Stop { word, why });
@@ -130,10 +135,12 @@ impl Machine {
         requires on_time { self.old.start ≤ clock }
         requires runs { self.old.stop ≡ None }
         ensures tells { (s : State) (cards : List Card) → s.start ≡ self.old.start
-            → Tells (leaves s clock (outcome_of acted (contents_with self.old.registers cards))) self.old.sought word load punched result }
+            → let acts = outcome_of acted (contents_with self.old.registers cards) in
+            Tells (leaves s clock acts) self.old.sought word load punched result }
         ensures used { self.new.used ≡ clock - self.old.start }
         ensures becomes { (s : State) (cards : List Card) → s.start ≡ self.old.start
-            → Becomes (leaves s clock (outcome_of acted (contents_with self.old.registers cards))) self.old.sought word self.new cards }
+            → let acts = outcome_of acted (contents_with self.old.registers cards) in
+            Becomes (leaves s clock acts) self.old.sought word self.new cards }
     {
         let next = match acted {
             Ok(next) => next,
@@ -188,7 +195,9 @@ impl Machine {
     /// The words that an operation punches.
     fn punched(&self, op: Op, d: u16) -> Option<[Word; 10]>
         requires { is_operand_of (operand_of op) d ≡ true }
-        ensures { (s : State) (cards : List Card) → s.contents ≡ contents_with self.now.registers cards → (instruction_in s).d ≡ d → result ≡ punched_by op s }
+        ensures { (s : State) (cards : List Card)
+            → s.contents ≡ contents_with self.now.registers cards → (instruction_in s).d ≡ d
+            → result ≡ punched_by op s }
     {
         match op {
             Op::Punch => Some(self.registers.punched(d)),
@@ -199,13 +208,18 @@ impl Machine {
     /// Takes a step. A machine that has stopped answers the same again, and nothing changes.
     pub fn step(&mut self, times: &Times, feed: &mut Feed) -> Step
         requires { used_by self.old ≤ 2 ^ 62 }
-        ensures goes { GoesOn self.old → TakesStep (entry_in times.now) self.old feed.old result self.new feed.new }
-        ensures writes { GoesOn self.old → GoesOn self.new → WritesAlone (state_in self.old (cards_left feed.old)) (state_in self.new (cards_left feed.new)) }
-        ensures ends { GoesOn self.old → EndsByAWay (state_in self.old (cards_left feed.old)) result }
+        ensures goes { GoesOn self.old
+            → TakesStep (entry_in times.now) self.old feed.old result self.new feed.new }
+        ensures writes { GoesOn self.old
+            → WritesAlone (state_in self.old (cards_left feed.old))
+            (state_in self.new (cards_left feed.new)) }
+        ensures ends { GoesOn self.old
+            → EndsByAWay (state_in self.old (cards_left feed.old)) result }
         ensures advances { GoesOn self.new → used_by self.old < used_by self.new }
         ensures near { used_by self.new ≤ used_by self.old + 92000099 }
         ensures rests { (word : WordType) (why : WhyType) → HasStopped self.old word why
-            → (result ≡ Step.Stopped (sought_by self.old) word why (used_by self.old)) × (self.new ≡ self.old) × (feed.new ≡ feed.old) }
+            → (result ≡ Step.Stopped (sought_by self.old) word why (used_by self.old))
+            × (self.new ≡ self.old) × (feed.new ≡ feed.old) }
     {
         if let Some(stop) = self.stop {
             return Step::Stopped {

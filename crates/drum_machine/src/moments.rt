@@ -39,7 +39,8 @@ pub fn ended(entry: Entry, op: Op, d: u16, units: u64, wait: u32, x: u64) -> u64
     requires operand { is_operand (operand_of op) d ≡ true }
     requires work { entry.per * units + wait ≤ 90000000 }
     requires soon { x ≤ 2 ^ 62 + 2 ^ 38 }
-    ensures value { result ≡ first (has_parity entry.parity) (reached_at op d x) + entry.after + entry.per * units + wait }
+    ensures value { let begins = first (has_parity entry.parity) (reached_at op d x) in
+        result ≡ begins + entry.after + entry.per * units + wait }
     ensures later { x ≤ result }
     ensures near { result ≤ x + 91000050 }
 {

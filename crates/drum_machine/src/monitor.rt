@@ -38,9 +38,12 @@ fn is_as_declared(programmed: Programmed, stops: bool) -> bool
 /// Whether the word that was fetched at the location leaves the notes.
 fn unlisted(notes: &Notes, deck: &Deck, location: Location, word: Word) -> Option<Left>
     ensures { MatchOption result
-        (IsTrue (is_listed notes.now location.number) → Contains (allowed_at (loads_in deck.now) notes.now location.number) (instruction_in word))
+        (IsTrue (is_listed notes.now location.number)
+        → Contains (allowed_at (loads_in deck.now) notes.now location.number) (instruction_in word))
         (λ left. (left ≡ Left.Unlisted location word)
-        × ¬ (IsTrue (is_listed notes.now location.number) → Contains (allowed_at (loads_in deck.now) notes.now location.number) (instruction_in word))) }
+        × ¬ (IsTrue (is_listed notes.now location.number)
+        → Contains (allowed_at (loads_in deck.now) notes.now location.number)
+        (instruction_in word))) }
 {
     if is_allowed(notes, deck, location, instruction_of(word)) {
         None
@@ -65,7 +68,8 @@ impl Monitor {
     pub fn new(notes: &Notes, setup: &Setup) -> Monitor
         ensures declared { MatchOption (answer_of result)
             (IsAsDeclared notes.now.programmed setup.now.programmed)
-            (λ left. (left ≡ Left.Switch) × ¬ IsAsDeclared notes.now.programmed setup.now.programmed) }
+            (λ left. (left ≡ Left.Switch)
+            × ¬ IsAsDeclared notes.now.programmed setup.now.programmed) }
         ensures seen { (loads : ℕ → Option Word) → HasSeen loads notes.now result [] }
     {
         prove!(notes.marks().len() <= MOST_MARKS);
@@ -90,11 +94,12 @@ impl Monitor {
     /// Counts a step from one location to another, where no count is above what its mark allows.
     fn pass(&mut self, marks: &[Mark], from: Location, onto: Location) -> Option<Left>
         requires { length marks.now ≤ 8 }
-        ensures { MatchOption result
-            ((take (length marks.now) self.new.counts ≡ after_pass marks.now from.number onto.number (take (length marks.now) self.old.counts))
-            × (AreWithin marks.now (take (length marks.now) self.old.counts) → AreWithin marks.now (after_pass marks.now from.number onto.number (take (length marks.now) self.old.counts))))
-            (λ left. (left ≡ Left.TooOften from onto)
-            × ¬ AreWithin marks.now (after_pass marks.now from.number onto.number (take (length marks.now) self.old.counts))) }
+        ensures { let counts = take (length marks.now) self.old.counts in
+            let passed = after_pass marks.now from.number onto.number counts in
+            MatchOption result
+            ((take (length marks.now) self.new.counts ≡ passed)
+            × (AreWithin marks.now counts → AreWithin marks.now passed))
+            (λ left. (left ≡ Left.TooOften from onto) × ¬ AreWithin marks.now passed) }
     {
         let Some(passed) = mark_on(marks, from, onto) else {
             return None;
@@ -108,11 +113,13 @@ impl Monitor {
 
     /// How a step leaves the notes; where it doesn't, it is counted.
     fn judge(&mut self, notes: &Notes, deck: &Deck, step: &Step) -> Option<Left>
-        ensures { (times : Op → Entry) (turn : Turn) → IsToldOf times turn step.now → MatchOption result
-            (AreWithin notes.now.marks (counts_in self.old notes.now)
-            → IsKeptTurn (loads_in deck.now) notes.now (counts_in self.old notes.now) turn
-            × (counts_in self.new notes.now ≡ counts_after notes.now (counts_in self.old notes.now) turn))
-            (λ left. Leaves (loads_in deck.now) notes.now (counts_in self.old notes.now) turn left) }
+        ensures { (times : Op → Entry) (turn : Turn) → IsToldOf times turn step.now
+            → let counts = counts_in self.old notes.now in
+            MatchOption result
+            (AreWithin notes.now.marks counts
+            → IsKeptTurn (loads_in deck.now) notes.now counts turn
+            × (counts_in self.new notes.now ≡ counts_after notes.now counts turn))
+            (λ left. Leaves (loads_in deck.now) notes.now counts turn left) }
     {
         match step {
             Step::Stopped { origin, word, .. } => unlisted(notes, deck, *origin, *word),
@@ -139,12 +146,15 @@ impl Monitor {
     /// monitor was made for. Once there is an answer it stays, and nothing changes.
     pub fn check(&mut self, notes: &Notes, deck: &Deck, step: &Step) -> Option<Left>
         ensures answered { result ≡ answer_of self.new }
-        ensures judged { answer_of self.old ≡ None → (times : Op → Entry) (turns : List Turn) (turn : Turn)
+        ensures judged { answer_of self.old ≡ None
+            → (times : Op → Entry) (turns : List Turn) (turn : Turn)
             → HasSeen (loads_in deck.now) notes.now self.old turns → IsToldOf times turn step.now
             → MatchOption result
             (HasSeen (loads_in deck.now) notes.now self.new (turns ++ turn ∷ []))
-            (λ left. Leaves (loads_in deck.now) notes.now (counts_over notes.now (no_counts notes.now.marks) turns) turn left) }
-        ensures stays { (left : LeftType) → answer_of self.old ≡ Some left → (result ≡ Some left) × (self.new ≡ self.old) }
+            (λ left. let counts = counts_over notes.now (no_counts notes.now.marks) turns in
+            Leaves (loads_in deck.now) notes.now counts turn left) }
+        ensures stays { (left : LeftType) → answer_of self.old ≡ Some left
+            → (result ≡ Some left) × (self.new ≡ self.old) }
     {
         if let Some(left) = self.left {
             return Some(left);

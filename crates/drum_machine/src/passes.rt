@@ -52,7 +52,8 @@ fn is_inside(marks: &[Mark], inner: usize, outer: usize) -> bool
 /// The count of the mark at a place after a pass of another, or of itself.
 fn count_after(marks: &[Mark], passed: usize, place: usize, count: u16) -> u16
     requires { place ≡ passed → count ≤ 9999 }
-    ensures { result ≡ (if place == passed then count + 1 else (if counted.is_inside marks.now place passed then 0 else count)) }
+    ensures { result ≡ (if place == passed then count + 1
+        else (if counted.is_inside marks.now place passed then 0 else count)) }
 {
     if place == passed {
         count + 1
@@ -68,7 +69,8 @@ pub fn count_pass(counts: &mut [u16; MOST_MARKS], marks: &[Mark], passed: usize)
     requires few { length marks.now ≤ 8 }
     requires inside { passed < length marks.now }
     requires short { slice_index counts.old passed ≤ 9999 }
-    ensures { take (length marks.now) counts.new ≡ counted.passed_from marks.now passed 0 (take (length marks.now) counts.old) }
+    ensures { take (length marks.now) counts.new
+        ≡ counted.passed_from marks.now passed 0 (take (length marks.now) counts.old) }
 {
     for place in 0..marks.len() {
         counts[place] = count_after(marks, passed, place, counts[place]);

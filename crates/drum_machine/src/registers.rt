@@ -43,6 +43,7 @@ impl Registers {
     ghost use Rattle.drum_machine.specs.Contents.{word_at as word_in, lower_word as lower_in, upper_word as upper_in};
     ghost use Rattle.drum_machine.specs.Effect.{keeps as keeps_in, stored as stored_in, holds as holds_in, punched as punched_in, goes, effect};
     ghost use Rattle.drum_core.specs.declared.op.Op.TheVariants as Op;
+    ghost use Rattle.drum_machine.specs.declared.why.Why.TheVariants as Why;
     ghost use Rattle.drum_machine.specs.Timing.{units_of};
     ghost use Rattle.drum_machine.specs.Registers.{contents_with, cards_before, outcome_of, HasEffect};
 
@@ -64,7 +65,8 @@ impl Registers {
 
     /// The word at a location.
     pub fn word_at(&self, location: Location) -> Word
-        ensures { (cards : List Card) → result ≡ word_in (contents_with self.now cards) location.number }
+        ensures { (cards : List Card)
+            → result ≡ word_in (contents_with self.now cards) location.number }
     {
         match location.kind() {
             Kind::Drum => self.drum[location.number() as usize],
@@ -84,7 +86,8 @@ impl Registers {
     }
 
     /// The accumulator becomes what twenty digits hold of the number. Where more are wanted, that
-    /// is an overflow: a stop where the overflow switch is at STOP, and else the latch goes on.
+    /// is an overflow: the latch goes on, and the machine stops where the overflow switch is at
+    /// STOP.
     fn keep(&mut self, number: i128, next: u16) -> Result<u16, Why>
         requires { unsigned_abs number < 10 ^ 30 }
         ensures { HasEffect (λ c. keeps_in c number next) self.old self.new result }
@@ -95,11 +98,11 @@ impl Registers {
             self.accumulator = number;
             return Ok(next);
         }
+        self.accumulator = signed(is_minus(number), size % WHOLE);
+        self.latch = true;
         if self.overflow_stops {
             return Err(Why::Overflow);
         }
-        self.accumulator = signed(is_minus(number), size % WHOLE);
-        self.latch = true;
         Ok(next)
     }
 
@@ -137,17 +140,26 @@ impl Registers {
         self.keep(number, i)
     }
 
+    /// Stops a division whose quotient has more than ten digits: the latch goes on.
+    fn stop_division(&mut self) -> Why
+        ensures why { result ≡ Why.Quotient }
+        ensures held { self.new ≡ record self.old { latch = true } }
+    {
+        self.latch = true;
+        Why::Quotient
+    }
+
     /// 14: divides, and leaves the quotient in the lower half and the remainder in the upper.
     pub fn divide(&mut self, d: u16, i: u16) -> Result<u16, Why>
         requires { is_location d ≡ true }
         ensures { HasEffect (λ c. effect c Op.Divide d i) self.old self.new result }
     {
         let word = self.operand(d);
+        self.distributor = word;
         let by = number_in(word);
         if is_too_large(self.accumulator, by) {
-            return Err(Why::Quotient);
+            return Err(self.stop_division());
         }
-        self.distributor = word;
         self.remainder = Some(is_minus(self.accumulator));
         let size = rest(self.accumulator, by) * HALF + quotient(self.accumulator, by);
         self.accumulator = signed(differ(self.accumulator, by), size);
@@ -160,11 +172,11 @@ impl Registers {
         ensures { HasEffect (λ c. effect c Op.DivideReset d i) self.old self.new result }
     {
         let word = self.operand(d);
+        self.distributor = word;
         let by = number_in(word);
         if is_too_large(self.accumulator, by) {
-            return Err(Why::Quotient);
+            return Err(self.stop_division());
         }
-        self.distributor = word;
         self.remainder = None;
         self.accumulator = signed(differ(self.accumulator, by), quotient(self.accumulator, by));
         Ok(i)
@@ -251,7 +263,8 @@ impl Registers {
 
     /// 90 to 99: goes on at D by an 8 at a position of the distributor, at I by a 9; else stops.
     pub fn branch_on_digit(&self, position: Position, d: u16, i: u16) -> Result<u16, Why>
-        ensures { HasEffect (λ c. effect c (Op.BranchOnDigit position) d i) self.now self.now result }
+        ensures { HasEffect (λ c. effect c (Op.BranchOnDigit position) d i)
+            self.now self.now result }
     {
         match digit_at(position, self.distributor) {
             8 => Ok(d),
@@ -276,7 +289,9 @@ impl Registers {
     /// card.
     pub fn read_card(&mut self, card: &Card, d: u16, i: u16) -> u16
         requires { d < 2000 }
-        ensures { (cards : List Card) → effect (contents_with self.old (card.now ∷ cards)) Op.Read d i ≡ goes (contents_with self.new cards) result }
+        ensures { (cards : List Card)
+            → effect (contents_with self.old (card.now ∷ cards)) Op.Read d i
+            ≡ goes (contents_with self.new cards) result }
     {
         write_words(&mut self.drum, band(d) + 1, &card.words);
         if card.load { d } else { i }
@@ -297,7 +312,8 @@ impl Registers {
     /// of the quotient.
     pub fn units(&self, op: Op, d: u16) -> u64
         requires { is_operand (operand_of op) d ≡ true }
-        ensures value { (cards : List Card) → result ≡ units_of op d (contents_with self.now cards) }
+        ensures value { (cards : List Card)
+            → result ≡ units_of op d (contents_with self.now cards) }
         ensures ninety { result ≤ 90 }
     {
         match op {
@@ -311,7 +327,8 @@ impl Registers {
     /// The units of a division by the word at D.
     fn quotient_units(&self, d: u16) -> u64
         requires { is_location d ≡ true }
-        ensures value { (cards : List Card) → result ≡ units_of Op.Divide d (contents_with self.now cards) }
+        ensures value { (cards : List Card)
+            → result ≡ units_of Op.Divide d (contents_with self.now cards) }
         ensures ninety { result ≤ 90 }
     {
         let by = number_in(self.operand(d));

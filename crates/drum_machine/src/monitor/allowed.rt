@@ -37,8 +37,10 @@ fn is_loaded(deck: &Deck, location: Location, instruction: Instruction) -> bool
 /// Whether the notes allow the instruction at the location: one that isn't listed may hold any.
 pub fn is_allowed(notes: &Notes, deck: &Deck, location: Location, instruction: Instruction) -> bool
     ensures { MatchBool result
-        (IsTrue (is_listed notes.now location.number) → Contains (allowed (loads_in deck.now) notes.now location.number) instruction)
-        (¬ (IsTrue (is_listed notes.now location.number) → Contains (allowed (loads_in deck.now) notes.now location.number) instruction)) }
+        (IsTrue (is_listed notes.now location.number)
+        → Contains (allowed (loads_in deck.now) notes.now location.number) instruction)
+        (¬ (IsTrue (is_listed notes.now location.number)
+        → Contains (allowed (loads_in deck.now) notes.now location.number) instruction)) }
 {
     let Some(patterns) = notes.patterns(location) else {
         return true;

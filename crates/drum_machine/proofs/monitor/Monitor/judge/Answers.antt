@@ -22,6 +22,6 @@ returns-in-Stopped c times turn told =
     let s = c.in-Stopped in
     let tells = subst (λ (v : Step). Tells turn.outcome told.origin (fetched turn.origin) (reads_load turn.origin) told.punched v) s.is told.tells in
     let began = told_stop turn.outcome told.origin (fetched turn.origin) (reads_load turn.origin) told.punched s.origin s.word s.why s.used tells in
-    stop_judged (loads_in c.args.deck.now) c.args.notes.now (counts_in c.args.self.now c.args.notes.now) turn s.origin s.word s.why s.used c.unlisted.result
-    (ap (λ (l : Location). l.number) began.0 ∙ told.sought) began.1 began.2
-    (stop_reads_none times turn.origin turn.wait s.why s.used (sym told.stepped ∙ began.2)) c.unlisted.ensures
+    stop_judged (loads_in c.args.deck.now) c.args.notes.now (counts_in c.args.self.now c.args.notes.now) turn s.origin s.word began.2.0 s.why s.used c.unlisted.result
+    (ap (λ (l : Location). l.number) began.0 ∙ told.sought) began.1 began.2.1
+    (stop_reads_none times turn.origin turn.wait began.2.0 s.why s.used (sym told.stepped ∙ began.2.1)) c.unlisted.ensures
