@@ -11,13 +11,12 @@ use Rattle.drum_flow.specs.declared.refusal.Refusal.{Refusal}
 use Rattle.drum_flow.specs.declared.refusal.Refusal.TheVariants.{Memory, NotLoaded, NotInProfile, Alters, Unbounded, TooLarge}
 use Rattle.drum_flow.specs.Acceptance.{IsRefusal}
 use Rattle.drum_flow.specs.Accepted.{counts_of, IsFree, LeadRound, IsClosed, IsAccepted, IsSound}
-use Rattle.drum_flow.specs.Altering.{FlagsFixed, AltersNone, IsAlteredBy}
+use Rattle.drum_flow.specs.Altering.{FlagsFixed, AltersNone}
 use Rattle.drum_flow.specs.Executed.{added_by, with_new, found_after, IsOrder}
 use Rattle.drum_flow.specs.Fixed.{AreFlagged}
 use Rattle.drum_flow.specs.Flow.{AreExecuted}
 use Rattle.drum_flow.specs.Free.{IsFreeOrder, IsCycleRefusal}
 use Rattle.drum_flow.specs.Graph.{AreDifferent, GoOn}
-use Rattle.drum_flow.specs.Refused.{IsFlowRefusal}
 use Rattle.drum_flow.specs.Size.{product_of, IsTooMuch}
 use Rattle.drum_flow.proofs.Lists.{contains_there, contains_cases, contains_none}
 
@@ -148,19 +147,3 @@ module _ (loads : ℕ → Option Word) (notes : Notes) where
             bounded = λ first others is_executed. no_round order first others free.different free.onward (free.all first (e.all first is_executed));
             small = small;
           }
-
-pub flow_refused : (loads : ℕ → Option Word) (notes : Notes) (start : ℕ) (refusal : Refusal) → IsFlowRefusal loads notes start refusal → IsRefusal loads notes start refusal
-flow_refused loads notes start (NotLoaded location) wrong = wrong
-flow_refused loads notes start (NotInProfile location op) wrong = wrong
-flow_refused loads notes start Memory wrong = tt
-flow_refused loads notes start (Alters writer word) wrong = absurd wrong
-flow_refused loads notes start (Unbounded cycle) wrong = absurd wrong
-flow_refused loads notes start (TooLarge product) wrong = absurd wrong
-
-pub altered_refused : (loads : ℕ → Option Word) (notes : Notes) (start : ℕ) (refusal : Refusal) → IsAlteredBy loads notes start refusal → IsRefusal loads notes start refusal
-altered_refused loads notes start (Alters writer word) wrong = wrong
-altered_refused loads notes start Memory wrong = absurd wrong
-altered_refused loads notes start (NotLoaded location) wrong = absurd wrong
-altered_refused loads notes start (NotInProfile location op) wrong = absurd wrong
-altered_refused loads notes start (Unbounded cycle) wrong = absurd wrong
-altered_refused loads notes start (TooLarge product) wrong = absurd wrong

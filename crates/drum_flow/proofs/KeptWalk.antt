@@ -22,7 +22,7 @@ use Rattle.drum_machine.proofs.Ends.{Ends, KeepsStart, step_ends}
 use Rattle.drum_machine.specs.Keeps.{IsAsDeclared, IsAllowed, counts_after, counts_by, IsKeptTurn, AreKept, IsKept}
 use Rattle.drum_machine.specs.Run as run
 use Rattle.drum_machine.specs.Run.{Turn, IsTurn, IsRun, IsFirstState, used_from}
-use Rattle.drum_machine.specs.Step.{State, Stepped, on, stopped, step, instruction_in, clock_of, MayWait}
+use Rattle.drum_machine.specs.Step.{State, Stepped, on, stopped, contents_after, step, instruction_in, clock_of, MayWait}
 use Rattle.drum_machine.specs.Timing.{ready, ended, units_of, digit_sum, IsWait}
 use Rattle.drum_machine.specs.Ways.{Way, early, to, late, ways}
 use Rattle.drum_machine.specs.declared.why.Why as whys
@@ -152,11 +152,13 @@ module _ (g : Setting) (executed : List ℕ) (angle : ℕ) (proper : IsProper g)
         let edge : IsEdge g.loads g.notes s.sought next.sought =
         (instruction_in s, hops_in g.notes (allowed g.loads g.notes s.sought) (instruction_in s) (to next.sought) may_be by) in
         (stays.executed.0 ++ next.sought ∷ [], lead_on g.loads g.notes g.start stays.executed.0 s.sought next.sought stays.executed.1 edge);
-    as_declared = subst (IsAsDeclared g.notes.programmed) (sym (leaves_switch g.times s wait next goes_on)) stays.as_declared;
+    as_declared =
+        subst (λ (t : Stepped). IsAsDeclared g.notes.programmed (contents_after t).programmed_stops) goes_on
+        (subst (IsAsDeclared g.notes.programmed) (sym (leaves_switch g.times s wait)) stays.as_declared);
     agrees = λ place w fixed loads.
         let below : place < 2000 = proper.on_drum place w loads in
         let free : ¬ Contains (writes (instruction_in s)) place = λ written. accepted.unaltered s.sought (instruction_in s) place stays.executed may_be written fixed in
-        drum_word next.contents place below ∙ ap (λ (found : Option Word). unwrap_or found (word false 0)) (writes_no_other g.times s wait next place goes_on free)
+        drum_word next.contents place below ∙ ap (λ (found : Option Word). unwrap_or found (word false 0)) (subst (λ (t : Stepped). slice_get (contents_after t).drum place ≡ slice_get s.contents.drum place) goes_on (writes_no_other g.times s wait place free))
         ∙ sym (drum_word s.contents place below) ∙ stays.agrees place w fixed loads;
   }
 
@@ -202,7 +204,7 @@ module _ (g : Setting) (executed : List ℕ) (angle : ℕ) (proper : IsProper g)
       × IsWalkFrom g angle next (run.time_of outcome) (after_pass g.notes.marks s.sought next counts) (hops_taken turns)) (hops_taken turns)
   follows s wait counts turns (on next) stays may_be stepped by from run within rest =
       (within, rest next (next_stays s next wait stays may_be (sym stepped) by from) run refl)
-  follows s wait counts turns (stopped because moment) stays may_be stepped by from run within rest =
+  follows s wait counts turns (stopped held because moment) stays may_be stepped by from run within rest =
       nothing_follows because _ (hops_taken turns) (ap hops_taken run)
 
   -- a turn and what follows it

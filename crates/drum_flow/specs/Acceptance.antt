@@ -9,8 +9,11 @@ use Rattle.drum_flow.specs.Accepted.{IsNotLoaded, IsNotInProfile, IsAltered, IsT
 -- the refusal is that of the deck with its notes, or memory is wanting
 abbrev pub IsRefusal : (ℕ → Option Word) → Notes → ℕ → Refusal → Type 0
 IsRefusal loads notes start (NotLoaded location) = IsNotLoaded loads notes start location.number
-IsRefusal loads notes start (NotInProfile location op) = IsNotInProfile loads notes start location.number op
-IsRefusal loads notes start (Alters writer word) = IsAltered loads notes start writer.number word.number
+IsRefusal loads notes start (NotInProfile location op) =
+    IsNotInProfile loads notes start location.number op
+IsRefusal loads notes start (Alters writer word) =
+    IsAltered loads notes start writer.number word.number
 IsRefusal loads notes start (TooLarge product) = IsTooLarge loads notes start product
-IsRefusal loads notes start (Unbounded cycle) = IsUnbounded loads notes start (map (λ location. location.number) cycle.locations.items)
+IsRefusal loads notes start (Unbounded cycle) =
+    IsUnbounded loads notes start (map (λ location. location.number) cycle.locations.items)
 IsRefusal loads notes start Memory = Unit {0}

@@ -22,33 +22,40 @@ IsThere loads notes place = IsSome (loads place) ⊎ IsTrue (is_listed notes pla
 
 -- each operation that is allowed there is in the profile
 abbrev pub IsInProfile : (ℕ → Option Word) → Notes → ℕ → Type 0
-IsInProfile loads notes place = (ins : Instruction) → Contains (allowed loads notes place) ins → IsSome (op_of ins.op)
+IsInProfile loads notes place = (ins : Instruction) → Contains (allowed loads notes place) ins
+    → IsSome (op_of ins.op)
 
 -- an executed location without a list
 abbrev pub IsFixed : (ℕ → Option Word) → Notes → ℕ → ℕ → Type 0
-IsFixed loads notes start place = IsExecuted loads notes start place × ¬ IsTrue (is_listed notes place)
+IsFixed loads notes start place =
+    IsExecuted loads notes start place × ¬ IsTrue (is_listed notes place)
 
 -- an edge that no mark stands on
 abbrev pub IsFree : (ℕ → Option Word) → Notes → ℕ → ℕ → Type 0
-IsFree loads notes place next = IsEdge loads notes place next × IsNone (mark_on notes.marks place next)
+IsFree loads notes place next =
+    IsEdge loads notes place next × IsNone (mark_on notes.marks place next)
 
 -- free edges lead along these locations, and from the last to the first
 abbrev pub LeadRound : (ℕ → Option Word) → Notes → ℕ → ℕ → List ℕ → Type 0
 LeadRound loads notes first place [] = IsFree loads notes place first
-LeadRound loads notes first place (next ∷ nexts) = IsFree loads notes place next × LeadRound loads notes first next nexts
+LeadRound loads notes first place (next ∷ nexts) =
+    IsFree loads notes place next × LeadRound loads notes first next nexts
 
 abbrev pub IsClosed : (ℕ → Option Word) → Notes → List ℕ → Type 0
 IsClosed loads notes [] = ⊥
 IsClosed loads notes (place ∷ places) = LeadRound loads notes place place places
 
 -- The deck with its notes is accepted; these are its executed locations.
-pub record IsAccepted (loads : ℕ → Option Word) (notes : Notes) (start : ℕ) (executed : List ℕ) : Type 0 where
+pub record IsAccepted (loads : ℕ → Option Word) (notes : Notes) (start : ℕ)
+    (executed : List ℕ) : Type 0 where
   pub order : IsOrder loads notes start executed
   pub there : (place : ℕ) → IsExecuted loads notes start place → IsThere loads notes place
   pub profile : (place : ℕ) → IsExecuted loads notes start place → IsInProfile loads notes place
-  pub unaltered : (place : ℕ) (ins : Instruction) (at : ℕ) → IsExecuted loads notes start place → Contains (allowed loads notes place) ins
+  pub unaltered : (place : ℕ) (ins : Instruction) (at : ℕ) → IsExecuted loads notes start place
+      → Contains (allowed loads notes place) ins
       → Contains (writes ins) at → ¬ IsFixed loads notes start at
-  pub bounded : (first : ℕ) (others : List ℕ) → IsExecuted loads notes start first → ¬ IsClosed loads notes (first ∷ others)
+  pub bounded : (first : ℕ) (others : List ℕ) → IsExecuted loads notes start first
+      → ¬ IsClosed loads notes (first ∷ others)
   pub small : length executed * counts_of notes.marks ≤ 4000000
 
 -- The location is loaded or listed, and each operation there is in the profile.
@@ -59,12 +66,15 @@ IsGood loads notes place = IsThere loads notes place × IsInProfile loads notes 
 pub record IsMet (loads : ℕ → Option Word) (notes : Notes) (start : ℕ) (place : ℕ) : Type 0 where
   pub turns : ℕ
   pub member : slice_get (found_after loads notes start turns) turns ≡ Some place
-  pub before : (k earlier : ℕ) → k < turns → slice_get (found_after loads notes start turns) k ≡ Some earlier → IsGood loads notes earlier
+  pub before : (k earlier : ℕ) → k < turns
+      → slice_get (found_after loads notes start turns) k ≡ Some earlier
+      → IsGood loads notes earlier
 
 -- an instruction is the first in a list with a property
 abbrev pub IsFirstIn : List Instruction → (Instruction → Type 0) → Instruction → Type 0
 IsFirstIn list Property ins =
-    (before : List Instruction) × (after : List Instruction) × (list ≡ before ++ ins ∷ after) × Property ins
+    (before : List Instruction) × (after : List Instruction) × (list ≡ before ++ ins ∷ after)
+    × Property ins
     × ((other : Instruction) → Contains before other → ¬ Property other)
 
 -- the instruction writes an executed location without a list
@@ -81,34 +91,40 @@ IsNotLoaded loads notes start place = IsMet loads notes start place × ¬ IsTher
 abbrev pub IsNotInProfile : (ℕ → Option Word) → Notes → ℕ → ℕ → ℕ → Type 0
 IsNotInProfile loads notes start place op =
     IsMet loads notes start place × IsThere loads notes place
-    × ((ins : Instruction) × IsFirstIn (allowed loads notes place) (λ one. IsNone (op_of one.op)) ins × (ins.op ≡ op))
+    × ((ins : Instruction)
+    × IsFirstIn (allowed loads notes place) (λ one. IsNone (op_of one.op)) ins × (ins.op ≡ op))
 
 -- Alters: all executed locations are good, this is the first in the order of discovery with an
 -- instruction that alters, and the word is the lowest that its first such instruction alters.
-pub record IsAltered (loads : ℕ → Option Word) (notes : Notes) (start writer altered : ℕ) : Type 0 where
+pub record IsAltered (loads : ℕ → Option Word) (notes : Notes)
+    (start writer altered : ℕ) : Type 0 where
   pub executed : List ℕ
   pub order : IsOrder loads notes start executed
   pub good : (place : ℕ) → IsExecuted loads notes start place → IsGood loads notes place
   pub before : List ℕ
   pub behind : List ℕ
   pub split : executed ≡ before ++ writer ∷ behind
-  pub none_before : (place : ℕ) (ins : Instruction) → Contains before place → Contains (allowed loads notes place) ins → ¬ Alters loads notes start ins
+  pub none_before : (place : ℕ) (ins : Instruction) → Contains before place
+      → Contains (allowed loads notes place) ins → ¬ Alters loads notes start ins
   pub ins : Instruction
   pub first : IsFirstIn (allowed loads notes writer) (Alters loads notes start) ins
   pub written : Contains (writes ins) altered
   pub fixed : IsFixed loads notes start altered
-  pub lowest : (other : ℕ) → Contains (writes ins) other → IsFixed loads notes start other → altered ≤ other
+  pub lowest : (other : ℕ) → Contains (writes ins) other → IsFixed loads notes start other
+      → altered ≤ other
 
 -- nothing above is wrong
 pub record IsSound (loads : ℕ → Option Word) (notes : Notes) (start : ℕ) : Type 0 where
   pub good : (place : ℕ) → IsExecuted loads notes start place → IsGood loads notes place
-  pub unaltered : (place : ℕ) (ins : Instruction) → IsExecuted loads notes start place → Contains (allowed loads notes place) ins → ¬ Alters loads notes start ins
+  pub unaltered : (place : ℕ) (ins : Instruction) → IsExecuted loads notes start place
+      → Contains (allowed loads notes place) ins → ¬ Alters loads notes start ins
 
 -- TooLarge: nothing above is wrong, and this is the product.
 abbrev pub IsTooLarge : (ℕ → Option Word) → Notes → ℕ → ℕ → Type 0
 IsTooLarge loads notes start product =
     IsSound loads notes start × (4000000 < product)
-    × ((executed : List ℕ) × IsOrder loads notes start executed × (product ≡ length executed * counts_of notes.marks))
+    × ((executed : List ℕ) × IsOrder loads notes start executed
+    × (product ≡ length executed * counts_of notes.marks))
 
 -- the first member is the smallest
 abbrev pub IsSmallestFirst : List ℕ → Type 0
@@ -117,9 +133,11 @@ IsSmallestFirst (first ∷ places) = (place : ℕ) → Contains places place →
 
 -- Unbounded: nothing above is wrong, and these executed locations, without repeats and the smallest
 -- first, lead round by edges free of marks.
-pub record IsUnbounded (loads : ℕ → Option Word) (notes : Notes) (start : ℕ) (cycle : List ℕ) : Type 0 where
+pub record IsUnbounded (loads : ℕ → Option Word) (notes : Notes) (start : ℕ)
+    (cycle : List ℕ) : Type 0 where
   pub sound : IsSound loads notes start
-  pub small : (executed : List ℕ) → IsOrder loads notes start executed → length executed * counts_of notes.marks ≤ 4000000
+  pub small : (executed : List ℕ) → IsOrder loads notes start executed
+      → length executed * counts_of notes.marks ≤ 4000000
   pub executed : (place : ℕ) → Contains cycle place → IsExecuted loads notes start place
   pub closed : IsClosed loads notes cycle
   pub different : AreDifferent cycle

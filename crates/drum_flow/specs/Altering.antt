@@ -12,25 +12,30 @@ use Rattle.drum_flow.specs.Accepted.{IsFixed, IsFirstIn, IsAltered}
 use Rattle.drum_flow.specs.Fixed.{IsFlagged}
 
 -- the flags are those of the executed locations without a list
-pub record FlagsFixed (loads : ℕ → Option Word) (notes : Notes) (start : ℕ) (fixed : Fixed) : Type 0 where
+pub record FlagsFixed (loads : ℕ → Option Word) (notes : Notes) (start : ℕ)
+    (fixed : Fixed) : Type 0 where
   pub only : (place : ℕ) → IsFlagged fixed place → IsFixed loads notes start place
   pub all : (place : ℕ) → IsFixed loads notes start place → IsFlagged fixed place
 
 -- the word is the lowest that the instruction alters
-pub record IsLowestAltered (loads : ℕ → Option Word) (notes : Notes) (start : ℕ) (ins : Instruction) (word : ℕ) : Type 0 where
+pub record IsLowestAltered (loads : ℕ → Option Word) (notes : Notes) (start : ℕ) (ins : Instruction)
+    (word : ℕ) : Type 0 where
   pub written : Contains (writes ins) word
   pub fixed : IsFixed loads notes start word
-  pub lowest : (other : ℕ) → Contains (writes ins) other → IsFixed loads notes start other → word ≤ other
+  pub lowest : (other : ℕ) → Contains (writes ins) other → IsFixed loads notes start other
+      → word ≤ other
 
 -- the word is the lowest that the first of the instructions alters which alters any
-pub record IsFirstAltered (loads : ℕ → Option Word) (notes : Notes) (start : ℕ) (instructions : List Instruction) (word : ℕ) : Type 0 where
+pub record IsFirstAltered (loads : ℕ → Option Word) (notes : Notes) (start : ℕ)
+    (instructions : List Instruction) (word : ℕ) : Type 0 where
   pub ins : Instruction
   pub first : IsFirstIn instructions (said.Alters loads notes start) ins
   pub lowest : IsLowestAltered loads notes start ins word
 
 -- none of the instructions alters
 abbrev pub NoneAlters : (ℕ → Option Word) → Notes → ℕ → List Instruction → Type 0
-NoneAlters loads notes start instructions = (ins : Instruction) → Contains instructions ins → ¬ said.Alters loads notes start ins
+NoneAlters loads notes start instructions = (ins : Instruction) → Contains instructions ins
+    → ¬ said.Alters loads notes start ins
 
 -- no instruction of a place alters
 abbrev pub AltersNone : (ℕ → Option Word) → Notes → ℕ → ℕ → Type 0
@@ -38,7 +43,8 @@ AltersNone loads notes start place = NoneAlters loads notes start (allowed loads
 
 -- the refusal of a deck that alters
 abbrev pub IsAlteredBy : (ℕ → Option Word) → Notes → ℕ → Refusal → Type 0
-IsAlteredBy loads notes start (Alters writer word) = IsAltered loads notes start writer.number word.number
+IsAlteredBy loads notes start (Alters writer word) =
+    IsAltered loads notes start writer.number word.number
 IsAlteredBy loads notes start Memory = ⊥
 IsAlteredBy loads notes start (NotLoaded location) = ⊥
 IsAlteredBy loads notes start (NotInProfile location op) = ⊥

@@ -19,7 +19,9 @@ successors loads notes place = filter_map (λ hop. target_of hop.way) (hops load
 -- a list with those of others at its end that aren't in it yet
 abbrev pub with_new : List ℕ → List ℕ → List ℕ
 with_new places [] = places
-with_new places (next ∷ nexts) = if list_any (λ place. place == next) places then with_new places nexts else with_new (places ++ next ∷ []) nexts
+with_new places (next ∷ nexts) =
+    if list_any (λ place. place == next) places then with_new places nexts
+    else with_new (places ++ next ∷ []) nexts
 
 -- the successors of the member at a place of the list, if it has one
 abbrev pub added_by : (ℕ → Option Word) → Notes → Option ℕ → List ℕ
@@ -34,7 +36,8 @@ found_after loads notes start (suc turns) =
     with_new found (added_by loads notes (slice_get found turns))
 
 -- the order of discovery: each member of the list has added its successors
-pub record IsOrder (loads : ℕ → Option Word) (notes : Notes) (start : ℕ) (order : List ℕ) : Type 0 where
+pub record IsOrder (loads : ℕ → Option Word) (notes : Notes) (start : ℕ)
+    (order : List ℕ) : Type 0 where
   pub turns : ℕ
   pub after : found_after loads notes start turns ≡ order
   pub all : length order ≤ turns

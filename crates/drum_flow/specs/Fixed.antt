@@ -9,5 +9,7 @@ IsFlagged fixed place = slice_get fixed.flags.items place ≡ Some true
 
 -- The flags are those of these locations that aren't listed.
 pub record AreFlagged (places : List ℕ) (notes : Notes) (flags : List Bool) : Type 0 where
-  pub fixed : (place : ℕ) → slice_get flags place ≡ Some true → Contains places place × ¬ IsTrue (is_listed notes place)
-  pub flagged : (place : ℕ) → Contains places place → ¬ IsTrue (is_listed notes place) → slice_get flags place ≡ Some true
+  pub fixed : (place : ℕ) → slice_get flags place ≡ Some true → Contains places place
+      × ¬ IsTrue (is_listed notes place)
+  pub flagged : (place : ℕ) → Contains places place → ¬ IsTrue (is_listed notes place)
+      → slice_get flags place ≡ Some true

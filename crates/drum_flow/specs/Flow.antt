@@ -2,6 +2,7 @@
 use Rattle.std.specs.Prelude.{ℕ, List, Option, Contains, map}
 use Rattle.drum_core.specs.declared.deck.Deck.{Deck}
 use Rattle.drum_core.specs.declared.word.Word.{Word}
+use Rattle.drum_core.specs.Loads.{loads_in, start_in}
 use Rattle.drum_times.specs.Allowed.{Notes}
 use Rattle.drum_flow.specs.declared.flow_graph.Flow.{Flow}
 use Rattle.drum_flow.specs.Accepted.{IsGood}
@@ -16,6 +17,10 @@ deck_of flow = flow.deck.now
 abbrev pub notes_of : Flow → Notes
 notes_of flow = flow.notes.now
 
+-- what is said of what a deck loads, of notes and of a start, as a flow's deck and notes have them
+abbrev pub of_flow {ℓ} : {X : Type ℓ} → ((ℕ → Option Word) → Notes → ℕ → X) → Flow → X
+of_flow says flow = says (loads_in flow.deck.now) flow.notes.now (start_in flow.deck.now)
+
 -- the executed locations, in the order of discovery
 abbrev pub executed_in : Flow → List ℕ
 executed_in flow = places_of flow.executed
@@ -26,7 +31,8 @@ order_in flow = map (λ location. location.number) flow.order.items
 
 -- These are the executed locations in the order of discovery, all of them loaded or listed, with
 -- operations in the profile alone.
-pub record AreExecuted (loads : ℕ → Option Word) (notes : Notes) (start : ℕ) (places : List ℕ) : Type 0 where
+pub record AreExecuted (loads : ℕ → Option Word) (notes : Notes) (start : ℕ)
+    (places : List ℕ) : Type 0 where
   pub order : IsOrder loads notes start places
   pub all : (place : ℕ) → IsExecuted loads notes start place → Contains places place
   pub only : (place : ℕ) → Contains places place → IsExecuted loads notes start place

@@ -10,17 +10,24 @@ use Rattle.drum_flow.specs.Accepted.{IsFree, IsClosed, IsSmallestFirst}
 use Rattle.drum_flow.specs.Graph.{AreDifferent, GoOn}
 
 -- The row of a location has the places of those that edges free of marks lead to from it.
-pub record IsFreeRow (loads : ℕ → Option Word) (notes : Notes) (executed : List ℕ) (from : ℕ) (row : List ℕ) : Type 0 where
-  pub free : (place : ℕ) → Contains row place → (onto : ℕ) × (slice_get executed place ≡ Some onto) × IsFree loads notes from onto
-  pub all : (place onto : ℕ) → slice_get executed place ≡ Some onto → IsFree loads notes from onto → Contains row place
+pub record IsFreeRow (loads : ℕ → Option Word) (notes : Notes) (executed : List ℕ) (from : ℕ)
+    (row : List ℕ) : Type 0 where
+  pub free : (place : ℕ) → Contains row place → (onto : ℕ) × (slice_get executed place ≡ Some onto)
+      × IsFree loads notes from onto
+  pub all : (place onto : ℕ) → slice_get executed place ≡ Some onto → IsFree loads notes from onto
+      → Contains row place
 
 -- The row has the places of those of the targets that no mark stands before.
-pub record IsUnmarkedRow (marks : List Mark) (executed targets : List ℕ) (from : ℕ) (row : List ℕ) : Type 0 where
-  pub free : (place : ℕ) → Contains row place → (onto : ℕ) × (slice_get executed place ≡ Some onto) × (Contains targets onto × IsNone (mark_on marks from onto))
-  pub all : (place onto : ℕ) → slice_get executed place ≡ Some onto → Contains targets onto → IsNone (mark_on marks from onto) → Contains row place
+pub record IsUnmarkedRow (marks : List Mark) (executed targets : List ℕ) (from : ℕ)
+    (row : List ℕ) : Type 0 where
+  pub free : (place : ℕ) → Contains row place → (onto : ℕ) × (slice_get executed place ≡ Some onto)
+      × (Contains targets onto × IsNone (mark_on marks from onto))
+  pub all : (place onto : ℕ) → slice_get executed place ≡ Some onto → Contains targets onto
+      → IsNone (mark_on marks from onto) → Contains row place
 
 -- An order of the executed locations in which every edge free of marks goes on.
-pub record IsFreeOrder (loads : ℕ → Option Word) (notes : Notes) (executed order : List ℕ) : Type 0 where
+pub record IsFreeOrder (loads : ℕ → Option Word) (notes : Notes)
+    (executed order : List ℕ) : Type 0 where
   pub all : (place : ℕ) → Contains executed place → Contains order place
   pub only : (place : ℕ) → Contains order place → Contains executed place
   pub different : AreDifferent order
@@ -28,10 +35,12 @@ pub record IsFreeOrder (loads : ℕ → Option Word) (notes : Notes) (executed o
 
 -- Each place's row is that of its location.
 abbrev pub AreFreeRows : (ℕ → Option Word) → Notes → List ℕ → (ℕ → List ℕ) → Type 0
-AreFreeRows loads notes executed row = (place from : ℕ) → slice_get executed place ≡ Some from → IsFreeRow loads notes executed from (row place)
+AreFreeRows loads notes executed row = (place from : ℕ) → slice_get executed place ≡ Some from
+    → IsFreeRow loads notes executed from (row place)
 
 -- Executed locations without repeats, the smallest first, that edges free of marks lead round.
-pub record IsFreeCycle (loads : ℕ → Option Word) (notes : Notes) (executed cycle : List ℕ) : Type 0 where
+pub record IsFreeCycle (loads : ℕ → Option Word) (notes : Notes)
+    (executed cycle : List ℕ) : Type 0 where
   pub within : (place : ℕ) → Contains cycle place → Contains executed place
   pub closed : IsClosed loads notes cycle
   pub different : AreDifferent cycle
@@ -39,7 +48,8 @@ pub record IsFreeCycle (loads : ℕ → Option Word) (notes : Notes) (executed c
 
 -- the refusal has such a cycle, or memory is wanting
 abbrev pub IsCycleRefusal : (ℕ → Option Word) → Notes → List ℕ → Refusal → Type 0
-IsCycleRefusal loads notes executed (Unbounded cycle) = IsFreeCycle loads notes executed (map (λ location. location.number) cycle.locations.items)
+IsCycleRefusal loads notes executed (Unbounded cycle) =
+    IsFreeCycle loads notes executed (map (λ location. location.number) cycle.locations.items)
 IsCycleRefusal loads notes executed Memory = Unit {0}
 IsCycleRefusal loads notes executed (NotLoaded location) = ⊥
 IsCycleRefusal loads notes executed (NotInProfile location op) = ⊥

@@ -20,12 +20,14 @@ hops loads notes place = flat_map (hops_of notes) (allowed loads notes place)
 
 -- an edge: some hop goes from the one location to the other
 abbrev pub IsEdge : (ℕ → Option Word) → Notes → ℕ → ℕ → Type 0
-IsEdge loads notes place next = (ins : Instruction) × Contains (hops loads notes place) (record { ins = ins; way = to next })
+IsEdge loads notes place next =
+    (ins : Instruction) × Contains (hops loads notes place) (record { ins = ins; way = to next })
 
 -- some edges lead from the one location along these, the last of which is the other
 abbrev pub Lead : (ℕ → Option Word) → Notes → ℕ → List ℕ → ℕ → Type 0
 Lead loads notes place [] last = place ≡ last
-Lead loads notes place (next ∷ nexts) last = IsEdge loads notes place next × Lead loads notes next nexts last
+Lead loads notes place (next ∷ nexts) last =
+    IsEdge loads notes place next × Lead loads notes next nexts last
 
 -- an executed location: some list of edges from the start, perhaps empty, ends there
 abbrev pub IsExecuted : (ℕ → Option Word) → Notes → ℕ → ℕ → Type 0

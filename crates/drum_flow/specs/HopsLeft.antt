@@ -17,4 +17,5 @@ hops_here hops = hops_by hops.instruction (ways_left hops.ways)
 
 -- the hops that are left
 abbrev pub hops_left : Hops → List Hop
-hops_left hops = hops_here hops ++ flat_map (hops_of hops.notes.now) (instructions_left hops.instructions)
+hops_left hops =
+    hops_here hops ++ flat_map (hops_of hops.notes.now) (instructions_left hops.instructions)

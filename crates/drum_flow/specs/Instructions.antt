@@ -12,4 +12,5 @@ listed_from place (pattern ∷ patterns) = drop place (matching pattern) ++ flat
 
 -- the instructions that are left
 abbrev pub instructions_left : Instructions → List Instruction
-instructions_left instructions = option_to_list instructions.loaded ++ listed_from instructions.place instructions.patterns.now
+instructions_left instructions = option_to_list instructions.loaded
+    ++ listed_from instructions.place instructions.patterns.now

@@ -20,17 +20,20 @@ leading (mark ∷ marks) [] = 0
 leading (mark ∷ marks) (count ∷ counts) = count * counts_of marks + leading marks counts
 
 -- it is one of as many numbers as there are counts
-pub leading-< : (marks : List Mark) (counts : List ℕ) → AreWithin marks counts → leading marks counts < counts_of marks
+pub leading-< : (marks : List Mark) (counts : List ℕ) → AreWithin marks counts
+    → leading marks counts < counts_of marks
 leading-< [] [] within = omega arith
 leading-< [] (count ∷ counts) within = absurd within
 leading-< (mark ∷ marks) [] within = absurd within
 leading-< (mark ∷ marks) (count ∷ counts) within =
     let others : leading marks counts < counts_of marks = leading-< marks counts within.1 in
-    let most : counts_of marks * count ≤ counts_of marks * mark.most = mul-le-mul_left (counts_of marks) within.0 in
+    let most : counts_of marks * count ≤ counts_of marks * mark.most =
+    mul-le-mul_left (counts_of marks) within.0 in
     omega (arith, others, most)
 
 -- a mark's outer one stands before it
-earlier_of : (place : ℕ) (marks : List Mark) → StandInEarlier place marks → (inner outer : ℕ) → outer_of (slice_get marks inner) ≡ Some outer → outer < place + inner
+earlier_of : (place : ℕ) (marks : List Mark) → StandInEarlier place marks → (inner outer : ℕ)
+    → outer_of (slice_get marks inner) ≡ Some outer → outer < place + inner
 earlier_of place [] nested inner outer e = absurd (none_is_none e)
   where
     none_is_none : outer_of None ≡ Some outer → ⊥
@@ -42,17 +45,23 @@ earlier_of place (mark ∷ marks) nested zero outer e = go mark.inside e nested.
     go (Some one) h is_earlier =
         let same : one ≡ outer = cc in
         omega (arith, same, is_earlier)
-earlier_of place (mark ∷ marks) nested (suc inner) outer e = omega (arith, earlier_of (place + 1) marks nested.1 inner outer e)
+earlier_of place (mark ∷ marks) nested (suc inner) outer e =
+    omega (arith, earlier_of (place + 1) marks nested.1 inner outer e)
 
 -- and so does each one that it stands inside of
-outer_is_earlier : (more : ℕ) (marks : List Mark) → StandInEarlier 0 marks → (inner outer : ℕ) → is_inside_by more marks inner outer ≡ true → outer < inner
+outer_is_earlier : (more : ℕ) (marks : List Mark) → StandInEarlier 0 marks → (inner outer : ℕ)
+    → is_inside_by more marks inner outer ≡ true → outer < inner
 outer_is_earlier zero marks nested inner outer e = cc
 outer_is_earlier (suc more) marks nested inner outer e =
-    go (outer_of (slice_get marks inner)) (λ next here. earlier_of 0 marks nested inner next here) refl (λ next. outer_is_earlier more marks nested next outer) e
+    go (outer_of (slice_get marks inner)) (λ next here. earlier_of 0 marks nested inner next here)
+    refl (λ next. outer_is_earlier more marks nested next outer) e
   where
     go : (found : Option ℕ) → ((next : ℕ) → found ≡ Some next → next < 0 + inner) → found ≡ found
         → ((next : ℕ) → is_inside_by more marks next outer ≡ true → outer < next)
-        → (elim found [ None ↦ false | Some next ↦ next == outer || is_inside_by more marks next outer ]) ≡ true → outer < inner
+        → (elim found [
+          | None ↦ false
+          | Some next ↦ next == outer || is_inside_by more marks next outer
+        ]) ≡ true → outer < inner
     go None earlier same further h = cc
     go (Some next) earlier same further h =
         let before : next < 0 + inner = earlier next refl in
@@ -62,25 +71,32 @@ outer_is_earlier (suc more) marks nested inner outer e =
         ]
 
 -- the mark that is found is one of these
-found_within : (place : ℕ) (marks : List Mark) (from onto k : ℕ) → mark_from place marks from onto ≡ Some k → (place ≤ k) × (k < place + length marks)
+found_within : (place : ℕ) (marks : List Mark) (from onto k : ℕ)
+    → mark_from place marks from onto ≡ Some k → (place ≤ k) × (k < place + length marks)
 found_within place [] from onto k e = cc
-found_within place (mark ∷ marks) from onto k e = go (is_on mark from onto) e (found_within (place + 1) marks from onto k)
+found_within place (mark ∷ marks) from onto k e =
+    go (is_on mark from onto) e (found_within (place + 1) marks from onto k)
   where
     go : (here : Bool) → cond here (Some place) (mark_from (place + 1) marks from onto) ≡ Some k
-        → (mark_from (place + 1) marks from onto ≡ Some k → (place + 1 ≤ k) × (k < place + 1 + length marks)) → (place ≤ k) × (k < place + suc (length marks))
+        → (mark_from (place + 1) marks from onto ≡ Some k → (place + 1 ≤ k)
+        × (k < place + 1 + length marks)) → (place ≤ k) × (k < place + suc (length marks))
     go true h further = let at : place ≡ k = cc in (omega (arith, at), omega (arith, at))
     go false h further = let there = further h in (omega (arith, there.0), omega (arith, there.1))
 
-raises_from : (all : List Mark) (k place : ℕ) (marks : List Mark) (counts : List ℕ) → ((inner : ℕ) → is_inside all inner k ≡ true → k < inner)
-    → AreWithin marks counts → place ≤ k → k < place + length marks → leading marks counts < leading marks (passed_from all k place counts)
+raises_from : (all : List Mark) (k place : ℕ) (marks : List Mark) (counts : List ℕ)
+    → ((inner : ℕ) → is_inside all inner k ≡ true → k < inner)
+    → AreWithin marks counts → place ≤ k → k < place + length marks
+    → leading marks counts < leading marks (passed_from all k place counts)
 raises_from all k place [] counts later within low high = absurd (omega arith)
 raises_from all k place (mark ∷ marks) [] later within low high = absurd within
 raises_from all k place (mark ∷ marks) (count ∷ counts) later within low high =
     elim (cases_lt place k) [
       | inl before ↦
           let other : place ≡ k → ⊥ = λ e. omega arith in
-          let outside : is_inside all place k ≡ false = false_from_ne_true (is_inside all place k) (λ h. omega (arith, later place h)) in
-          let rest = raises_from all k (place + 1) marks counts later within.1 (omega arith) (omega arith) in
+          let outside : is_inside all place k ≡ false =
+          false_from_ne_true (is_inside all place k) (λ h. omega (arith, later place h)) in
+          let rest = raises_from all k (place + 1) marks counts later within.1 (omega arith)
+          (omega arith) in
           rw (ne_eqb place k other, outside) (omega (arith, rest))
       | inr past ↦
           let here : place ≡ k = omega arith in
@@ -88,9 +104,11 @@ raises_from all k place (mark ∷ marks) (count ∷ counts) later within low hig
     ]
 
 -- A pass raises the counts.
-pub pass_raises : (marks : List Mark) (counts : List ℕ) (from onto k : ℕ) → StandInEarlier 0 marks → AreWithin marks counts → mark_on marks from onto ≡ Some k
+pub pass_raises : (marks : List Mark) (counts : List ℕ) (from onto k : ℕ) → StandInEarlier 0 marks
+    → AreWithin marks counts → mark_on marks from onto ≡ Some k
     → leading marks counts < leading marks (after_pass marks from onto counts)
 pass_raises marks counts from onto k nested within e =
     let found = found_within 0 marks from onto k e in
-    let raised = raises_from marks k 0 marks counts (λ inner. outer_is_earlier (length marks) marks nested inner k) within found.0 found.1 in
+    let raised = raises_from marks k 0 marks counts
+    (λ inner. outer_is_earlier (length marks) marks nested inner k) within found.0 found.1 in
     rw (e, after_pass) raised

@@ -15,10 +15,12 @@ IsOutside ins = IsNone (op_of ins.op)
 
 -- what is wrong with a location, whatever comes before it
 abbrev pub IsWrong : (ℕ → Option Word) → Notes → ℕ → Refusal → Type 0
-IsWrong loads notes place (NotLoaded location) = (location.number ≡ place) × ¬ IsThere loads notes place
+IsWrong loads notes place (NotLoaded location) =
+    (location.number ≡ place) × ¬ IsThere loads notes place
 IsWrong loads notes place (NotInProfile location op) =
     (location.number ≡ place) × IsThere loads notes place
-    × ((ins : Instruction) × IsFirstIn (allowed loads notes place) (λ one. IsNone (op_of one.op)) ins × (ins.op ≡ op))
+    × ((ins : Instruction)
+    × IsFirstIn (allowed loads notes place) (λ one. IsNone (op_of one.op)) ins × (ins.op ≡ op))
 IsWrong loads notes place Memory = ⊥
 IsWrong loads notes place (Alters writer word) = ⊥
 IsWrong loads notes place (Unbounded cycle) = ⊥
@@ -27,7 +29,8 @@ IsWrong loads notes place (TooLarge product) = ⊥
 -- the first location that discovery meets with something wrong, or want of memory
 abbrev pub IsFlowRefusal : (ℕ → Option Word) → Notes → ℕ → Refusal → Type 0
 IsFlowRefusal loads notes start (NotLoaded location) = IsNotLoaded loads notes start location.number
-IsFlowRefusal loads notes start (NotInProfile location op) = IsNotInProfile loads notes start location.number op
+IsFlowRefusal loads notes start (NotInProfile location op) =
+    IsNotInProfile loads notes start location.number op
 IsFlowRefusal loads notes start Memory = Unit {0}
 IsFlowRefusal loads notes start (Alters writer word) = ⊥
 IsFlowRefusal loads notes start (Unbounded cycle) = ⊥

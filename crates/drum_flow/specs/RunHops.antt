@@ -21,7 +21,8 @@ hop_of turn = record {
   place = turn.origin.sought;
   ins = instruction_in turn.origin;
   way = ended_by turn.outcome;
-  units = units_with (op_of (instruction_in turn.origin).op) (instruction_in turn.origin).d turn.origin.contents;
+  units = units_with (op_of (instruction_in turn.origin).op) (instruction_in turn.origin).d
+      turn.origin.contents;
   wait = turn.wait;
   begun = turn.origin.time;
   ended = run.time_of turn.outcome;

@@ -3,7 +3,8 @@ use Rattle.std.specs.Prelude.{◌≡◌, ℕ, ◌≤◌, List, ◌++◌, take, d
 
 -- no member is smaller than the one at this place
 abbrev pub IsLeastAt : List ℕ → ℕ → Type 0
-IsLeastAt list place = (least other : ℕ) → slice_get list place ≡ Some least → Contains list other → least ≤ other
+IsLeastAt list place = (least other : ℕ) → slice_get list place ≡ Some least → Contains list other
+    → least ≤ other
 
 -- the list from the place of its smallest member on, and then what is before it
 pub record IsTurned (list turned : List ℕ) : Type 0 where

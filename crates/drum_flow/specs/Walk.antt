@@ -45,7 +45,8 @@ abbrev pub IsTimed : (Op → Entry) → ℕ → Taken → Option Op → Type 0
 IsTimed times start hop None = ⊥
 IsTimed times start hop (Some op) =
     MayHaveUnits op hop.ins.d hop.units × IsWait op (times op) hop.wait
-    × (start + hop.ended ≡ end_by hop.way (times op) op hop.ins.d hop.place hop.units hop.wait (start + hop.begun))
+    × (start + hop.ended
+    ≡ end_by hop.way (times op) op hop.ins.d hop.place hop.units hop.wait (start + hop.begun))
 
 -- what a walk is in
 pub record Setting : Type 0 where

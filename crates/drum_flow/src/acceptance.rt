@@ -26,26 +26,17 @@ use std::alloc::Global;
 pub fn accept<'a>(alloc: Global, deck: &'a Deck, notes: &'a Notes) -> Result<Flow<'a>, Refusal>
     ensures deck { IfOk result (λ flow. deck_of flow ≡ deck.now) }
     ensures notes { IfOk result (λ flow. notes_of flow ≡ notes.now) }
-    ensures accepted { IfOk result (λ flow. IsAccepted (loads_in deck.now) notes.now (start_in deck.now) (executed_in flow)) }
-    ensures order { IfOk result (λ flow. IsFreeOrder (loads_in deck.now) notes.now (executed_in flow) (order_in flow)) }
+    ensures accepted { IfOk result (λ flow. IsAccepted (loads_in deck.now) notes.now
+        (start_in deck.now) (executed_in flow)) }
+    ensures order { IfOk result (λ flow. IsFreeOrder (loads_in deck.now) notes.now
+        (executed_in flow) (order_in flow)) }
     ensures refused { IfErr result (IsRefusal (loads_in deck.now) notes.now (start_in deck.now)) }
 {
-    let mut flow = match flow(alloc, deck, notes) {
-        Ok(flow) => flow,
-        Err(refusal) => return Err(refusal),
-    };
-    let Ok(fixed) = Fixed::of(alloc, flow.executed(), notes) else {
-        return Err(Refusal::Memory);
-    };
-    if let Err(refusal) = check_unaltered(&flow, &fixed) {
-        return Err(refusal);
-    }
-    if let Err(refusal) = check_small(&flow) {
-        return Err(refusal);
-    }
-    match free_order(alloc, &flow) {
-        Ok(order) => flow.order = order,
-        Err(refusal) => return Err(refusal),
-    }
+    let mut flow = flow(alloc, deck, notes)?;
+    let fixed = Fixed::of(alloc, flow.executed(), notes)?;
+    check_unaltered(&flow, &fixed)?;
+    check_small(&flow)?;
+    let order = free_order(alloc, &flow)?;
+    flow.order = order;
     Ok(flow)
 }

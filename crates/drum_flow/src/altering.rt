@@ -1,11 +1,11 @@
 //! That no instruction of an executed location alters one without a list.
 
 ghost use Rattle.std.specs.Prelude.{◌≡◌, ℕ, Contains, IfSome, IfNone, IfErr, OnOk};
-ghost use Rattle.drum_core.specs.Loads.{loads_in, start_in};
+ghost use Rattle.drum_core.specs.Loads.{loads_in};
 ghost use Rattle.drum_times.specs.Allowed.{allowed, matching};
 ghost use Rattle.drum_flow.specs.Accepted as said;
 ghost use Rattle.drum_flow.specs.Altering.{FlagsFixed, IsLowestAltered, IsFirstAltered, NoneAlters, AltersNone, IsAlteredBy};
-ghost use Rattle.drum_flow.specs.Flow.{executed_in, AreExecuted};
+ghost use Rattle.drum_flow.specs.Flow.{executed_in, of_flow, AreExecuted};
 
 use crate::fixed::Fixed;
 use crate::flow_graph::Flow;
@@ -17,9 +17,10 @@ use drum_times::Pattern;
 
 /// The lowest word that the instruction alters.
 fn lowest_altered(flow: &Flow<'_>, fixed: &Fixed, instruction: Instruction) -> Option<Location>
-    requires { FlagsFixed (loads_in flow.now.deck.now) flow.now.notes.now (start_in flow.now.deck.now) fixed.now }
-    ensures some { IfSome result (λ word. IsLowestAltered (loads_in flow.now.deck.now) flow.now.notes.now (start_in flow.now.deck.now) instruction word.number) }
-    ensures none { IfNone result (¬ said.Alters (loads_in flow.now.deck.now) flow.now.notes.now (start_in flow.now.deck.now) instruction) }
+    requires { of_flow FlagsFixed flow.now fixed.now }
+    ensures some { IfSome result (λ word.
+        of_flow IsLowestAltered flow.now instruction word.number) }
+    ensures none { IfNone result (¬ of_flow said.Alters flow.now instruction) }
 {
     let words = writes(instruction);
     for number in words.start..words.end {
@@ -32,12 +33,10 @@ fn lowest_altered(flow: &Flow<'_>, fixed: &Fixed, instruction: Instruction) -> O
 
 /// The lowest word that the first instruction of a pattern alters which alters any.
 fn first_altered_in(flow: &Flow<'_>, fixed: &Fixed, pattern: Pattern) -> Option<Location>
-    requires { FlagsFixed (loads_in flow.now.deck.now) flow.now.notes.now
-        (start_in flow.now.deck.now) fixed.now }
-    ensures some { IfSome result (λ word. IsFirstAltered (loads_in flow.now.deck.now)
-        flow.now.notes.now (start_in flow.now.deck.now) (matching pattern) word.number) }
-    ensures none { IfNone result (NoneAlters (loads_in flow.now.deck.now)
-        flow.now.notes.now (start_in flow.now.deck.now) (matching pattern)) }
+    requires { of_flow FlagsFixed flow.now fixed.now }
+    ensures some { IfSome result (λ word.
+        of_flow IsFirstAltered flow.now (matching pattern) word.number) }
+    ensures none { IfNone result (of_flow NoneAlters flow.now (matching pattern)) }
 {
     let mut d = pattern.d_from;
     while d <= pattern.d_to {
@@ -52,12 +51,10 @@ fn first_altered_in(flow: &Flow<'_>, fixed: &Fixed, pattern: Pattern) -> Option<
 
 /// The lowest word that the first instruction of a location alters which alters any.
 fn first_altered(flow: &Flow<'_>, fixed: &Fixed, location: Location) -> Option<Location>
-    requires { FlagsFixed (loads_in flow.now.deck.now) flow.now.notes.now (start_in flow.now.deck.now) fixed.now }
-    ensures some { let loads = loads_in flow.now.deck.now in
-        let notes = flow.now.notes.now in
-        IfSome result (λ word. IsFirstAltered loads notes (start_in flow.now.deck.now)
-        (allowed loads notes location.number) word.number) }
-    ensures none { IfNone result (AltersNone (loads_in flow.now.deck.now) flow.now.notes.now (start_in flow.now.deck.now) location.number) }
+    requires { of_flow FlagsFixed flow.now fixed.now }
+    ensures some { IfSome result (λ word. of_flow IsFirstAltered flow.now
+        (allowed (loads_in flow.now.deck.now) flow.now.notes.now location.number) word.number) }
+    ensures none { IfNone result (of_flow AltersNone flow.now location.number) }
 {
     for pattern in Patterns::at(flow.deck, flow.notes, location) {
         if let Some(word) = first_altered_in(flow, fixed, pattern) {
@@ -74,11 +71,11 @@ fn first_altered(flow: &Flow<'_>, fixed: &Fixed, location: Location) -> Option<L
 /// [`Refusal::Alters`] with the first location in the order of discovery that has an instruction
 /// that alters, and the lowest word that its first such instruction alters.
 pub fn check_unaltered(flow: &Flow<'_>, fixed: &Fixed) -> Result<(), Refusal>
-    requires flow { AreExecuted (loads_in flow.now.deck.now) flow.now.notes.now (start_in flow.now.deck.now) (executed_in flow.now) }
-    requires fixed { FlagsFixed (loads_in flow.now.deck.now) flow.now.notes.now (start_in flow.now.deck.now) fixed.now }
+    requires flow { of_flow AreExecuted flow.now (executed_in flow.now) }
+    requires fixed { of_flow FlagsFixed flow.now fixed.now }
     ensures unaltered { OnOk result ((place : ℕ) → Contains (executed_in flow.now) place
-        → AltersNone (loads_in flow.now.deck.now) flow.now.notes.now (start_in flow.now.deck.now) place) }
-    ensures altered { IfErr result (IsAlteredBy (loads_in flow.now.deck.now) flow.now.notes.now (start_in flow.now.deck.now)) }
+        → of_flow AltersNone flow.now place) }
+    ensures altered { IfErr result (of_flow IsAlteredBy flow.now) }
 {
     for writer in flow.executed() {
         if let Some(word) = first_altered(flow, fixed, *writer) {

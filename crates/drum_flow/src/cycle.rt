@@ -17,7 +17,8 @@ impl Cycle {
     pub fn turned(mut locations: Vec<Location>) -> Cycle
         requires some { 0 < vec_len locations }
         requires few { vec_len locations ≤ 2004 }
-        ensures { IsTurned (map (λ location. location.number) locations.items) (map (λ location. location.number) result.locations.items) }
+        ensures { IsTurned (map (λ location. location.number) locations.items)
+            (map (λ location. location.number) result.locations.items) }
     {
         let smallest = place_of_smallest(&locations);
         locations.rotate_left(smallest);

@@ -21,20 +21,16 @@ use std::alloc::Global;
 pub fn flow<'a>(alloc: Global, deck: &'a Deck, notes: &'a Notes) -> Result<Flow<'a>, Refusal>
     ensures deck { IfOk result (λ flow. deck_of flow ≡ deck.now) }
     ensures notes { IfOk result (λ flow. notes_of flow ≡ notes.now) }
-    ensures executed { IfOk result (λ flow. AreExecuted (loads_in deck.now) notes.now (start_in deck.now) (executed_in flow)) }
-    ensures refused { IfErr result (IsFlowRefusal (loads_in deck.now) notes.now (start_in deck.now)) }
+    ensures executed { IfOk result (λ flow. AreExecuted (loads_in deck.now) notes.now
+        (start_in deck.now) (executed_in flow)) }
+    ensures refused { IfErr result (IsFlowRefusal (loads_in deck.now) notes.now
+        (start_in deck.now)) }
 {
-    let Ok(mut executed) = Executed::new(alloc, deck.start()) else {
-        return Err(Refusal::Memory);
-    };
+    let mut executed = Executed::new(alloc, deck.start())?;
     let mut turn = 0;
     while let Some(location) = executed.get(turn) {
-        if let Err(refusal) = check_place(deck, notes, location) {
-            return Err(refusal);
-        }
-        if executed.add_successors(deck, notes, location).is_err() {
-            return Err(Refusal::Memory);
-        }
+        check_place(deck, notes, location)?;
+        executed.add_successors(deck, notes, location)?;
         turn += 1;
     }
     Ok(Flow {

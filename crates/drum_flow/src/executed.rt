@@ -35,7 +35,8 @@ impl Executed {
 
     /// Adds a location, unless it is there.
     pub fn add(&mut self, location: Location) -> Result<(), AllocError>
-        ensures { OnOk result (places_of self.new ≡ with_new (places_of self.old) (location.number ∷ [])) }
+        ensures { OnOk result (places_of self.new
+            ≡ with_new (places_of self.old) (location.number ∷ [])) }
     {
         self.locations.insert(location)?;
         Ok(())
@@ -43,7 +44,8 @@ impl Executed {
 
     /// The location at a place of the order, from 0; `None` past its end.
     pub fn get(&self, place: usize) -> Option<Location>
-        ensures value { option_map (λ location. location.number) result ≡ slice_get (places_of self.now) place }
+        ensures value { option_map (λ location. location.number) result
+            ≡ slice_get (places_of self.now) place }
         ensures few { IfSome result (λ location. place < 2004) }
     {
         self.locations().get(place).copied()
@@ -60,7 +62,8 @@ impl Executed {
 
     /// The place of a location in the order; `None` for one that isn't executed.
     pub fn place_of(&self, location: Location) -> Option<usize>
-        ensures found { IfSome result (λ place. slice_get (places_of self.now) place ≡ Some location.number) }
+        ensures found { IfSome result (λ place.
+            slice_get (places_of self.now) place ≡ Some location.number) }
         ensures none { IfNone result (¬ Contains (places_of self.now) location.number) }
     {
         self.locations.get_index_of(&location)

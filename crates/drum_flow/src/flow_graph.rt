@@ -47,10 +47,12 @@ impl<'a> Flow<'a> {
 
     /// The place of a location in that order; `None` for one that isn't executed.
     pub fn place_of(&self, location: Location) -> Option<usize>
-        ensures found { IfSome result (λ place. slice_get (executed_in self.now) place ≡ Some location.number) }
+        ensures found { IfSome result (λ place.
+            slice_get (executed_in self.now) place ≡ Some location.number) }
         ensures none { IfNone result (¬ Contains (executed_in self.now) location.number) }
         ensures different { AreDifferent (executed_in self.now) }
     {
+        // What `locations` ensures of them: they differ.
         let _executed = self.executed.locations();
         self.executed.place_of(location)
     }
@@ -66,7 +68,8 @@ impl<'a> Flow<'a> {
     /// The hops of a location, in order; none of one that isn't executed.
     pub fn hops(&self, location: Location) -> Hops<'a>
         ensures executed { Contains (executed_in self.now) location.number
-            → hops_left result ≡ said.hops (loads_in (deck_of self.now)) (notes_of self.now) location.number }
+            → hops_left result ≡ said.hops (loads_in (deck_of self.now))
+            (notes_of self.now) location.number }
         ensures others { ¬ Contains (executed_in self.now) location.number → hops_left result ≡ [] }
     {
         match self.executed.place_of(location) {

@@ -17,7 +17,8 @@ use std::alloc::{AllocError, Global};
 
 /// The places of the executed locations that edges free of marks lead to from a location.
 fn free_row(alloc: Global, flow: &Flow<'_>, from: Location) -> Result<Vec<usize>, AllocError>
-    ensures { IfOk result (λ row. IsFreeRow (loads_in flow.now.deck.now) flow.now.notes.now (executed_in flow.now) from.number row.items) }
+    ensures { IfOk result (λ row. IsFreeRow (loads_in flow.now.deck.now) flow.now.notes.now
+        (executed_in flow.now) from.number row.items) }
 {
     let mut targets = Executed::none(alloc);
     targets.add_successors(flow.deck, flow.notes, from)?;
@@ -50,7 +51,8 @@ fn unmarked_row(
 /// The rows of all executed locations.
 fn free_rows(alloc: Global, flow: &Flow<'_>) -> Result<Vec<Vec<usize>>, AllocError>
     ensures long { IfOk result (λ rows. length rows.items ≡ length (executed_in flow.now)) }
-    ensures rows { IfOk result (λ rows. AreFreeRows (loads_in flow.now.deck.now) flow.now.notes.now (executed_in flow.now) (row_in rows.items)) }
+    ensures rows { IfOk result (λ rows. AreFreeRows (loads_in flow.now.deck.now) flow.now.notes.now
+        (executed_in flow.now) (row_in rows.items)) }
 {
     let mut rows = Vec::new(alloc);
     for from in flow.executed() {
@@ -65,7 +67,8 @@ fn free_rows(alloc: Global, flow: &Flow<'_>) -> Result<Vec<Vec<usize>>, AllocErr
 /// The graph of the edges free of marks, whose nodes are the places of the executed locations.
 pub fn free_graph(alloc: Global, flow: &Flow<'_>) -> Result<Graph, AllocError>
     ensures size { IfOk result (λ graph. size graph ≡ length (executed_in flow.now)) }
-    ensures rows { IfOk result (λ graph. AreFreeRows (loads_in flow.now.deck.now) flow.now.notes.now (executed_in flow.now) (row graph)) }
+    ensures rows { IfOk result (λ graph. AreFreeRows (loads_in flow.now.deck.now) flow.now.notes.now
+        (executed_in flow.now) (row graph)) }
 {
     let rows = free_rows(alloc, flow)?;
     Ok(Graph::new(rows))

@@ -2,8 +2,8 @@
 //! edges.
 
 ghost use Rattle.std.specs.Prelude.{◌≡◌, ℕ, ◌<◌, map, length, slice_index, Contains, IfOk, IfErr};
-ghost use Rattle.drum_core.specs.Loads.{loads_in, start_in};
-ghost use Rattle.drum_flow.specs.Flow.{executed_in, AreExecuted};
+ghost use Rattle.drum_core.specs.Loads.{loads_in};
+ghost use Rattle.drum_flow.specs.Flow.{executed_in, of_flow, AreExecuted};
 ghost use Rattle.drum_flow.specs.Free.{AreFreeRows, IsFreeOrder, IsCycleRefusal};
 ghost use Rattle.drum_flow.specs.Graph.{row, size, AreDifferent, IsCycle};
 
@@ -23,30 +23,28 @@ use std::alloc::{AllocError, Global};
 ///
 /// [`Refusal::Unbounded`] with a cycle of edges free of marks; [`Refusal::Memory`].
 pub fn free_order(alloc: Global, flow: &Flow<'_>) -> Result<Vec<Location>, Refusal>
-    requires { AreExecuted (loads_in flow.now.deck.now) flow.now.notes.now (start_in flow.now.deck.now) (executed_in flow.now) }
-    ensures order { IfOk result (λ order. IsFreeOrder (loads_in flow.now.deck.now) flow.now.notes.now (executed_in flow.now)
+    requires { of_flow AreExecuted flow.now (executed_in flow.now) }
+    ensures order { IfOk result (λ order. IsFreeOrder
+        (loads_in flow.now.deck.now) flow.now.notes.now (executed_in flow.now)
         (map (λ location. location.number) order.items)) }
-    ensures cycle { IfErr result (IsCycleRefusal (loads_in flow.now.deck.now) flow.now.notes.now (executed_in flow.now)) }
+    ensures cycle { IfErr result (IsCycleRefusal (loads_in flow.now.deck.now) flow.now.notes.now
+        (executed_in flow.now)) }
 {
-    let Ok(graph) = free_graph(alloc, flow) else {
-        return Err(Refusal::Memory);
-    };
-    match sort(alloc, &graph) {
-        Ok(Sorted::Ordered(order)) => match locations_at(alloc, flow, &order) {
-            Ok(locations) => Ok(locations),
-            Err(_) => Err(Refusal::Memory),
-        },
-        Ok(Sorted::Cyclic(cycle)) => Err(unbounded(alloc, flow, &graph, &cycle)),
-        Err(_) => Err(Refusal::Memory),
+    let graph = free_graph(alloc, flow)?;
+    match sort(alloc, &graph)? {
+        Sorted::Ordered(order) => Ok(locations_at(alloc, flow, &order)?),
+        Sorted::Cyclic(cycle) => Err(unbounded(alloc, flow, &graph, &cycle)),
     }
 }
 
 /// The refusal for a cycle of places.
 fn unbounded(alloc: Global, flow: &Flow<'_>, graph: &Graph, cycle: &[usize]) -> Refusal
     requires size { size graph.now ≡ length (executed_in flow.now) }
-    requires rows { AreFreeRows (loads_in flow.now.deck.now) flow.now.notes.now (executed_in flow.now) (row graph.now) }
+    requires rows { AreFreeRows (loads_in flow.now.deck.now) flow.now.notes.now
+        (executed_in flow.now) (row graph.now) }
     requires cycle { IsCycle (row graph.now) (size graph.now) cycle.now }
-    ensures { IsCycleRefusal (loads_in flow.now.deck.now) flow.now.notes.now (executed_in flow.now) result }
+    ensures { IsCycleRefusal (loads_in flow.now.deck.now) flow.now.notes.now
+        (executed_in flow.now) result }
 {
     match locations_at(alloc, flow, cycle) {
         Ok(locations) => Refusal::Unbounded(Cycle::turned(locations)),

@@ -36,7 +36,8 @@ impl<'a> Hops<'a> {
     /// The hops of these instructions, with the ways of the first at hand: a copy needn't find them
     /// again.
     fn of(notes: &'a Notes, instructions: Instructions<'a>) -> Hops<'a>
-        ensures { hops_left result ≡ flat_map (hops_of notes.now) (instructions_left instructions.entry) }
+        ensures { hops_left result
+            ≡ flat_map (hops_of notes.now) (instructions_left instructions.entry) }
     {
         let mut rest = instructions;
         match rest.next() {

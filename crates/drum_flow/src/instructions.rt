@@ -19,7 +19,8 @@ pub struct Instructions<'a> {
 impl<'a> Instructions<'a> {
     /// The instructions that are allowed at the location.
     pub fn at(deck: &Deck, notes: &'a Notes, location: Location) -> Instructions<'a>
-        ensures { instructions_left result ≡ allowed.allowed (loads_in deck.now) notes.now location.number }
+        ensures { instructions_left result
+            ≡ allowed.allowed (loads_in deck.now) notes.now location.number }
     {
         Instructions {
             loaded: loaded(deck, location),
@@ -41,7 +42,8 @@ impl<'a> Instructions<'a> {
 
     /// The next instruction of the patterns.
     fn next_listed(&mut self) -> Option<Instruction>
-        ensures first { YieldsFirst (λ left. listed_from left.place left.patterns.now) self.old result self.new }
+        ensures first { YieldsFirst (λ left. listed_from left.place left.patterns.now)
+            self.old result self.new }
         ensures loaded { self.new.loaded ≡ self.old.loaded }
     {
         while let [pattern, others @ ..] = self.patterns {
@@ -68,7 +70,8 @@ pub fn loaded(deck: &Deck, location: Location) -> Option<Instruction>
 
 /// The patterns of the location, none where it isn't listed.
 pub fn listed(notes: &Notes, location: Location) -> &[Pattern]
-    ensures { flat_map allowed.matching result.now ≡ allowed.listed (allowed.patterns_of notes.now location.number) }
+    ensures { flat_map allowed.matching result.now
+        ≡ allowed.listed (allowed.patterns_of notes.now location.number) }
 {
     match notes.patterns(location) {
         Some(patterns) => patterns,

@@ -22,21 +22,25 @@ ghost use Rattle.drum_flow.specs.WalkTime.{AreAlike};
 
 /// A pass raises the counts, read as one number with the first mark's leading.
 pub fn passes_raise()
-    ensures { (marks : List Mark) (counts : List ℕ) (from onto k : ℕ) → StandInEarlier 0 marks → AreWithin marks counts
-        → mark_on marks from onto ≡ Some k → leading marks counts < leading marks (after_pass marks from onto counts) }
+    ensures { (marks : List Mark) (counts : List ℕ) (from onto k : ℕ) → StandInEarlier 0 marks
+        → AreWithin marks counts → mark_on marks from onto ≡ Some k
+        → leading marks counts < leading marks (after_pass marks from onto counts) }
 {}
 
 /// The start angle of a walk, its hops, its units and its waits determine its time.
 pub fn one_time()
-    ensures { (g : Setting) (angle : ℕ) (hops others : List Taken) → AreAlike hops others → IsWalk g angle hops → IsWalk g angle others
+    ensures { (g : Setting) (angle : ℕ) (hops others : List Taken) → AreAlike hops others
+        → IsWalk g angle hops → IsWalk g angle others
         → time_of hops ≡ time_of others }
 {}
 
 /// The hops that a run takes, where it keeps to the notes of an accepted deck, are a walk from the
 /// same start angle, and its time is what the run has used. (So the empty run is the empty walk.)
 pub fn kept_run_is_a_walk()
-    ensures { (g : Setting) (executed : List ℕ) (s : State) (turns : List Turn) → IsProper g → IsAccepted g.loads g.notes g.start executed
-        → IsFirstState g.loads (IsFixed g.loads g.notes g.start) g.start s → IsRun g.times s turns → IsKept g.loads g.notes s turns
+    ensures { (g : Setting) (executed : List ℕ) (s : State) (turns : List Turn) → IsProper g
+        → IsAccepted g.loads g.notes g.start executed
+        → IsFirstState g.loads (IsFixed g.loads g.notes g.start) g.start s → IsRun g.times s turns
+        → IsKept g.loads g.notes s turns
         → IsWalk g s.start (hops_taken turns) × (time_of (hops_taken turns) ≡ used_from 0 turns) }
 {}
 
@@ -47,6 +51,7 @@ pub fn units_in_range()
 
 /// A deck that is accepted with its notes isn't refused, but for want of memory.
 pub fn accepted_is_not_refused()
-    ensures { (loads : ℕ → Option Word) (notes : Notes) (start : ℕ) (executed : List ℕ) (refusal : Refusal)
-        → IsAccepted loads notes start executed → IsRefusal loads notes start refusal → refusal ≡ Memory }
+    ensures { (loads : ℕ → Option Word) (notes : Notes) (start : ℕ) (executed : List ℕ)
+        (refusal : Refusal) → IsAccepted loads notes start executed
+        → IsRefusal loads notes start refusal → refusal ≡ Memory }
 {}

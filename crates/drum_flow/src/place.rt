@@ -33,7 +33,8 @@ pub fn check_place(deck: &Deck, notes: &Notes, location: Location) -> Result<(),
 
 /// Whether the location is loaded or listed.
 fn is_there(deck: &Deck, notes: &Notes, location: Location) -> bool
-    ensures { let there = IsThere (loads_in deck.now) notes.now location.number in MatchBool result there (¬ there) }
+    ensures { let there = IsThere (loads_in deck.now) notes.now location.number in
+        MatchBool result there (¬ there) }
 {
     if deck.word(location).is_some() {
         return true;
@@ -50,7 +51,8 @@ pub fn is_listed(notes: &Notes, location: Location) -> bool
 
 /// The first instruction that is allowed at the location with an operation outside the profile.
 fn first_outside(deck: &Deck, notes: &Notes, location: Location) -> Option<Instruction>
-    ensures first { IfSome result (IsFirstIn (allowed (loads_in deck.now) notes.now location.number) IsOutside) }
+    ensures first { IfSome result (IsFirstIn (allowed (loads_in deck.now) notes.now location.number)
+        IsOutside) }
     ensures none { IfNone result (IsInProfile (loads_in deck.now) notes.now location.number) }
 {
     for pattern in Patterns::at(deck, notes, location) {

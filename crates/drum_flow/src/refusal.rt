@@ -1,5 +1,6 @@
 use crate::cycle::Cycle;
 use drum_core::Location;
+use std::alloc::AllocError;
 use thiserror::Error;
 
 /// Why a deck with its notes isn't accepted.
@@ -24,4 +25,15 @@ pub enum Refusal {
     /// Executed words times counts is past 4,000,000.
     #[error("{0} executed words times counts are too many")]
     TooLarge(u128),
+}
+
+impl From<AllocError> for Refusal {
+    ghost use Rattle.std.specs.Prelude.{◌≡◌};
+    ghost use Rattle.drum_flow.specs.declared.refusal.Refusal.TheVariants.{Memory};
+
+    ghost from_gives = { λ _ refusal. refusal ≡ Memory };
+
+    fn from(_: AllocError) -> Refusal {
+        Refusal::Memory
+    }
 }

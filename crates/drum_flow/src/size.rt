@@ -17,8 +17,10 @@ const LIMIT: u128 = 4_000_000;
 ///
 /// [`Refusal::TooLarge`] with the product.
 pub fn check_small(flow: &Flow<'_>) -> Result<(), Refusal>
-    ensures small { OnOk result (product_of (executed_in flow.now) flow.now.notes.now.marks ≤ 4000000) }
-    ensures large { IfErr result (IsTooMuch (product_of (executed_in flow.now) flow.now.notes.now.marks)) }
+    ensures small { OnOk result (product_of (executed_in flow.now) flow.now.notes.now.marks
+        ≤ 4000000) }
+    ensures large { IfErr result
+        (IsTooMuch (product_of (executed_in flow.now) flow.now.notes.now.marks)) }
 {
     let words = flow.executed().len();
     let product = words as u128 * counts_of(flow.notes.marks());

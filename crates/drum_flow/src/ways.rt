@@ -11,8 +11,7 @@ ghost use Rattle.drum_flow.specs.Seen.{seen_way, addresses_left, ways_left};
 use crate::way::Way;
 use drum_core::{Instruction, Location, Op, Operand};
 use drum_machine::is_operand;
-use drum_times::notes::Notes;
-use drum_times::notes::programmed::Programmed;
+use drum_times::{Notes, Programmed};
 
 /// The ways that are left of an instruction, three at most: Early, the next locations in order,
 /// Late. An address that is no location is a stop at the end.
@@ -44,7 +43,13 @@ impl Ways {
 
     /// No way.
     pub fn none() -> Ways
-        ensures { result ≡ record { stops_early = false; branch = None; next = None; stops_late = false } }
+        ensures { result ≡ record {
+          stops_early = false;
+          branch = None;
+          next = None;
+          stops_late =
+              false;
+        } }
     {
         Ways {
             stops_early: false,

@@ -12,7 +12,8 @@ use std::ops::Range;
 ///
 /// Source: the IBM 650 Manual of Operation.
 pub fn writes(instruction: Instruction) -> Range<u16>
-    ensures all { range_with_len result.start (result.end - result.start) ≡ said.writes instruction }
+    ensures all { range_with_len result.start (result.end - result.start)
+        ≡ said.writes instruction }
     ensures on_drum { result.end ≤ 2000 }
 {
     let d = instruction.d;

@@ -50,7 +50,8 @@ impl Search {
     pub fn enter(&mut self, graph: &Graph, node: usize) -> Result<(), AllocError>
         requires sound { Searches (row graph.now) (size graph.now) self.old }
         requires new { slice_get self.old.states.items node ≡ Some New }
-        requires linked { (last : ℕ) → last_of self.old.path.items ≡ Some last → Contains (row graph.now last) node }
+        requires linked { (last : ℕ) → last_of self.old.path.items ≡ Some last
+            → Contains (row graph.now last) node }
         ensures sound { OnOk result (Searches (row graph.now) (size graph.now) self.new) }
         ensures less { OnOk result (work_left self.new < work_left self.old) }
         ensures kept { OnOk result (ForgetsNone self.old.states.items self.new.states.items) }
@@ -65,7 +66,8 @@ impl Search {
     fn leave(&mut self, graph: &Graph, node: usize) -> Result<(), AllocError>
         requires sound { Searches (row graph.now) (size graph.now) self.old }
         requires last { last_of self.old.path.items ≡ Some node }
-        requires all { (next : ℕ) → Contains (row graph.now node) next → slice_get self.old.states.items next ≡ Some Finished }
+        requires all { (next : ℕ) → Contains (row graph.now node) next
+            → slice_get self.old.states.items next ≡ Some Finished }
         ensures sound { OnOk result (Searches (row graph.now) (size graph.now) self.new) }
         ensures less { OnOk result (work_left self.new < work_left self.old) }
         ensures kept { OnOk result (ForgetsNone self.old.states.items self.new.states.items) }
@@ -83,8 +85,10 @@ impl Search {
         ensures sound { Searches (row graph.now) (size graph.now) self.new }
         ensures same { self.new ≡ record self.old { passed = self.new.passed } }
         ensures edge { IfSome result (λ next. Contains (row graph.now node) next) }
-        ensures unfinished { IfSome result (λ next. slice_get self.new.states.items next ≢ Some Finished) }
-        ensures all { IfNone result ((next : ℕ) → Contains (row graph.now node) next → slice_get self.new.states.items next ≡ Some Finished) }
+        ensures unfinished { IfSome result (λ next.
+            slice_get self.new.states.items next ≢ Some Finished) }
+        ensures all { IfNone result ((next : ℕ) → Contains (row graph.now node) next
+            → slice_get self.new.states.items next ≡ Some Finished) }
     {
         let row = graph.row(node);
         let at = first_unfinished(&self.states, row, self.passed[node]);
@@ -96,7 +100,8 @@ impl Search {
     fn cycle(&self, alloc: Global, graph: &Graph, first: usize) -> Result<Vec<usize>, AllocError>
         requires sound { Searches (row graph.now) (size graph.now) self.now }
         requires open { slice_get self.now.states.items first ≡ Some Open }
-        requires edge { (last : ℕ) → last_of self.now.path.items ≡ Some last → Contains (row graph.now last) first }
+        requires edge { (last : ℕ) → last_of self.now.path.items ≡ Some last
+            → Contains (row graph.now last) first }
         ensures { IfOk result (λ cycle. IsCycle (row graph.now) (size graph.now) cycle.items) }
     {
         let at = place_of(&self.path, first);
@@ -113,10 +118,14 @@ impl Search {
     ) -> Result<Option<Vec<usize>>, AllocError>
         requires sound { Searches (row graph.now) (size graph.now) self.old }
         requires last { last_of self.old.path.items ≡ Some node }
-        ensures sound { IfOk result (λ found. IfNone found (Searches (row graph.now) (size graph.now) self.new)) }
-        ensures less { IfOk result (λ found. IfNone found (work_left self.new < work_left self.old)) }
-        ensures kept { IfOk result (λ found. IfNone found (ForgetsNone self.old.states.items self.new.states.items)) }
-        ensures cycle { IfOk result (λ found. IfSome found (λ cycle. IsCycle (row graph.now) (size graph.now) cycle.items)) }
+        ensures sound { IfOk result (λ found. IfNone found
+            (Searches (row graph.now) (size graph.now) self.new)) }
+        ensures less { IfOk result (λ found. IfNone found
+            (work_left self.new < work_left self.old)) }
+        ensures kept { IfOk result (λ found. IfNone found
+            (ForgetsNone self.old.states.items self.new.states.items)) }
+        ensures cycle { IfOk result (λ found. IfSome found
+            (λ cycle. IsCycle (row graph.now) (size graph.now) cycle.items)) }
     {
         let Some(next) = self.pass(graph, node) else {
             self.leave(graph, node)?;
@@ -145,10 +154,13 @@ impl Search {
     /// Finishes the path's nodes; a cycle where one is met.
     fn finish(&mut self, alloc: Global, graph: &Graph) -> Result<Option<Vec<usize>>, AllocError>
         requires { Searches (row graph.now) (size graph.now) self.old }
-        ensures sound { IfOk result (λ found. IfNone found (Searches (row graph.now) (size graph.now) self.new)) }
+        ensures sound { IfOk result (λ found. IfNone found
+            (Searches (row graph.now) (size graph.now) self.new)) }
         ensures empty { IfOk result (λ found. IfNone found (self.new.path.items ≡ [])) }
-        ensures kept { IfOk result (λ found. IfNone found (ForgetsNone self.old.states.items self.new.states.items)) }
-        ensures cycle { IfOk result (λ found. IfSome found (λ cycle. IsCycle (row graph.now) (size graph.now) cycle.items)) }
+        ensures kept { IfOk result (λ found. IfNone found
+            (ForgetsNone self.old.states.items self.new.states.items)) }
+        ensures cycle { IfOk result (λ found. IfSome found
+            (λ cycle. IsCycle (row graph.now) (size graph.now) cycle.items)) }
     {
         while let Some(node) = self.last() {
             match self.step(alloc, graph, node) {
@@ -170,11 +182,15 @@ impl Search {
         requires sound { Searches (row graph.now) (size graph.now) self.old }
         requires empty { self.old.path.items ≡ [] }
         requires within { root < size graph.now }
-        ensures sound { IfOk result (λ found. IfNone found (Searches (row graph.now) (size graph.now) self.new)) }
+        ensures sound { IfOk result (λ found. IfNone found
+            (Searches (row graph.now) (size graph.now) self.new)) }
         ensures empty { IfOk result (λ found. IfNone found (self.new.path.items ≡ [])) }
-        ensures kept { IfOk result (λ found. IfNone found (ForgetsNone self.old.states.items self.new.states.items)) }
-        ensures met { IfOk result (λ found. IfNone found (slice_get self.new.states.items root ≢ Some New)) }
-        ensures cycle { IfOk result (λ found. IfSome found (λ cycle. IsCycle (row graph.now) (size graph.now) cycle.items)) }
+        ensures kept { IfOk result (λ found. IfNone found
+            (ForgetsNone self.old.states.items self.new.states.items)) }
+        ensures met { IfOk result (λ found. IfNone found
+            (slice_get self.new.states.items root ≢ Some New)) }
+        ensures cycle { IfOk result (λ found. IfSome found
+            (λ cycle. IsCycle (row graph.now) (size graph.now) cycle.items)) }
     {
         match self.state(root) {
             Progress::New => {
@@ -219,8 +235,10 @@ fn node_at(row: &[usize], at: usize) -> Option<usize>
 /// where all are.
 fn first_unfinished(states: &[Progress], row: &[usize], from: usize) -> usize
     requires within { (next : ℕ) → Contains row.now next → next < length states.now }
-    ensures finished { (k next : ℕ) → from ≤ k → k < result → slice_get row.now k ≡ Some next → slice_get states.now next ≡ Some Finished }
-    ensures least { (next : ℕ) → slice_get row.now result ≡ Some next → slice_get states.now next ≢ Some Finished }
+    ensures finished { (k next : ℕ) → from ≤ k → k < result → slice_get row.now k ≡ Some next
+        → slice_get states.now next ≡ Some Finished }
+    ensures least { (next : ℕ) → slice_get row.now result ≡ Some next
+        → slice_get states.now next ≢ Some Finished }
 {
     for at in from..row.len() {
         let next = row[at];

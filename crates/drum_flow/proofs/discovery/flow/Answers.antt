@@ -1,17 +1,13 @@
-use Rattle.std.proofs.Common.{◌≡◌, ◌≤◌, ℕ, List, length, get_or, false, Option, Some, None, sym, ap, ◌∙◌, inl, inr}
-use Rattle.std.specs.Prelude.{slice_get, Result, Ok, Err, OnOk, is_err}
-use Rattle.std.specs.declared.alloc.AllocError.{AllocError}
+use Rattle.std.proofs.Common.{◌≡◌, ◌≤◌, ℕ, List, length, get_or, Option, Some, None, sym, ap, ◌∙◌, inl, inr}
+use Rattle.std.specs.Prelude.{slice_get}
 use Rattle.std.proofs.lemmas.Bool.{cases_lt}
 use Rattle.std.proofs.lemmas.Option.{slice_get-get_or}
+use Rattle.drum_core.proofs.Handed.{handed}
 use Rattle.drum_core.specs.Loads.{loads_in, start_in}
-use Rattle.drum_flow.specs.Executed.{successors, with_new}
+use Rattle.drum_flow.specs.Executed.{successors}
 use Rattle.drum_flow.specs.Found.{places_of}
 use Rattle.drum_flow.proofs.Orders.{all_executed, found_next, good_more, wrong_met}
 use Rattle.drum_flow.proofs.discovery.flow.Goals as goal
-
-OnOk-at : (r : Result (Unit {0}) AllocError) (P : Type 0) → OnOk r P → is_err r ≡ false → P
-OnOk-at (Ok one) P h e = h
-OnOk-at (Err error) P h e = cc
 
 past_end : (xs : List ℕ) (k : ℕ) → slice_get xs k ≡ None → length xs ≤ k
 past_end xs k none = elim (cases_lt k (length xs)) [
@@ -19,11 +15,12 @@ past_end xs k none = elim (cases_lt k (length xs)) [
   | inr past ↦ past
 ]
 
-pub returns-in-Err-clause-refused : goal.returns-in-Err-clause-refused
-returns-in-Err-clause-refused c =
+pub returns-in_err-check_place-clause-refused : goal.returns-in_err-check_place-clause-refused
+returns-in_err-check_place-clause-refused c =
     let here : slice_get (places_of c.loop-location.executed) c.loop-location.turn ≡ Some c.in-Some.location.number = sym c.in-Some.ensures.value in
-    wrong_met (loads_in c.args.deck.now) c.args.notes.now (start_in c.args.deck.now) c.loop-location.turn c.in-Some.location.number (places_of c.loop-location.executed) c.in-Err.refusal
-    c.loop-location.invariant.found c.loop-location.invariant.good here c.in-Err.ensures.wrong
+    handed c.from_residual-in_err-check_place.result _ c.in_err-check_place.field-0.0 c.from_residual-in_err-check_place.ensures.1
+    (wrong_met (loads_in c.args.deck.now) c.args.notes.now (start_in c.args.deck.now) c.loop-location.turn c.in-Some.location.number (places_of c.loop-location.executed) c.in_err-check_place.field-0.0
+    c.loop-location.invariant.found c.loop-location.invariant.good here c.in_err-check_place.ensures.wrong)
 
 pub loop-location-preserved : goal.loop-location-preserved
 loop-location-preserved c =
@@ -33,11 +30,10 @@ loop-location-preserved c =
     let turn = c.loop-location.turn in
     let before = places_of c.loop-location.executed in
     let here : slice_get before turn ≡ Some location.number = sym c.in-Some.ensures.value in
-    let added = OnOk-at c.add_successors.result (places_of c.add_successors.new.self ≡ with_new before (successors loads notes location.number)) c.add_successors.ensures
-    (sym c.is_err.ensures.value ∙ c.if-is_err.false) in
+    let added = c.in_ok-add_successors.ensures in
     record {
       found = found_next loads notes (start_in c.args.deck.now) turn location.number before (places_of c.add_successors.new.self) c.loop-location.invariant.found here added;
-      good = λ k place lt at. good_more loads notes before (successors loads notes location.number) turn location.number c.loop-location.invariant.good here c.in_default-check_place.ensures.good k place lt
+      good = λ k place lt at. good_more loads notes before (successors loads notes location.number) turn location.number c.loop-location.invariant.good here c.in_ok-check_place.ensures.good k place lt
           (sym (ap (λ (xs : List ℕ). slice_get xs k) added) ∙ at);
     }
 
@@ -45,5 +41,5 @@ pub returns-clause-executed : goal.returns-clause-executed
 returns-clause-executed c =
     let places = places_of c.loop-location.executed in
     let turn = c.loop-location.turn in
-    let none : slice_get places turn ≡ None = sym c.in_default-get.ensures.value in
+    let none : slice_get places turn ≡ None = sym c.in_default.ensures.value in
     all_executed (loads_in c.args.deck.now) c.args.notes.now (start_in c.args.deck.now) turn places c.loop-location.invariant.found (past_end places turn none) c.loop-location.invariant.good

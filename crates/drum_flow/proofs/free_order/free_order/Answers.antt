@@ -9,21 +9,18 @@ use Rattle.drum_flow.proofs.free_order.free_order.Goals as goal
 
 pub locations_at-requires : goal.locations_at-requires
 locations_at-requires c place there =
-    let order : IsTopologicalOrder (row c.in-Ok.graph) (size c.in-Ok.graph) c.in-Ok-Ordered.order.items = rw c.in-Ok-Ordered.field-0-is at c.in-Ok-Ordered.ensures in
-    let member : Contains c.in-Ok-Ordered.order.items place = subst (λ (nodes : List ℕ). Contains nodes place) c.deref.ensures.value there in
-    omega (arith, order.within place member, c.in-Ok.ensures.size)
+    let order : IsTopologicalOrder (row c.in_ok-graph.graph) (size c.in_ok-graph.graph) c.in-Ordered.order.items = rw c.in-Ordered.is at c.in_ok-order.ensures in
+    let member : Contains c.in-Ordered.order.items place = subst (λ (nodes : List ℕ). Contains nodes place) c.deref.ensures.value there in
+    omega (arith, order.within place member, c.in_ok-graph.ensures.size)
 
-pub returns-in-Ok-locations_at-clause-order : goal.returns-in-Ok-locations_at-clause-order
-returns-in-Ok-locations_at-clause-order c =
+pub returns-in-Ordered-clause-order : goal.returns-in-Ordered-clause-order
+returns-in-Ordered-clause-order c =
     let flow = c.args.flow.now in
     let loads = loads_in flow.deck.now in
     let executed = executed_in flow in
-    let graph = c.in-Ok.graph in
-    let order : IsTopologicalOrder (row graph) (size graph) c.in-Ok-Ordered.order.items = rw c.in-Ok-Ordered.field-0-is at c.in-Ok-Ordered.ensures in
-    let free : IsFreeOrder loads flow.notes.now executed (map (λ place. slice_index executed place) c.in-Ok-Ordered.order.items) =
-    order_free loads flow.notes.now executed (row graph) c.in-Ok-locations_at.ensures.different c.in-Ok.ensures.rows
-    (executed_closed loads flow.notes.now (start_in flow.deck.now) executed c.requires) (size graph) c.in-Ok-Ordered.order.items c.in-Ok.ensures.size order in
-    subst (IsFreeOrder loads flow.notes.now executed) (sym (c.in-Ok-locations_at.ensures.numbers ∙ ap (λ (nodes : List ℕ). map (λ place. slice_index executed place) nodes) c.deref.ensures.value)) free
-
-pub returns-clause-cycle : goal.returns-clause-cycle
-returns-clause-cycle c = tt
+    let graph = c.in_ok-graph.graph in
+    let order : IsTopologicalOrder (row graph) (size graph) c.in-Ordered.order.items = rw c.in-Ordered.is at c.in_ok-order.ensures in
+    let free : IsFreeOrder loads flow.notes.now executed (map (λ place. slice_index executed place) c.in-Ordered.order.items) =
+    order_free loads flow.notes.now executed (row graph) c.in_ok-locations_at-in-Ordered.ensures.different c.in_ok-graph.ensures.rows
+    (executed_closed loads flow.notes.now (start_in flow.deck.now) executed c.requires) (size graph) c.in-Ordered.order.items c.in_ok-graph.ensures.size order in
+    subst (IsFreeOrder loads flow.notes.now executed) (sym (c.in_ok-locations_at-in-Ordered.ensures.numbers ∙ ap (λ (nodes : List ℕ). map (λ place. slice_index executed place) nodes) c.deref.ensures.value)) free
