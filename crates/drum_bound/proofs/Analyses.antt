@@ -40,7 +40,8 @@ use Rattle.drum_bound.proofs.Worsts.{is_worst}
 pub loaded_on_drum : (deck : Deck) (place : ℕ) (w : Word) → loads_in deck place ≡ Some w → place < 2000
 loaded_on_drum deck place w loads = go (slice_get deck.image.items place) refl loads
   where
-    go : (one : Option (Option Given)) → slice_get deck.image.items place ≡ one → option_map (λ given. given.word) (found_in one) ≡ Some w → place < 2000
+    go : (one : Option (Option Given)) → slice_get deck.image.items place ≡ one
+        → option_map (λ given. given.word) (found_in one) ≡ Some w → place < 2000
     go None at none = absurd (cc)
     go (Some one) at some = omega (arith, slice_get_within deck.image.items place one at, deck.image.ok.0, deck.whole)
 
@@ -60,22 +61,30 @@ pub record IsFound (keys : Keys) (times : Times) (cells : Cells) (visits : List 
       (cells.last.clock - start_angle (setting_of keys.flow.now times).start) visits
 
 -- They are of the keys and the timing table that the scan was given.
-pub is_found : (keys : Keys) (times : Times) (scan : Scan) (visits : List Visited) → scan.keys.now ≡ keys → scan.times.now ≡ times → IsDone scan
-    → IsWalkOf (setting_in scan) (start_angle (setting_in scan).start) (scan.cells.last.clock - start_angle (setting_in scan).start) visits
+pub is_found : (keys : Keys) (times : Times) (scan : Scan) (visits : List Visited) → scan.keys.now ≡ keys
+    → scan.times.now ≡ times → IsDone scan
+    → IsWalkOf (setting_in scan) (start_angle (setting_in scan).start)
+    (scan.cells.last.clock - start_angle (setting_in scan).start) visits
     → IsFound keys times scan.cells visits
 is_found keys times scan visits same_keys same_times done walk =
-    let own : IsFound scan.keys.now scan.times.now scan.cells visits = record { are = done.cells; scanned = done.scanned; turns = done.turns; walk = walk } in
-    subst (λ (one : Times). IsFound keys one scan.cells visits) same_times (subst (λ (one : Keys). IsFound one scan.times.now scan.cells visits) same_keys own)
+    let own : IsFound scan.keys.now scan.times.now scan.cells visits =
+    record { are = done.cells; scanned = done.scanned; turns = done.turns; walk = walk } in
+    subst (λ (one : Times). IsFound keys one scan.cells visits) same_times
+    (subst (λ (one : Keys). IsFound one scan.times.now scan.cells visits) same_keys own)
 
 -- the latest end of all is no earlier than the start
 pub last_after : (g : Setting) (order : List ℕ) (cells : Cells) → AreCells g order cells
-    → Scanned g order (keys_of g.notes.marks order) (keys_of g.notes.marks order) (kept_in cells) cells.last → cells.angle ≤ cells.last.clock
-last_after g order cells are s = omega (arith, are.angle, s.begins.after, s.below s.begins.key s.begins.kept s.begins.there)
+    → Scanned g order (keys_of g.notes.marks order) (keys_of g.notes.marks order) (kept_in cells) cells.last
+    → cells.angle ≤ cells.last.clock
+last_after g order cells are s =
+    omega (arith, are.angle, s.begins.after, s.below s.begins.key s.begins.kept s.begins.there)
 
 -- An analysis of finished cells, and of their walk, is right.
-pub is_analysis : (g : Setting) (order : List ℕ) (analysis : Analysis) → IsOrdered g.loads g.notes g.start order → g.start < 2000
+pub is_analysis : (g : Setting) (order : List ℕ) (analysis : Analysis) → IsOrdered g.loads g.notes g.start order
+    → g.start < 2000
     → AreCells g order analysis.cells
-    → Scanned g order (keys_of g.notes.marks order) (keys_of g.notes.marks order) (kept_in analysis.cells) analysis.cells.last
+    → Scanned g order (keys_of g.notes.marks order) (keys_of g.notes.marks order) (kept_in analysis.cells)
+    analysis.cells.last
     → analysis.cells.made.count ≡ turns_below g order (kept_in analysis.cells) (keys_of g.notes.marks order)
     → IsWalkOf g (start_angle g.start) (analysis.cells.last.clock - start_angle g.start) (visits_of analysis)
     → ArePasses g.notes.marks (visits_of analysis) (passed_of analysis)
@@ -88,19 +97,34 @@ is_analysis g order analysis ordered starts are s made walk passed =
     let below : List Row = rows_below g order (kept_in cells) size in
     let turns_in : List Row → ℕ = λ some. sum (map (λ (row : Row). length (hops g.loads g.notes row.place)) some) in
     let product : words_of analysis * counts_in_all analysis ≡ length order * counts_of g.notes.marks =
-    ap (λ (words : ℕ). words * counts_in_all analysis) are.words ∙ ap (λ (counts : ℕ). length order * counts) are.counts in
+    ap (λ (words : ℕ). words * counts_in_all analysis) are.words
+    ∙ ap (λ (counts : ℕ). length order * counts) are.counts in
     let bound : bound_of analysis ≡ last.clock - start_angle g.start = ap (λ (n : ℕ). last.clock - n) are.angle in
     let known : IsTable g below = is_table g order (kept_in cells) last ordered starts s in
     let table : IsTable g rows = held_table g order cells ordered are known in
     let turns : turns_of analysis ≡ turns_in rows =
-    made ∙ sym (turns_of_rows g order (kept_in cells) size) ∙ held_sum g order cells ordered are (λ (row : Row). length (hops g.loads g.notes row.place)) known.apart in
+    made ∙ sym (turns_of_rows g order (kept_in cells) size)
+    ∙ held_sum g order cells ordered are (λ (row : Row). length (hops g.loads g.notes row.place)) known.apart in
     record {
       worst = subst (IsWorst g) (sym bound) (is_worst g order (kept_in cells) last ordered starts s);
       walk = subst (λ (angle : ℕ). IsWalkOf g angle (bound_of analysis) (visits_of analysis)) (sym are.angle)
           (subst (λ (n : ℕ). IsWalkOf g (start_angle g.start) n (visits_of analysis)) (sym bound) walk);
       table = table;
-      few = omega (arith, product, few_entries g order cells ordered are, length-map cells.entries.items row_in, mul_comm (length order) (counts_of g.notes.marks));
-      short = λ angle hops walk. omega (arith, product, mul_comm (length order) (counts_of g.notes.marks), short_walk g order ordered angle hops walk);
+      few = omega (
+        arith,
+        product,
+        few_entries g order cells ordered are,
+        length-map cells.entries.items row_in,
+        mul_comm (length order) (counts_of g.notes.marks),
+      );
+      short = λ angle hops walk.
+          omega (
+            arith,
+            product,
+            mul_comm (length order) (counts_of g.notes.marks),
+            short_walk g order ordered angle
+                hops walk,
+          );
       executed = are.words;
       counts = are.counts;
       turns = turns;

@@ -22,7 +22,8 @@ twice = omega arith
 
 abbrev marks : List Mark
 marks =
-    (record { from = place; onto = place; most = 1; inside = None; four_digits = once }) ∷ (record { from = place; onto = place; most = 2; inside = None; four_digits = twice })
+    (record { from = place; onto = place; most = 1; inside = None; four_digits = once })
+    ∷ (record { from = place; onto = place; most = 2; inside = None; four_digits = twice })
     ∷ (record { from = place; onto = place; most = 2; inside = None; four_digits = twice })
     ∷ []
 

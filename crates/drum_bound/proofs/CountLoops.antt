@@ -25,30 +25,39 @@ abbrev pub counts_from : List Mark → ℕ → List ℕ → List ℕ
 counts_from marks place counts = drop place (take (length marks) counts)
 
 -- the count of the first of the marks from a place on
-next_of : (counts : List ℕ) (size place : ℕ) → place < size → place < length counts → drop place (take size counts) ≡ get_or counts place 0 ∷ drop (place + 1) (take size counts)
+next_of : (counts : List ℕ) (size place : ℕ) → place < size → place < length counts
+    → drop place (take size counts) ≡ get_or counts place 0 ∷ drop (place + 1) (take size counts)
 next_of counts size place below inside = grind (arith, common_steps)
 
 -- which is written there
-written_of : (counts : List ℕ) (size place x : ℕ) → place < size → size ≤ length counts → drop place (take size (slice_set counts place x)) ≡ x ∷ drop (place + 1) (take size counts)
+written_of : (counts : List ℕ) (size place x : ℕ) → place < size → size ≤ length counts
+    → drop place (take size (slice_set counts place x)) ≡ x ∷ drop (place + 1) (take size counts)
 written_of counts size place x below inside =
-    ap (drop place) (take-set-lt size counts place x below) ∙ drop-set (take size counts) place x (omega (arith, length-take-le size counts inside))
+    ap (drop place) (take-set-lt size counts place x below)
+    ∙ drop-set (take size counts) place x (omega (arith, length-take-le size counts inside))
 
 -- the whole number, with no mark taken yet
-pub leads_none : (marks : List Mark) (counts : List ℕ) (number : ℕ) → length marks ≤ length counts → Leads (drop (length marks) marks) (counts_from marks (length marks) counts) number number
+pub leads_none : (marks : List Mark) (counts : List ℕ) (number : ℕ) → length marks ≤ length counts
+    → Leads (drop (length marks) marks) (counts_from marks (length marks) counts) number number
 leads_none marks counts number long =
     let none_left : drop (length marks) marks ≡ [] = drop_all (length marks) marks (omega arith) in
-    let none_held : counts_from marks (length marks) counts ≡ [] = drop_all (length marks) (take (length marks) counts) (omega (arith, length-take-le (length marks) counts long)) in
+    let none_held : counts_from marks (length marks) counts ≡ [] =
+    drop_all (length marks) (take (length marks) counts)
+    (omega (arith, length-take-le (length marks) counts long)) in
     let nothing : Leads [] [] number number = record { same = omega arith; within = tt } in
     subst (λ (ms : List Mark). Leads ms (counts_from marks (length marks) counts) number number) (sym none_left)
     (subst (λ (cs : List ℕ). Leads [] cs number number) (sym none_held) nothing)
 
 -- a mark's count taken from a number, over plain numbers
-take_apart : (quotient remainder many whole size others number : ℕ) → quotient * many + remainder ≡ whole → whole * size + others ≡ number
+take_apart : (quotient remainder many whole size others number : ℕ) → quotient * many + remainder ≡ whole
+    → whole * size + others ≡ number
     → quotient * (many * size) + (remainder * size + others) ≡ number
-take_apart quotient remainder many whole size others number parts same = omega (arith, ap (λ (n : ℕ). n * size + others) parts, same)
+take_apart quotient remainder many whole size others number parts same =
+    omega (arith, ap (λ (n : ℕ). n * size + others) parts, same)
 
 -- and put into one
-put_together : (front count many size others number : ℕ) → front * (many * size) + (count * size + others) ≡ number → (front * many + count) * size + others ≡ number
+put_together : (front count many size others number : ℕ) → front * (many * size) + (count * size + others) ≡ number
+    → (front * many + count) * size + others ≡ number
 put_together front count many size others number same = omega (arith, same)
 
 -- a mark's count is taken
@@ -58,24 +67,34 @@ leads_first mark marks counts front number h =
     let many = mark.most + 1 in
     let below : front % (mark.most + 1) < mark.most + 1 = mod_below front (mark.most + 1) (omega arith) in
     record {
-      same = take_apart (front / many) (front % many) many front (counts_of marks) (leading marks counts) number (div-add-mod' front many) h.same;
+      same = take_apart (front / many) (front % many) many front (counts_of marks) (leading marks counts) number
+          (div-add-mod' front many) h.same;
       within = (omega (arith, below), h.within);
     }
 
 -- in a loop: the count of the mark at a place, where those behind it are taken
-pub leads_more : (marks : List Mark) (place later : ℕ) (d : Mark) (counts : List ℕ) (front number : ℕ) → later ≡ place + 1 → place < length marks → length marks ≤ length counts
+pub leads_more : (marks : List Mark) (place later : ℕ) (d : Mark) (counts : List ℕ) (front number : ℕ)
+    → later ≡ place + 1 → place < length marks → length marks ≤ length counts
     → Leads (drop later marks) (counts_from marks later counts) front number
-    → Leads (drop place marks) (counts_from marks place (slice_set counts place (front % ((get_or marks place d).most + 1)))) (front / ((get_or marks place d).most + 1)) number
+    → Leads (drop place marks)
+    (counts_from marks place (slice_set counts place (front % ((get_or marks place d).most + 1))))
+    (front / ((get_or marks place d).most + 1)) number
 leads_more marks place later d counts front number next inside long h =
     let mark = get_or marks place d in
     let many = (get_or marks place d).most + 1 in
-    subst (λ (ms : List Mark). Leads ms (counts_from marks place (slice_set counts place (front % many))) (front / many) number) (sym (drop_more marks place d inside))
-    (subst (λ (cs : List ℕ). Leads (mark ∷ drop (place + 1) marks) cs (front / many) number) (sym (written_of counts (length marks) place (front % many) inside long))
-    (leads_first mark (drop (place + 1) marks) (counts_from marks (place + 1) counts) front number (subst (λ (k : ℕ). Leads (drop k marks) (counts_from marks k counts) front number) next h)))
+    subst (λ (ms : List Mark).
+    Leads ms (counts_from marks place (slice_set counts place (front % many))) (front / many) number)
+    (sym (drop_more marks place d inside))
+    (subst (λ (cs : List ℕ). Leads (mark ∷ drop (place + 1) marks) cs (front / many) number)
+    (sym (written_of counts (length marks) place (front % many) inside long))
+    (leads_first mark (drop (place + 1) marks) (counts_from marks (place + 1) counts) front number
+    (subst (λ (k : ℕ). Leads (drop k marks) (counts_from marks k counts) front number) next h)))
 
 -- all counts are taken: they are those that the number stands for
-leads_whole : (marks : List Mark) (counts : List ℕ) (front number : ℕ) → Leads marks counts front number → number < counts_of marks → counts ≡ digits marks number
-leads_whole marks counts front number h below = sym (digits_leading marks counts h.within) ∙ ap (digits marks) (go (cases_lt 0 front))
+leads_whole : (marks : List Mark) (counts : List ℕ) (front number : ℕ) → Leads marks counts front number
+    → number < counts_of marks → counts ≡ digits marks number
+leads_whole marks counts front number h below =
+    sym (digits_leading marks counts h.within) ∙ ap (digits marks) (go (cases_lt 0 front))
   where
     go : (0 < front) ⊎ (front ≤ 0) → leading marks counts ≡ number
     go (inl more) =
@@ -83,18 +102,22 @@ leads_whole marks counts front number h below = sym (digits_leading marks counts
         omega (arith, one, h.same, below)
     go (inr nothing) =
         let zero_is : front ≡ 0 = omega arith in
-        let same : 0 * counts_of marks + leading marks counts ≡ number = ap (λ (n : ℕ). n * counts_of marks + leading marks counts) (sym zero_is) ∙ h.same in
+        let same : 0 * counts_of marks + leading marks counts ≡ number =
+        ap (λ (n : ℕ). n * counts_of marks + leading marks counts) (sym zero_is) ∙ h.same in
         omega (arith, same)
 
 -- and the loop is at the first mark
-pub leads_all : (marks : List Mark) (place : ℕ) (counts : List ℕ) (front number : ℕ) → place ≤ 0 → Leads (drop place marks) (counts_from marks place counts) front number → number < counts_of marks
+pub leads_all : (marks : List Mark) (place : ℕ) (counts : List ℕ) (front number : ℕ) → place ≤ 0
+    → Leads (drop place marks) (counts_from marks place counts) front number → number < counts_of marks
     → take (length marks) counts ≡ digits marks number
 leads_all marks place counts front number first h below =
     let none_left : place ≡ 0 = omega arith in
-    leads_whole marks (take (length marks) counts) front number (subst (λ (k : ℕ). Leads (drop k marks) (counts_from marks k counts) front number) none_left h) below
+    leads_whole marks (take (length marks) counts) front number
+    (subst (λ (k : ℕ). Leads (drop k marks) (counts_from marks k counts) front number) none_left h) below
 
 -- counts within their limits are so from each mark on
-within_from : (marks : List Mark) (counts : List ℕ) (place : ℕ) → AreWithin marks counts → AreWithin (drop place marks) (drop place counts)
+within_from : (marks : List Mark) (counts : List ℕ) (place : ℕ) → AreWithin marks counts
+    → AreWithin (drop place marks) (drop place counts)
 within_from marks counts zero within = within
 within_from [] [] (suc place) within = tt
 within_from [] (count ∷ counts) (suc place) within = absurd within
@@ -106,50 +129,64 @@ counts_fewer : (marks : List Mark) (place : ℕ) → counts_of (drop place marks
 counts_fewer marks zero = omega arith
 counts_fewer [] (suc place) = omega arith
 counts_fewer (mark ∷ marks) (suc place) =
-    let one : 1 * counts_of marks ≤ (mark.most + 1) * counts_of marks = mul-le-mul_right (counts_of marks) (omega arith) in
+    let one : 1 * counts_of marks ≤ (mark.most + 1) * counts_of marks =
+    mul-le-mul_right (counts_of marks) (omega arith) in
     omega (arith, one, counts_fewer marks place)
 
 -- a mark's count is put into the number
-pub leading_more : (marks : List Mark) (place : ℕ) (d : Mark) (counts : List ℕ) (front number : ℕ) → place < length marks → length marks ≤ length counts
+pub leading_more : (marks : List Mark) (place : ℕ) (d : Mark) (counts : List ℕ) (front number : ℕ)
+    → place < length marks → length marks ≤ length counts
     → front * counts_of (drop place marks) + leading (drop place marks) (counts_from marks place counts) ≡ number
-    → (front * ((get_or marks place d).most + 1) + get_or counts place 0) * counts_of (drop (place + 1) marks) + leading (drop (place + 1) marks) (counts_from marks (place + 1) counts) ≡ number
+    → (front * ((get_or marks place d).most + 1) + get_or counts place 0) * counts_of (drop (place + 1) marks) + leading
+    (drop (place + 1) marks) (counts_from marks (place + 1) counts) ≡ number
 leading_more marks place d counts front number inside long same =
     let left = drop (place + 1) marks in
     let mark = get_or marks place d in
     let count = get_or counts place 0 in
     let one : front * counts_of (mark ∷ left) + leading (mark ∷ left) (counts_from marks place counts) ≡ number =
-    subst (λ (ms : List Mark). front * counts_of ms + leading ms (counts_from marks place counts) ≡ number) (drop_more marks place d inside) same in
-    let both : front * counts_of (mark ∷ left) + leading (mark ∷ left) (count ∷ counts_from marks (place + 1) counts) ≡ number =
-    subst (λ (cs : List ℕ). front * counts_of (mark ∷ left) + leading (mark ∷ left) cs ≡ number) (next_of counts (length marks) place inside (omega arith)) one in
-    put_together front count (mark.most + 1) (counts_of left) (leading left (counts_from marks (place + 1) counts)) number both
+    subst (λ (ms : List Mark). front * counts_of ms + leading ms (counts_from marks place counts) ≡ number)
+    (drop_more marks place d inside) same in
+    let both : front * counts_of (mark ∷ left) + leading (mark ∷ left) (count ∷ counts_from marks (place + 1) counts)
+    ≡ number =
+    subst (λ (cs : List ℕ). front * counts_of (mark ∷ left) + leading (mark ∷ left) cs ≡ number)
+    (next_of counts (length marks) place inside (omega arith)) one in
+    put_together front count (mark.most + 1) (counts_of left) (leading left (counts_from marks (place + 1) counts))
+    number both
 
 -- so far it is no more than the whole number
-front_small : (marks : List Mark) (counts : List ℕ) (front number : ℕ) → front * counts_of marks + leading marks counts ≡ number → front ≤ number
+front_small : (marks : List Mark) (counts : List ℕ) (front number : ℕ)
+    → front * counts_of marks + leading marks counts ≡ number → front ≤ number
 front_small marks counts front number same =
     let one : front * 1 ≤ front * counts_of marks = mul-le-mul_left front (counts_some marks) in
     omega (arith, one, same)
 
 -- which is small
-pub leading_small : (marks : List Mark) (place : ℕ) (d : Mark) (counts : List ℕ) (front : ℕ) → place < length marks → length marks ≤ length counts
+pub leading_small : (marks : List Mark) (place : ℕ) (d : Mark) (counts : List ℕ) (front : ℕ) → place < length marks
+    → length marks ≤ length counts
     → AreWithin marks (take (length marks) counts)
-    → front * counts_of (drop place marks) + leading (drop place marks) (counts_from marks place counts) ≡ leading marks (take (length marks) counts)
+    → front * counts_of (drop place marks) + leading (drop place marks) (counts_from marks place counts)
+    ≡ leading marks (take (length marks) counts)
     → front * ((get_or marks place d).most + 1) + get_or counts place 0 < counts_of marks
 leading_small marks place d counts front inside long within same =
     let number = leading marks (take (length marks) counts) in
     let next = front * ((get_or marks place d).most + 1) + get_or counts place 0 in
     let more = leading_more marks place d counts front number inside long same in
-    let below : next ≤ number = front_small (drop (place + 1) marks) (counts_from marks (place + 1) counts) next number more in
+    let below : next ≤ number =
+    front_small (drop (place + 1) marks) (counts_from marks (place + 1) counts) next number more in
     omega (arith, below, leading-< marks (take (length marks) counts) within)
 
 -- a mark's count is put before the others' number
-pub number_more : (marks : List Mark) (place later : ℕ) (d : Mark) (counts : List ℕ) (number : ℕ) → later ≡ place + 1 → place < length marks → length marks ≤ length counts
+pub number_more : (marks : List Mark) (place later : ℕ) (d : Mark) (counts : List ℕ) (number : ℕ) → later ≡ place + 1
+    → place < length marks → length marks ≤ length counts
     → number ≡ number_of (drop later marks) (counts_from marks later counts)
-    → number * ((get_or marks place d).most + 1) + get_or counts place 0 ≡ number_of (drop place marks) (counts_from marks place counts)
+    → number * ((get_or marks place d).most + 1) + get_or counts place 0
+    ≡ number_of (drop place marks) (counts_from marks place counts)
 number_more marks place later d counts number next inside long same =
     let left = drop (place + 1) marks in
     let mark = get_or marks place d in
     let count = get_or counts place 0 in
-    let so_far : number ≡ number_of left (counts_from marks (place + 1) counts) = same ∙ ap (λ (k : ℕ). number_of (drop k marks) (counts_from marks k counts)) next in
+    let so_far : number ≡ number_of left (counts_from marks (place + 1) counts) =
+    same ∙ ap (λ (k : ℕ). number_of (drop k marks) (counts_from marks k counts)) next in
     ap (λ (n : ℕ). n * (mark.most + 1) + count) so_far
     ∙ turned count (mark.most + 1) (number_of left (counts_from marks (place + 1) counts))
     ∙ ap (number_of (mark ∷ left)) (sym (next_of counts (length marks) place inside (omega arith)))
@@ -159,16 +196,20 @@ number_more marks place later d counts number next inside long same =
     turned count many others = omega arith
 
 -- which is small
-pub number_small : (marks : List Mark) (place later : ℕ) (d : Mark) (counts : List ℕ) (number : ℕ) → later ≡ place + 1 → place < length marks → length marks ≤ length counts
-    → AreWithin marks (take (length marks) counts) → number ≡ number_of (drop later marks) (counts_from marks later counts)
+pub number_small : (marks : List Mark) (place later : ℕ) (d : Mark) (counts : List ℕ) (number : ℕ) → later ≡ place + 1
+    → place < length marks → length marks ≤ length counts
+    → AreWithin marks (take (length marks) counts)
+    → number ≡ number_of (drop later marks) (counts_from marks later counts)
     → number * ((get_or marks place d).most + 1) + get_or counts place 0 < counts_of marks
 number_small marks place later d counts number next inside long within same =
     let more = number_more marks place later d counts number next inside long same in
-    let left = number_within (drop place marks) (counts_from marks place counts) (within_from marks (take (length marks) counts) place within) in
+    let left = number_within (drop place marks) (counts_from marks place counts)
+    (within_from marks (take (length marks) counts) place within) in
     omega (arith, more, left, counts_fewer marks place)
 
 -- no pass is held at first
-pub none_held : (marks : List Mark) (most : ℕ) → length marks ≤ most → take (length marks) (replicate most 0) ≡ no_counts marks
+pub none_held : (marks : List Mark) (most : ℕ) → length marks ≤ most
+    → take (length marks) (replicate most 0) ≡ no_counts marks
 none_held [] most few = refl
 none_held (mark ∷ marks) zero few = absurd (omega arith)
 none_held (mark ∷ marks) (suc most) few = ap (λ (counts : List ℕ). 0 ∷ counts) (none_held marks most (omega arith))

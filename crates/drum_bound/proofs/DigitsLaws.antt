@@ -19,18 +19,24 @@ counts_some (mark ∷ marks) = omega (arith, mul-le-mul_left (mark.most + 1) (co
 pub digits_within : (marks : List Mark) (n : ℕ) → n < counts_of marks → AreWithin marks (digits marks n)
 digits_within [] n small = tt
 digits_within (mark ∷ marks) n small =
-    let first : n / counts_of marks < mark.most + 1 = div_below n (counts_of marks) (mark.most + 1) (counts_some marks) small in
-    (omega (arith, first), digits_within marks (n % counts_of marks) (mod_below n (counts_of marks) (counts_some marks)))
+    let first : n / counts_of marks < mark.most + 1 =
+    div_below n (counts_of marks) (mark.most + 1) (counts_some marks) small in (
+      omega (arith, first),
+      digits_within marks (n % counts_of marks)
+          (mod_below n (counts_of marks) (counts_some marks)),
+    )
 
 -- and they are read as it again
 pub leading_digits : (marks : List Mark) (n : ℕ) → n < counts_of marks → leading marks (digits marks n) ≡ n
 leading_digits [] n small = omega arith
 leading_digits (mark ∷ marks) n small =
-    ap (λ (m : ℕ). n / counts_of marks * counts_of marks + m) (leading_digits marks (n % counts_of marks) (mod_below n (counts_of marks) (counts_some marks)))
+    ap (λ (m : ℕ). n / counts_of marks * counts_of marks + m)
+    (leading_digits marks (n % counts_of marks) (mod_below n (counts_of marks) (counts_some marks)))
     ∙ div-add-mod' n (counts_of marks)
 
 -- counts within the limits are those that their number stands for
-pub digits_leading : (marks : List Mark) (counts : List ℕ) → AreWithin marks counts → digits marks (leading marks counts) ≡ counts
+pub digits_leading : (marks : List Mark) (counts : List ℕ) → AreWithin marks counts
+    → digits marks (leading marks counts) ≡ counts
 digits_leading [] [] within = refl
 digits_leading [] (count ∷ counts) within = absurd within
 digits_leading (mark ∷ marks) [] within = absurd within
@@ -53,17 +59,20 @@ leading_none [] = refl
 leading_none (mark ∷ marks) = omega (arith, leading_none marks)
 
 -- with the first mark's last, it is one of as many numbers too
-pub number_within : (marks : List Mark) (counts : List ℕ) → AreWithin marks counts → number_of marks counts < counts_of marks
+pub number_within : (marks : List Mark) (counts : List ℕ) → AreWithin marks counts
+    → number_of marks counts < counts_of marks
 number_within [] [] within = omega arith
 number_within [] (count ∷ counts) within = absurd within
 number_within (mark ∷ marks) [] within = absurd within
 number_within (mark ∷ marks) (count ∷ counts) within =
     let others : number_of marks counts + 1 ≤ counts_of marks = omega (arith, number_within marks counts within.1) in
-    let most : (mark.most + 1) * (number_of marks counts + 1) ≤ (mark.most + 1) * counts_of marks = mul-le-mul_left (mark.most + 1) others in
+    let most : (mark.most + 1) * (number_of marks counts + 1) ≤ (mark.most + 1) * counts_of marks =
+    mul-le-mul_left (mark.most + 1) others in
     omega (arith, within.0, most)
 
 -- and no two counts have one number
-pub number_injective : (marks : List Mark) (a b : List ℕ) → AreWithin marks a → AreWithin marks b → number_of marks a ≡ number_of marks b → a ≡ b
+pub number_injective : (marks : List Mark) (a b : List ℕ) → AreWithin marks a → AreWithin marks b
+    → number_of marks a ≡ number_of marks b → a ≡ b
 number_injective [] [] [] within_a within_b same = refl
 number_injective [] [] (y ∷ b) within_a within_b same = absurd within_b
 number_injective [] (x ∷ a) b within_a within_b same = absurd within_a
@@ -71,23 +80,28 @@ number_injective (mark ∷ marks) [] b within_a within_b same = absurd within_a
 number_injective (mark ∷ marks) (x ∷ a) [] within_a within_b same = absurd within_b
 number_injective (mark ∷ marks) (x ∷ a) (y ∷ b) within_a within_b same =
     let many = mark.most + 1 in
-    let turned : number_of marks a * (mark.most + 1) + x ≡ number_of marks b * (mark.most + 1) + y = omega (arith, same) in
-    let parts = same_from_place (number_of marks a) x (number_of marks b) y many (omega (arith, within_a.0)) (omega (arith, within_b.0)) turned in
+    let turned : number_of marks a * (mark.most + 1) + x ≡ number_of marks b * (mark.most + 1) + y =
+    omega (arith, same) in
+    let parts = same_from_place (number_of marks a) x (number_of marks b) y many (omega (arith, within_a.0))
+    (omega (arith, within_b.0)) turned in
     let firsts : x ≡ y = parts.1 in
     let others : a ≡ b = number_injective marks a b within_a.1 within_b.1 parts.0 in
     ap (λ (first : ℕ). first ∷ a) firsts ∙ ap (λ (rest : List ℕ). y ∷ rest) others
 
 -- a hop along an edge that no mark stands on changes no count
-pub unmarked_stays : (marks : List Mark) (from onto : ℕ) (counts : List ℕ) → mark_on marks from onto ≡ None → after_pass marks from onto counts ≡ counts
+pub unmarked_stays : (marks : List Mark) (from onto : ℕ) (counts : List ℕ) → mark_on marks from onto ≡ None
+    → after_pass marks from onto counts ≡ counts
 unmarked_stays marks from onto counts unmarked = rw (unmarked, after_pass) refl
 
 -- as many counts as marks are within their limits or not
-pub within_or_not : (marks : List Mark) (counts : List ℕ) → length counts ≡ length marks → AreWithin marks counts ⊎ (¬ AreWithin marks counts)
+pub within_or_not : (marks : List Mark) (counts : List ℕ) → length counts ≡ length marks → AreWithin marks counts
+    ⊎ (¬ AreWithin marks counts)
 within_or_not [] [] same = inl tt
 within_or_not [] (count ∷ counts) same = inr (λ within. within)
 within_or_not (mark ∷ marks) [] same = inr (λ within. within)
 within_or_not (mark ∷ marks) (count ∷ counts) same =
     elim (cases_lt mark.most count) [
       | inl over ↦ inr (λ within. omega (arith, over, within.0))
-      | inr below ↦ (elim (within_or_not marks counts (omega (arith, same))) [ inl rest ↦ inl (below, rest) | inr rest ↦ inr (λ within. rest within.1) ])
+      | inr below ↦ (elim (within_or_not marks counts (omega (arith, same)))
+          [ inl rest ↦ inl (below, rest) | inr rest ↦ inr (λ within. rest within.1) ])
     ]

@@ -5,11 +5,10 @@ use Rattle.drum_times.specs.declared.notes.mark.Mark.{Mark}
 use Rattle.drum_machine.specs.Counts.{after_pass, no_counts, AreWithin}
 use Rattle.drum_machine.specs.Ways.{Way, to}
 use Rattle.drum_flow.specs.Hops.{Hop, hops}
-use Rattle.drum_flow.proofs.Lists.{contains_at, contains_from_get}
-use Rattle.drum_flow.specs.Seen.{seen_hop}
+use Rattle.drum_flow.proofs.Lists.{contains_from_get}
 use Rattle.drum_flow.specs.Walk.{Setting}
 use Rattle.drum_bound.specs.declared.latest.Latest.{Latest}
-use Rattle.drum_bound.specs.declared.latest.Origin.{Origin}
+use Rattle.drum_bound.specs.declared.key_hop.KeyHop.{KeyHop}
 use Rattle.drum_bound.proofs.DigitsLaws.{number_injective}
 use Rattle.drum_bound.specs.Ends.{HopEnd, IsHop, LeadsTo, start_row, AreRaised}
 use Rattle.drum_bound.proofs.EntryEnds.{latest_end, end_of, ends_of, IsEndIn, end_in, has_in}
@@ -26,32 +25,37 @@ use Rattle.drum_bound.proofs.Walked.{not_before}
 pub number_none : (marks : List Mark) → number_of marks (no_counts marks) ≡ 0
 number_none [] = refl
 number_none (mark ∷ marks) =
-    let others : (mark.most + 1) * number_of marks (no_counts marks) ≡ (mark.most + 1) * 0 = ap (λ (n : ℕ). (mark.most + 1) * n) (number_none marks) in
+    let others : (mark.most + 1) * number_of marks (no_counts marks) ≡ (mark.most + 1) * 0 =
+    ap (λ (n : ℕ). (mark.most + 1) * n) (number_none marks) in
     omega (arith, others)
 
 -- an entry is the start's, or has the time of an end of these entries' that leads to it
 abbrev IsRaised : Setting → List Row → Row → Type 0
-IsRaised g rows row = (row ≡ start_row g) ⊎ ((end : HopEnd) × Contains (ends_of g rows) end × LeadsTo g end row × (row.time ≡ end.ended))
+IsRaised g rows row =
+    (row ≡ start_row g) ⊎ ((end : HopEnd) × Contains (ends_of g rows) end × LeadsTo g end row × (row.time ≡ end.ended))
 
 -- no end of a hop of one entry that leads to another is later than that
 abbrev IsNoLater : Setting → Row → Row → Type 0
 IsNoLater g row next =
-    (number : ℕ) (hop : Hop) → IsHop g row.place number hop → LeadsTo g (end_of g row number hop) next → latest_end g row.place hop row.time ≤ next.time
+    (number : ℕ) (hop : Hop) → IsHop g row.place number hop → LeadsTo g (end_of g row number hop) next
+    → latest_end g row.place hop row.time ≤ next.time
 
 module _ (g : Setting) (order : List ℕ) (cells : List (Option Latest)) (last : Latest)
     (ordered : IsOrdered g.loads g.notes g.start order) (starts : g.start < 2000)
     (s : Scanned g order (keys_of g.notes.marks order) (keys_of g.notes.marks order) cells last) where
   -- a key of the start with no mark passed is the one that the scan begins at
   is_start : (key : ℕ) → IsKey g.notes.marks order key g.start (no_counts g.notes.marks) → key ≡ s.begins.key
-  is_start key is = one_key g.notes.marks order g.start (no_counts g.notes.marks) key s.begins.key ordered.different is s.begins.is
+  is_start key is = one_key g.notes.marks order g.start (no_counts g.notes.marks) key s.begins.key ordered.different is
+      s.begins.is
 
   -- none of the first keys that something is kept at is before it
   not_first_below : (bound key : ℕ) (kept : Latest) → key < bound → cell_at cells key ≡ Some kept → s.begins.key ≤ key
   not_first_below zero key kept below there = absurd (omega (arith, below))
   not_first_below (suc bound) key kept below there =
-      go kept.origin (s.backed key kept there) (λ earlier one before at. not_first_below bound earlier one (omega (arith, before, below)) at)
+      go kept.origin (s.backed key kept there)
+      (λ earlier one before at. not_first_below bound earlier one (omega (arith, before, below)) at)
     where
-      go : (origin : Option Origin) → IsBackedBy g order (keys_of g.notes.marks order) cells key kept.clock origin
+      go : (origin : Option KeyHop) → IsBackedBy g order (keys_of g.notes.marks order) cells key kept.clock origin
           → ((earlier : ℕ) (one : Latest) → earlier < key → cell_at cells earlier ≡ Some one → s.begins.key ≤ earlier)
           → s.begins.key ≤ key
       go None is further = omega (arith, is_start key is.0)
@@ -61,16 +65,25 @@ module _ (g : Setting) (order : List ℕ) (cells : List (Option Latest)) (last :
   start_now : s.begins.kept.clock ≡ start_angle g.start
   start_now = go s.begins.kept.origin (s.backed s.begins.key s.begins.kept s.begins.there)
     where
-      go : (origin : Option Origin) → IsBackedBy g order (keys_of g.notes.marks order) cells s.begins.key s.begins.kept.clock origin
+      go : (origin : Option KeyHop)
+          → IsBackedBy g order (keys_of g.notes.marks order) cells s.begins.key s.begins.kept.clock origin
           → s.begins.kept.clock ≡ start_angle g.start
       go None is = is.1
-      go (Some origin) is = absurd (omega (arith, is.1.later, not_first_below (origin.key + 1) origin.key is.0.kept (omega arith) is.0.there))
+      go (Some origin) is =
+          absurd (omega (
+            arith,
+            is.1.later,
+            not_first_below (origin.key + 1) origin.key is.0.kept (omega arith)
+                is.0.there,
+          ))
 
   -- a key of the start with no mark passed has the start's row, where the moment of the start is kept
-  as_start : (key : ℕ) (kept : Latest) → IsKey g.notes.marks order key g.start (no_counts g.notes.marks) → kept.clock ≡ start_angle g.start
+  as_start : (key : ℕ) (kept : Latest) → IsKey g.notes.marks order key g.start (no_counts g.notes.marks)
+      → kept.clock ≡ start_angle g.start
       → row_of g order key kept ≡ start_row g
   as_start key kept is now =
-      let row : ℕ → ℕ → ℕ → ℕ → Row = λ place angle counts time. record { place = place; angle = angle; counts = counts; time = time } in
+      let row : ℕ → ℕ → ℕ → ℕ → Row =
+      λ place angle counts time. record { place = place; angle = angle; counts = counts; time = time } in
       let clock : ℕ = kept.clock in
       let number : ℕ = number_of g.notes.marks (counts_at g.notes.marks order key) in
       let none : number ≡ 0 = ap (number_of g.notes.marks) is.passed ∙ number_none g.notes.marks in
@@ -84,15 +97,18 @@ module _ (g : Setting) (order : List ℕ) (cells : List (Option Latest)) (last :
   -- so the start's row is there
   has_start : Contains (rows_below g order cells (keys_of g.notes.marks order)) (start_row g)
   has_start =
-      subst (Contains (rows_below g order cells (keys_of g.notes.marks order))) (as_start s.begins.key s.begins.kept s.begins.is start_now)
+      subst (Contains (rows_below g order cells (keys_of g.notes.marks order)))
+      (as_start s.begins.key s.begins.kept s.begins.is start_now)
       (has_row g order cells (keys_of g.notes.marks order) s.begins.key s.begins.kept s.begins.is.below s.begins.there)
 
   -- the latest end of a hop from what is kept at a key, as word times used
   ends_from : (key : ℕ) (kept : Latest) (hop : Hop) → cell_at cells key ≡ Some kept
-      → end_from g order key hop kept.clock - start_angle g.start ≡ latest_end g (place_at order key) hop (kept.clock - start_angle g.start)
+      → end_from g order key hop kept.clock - start_angle g.start
+      ≡ latest_end g (place_at order key) hop (kept.clock - start_angle g.start)
   ends_from key kept hop there =
       let angle : ℕ = start_angle g.start in
-      let same : kept.clock ≡ angle + (kept.clock - angle) = omega (arith, not_before g order cells last ordered starts s key kept there) in
+      let same : kept.clock ≡ angle + (kept.clock - angle) =
+      omega (arith, not_before g order cells last ordered starts s key kept there) in
       ap (λ (clock : ℕ). longest g.times (place_at order key) hop.ins hop.way clock - angle) same
 
   -- a key's row is the start's, or raised by an end that leads to it
@@ -100,18 +116,17 @@ module _ (g : Setting) (order : List ℕ) (cells : List (Option Latest)) (last :
       → IsRaised g (rows_below g order cells (keys_of g.notes.marks order)) (row_of g order key kept)
   row_raised key kept there = go kept.origin (s.backed key kept there)
     where
-      go : (origin : Option Origin) → IsBackedBy g order (keys_of g.notes.marks order) cells key kept.clock origin
+      go : (origin : Option KeyHop) → IsBackedBy g order (keys_of g.notes.marks order) cells key kept.clock origin
           → IsRaised g (rows_below g order cells (keys_of g.notes.marks order)) (row_of g order key kept)
       go None is = inl (as_start key kept is.0 is.1)
       go (Some origin) is =
           let marks : List Mark = g.notes.marks in
-          let hop : Hop = seen_hop origin.hop in
+          let hop : Hop = is.0.hop in
           let from : ℕ = origin.key in
           let row : Row = row_of g order from is.0.kept in
-          let at : (number : ℕ) × IsHop g (place_at order from) number hop = contains_at (hops g.loads g.notes (place_at order from)) hop is.0.hop in
-          let leads : LeadsTo g (end_of g row at.0 hop) (row_of g order key kept) = record {
+          let leads : LeadsTo g (end_of g row origin.hop hop) (row_of g order key kept) = record {
             hop = hop;
-            of = at.1;
+            of = is.0.is;
             onto = is.1.onto;
             passes = counts_at marks order from;
             within = counts_within marks order from is.0.below;
@@ -120,9 +135,9 @@ module _ (g : Setting) (order : List ℕ) (cells : List (Option Latest)) (last :
             after = ap (number_of marks) (sym is.1.passed);
           } in
           inr (
-            end_of g row at.0 hop,
-            has_in g (rows_below g order cells (keys_of marks order)) row at.0 hop
-                (has_row g order cells (keys_of marks order) from is.0.kept is.0.below is.0.there) at.1,
+            end_of g row origin.hop hop,
+            has_in g (rows_below g order cells (keys_of marks order)) row origin.hop hop
+                (has_row g order cells (keys_of marks order) from is.0.kept is.0.below is.0.there) is.0.is,
             leads,
             ap (λ (clock : ℕ). clock - start_angle g.start) is.0.end ∙ ends_from from is.0.kept hop is.0.there,
           )
@@ -135,7 +150,8 @@ module _ (g : Setting) (order : List ℕ) (cells : List (Option Latest)) (last :
       go e = cc
 
   -- and by none is it passed
-  row_no_later : (from : ℕ) (one : Latest) (key : ℕ) (kept : Latest) → cell_at cells from ≡ Some one → cell_at cells key ≡ Some kept
+  row_no_later : (from : ℕ) (one : Latest) (key : ℕ) (kept : Latest) → cell_at cells from ≡ Some one
+      → cell_at cells key ≡ Some kept
       → IsNoLater g (row_of g order from one) (row_of g order key kept)
   row_no_later from one key kept at there number hop is leads =
       let marks : List Mark = g.notes.marks in
@@ -143,34 +159,50 @@ module _ (g : Setting) (order : List ℕ) (cells : List (Option Latest)) (last :
       let passed : List ℕ → List ℕ = λ counts. after_pass marks (place_at order from) (place_at order key) counts in
       let end : ℕ = end_from g order from hop one.clock in
       let passes : leads.passes ≡ counts_at marks order from =
-      number_injective marks leads.passes (counts_at marks order from) leads.within (counts_within marks order from inside) leads.before in
+      number_injective marks leads.passes (counts_at marks order from) leads.within
+      (counts_within marks order from inside) leads.before in
       let within : AreWithin marks (passed (counts_at marks order from)) =
       subst (λ (counts : List ℕ). AreWithin marks (passed counts)) passes leads.unbarred in
       let counts : number_of marks (passed (counts_at marks order from)) ≡ number_of marks (counts_at marks order key) =
-      subst (λ (counts : List ℕ). number_of marks (passed counts) ≡ number_of marks (counts_at marks order key)) passes leads.after in
+      subst (λ (counts : List ℕ). number_of marks (passed counts) ≡ number_of marks (counts_at marks order key)) passes
+      leads.after in
       let onto : hop.way ≡ to (place_at order key) =
       ap (λ (h : Hop). h.way) (one_hop (place_at order from) number hop leads.hop is leads.of) ∙ leads.onto in
-      let has : Contains (hops g.loads g.notes (place_at order from)) hop = contains_from_get (hops g.loads g.notes (place_at order from)) number hop is in
+      let has : Contains (hops g.loads g.notes (place_at order from)) hop =
+      contains_from_get (hops g.loads g.notes (place_at order from)) number hop is in
       let took : IsTakenBy g order cells last.clock from end (to (place_at order key)) =
       subst (λ (way : Way). IsTakenBy g order cells last.clock from end way) onto (s.took from one hop inside at has) in
-      let came : Arrives marks order cells (place_at order key) (passed (counts_at marks order from)) end = (took within).1 in
+      let came : Arrives marks order cells (place_at order key) (passed (counts_at marks order from)) end =
+      (took within).1 in
       let same : came.key ≡ key =
-      one_row g order cells came.key key ordered.different came.is.below (is_inside g order cells last ordered starts s key kept there)
+      one_row g order cells came.key key ordered.different came.is.below
+      (is_inside g order cells last ordered starts s key kept there)
       came.is.at (ap (number_of marks) came.is.passed ∙ counts) in
-      omega (arith, came.after, one_kept g order cells last ordered starts s came.key key came.kept kept same came.there there, ends_from from one hop at)
+      omega (
+        arith,
+        came.after,
+        one_kept g order cells last ordered starts s came.key key came.kept kept same came.there
+            there,
+        ends_from from one hop at,
+      )
 
   -- so with all rows
-  raised_row : (row : Row) → IsRowOf g order cells (keys_of g.notes.marks order) row → IsRaised g (rows_below g order cells (keys_of g.notes.marks order)) row
-  raised_row row of = subst (IsRaised g (rows_below g order cells (keys_of g.notes.marks order))) of.is (row_raised of.key of.kept of.there)
+  raised_row : (row : Row) → IsRowOf g order cells (keys_of g.notes.marks order) row
+      → IsRaised g (rows_below g order cells (keys_of g.notes.marks order)) row
+  raised_row row of = subst (IsRaised g (rows_below g order cells (keys_of g.notes.marks order))) of.is
+      (row_raised of.key of.kept of.there)
 
-  no_later_row : (row next : Row) → IsRowOf g order cells (keys_of g.notes.marks order) row → IsRowOf g order cells (keys_of g.notes.marks order) next
+  no_later_row : (row next : Row) → IsRowOf g order cells (keys_of g.notes.marks order) row
+      → IsRowOf g order cells (keys_of g.notes.marks order) next
       → IsNoLater g row next
   no_later_row row next from of =
       subst (λ (one : Row). IsNoLater g one next) from.is
-      (subst (λ (one : Row). IsNoLater g (row_of g order from.key from.kept) one) of.is (row_no_later from.key from.kept of.key of.kept from.there of.there))
+      (subst (λ (one : Row). IsNoLater g (row_of g order from.key from.kept) one) of.is
+      (row_no_later from.key from.kept of.key of.kept from.there of.there))
 
   -- The rows of the keys are raised by the ends of their hops.
-  pub are_raised : AreRaised g (rows_below g order cells (keys_of g.notes.marks order)) (ends_of g (rows_below g order cells (keys_of g.notes.marks order)))
+  pub are_raised : AreRaised g (rows_below g order cells (keys_of g.notes.marks order))
+      (ends_of g (rows_below g order cells (keys_of g.notes.marks order)))
   are_raised =
       let size : ℕ = keys_of g.notes.marks order in
       let rows : List Row = rows_below g order cells size in
@@ -180,6 +212,8 @@ module _ (g : Setting) (order : List ℕ) (cells : List (Option Latest)) (last :
         most = λ row end has made leads.
             let one : IsEndIn g rows end = end_in g rows end made in
             let none_later : IsNoLater g one.row row =
-            no_later_row one.row row (row_from g order cells size one.row one.there) (row_from g order cells size row has) in
-            subst (λ (e : HopEnd). LeadsTo g e row → e.ended ≤ row.time) one.same (none_later one.number one.hop one.of) leads;
+            no_later_row one.row row (row_from g order cells size one.row one.there)
+            (row_from g order cells size row has) in
+            subst (λ (e : HopEnd). LeadsTo g e row → e.ended ≤ row.time) one.same (none_later one.number one.hop one.of)
+            leads;
       }

@@ -20,7 +20,15 @@ latest_end g place hop begun =
 
 -- the end of an entry's hop of this number
 abbrev pub end_of : Setting → Row → ℕ → Hop → HopEnd
-end_of g row number hop = record { place = row.place; counts = row.counts; hop = number; begun = row.time; ended = latest_end g row.place hop row.time }
+end_of g row number hop =
+    record {
+      place = row.place;
+      counts = row.counts;
+      hop = number;
+      begun = row.time;
+      ended =
+          latest_end g row.place hop row.time;
+    }
 
 -- the ends of some of an entry's hops, numbered from this number on
 abbrev pub ends_at : Setting → Row → ℕ → List Hop → List HopEnd
@@ -40,15 +48,28 @@ record IsOneOf (g : Setting) (row : Row) (number : ℕ) (left : List Hop) (end :
   same : end_of g row (number + more) hop ≡ end
 
 -- each end of some hops is that of one of them
-one_at : (g : Setting) (row : Row) (number : ℕ) (left : List Hop) (end : HopEnd) → Contains (ends_at g row number left) end → IsOneOf g row number left end
+one_at : (g : Setting) (row : Row) (number : ℕ) (left : List Hop) (end : HopEnd)
+    → Contains (ends_at g row number left) end → IsOneOf g row number left end
 one_at g row number [] end has = absurd (contains_none end has)
 one_at g row number (hop ∷ left) end has =
     elim (contains_cases (end_of g row number hop) end (ends_at g row (number + 1) left) has) [
-      | inl same ↦ record { more = 0; hop = hop; at = refl; same = ap (λ (n : ℕ). end_of g row n hop) (omega arith) ∙ same }
+      | inl same ↦ record {
+        more = 0;
+        hop = hop;
+        at = refl;
+        same =
+            ap (λ (n : ℕ). end_of g row n hop) (omega arith) ∙ same;
+      }
       | inr behind ↦ (
           let of : IsOneOf g row (number + 1) left end = one_at g row (number + 1) left end behind in
           let numbers : number + suc of.more ≡ number + 1 + of.more = omega arith in
-          record { more = suc of.more; hop = of.hop; at = of.at; same = ap (λ (n : ℕ). end_of g row n of.hop) numbers ∙ of.same })
+          record {
+            more = suc of.more;
+            hop = of.hop;
+            at = of.at;
+            same =
+                ap (λ (n : ℕ). end_of g row n of.hop) numbers ∙ of.same;
+          })
     ]
 
 -- and each of the hops has its end
@@ -80,14 +101,16 @@ unlike_at g row number (hop ∷ left) = (
 
 -- ends of which no two are alike, and others that none of them is like
 unlike_append : (ends others : List HopEnd) → AreUnlike ends → AreUnlike others
-    → ((end other : HopEnd) → Contains ends end → Contains others other → end.place ≡ other.place → end.counts ≡ other.counts → ⊥) → AreUnlike (ends ++ others)
+    → ((end other : HopEnd) → Contains ends end → Contains others other → end.place ≡ other.place
+    → end.counts ≡ other.counts → ⊥) → AreUnlike (ends ++ others)
 unlike_append [] others unlike rest apart = rest
 unlike_append (end ∷ ends) others unlike rest apart = (
   λ other there places counts same. elim (Contains-append_cases ends others other there) [
     | inl behind ↦ unlike.0 other behind places counts same
     | inr past ↦ apart end other (contains_here end ends) past places counts
   ],
-  unlike_append ends others unlike.1 rest (λ one other behind past. apart one other (contains_there end one ends behind) past),
+  unlike_append ends others unlike.1 rest
+      (λ one other behind past. apart one other (contains_there end one ends behind) past),
 )
 
 -- an end is that of a hop of one of these entries
@@ -105,7 +128,8 @@ end_in g [] end has = absurd (contains_none end has)
 end_in g (row ∷ rows) end has =
     elim (Contains-append_cases (ends_at g row 0 (hops g.loads g.notes row.place)) (ends_of g rows) end has) [
       | inl here ↦ (
-          let one : IsOneOf g row 0 (hops g.loads g.notes row.place) end = one_at g row 0 (hops g.loads g.notes row.place) end here in
+          let one : IsOneOf g row 0 (hops g.loads g.notes row.place) end =
+          one_at g row 0 (hops g.loads g.notes row.place) end here in
           let number : one.more ≡ 0 + one.more = omega arith in
           record {
             row = row;
@@ -117,11 +141,20 @@ end_in g (row ∷ rows) end has =
           })
       | inr behind ↦ (
           let one : IsEndIn g rows end = end_in g rows end behind in
-          record { row = one.row; number = one.number; hop = one.hop; there = contains_there row one.row rows one.there; of = one.of; same = one.same })
+          record {
+            row = one.row;
+            number = one.number;
+            hop = one.hop;
+            there =
+                contains_there row one.row rows one.there;
+            of = one.of;
+            same = one.same;
+          })
     ]
 
 -- and each hop of each entry has its end
-pub has_in : (g : Setting) (rows : List Row) (row : Row) (number : ℕ) (hop : Hop) → Contains rows row → IsHop g row.place number hop
+pub has_in : (g : Setting) (rows : List Row) (row : Row) (number : ℕ) (hop : Hop) → Contains rows row
+    → IsHop g row.place number hop
     → Contains (ends_of g rows) (end_of g row number hop)
 has_in g [] row number hop has is = absurd (contains_none row has)
 has_in g (first ∷ rows) row number hop has is =
@@ -132,9 +165,11 @@ has_in g (first ∷ rows) row number hop has is =
           subst (λ (n : ℕ). Contains (ends_at g row 0 (hops g.loads g.notes row.place)) (end_of g row n hop)) numbers
           (has_end g row 0 (hops g.loads g.notes row.place) number hop is) in
           let here : Contains (ends_of g (row ∷ rows)) (end_of g row number hop) =
-          Contains-append_left (ends_at g row 0 (hops g.loads g.notes row.place)) (ends_of g rows) (end_of g row number hop) own in
+          Contains-append_left (ends_at g row 0 (hops g.loads g.notes row.place)) (ends_of g rows)
+          (end_of g row number hop) own in
           subst (λ (one : Row). Contains (ends_of g (one ∷ rows)) (end_of g row number hop)) (sym same) here)
-      | inr behind ↦ Contains-append_right (ends_at g first 0 (hops g.loads g.notes first.place)) (ends_of g rows) (end_of g row number hop)
+      | inr behind ↦ Contains-append_right (ends_at g first 0 (hops g.loads g.notes first.place)) (ends_of g rows)
+          (end_of g row number hop)
           (has_in g rows row number hop behind is)
     ]
 
@@ -145,7 +180,8 @@ unlike_in g (row ∷ rows) apart =
     unlike_append (ends_at g row 0 (hops g.loads g.notes row.place)) (ends_of g rows)
     (unlike_at g row 0 (hops g.loads g.notes row.place)) (unlike_in g rows apart.1)
     (λ end other here behind places counts.
-    let of : IsOneOf g row 0 (hops g.loads g.notes row.place) end = one_at g row 0 (hops g.loads g.notes row.place) end here in
+    let of : IsOneOf g row 0 (hops g.loads g.notes row.place) end =
+    one_at g row 0 (hops g.loads g.notes row.place) end here in
     let one : IsEndIn g rows other = end_in g rows other behind in
     apart.0 one.row one.there
     (ap (λ (e : HopEnd). e.place) of.same ∙ places ∙ ap (λ (e : HopEnd). e.place) (sym one.same))
@@ -178,7 +214,8 @@ whose g rows end one =
 pub are_ends : (g : Setting) (rows : List Row) → AreApart rows → AreEnds g rows (ends_of g rows)
 are_ends g rows apart = record {
   each = λ end has. whose g rows end (end_in g rows end has);
-  all = λ row number hop has is. (end_of g row number hop, has_in g rows row number hop has is, is_end g row number hop);
+  all = λ row number hop has is.
+      (end_of g row number hop, has_in g rows row number hop has is, is_end g row number hop);
   once = unlike_in g rows apart;
 }
 
@@ -188,7 +225,8 @@ as_many_at g row number [] = refl
 as_many_at g row number (hop ∷ left) = omega (arith, as_many_at g row (number + 1) left)
 
 -- There are as many ends as the entries' locations have hops.
-pub as_many_ends : (g : Setting) (rows : List Row) → length (ends_of g rows) ≡ sum (map (λ (row : Row). length (hops g.loads g.notes row.place)) rows)
+pub as_many_ends : (g : Setting) (rows : List Row)
+    → length (ends_of g rows) ≡ sum (map (λ (row : Row). length (hops g.loads g.notes row.place)) rows)
 as_many_ends g [] = refl
 as_many_ends g (row ∷ rows) =
     let hops_at : Row → ℕ = λ one. length (hops g.loads g.notes one.place) in

@@ -1,5 +1,5 @@
--- A location has few hops: a list has 64 patterns at most, each of which 10,000 instructions match at most, and an instruction ends in
--- four ways at most.
+-- A location has few hops: a list has 64 patterns at most, each of which 10,000 instructions match at most, and an
+-- instruction ends in four ways at most.
 use Rattle.std.proofs.Common.{ℕ, ◌+◌, ◌*◌, ◌^◌, ◌≤◌, Bool, true, false, cond, List, [], ◌∷◌, ◌++◌, length, map, Option, Some, None, arith, length-append}
 use Rattle.std.specs.Prelude.{flat_map, filter, ◌==◌, ◌||◌, not}
 use Rattle.std.specs.List.{AllByRecursion, list_any}
@@ -18,7 +18,8 @@ use Rattle.drum_machine.specs.Ways.{Way, early, to, late, in_order, ways_of_stop
 use Rattle.drum_flow.proofs.Instructed.{few_match}
 use Rattle.drum_flow.specs.Hops.{Hop, hops_of, hops}
 
-few_flat : {X Y : Type 0} (f : X → List Y) (most : ℕ) → ((x : X) → length (f x) ≤ most) → (xs : List X) → length (flat_map f xs) ≤ most * length xs
+few_flat : {X Y : Type 0} (f : X → List Y) (most : ℕ) → ((x : X) → length (f x) ≤ most) → (xs : List X)
+    → length (flat_map f xs) ≤ most * length xs
 few_flat f most few [] = omega arith
 few_flat f most few (x ∷ xs) = omega (arith, length-append (f x) (flat_map f xs), few x, few_flat f most few xs)
 
@@ -26,7 +27,8 @@ filtered_few : {X : Type 0} (p : X → Bool) (xs : List X) → length (filter p 
 filtered_few p [] = omega arith
 filtered_few {X} p (x ∷ xs) = go (p x) (filtered_few p xs)
   where
-    go : (b : Bool) → length (filter p xs) ≤ length xs → length (cond b (x ∷ filter p xs) (filter p xs)) ≤ length (x ∷ xs)
+    go : (b : Bool) → length (filter p xs) ≤ length xs
+        → length (cond b (x ∷ filter p xs) (filter p xs)) ≤ length (x ∷ xs)
     go true less = omega (arith, less)
     go false less = omega (arith, less)
 
@@ -34,7 +36,8 @@ one_or_none : {X : Type 0} (b : Bool) (x : X) → length (cond b (x ∷ []) []) 
 one_or_none true x = omega arith
 one_or_none false x = omega arith
 
-few_in_order : (stops_early stops_late : Bool) (nexts : List ℕ) → length (in_order stops_early nexts stops_late) ≤ 2 + length nexts
+few_in_order : (stops_early stops_late : Bool) (nexts : List ℕ)
+    → length (in_order stops_early nexts stops_late) ≤ 2 + length nexts
 few_in_order stops_early stops_late nexts =
     let front = cond stops_early (early ∷ []) [] in
     let middle = map to (filter is_location nexts) in
@@ -87,11 +90,14 @@ few_hops_of notes ins =
     let hop : Way → Hop = λ w. record { ins = ins; way = w } in
     omega (arith, length-map (ways notes ins) hop, few_with notes (op_of ins.op) ins.d ins.i)
 
-few_listed : (lists : List Listed) (place : ℕ) → AllByRecursion (λ list. (1 ≤ length list.patterns) × (length list.patterns ≤ 64)) lists → length (listed (patterns_in lists place)) ≤ 640000
+few_listed : (lists : List Listed) (place : ℕ)
+    → AllByRecursion (λ list. (1 ≤ length list.patterns) × (length list.patterns ≤ 64)) lists
+    → length (listed (patterns_in lists place)) ≤ 640000
 few_listed [] place sound = omega arith
 few_listed (list ∷ lists) place sound = go (list.location == place) (few_listed lists place sound.1)
   where
-    go : (b : Bool) → length (listed (patterns_in lists place)) ≤ 640000 → length (listed (cond b (Some list.patterns) (patterns_in lists place))) ≤ 640000
+    go : (b : Bool) → length (listed (patterns_in lists place)) ≤ 640000
+        → length (listed (cond b (Some list.patterns) (patterns_in lists place))) ≤ 640000
     go true others = omega (arith, few_flat matching (10 ^ 4) few_match list.patterns, sound.0.1)
     go false others = others
 
@@ -99,7 +105,8 @@ few_loaded : (found : Option Word) → length (loaded found) ≤ 1
 few_loaded None = omega arith
 few_loaded (Some w) = omega arith
 
-pub few_hops : (loads : ℕ → Option Word) (notes : Notes) (place : ℕ) → AreSound notes → length (hops loads notes place) ≤ 2560004
+pub few_hops : (loads : ℕ → Option Word) (notes : Notes) (place : ℕ) → AreSound notes
+    → length (hops loads notes place) ≤ 2560004
 few_hops loads notes place sound =
     omega (
       arith,

@@ -20,10 +20,13 @@ pub starts_on_drum : (scan : Scan) → (setting_in scan).start < 2000
 starts_on_drum scan = starts_there (deck_of scan.keys.now.flow.now)
 
 -- the order of its locations is one that keys can be made of
-pub is_ordered : (scan : Scan) → IsDone scan → IsOrdered (setting_in scan).loads (setting_in scan).notes (setting_in scan).start (order_of scan)
+pub is_ordered : (scan : Scan) → IsDone scan
+    → IsOrdered (setting_in scan).loads (setting_in scan).notes (setting_in scan).start (order_of scan)
 is_ordered scan done = done.keys.ordered.0
 
 -- what it keeps is no earlier than the start
-pub kept_after : (scan : Scan) (key : ℕ) (kept : Latest) → IsDone scan → cell_at (kept_in scan.cells) key ≡ Some kept → start_angle (setting_in scan).start ≤ kept.clock
+pub kept_after : (scan : Scan) (key : ℕ) (kept : Latest) → IsDone scan → cell_at (kept_in scan.cells) key ≡ Some kept
+    → start_angle (setting_in scan).start ≤ kept.clock
 kept_after scan key kept done there =
-    not_before (setting_in scan) (order_of scan) (kept_in scan.cells) scan.cells.last (is_ordered scan done) (starts_on_drum scan) done.scanned key kept there
+    not_before (setting_in scan) (order_of scan) (kept_in scan.cells) scan.cells.last (is_ordered scan done)
+    (starts_on_drum scan) done.scanned key kept there

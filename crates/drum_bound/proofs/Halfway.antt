@@ -47,50 +47,67 @@ drop_past zero (x ∷ xs) past = absurd (omega (arith, past))
 drop_past (suc n) (x ∷ xs) past = drop_past n xs (omega (arith, past))
 
 -- none has been taken
-pub half_none : (b : Scan) (key clock : ℕ) → IsScanned b key → KeepsAt (kept_in b.cells) key clock → IsHalfway b key clock 0 b.cells
+pub half_none : (b : Scan) (key clock : ℕ) → IsScanned b key → KeepsAt (kept_in b.cells) key clock
+    → IsHalfway b key clock 0 b.cells
 half_none b key clock is kept = record {
   are = is.cells;
-  taking = subst (λ (c : ℕ). Taking (setting_in b) (order_of b) key c (hops_at b key) (kept_in b.cells) b.cells.last) kept.2 (opened b key kept.0 (hops_at b key) is kept.1 refl);
+  taking = subst (λ (c : ℕ). Taking (setting_in b) (order_of b) key c (hops_at b key) (kept_in b.cells) b.cells.last)
+      kept.2 (opened b key kept.0 (hops_at b key) is kept.1 refl);
   turns = omega arith;
   agreed = λ other below. refl;
   later = later_key b.cells.made.last key 0 is.before;
 }
 
 -- one more has
-pub half_more : (b s : Scan) (key clock number : ℕ) (hop : Hop) (cells : Cells) → s ≡ record b { cells = s.cells } → IsHalfway b key clock number s.cells
-    → slice_get (hops_at b key) number ≡ Some hop → AreCells (setting_in s) (order_of s) cells → cells.made.count ≡ s.cells.made.count + 1
+pub half_more : (b s : Scan) (key clock number : ℕ) (hop : Hop) (cells : Cells) → s ≡ record b { cells = s.cells }
+    → IsHalfway b key clock number s.cells
+    → slice_get (hops_at b key) number ≡ Some hop → AreCells (setting_in s) (order_of s) cells
+    → cells.made.count ≡ s.cells.made.count + 1
     → cells.made.last ≡ Some (record { key = key; hop = number }) → IsAgreed key (kept_in s.cells) (kept_in cells)
-    → ((left : List Hop) → Taking (setting_in s) (order_of s) key clock (hop ∷ left) (kept_in s.cells) s.cells.last → Taking (setting_in s) (order_of s) key clock left (kept_in cells) cells.last)
+    → ((left : List Hop) → Taking (setting_in s) (order_of s) key clock (hop ∷ left) (kept_in s.cells) s.cells.last
+    → Taking (setting_in s) (order_of s) key clock left (kept_in cells) cells.last)
     → IsHalfway b key clock (number + 1) cells
 half_more b s key clock number hop cells same half at are count last agreed taken =
     let next : suc number ≡ number + 1 = omega arith in
     let g : setting_in s ≡ setting_in b = ap setting_in same in
     let order : order_of s ≡ order_of b = ap order_of same in
-    let Takes : Setting → List ℕ → Type 0 = λ one all. (left : List Hop) → Taking one all key clock (hop ∷ left) (kept_in s.cells) s.cells.last → Taking one all key clock left (kept_in cells) cells.last in
-    let takes : Takes (setting_in b) (order_of b) = subst (Takes (setting_in b)) order (subst (λ (one : Setting). Takes one (order_of s)) g taken) in
+    let Takes : Setting → List ℕ → Type 0 =
+    λ one all. (left : List Hop) → Taking one all key clock (hop ∷ left) (kept_in s.cells) s.cells.last
+    → Taking one all key clock left (kept_in cells) cells.last in
+    let takes : Takes (setting_in b) (order_of b) =
+    subst (Takes (setting_in b)) order (subst (λ (one : Setting). Takes one (order_of s)) g taken) in
     record {
-      are = subst (λ (all : List ℕ). AreCells (setting_in b) all cells) order (subst (λ (one : Setting). AreCells one (order_of s) cells) g are);
-      taking = subst (λ (n : ℕ). Taking (setting_in b) (order_of b) key clock (drop n (hops_at b key)) (kept_in cells) cells.last) next (takes (drop (suc number) (hops_at b key))
-          (subst (λ (left : List Hop). Taking (setting_in b) (order_of b) key clock left (kept_in s.cells) s.cells.last) (drop_at number (hops_at b key) hop at) half.taking));
+      are = subst (λ (all : List ℕ). AreCells (setting_in b) all cells) order
+          (subst (λ (one : Setting). AreCells one (order_of s) cells) g are);
+      taking = subst (λ (n : ℕ).
+          Taking (setting_in b) (order_of b) key clock (drop n (hops_at b key)) (kept_in cells) cells.last) next
+          (takes (drop (suc number) (hops_at b key))
+          (subst (λ (left : List Hop). Taking (setting_in b) (order_of b) key clock left (kept_in s.cells) s.cells.last)
+          (drop_at number (hops_at b key) hop at) half.taking));
       turns = omega (arith, count, half.turns);
       agreed = λ other below. agreed other below ∙ half.agreed other below;
       later = later_hop cells.made.last key number last;
     }
 
 -- all have
-pub half_all : (b : Scan) (key clock number : ℕ) (cells : Cells) → IsScanned b key → KeepsAt (kept_in b.cells) key clock → IsHalfway b key clock number cells
+pub half_all : (b : Scan) (key clock number : ℕ) (cells : Cells) → IsScanned b key → KeepsAt (kept_in b.cells) key clock
+    → IsHalfway b key clock number cells
     → number ≡ length (hops_at b key) → IsScanned (record b { cells = cells }) (key + 1)
 half_all b key clock number cells is kept half all =
     let none : drop number (hops_at b key) ≡ [] = drop_past number (hops_at b key) (omega (arith, all)) in
     closed b cells key number kept.0 is kept.1 half.are
     (subst (λ (c : ℕ). Taking (setting_in b) (order_of b) key c [] (kept_in cells) cells.last) (sym kept.2)
-    (subst (λ (left : List Hop). Taking (setting_in b) (order_of b) key clock left (kept_in cells) cells.last) none half.taking))
+    (subst (λ (left : List Hop). Taking (setting_in b) (order_of b) key clock left (kept_in cells) cells.last) none
+    half.taking))
     (omega (arith, half.turns, all)) half.agreed half.later
 
 -- the next can be
-pub half_ready : (b s : Scan) (round : Round) (search : Search) (number : ℕ) (leap : Leap) → s ≡ record b { cells = s.cells } → IsScanned b search.key → IsHalfway b search.key search.begun number s.cells
-    → search.key < b.keys.now.size → IsRound b.keys.now.flow.now (search.key / length (order_of b)) round → IsSearch (order_of b) (kept_in b.cells) search
-    → slice_get (hops_at b search.key) number ≡ Some (leap_hop leap) → IsLeap (setting_in b) (order_of b) (place_at (order_of b) search.key) (search.found % 50) leap
+pub half_ready : (b s : Scan) (round : Round) (search : Search) (number : ℕ) (leap : Leap)
+    → s ≡ record b { cells = s.cells } → IsScanned b search.key → IsHalfway b search.key search.begun number s.cells
+    → search.key < b.keys.now.size → IsRound b.keys.now.flow.now (search.key / length (order_of b)) round
+    → IsSearch (order_of b) (kept_in b.cells) search
+    → slice_get (hops_at b search.key) number ≡ Some (leap_hop leap)
+    → IsLeap (setting_in b) (order_of b) (place_at (order_of b) search.key) (search.found % 50) leap
     → IsReady s round search number leap
 half_ready b s round search number leap same is half below of sought at leaps =
     subst (λ (one : Scan). IsReady one round search number leap) (sym same)
@@ -109,11 +126,14 @@ half_ready b s round search number leap same is half below of sought at leaps =
     })
 
 -- few ends have been made
-pub half_few : (b : Scan) (key clock number : ℕ) (cells : Cells) → IsScanned b key → key < b.keys.now.size → IsHalfway b key clock number cells → number ≤ length (hops_at b key) → cells.made.count < 4611686018427387904
-half_few b key clock number cells is below half within = few_turns b key cells.made.count (length (hops_at b key) - number) is below (omega (arith, half.turns, within))
+pub half_few : (b : Scan) (key clock number : ℕ) (cells : Cells) → IsScanned b key → key < b.keys.now.size
+    → IsHalfway b key clock number cells → number ≤ length (hops_at b key) → cells.made.count < 4611686018427387904
+half_few b key clock number cells is below half within =
+    few_turns b key cells.made.count (length (hops_at b key) - number) is below (omega (arith, half.turns, within))
 
 -- the instruction is found soon
-pub found_soon : (b : Scan) (search : Search) → IsScanned b search.key → search.key < b.keys.now.size → IsSearch (order_of b) (kept_in b.cells) search → search.found ≤ 4611686018427387904
+pub found_soon : (b : Scan) (search : Search) → IsScanned b search.key → search.key < b.keys.now.size
+    → IsSearch (order_of b) (kept_in b.cells) search → search.found ≤ 4611686018427387904
 found_soon b search is below sought =
     omega (
       arith,

@@ -19,31 +19,42 @@ use Rattle.drum_bound.specs.Held.{kept_in}
 use Rattle.drum_bound.proofs.Scans.{skip, open_key, close_key}
 
 -- the hops of keys whose cells are the same are as many
-turns_agree : (g : Setting) (order : List ℕ) (cells cells' : List (Option Latest)) (first : ℕ) → ((key : ℕ) → key < first → cell_at cells' key ≡ cell_at cells key)
+turns_agree : (g : Setting) (order : List ℕ) (cells cells' : List (Option Latest)) (first : ℕ)
+    → ((key : ℕ) → key < first → cell_at cells' key ≡ cell_at cells key)
     → turns_below g order cells' first ≡ turns_below g order cells first
 turns_agree g order cells cells' zero same = refl
 turns_agree g order cells cells' (suc key) same =
-    omega (arith, turns_agree g order cells cells' key (λ other below. same other (omega (arith, below))), ap (turns_at g order key) (same key (omega arith)))
+    omega (
+      arith,
+      turns_agree g order cells cells' key (λ other below. same other (omega (arith, below))),
+      ap
+          (turns_at g order key) (same key (omega arith)),
+    )
 
 -- and few
-turns_few_at : (g : Setting) (order : List ℕ) (key : ℕ) (kept : Option Latest) → AreSound g.notes → turns_at g order key kept ≤ 2560004
+turns_few_at : (g : Setting) (order : List ℕ) (key : ℕ) (kept : Option Latest) → AreSound g.notes
+    → turns_at g order key kept ≤ 2560004
 turns_few_at g order key None sound = omega arith
 turns_few_at g order key (Some kept) sound = few_hops g.loads g.notes (place_at order key) sound
 
-turns_few : (g : Setting) (order : List ℕ) (cells : List (Option Latest)) (first : ℕ) → AreSound g.notes → turns_below g order cells first ≤ 2560004 * first
+turns_few : (g : Setting) (order : List ℕ) (cells : List (Option Latest)) (first : ℕ) → AreSound g.notes
+    → turns_below g order cells first ≤ 2560004 * first
 turns_few g order cells zero sound = omega arith
-turns_few g order cells (suc key) sound = omega (arith, turns_few g order cells key sound, turns_few_at g order key (cell_at cells key) sound)
+turns_few g order cells (suc key) sound =
+    omega (arith, turns_few g order cells key sound, turns_few_at g order key (cell_at cells key) sound)
 
 -- the hops of a key
 abbrev pub hops_at : Scan → ℕ → List Hop
 hops_at scan key = hops (setting_in scan).loads (setting_in scan).notes (place_at (order_of scan) key)
 
 -- a hop that has a number among them is one of them
-pub hop_among : (scan : Scan) (key number : ℕ) (hop : Hop) → slice_get (hops_at scan key) number ≡ Some hop → Contains (hops_at scan key) hop
+pub hop_among : (scan : Scan) (key number : ℕ) (hop : Hop) → slice_get (hops_at scan key) number ≡ Some hop
+    → Contains (hops_at scan key) hop
 hop_among scan key number hop at = contains_from_get (hops_at scan key) number hop at
 
 -- a key at which nothing is kept needs no taking
-pub skipped : (scan : Scan) (key : ℕ) → IsScanned scan key → cell_at (kept_in scan.cells) key ≡ None → IsScanned scan (key + 1)
+pub skipped : (scan : Scan) (key : ℕ) → IsScanned scan key → cell_at (kept_in scan.cells) key ≡ None
+    → IsScanned scan (key + 1)
 skipped scan key is none =
     let next : suc key ≡ key + 1 = omega arith in
     subst (IsScanned scan) next (record {
@@ -56,17 +67,22 @@ skipped scan key is none =
     })
 
 -- all hops of a key at which something is kept are left
-pub opened : (scan : Scan) (key : ℕ) (kept : Latest) (left : List Hop) → IsScanned scan key → cell_at (kept_in scan.cells) key ≡ Some kept → left ≡ hops_at scan key
+pub opened : (scan : Scan) (key : ℕ) (kept : Latest) (left : List Hop) → IsScanned scan key
+    → cell_at (kept_in scan.cells) key ≡ Some kept → left ≡ hops_at scan key
     → Taking (setting_in scan) (order_of scan) key kept.clock left (kept_in scan.cells) scan.cells.last
 opened scan key kept left is there all =
-    subst (λ (hops : List Hop). Taking (setting_in scan) (order_of scan) key kept.clock hops (kept_in scan.cells) scan.cells.last) (sym all)
+    subst (λ (hops : List Hop).
+    Taking (setting_in scan) (order_of scan) key kept.clock hops (kept_in scan.cells) scan.cells.last) (sym all)
     (open_key (setting_in scan) (order_of scan) key kept (kept_in scan.cells) scan.cells.last there is.scanned)
 
 -- clocks and turns are far from their limits
-pub early_clock : (scan : Scan) (key : ℕ) (kept : Latest) → IsScanned scan key → key < scan.keys.now.size → cell_at (kept_in scan.cells) key ≡ Some kept → kept.clock ≤ 2305843009213693952
-early_clock scan key kept is below there = omega (arith, is.scanned.near key kept there, below, is.keys.size, is.keys.ordered.0.few)
+pub early_clock : (scan : Scan) (key : ℕ) (kept : Latest) → IsScanned scan key → key < scan.keys.now.size
+    → cell_at (kept_in scan.cells) key ≡ Some kept → kept.clock ≤ 2305843009213693952
+early_clock scan key kept is below there =
+    omega (arith, is.scanned.near key kept there, below, is.keys.size, is.keys.ordered.0.few)
 
-pub few_turns : (scan : Scan) (key count left : ℕ) → IsScanned scan key → key < scan.keys.now.size → count + left ≡ scan.cells.made.count + length (hops_at scan key) → count < 4611686018427387904
+pub few_turns : (scan : Scan) (key count left : ℕ) → IsScanned scan key → key < scan.keys.now.size
+    → count + left ≡ scan.cells.made.count + length (hops_at scan key) → count < 4611686018427387904
 few_turns scan key count left is below so_far =
     omega (
       arith,
@@ -80,7 +96,8 @@ few_turns scan key count left is below so_far =
     )
 
 -- cells where nothing that is held changes
-pub cells_made : (g : Setting) (order : List ℕ) (cells : Cells) (made : Made) → AreCells g order cells → AreCells g order (record cells { made = made })
+pub cells_made : (g : Setting) (order : List ℕ) (cells : Cells) (made : Made) → AreCells g order cells
+    → AreCells g order (record cells { made = made })
 cells_made g order cells made are = record {
   held = record {
     linked = are.held.linked;
@@ -96,7 +113,8 @@ cells_made g order cells made are = record {
   counts = are.counts;
 }
 
-pub cells_last : (g : Setting) (order : List ℕ) (cells : Cells) (last : Latest) → AreCells g order cells → AreCells g order (record cells { last = last })
+pub cells_last : (g : Setting) (order : List ℕ) (cells : Cells) (last : Latest) → AreCells g order cells
+    → AreCells g order (record cells { last = last })
 cells_last g order cells last are = record {
   held = record {
     linked = are.held.linked;
@@ -113,9 +131,12 @@ cells_last g order cells last are = record {
 }
 
 -- no hop of the key is left
-pub closed : (b : Scan) (cells : Cells) (key number : ℕ) (kept : Latest) → IsScanned b key → cell_at (kept_in b.cells) key ≡ Some kept
+pub closed : (b : Scan) (cells : Cells) (key number : ℕ) (kept : Latest) → IsScanned b key
+    → cell_at (kept_in b.cells) key ≡ Some kept
     → AreCells (setting_in b) (order_of b) cells
-    → Taking (setting_in b) (order_of b) key kept.clock [] (kept_in cells) cells.last → cells.made.count ≡ b.cells.made.count + length (hops_at b key) → IsAgreed key (kept_in b.cells) (kept_in cells)
+    → Taking (setting_in b) (order_of b) key kept.clock [] (kept_in cells) cells.last
+    → cells.made.count ≡ b.cells.made.count + length (hops_at b key)
+    → IsAgreed key (kept_in b.cells) (kept_in cells)
     → IsLater cells.made.last (record { key = key; hop = number }) → IsScanned (record b { cells = cells }) (key + 1)
 closed b cells key number kept is there are taking count agreed later =
     let next : suc key ≡ key + 1 = omega arith in
@@ -140,9 +161,12 @@ closed b cells key number kept is there are taking count agreed later =
     })
 
 -- keys at which nothing is kept need no taking
-pub skipped_all : (scan : Scan) (first more : ℕ) → IsScanned scan first → ((key : ℕ) → first ≤ key → key < first + more → cell_at (kept_in scan.cells) key ≡ None) → IsScanned scan (first + more)
+pub skipped_all : (scan : Scan) (first more : ℕ) → IsScanned scan first
+    → ((key : ℕ) → first ≤ key → key < first + more → cell_at (kept_in scan.cells) key ≡ None)
+    → IsScanned scan (first + more)
 skipped_all scan first zero is none = let same : first ≡ first + 0 = omega arith in subst (IsScanned scan) same is
 skipped_all scan first (suc more) is none =
-    let before : IsScanned scan (first + more) = skipped_all scan first more is (λ key from below. none key from (omega (arith, below))) in
+    let before : IsScanned scan (first + more) =
+    skipped_all scan first more is (λ key from below. none key from (omega (arith, below))) in
     let same : first + more + 1 ≡ first + suc more = omega arith in
     subst (IsScanned scan) same (skipped scan (first + more) before (none (first + more) (omega arith) (omega arith)))

@@ -2,7 +2,7 @@
 use Rattle.std.proofs.Common.{◌≡◌, ℕ, zero, suc, ◌+◌, ◌<◌, List, [], ◌∷◌, drop, refl, ap, subst, sym, ◌∙◌, Option, Some, None, inl, inr, arith}
 use Rattle.std.specs.Prelude.{slice_get}
 use Rattle.std.proofs.lemmas.List.{drop-drop}
-use Rattle.drum_bound.specs.declared.cells.end.KeyHop.{KeyHop}
+use Rattle.drum_bound.specs.declared.key_hop.KeyHop.{KeyHop}
 use Rattle.drum_bound.specs.KeyHops.{IsLater, IsBefore}
 
 -- the first of what is left of a list stands at the number of those that came before it
@@ -19,13 +19,17 @@ pub others_left : {X : Type 0} (n : ℕ) (all rest : List X) (x : X) → drop n 
 others_left {X = X} n all rest x left = sym (drop-drop 1 n all) ∙ ap (λ (xs : List X). drop 1 xs) left
 
 -- each hop of a key comes after those of earlier keys
-pub later_key : (last : Option KeyHop) (key hop : ℕ) → IsBefore last key → IsLater last (record { key = key; hop = hop })
+pub later_key : (last : Option KeyHop) (key hop : ℕ) → IsBefore last key
+    → IsLater last (record { key = key; hop = hop })
 later_key None key hop before = tt
 later_key (Some last) key hop before = inl before
 
 -- the next hop of a key comes after the last one
-pub later_hop : (last : Option KeyHop) (key hop : ℕ) → last ≡ Some (record { key = key; hop = hop }) → IsLater last (record { key = key; hop = hop + 1 })
-later_hop last key hop is = subst (λ (turn : Option KeyHop). IsLater turn (record { key = key; hop = hop + 1 })) (sym is) (inr (refl, omega arith))
+pub later_hop : (last : Option KeyHop) (key hop : ℕ) → last ≡ Some (record { key = key; hop = hop })
+    → IsLater last (record { key = key; hop = hop + 1 })
+later_hop last key hop is =
+    subst (λ (turn : Option KeyHop). IsLater turn (record { key = key; hop = hop + 1 })) (sym is)
+    (inr (refl, omega arith))
 
 -- where none is of this key or a later one, none is of the next
 pub before_next : (last : Option KeyHop) (key : ℕ) → IsBefore last key → IsBefore last (suc key)
@@ -33,7 +37,8 @@ before_next None key before = tt
 before_next (Some last) key before = omega (arith, before)
 
 -- where a hop of this key comes after the last one, that is of no later key
-pub before_end : (last : Option KeyHop) (key hop : ℕ) → IsLater last (record { key = key; hop = hop }) → IsBefore last (suc key)
+pub before_end : (last : Option KeyHop) (key hop : ℕ) → IsLater last (record { key = key; hop = hop })
+    → IsBefore last (suc key)
 before_end None key hop later = tt
 before_end (Some last) key hop (inl less) = omega (arith, less)
 before_end (Some last) key hop (inr same) = omega (arith, same.0)
@@ -42,7 +47,3 @@ before_end (Some last) key hop (inr same) = omega (arith, same.0)
 pub before_later : (last : Option KeyHop) (key next : ℕ) → IsBefore last (key + 1) → key < next → IsBefore last next
 before_later None key next before less = tt
 before_later (Some last) key next before less = omega (arith, before, less)
-
--- where the last is of a key, none is of a later one
-pub before_own : (last : Option KeyHop) (key hop : ℕ) → last ≡ Some (record { key = key; hop = hop }) → IsBefore last (key + 1)
-before_own last key hop is = subst (λ (turn : Option KeyHop). IsBefore turn (key + 1)) (sym is) (omega arith)

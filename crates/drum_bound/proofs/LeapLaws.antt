@@ -22,11 +22,14 @@ module _ (times : Op → Entry) (place : ℕ) (ins : Instruction) (way : Way) wh
       ap (longest times place ins way) same ∙ none
   revolutions (suc k) t =
       let next : t + 50 * suc k ≡ t + 50 * k + 50 = omega arith in
-      let sum : longest times place ins way t + 50 * k + 50 ≡ longest times place ins way t + 50 * suc k = omega arith in
-      ap (longest times place ins way) next ∙ longest_periodic times place ins way (t + 50 * k) ∙ ap (λ (n : ℕ). n + 50) (revolutions k t) ∙ sum
+      let sum : longest times place ins way t + 50 * k + 50 ≡ longest times place ins way t + 50 * suc k =
+      omega arith in
+      ap (longest times place ins way) next ∙ longest_periodic times place ins way (t + 50 * k)
+      ∙ ap (λ (n : ℕ). n + 50) (revolutions k t) ∙ sum
 
   -- From each clock of an angle it takes as long.
-  pub leap_time : (angle clock : ℕ) → angle < 50 → clock % 50 ≡ angle → longest times place ins way clock ≡ clock + (longest times place ins way angle - angle)
+  pub leap_time : (angle clock : ℕ) → angle < 50 → clock % 50 ≡ angle
+      → longest times place ins way clock ≡ clock + (longest times place ins way angle - angle)
   leap_time angle clock on_drum at =
       let whole : clock ≡ angle + 50 * (clock / 50) = omega (arith, at) in
       let moved : longest times place ins way clock ≡ longest times place ins way angle + 50 * (clock / 50) =
@@ -36,6 +39,8 @@ module _ (times : Op → Entry) (place : ℕ) (ins : Instruction) (way : Way) wh
 -- A drum word is found at its angle.
 pub found_angle : (place t : ℕ) → place < 2000 → first (is_available place) t % 50 ≡ place % 50
 found_angle place t below =
-    let has : is_available place (first (is_available place) t % 50) ≡ true = (first_is_first (available_recurs place) t).has in
-    let drum : is_available place (first (is_available place) t % 50) ≡ (first (is_available place) t % 50 == place % 50) = rw (lt-ltb place 2000 below) refl in
+    let has : is_available place (first (is_available place) t % 50) ≡ true =
+    (first_is_first (available_recurs place) t).has in
+    let drum : is_available place (first (is_available place) t % 50)
+    ≡ (first (is_available place) t % 50 == place % 50) = rw (lt-ltb place 2000 below) refl in
     eqb-true (first (is_available place) t % 50) (place % 50) (sym drum ∙ has)

@@ -1,5 +1,5 @@
--- Laws of the latest end of a hop: those of a clockwork, as the chain of a step has them, that it is the end of some hop
--- and that of none is later, and what the search for the first instruction takes.
+-- Laws of the latest end of a hop: those of a clockwork, as the chain of a step has them, that it is the end of some
+-- hop and that of none is later, and what the search for the first instruction takes.
 use Rattle.std.proofs.Common.{◌≡◌, ℕ, ◌+◌, ◌-◌, ◌*◌, ◌%◌, ◌<◌, ◌≤◌, Bool, true, false, if◌then◌else◌, Option, Some, None, refl, ap, sym, ◌∙◌, subst, arith}
 use Rattle.std.specs.Prelude.{◌==◌}
 use Rattle.std.proofs.Math.Nat.{mul-le-mul_left}
@@ -43,25 +43,29 @@ most_work _ d entry = omega arith
 
 module _ (entry : Entry) (op : Op) (d place units wait : ℕ) where
   -- the ends of a hop whose work is short keep to the laws of a clockwork
-  end_keeps_time : (way : Way) → entry.per * units + wait ≤ 90000000 → KeepsTime (end_by way entry op d place units wait) 92000099
+  end_keeps_time : (way : Way) → entry.per * units + wait ≤ 90000000
+      → KeepsTime (end_by way entry op d place units wait) 92000099
   end_keeps_time early work = ready_keeps_time entry place
   end_keeps_time (to next) work = ended_keeps_time entry place op d units wait work
   end_keeps_time late work = ended_keeps_time entry place op d units wait work
 
   -- with more units and a longer wait a hop ends no earlier
-  end_grows : (way : Way) (more longer t : ℕ) → units ≤ more → wait ≤ longer → end_by way entry op d place units wait t ≤ end_by way entry op d place more longer t
+  end_grows : (way : Way) (more longer t : ℕ) → units ≤ more → wait ≤ longer
+      → end_by way entry op d place units wait t ≤ end_by way entry op d place more longer t
   end_grows early more longer t u w = omega arith
   end_grows (to next) more longer t u w = ended_grows entry place op d units wait more longer t u w
   end_grows late more longer t u w = ended_grows entry place op d units wait more longer t u w
 
   -- a search that begins when the instruction is found ends as the search that found it
-  end_from_found : (way : Way) (t : ℕ) → end_by way entry op d place units wait (found place t) ≡ end_by way entry op d place units wait t
+  end_from_found : (way : Way) (t : ℕ)
+      → end_by way entry op d place units wait (found place t) ≡ end_by way entry op d place units wait t
   end_from_found early t = ready_from_found entry place t
   end_from_found (to next) t = ended_from_found entry place op d units wait t
   end_from_found late t = ended_from_found entry place op d units wait t
 
 -- A hop ends no earlier than it begins, whatever its units and its wait.
-pub end_later : (entry : Entry) (op : Op) (d place units wait : ℕ) (way : Way) (t : ℕ) → t ≤ end_by way entry op d place units wait t
+pub end_later : (entry : Entry) (op : Op) (d place units wait : ℕ) (way : Way) (t : ℕ)
+    → t ≤ end_by way entry op d place units wait t
 end_later entry op d place units wait way t =
     let idle = end_keeps_time entry op d place 0 0 way (omega arith) in
     omega (arith, idle.never_earlier t, end_grows entry op d place 0 0 way units wait t (omega arith) (omega arith))
@@ -95,38 +99,47 @@ may_wait_longest Punch entry = (entry.waits, omega arith)
 may_wait_longest _ entry = refl
 
 -- The latest ends of a hop keep to the laws of a clockwork; of no operation, to those of nothing.
-longest_keeps_time : (times : Op → Entry) (place : ℕ) (ins : Instruction) (way : Way) → KeepsTime (longest times place ins way) 92000099
+longest_keeps_time : (times : Op → Entry) (place : ℕ) (ins : Instruction) (way : Way)
+    → KeepsTime (longest times place ins way) 92000099
 unfolding longest
 longest_keeps_time times place ins way = go (op_of ins.op)
   where
     go : (found_op : Option Op) → KeepsTime (λ t. longest_by times place ins way t found_op) 92000099
     go None = keeps_time (optional_clockworks seek_clockworks) None (λ t. t) 92000099 (λ t. refl) (omega arith)
-    go (Some op) = end_keeps_time (times op) op ins.d place (most_units op ins.d) (most_wait op (times op)) way (most_work op ins.d (times op))
+    go (Some op) = end_keeps_time (times op) op ins.d place (most_units op ins.d) (most_wait op (times op)) way
+        (most_work op ins.d (times op))
 
 -- A search that begins later ends no earlier.
-pub longest_monotone : (times : Op → Entry) (place : ℕ) (ins : Instruction) (way : Way) (s t : ℕ) → s ≤ t → longest times place ins way s ≤ longest times place ins way t
+pub longest_monotone : (times : Op → Entry) (place : ℕ) (ins : Instruction) (way : Way) (s t : ℕ) → s ≤ t
+    → longest times place ins way s ≤ longest times place ins way t
 longest_monotone times place ins way = (longest_keeps_time times place ins way).monotone
 
 -- A search that begins a revolution later ends a revolution later.
-pub longest_periodic : (times : Op → Entry) (place : ℕ) (ins : Instruction) (way : Way) (t : ℕ) → longest times place ins way (t + 50) ≡ longest times place ins way t + 50
+pub longest_periodic : (times : Op → Entry) (place : ℕ) (ins : Instruction) (way : Way) (t : ℕ)
+    → longest times place ins way (t + 50) ≡ longest times place ins way t + 50
 longest_periodic times place ins way = (longest_keeps_time times place ins way).periodic
 
 -- A hop ends no earlier than it begins.
-pub longest_later : (times : Op → Entry) (place : ℕ) (ins : Instruction) (way : Way) (t : ℕ) → t ≤ longest times place ins way t
+pub longest_later : (times : Op → Entry) (place : ℕ) (ins : Instruction) (way : Way) (t : ℕ)
+    → t ≤ longest times place ins way t
 longest_later times place ins way = (longest_keeps_time times place ins way).never_earlier
 
 -- A hop takes this many word times at most.
-pub longest_near : (times : Op → Entry) (place : ℕ) (ins : Instruction) (way : Way) (t : ℕ) → longest times place ins way t ≤ t + 92000099
+pub longest_near : (times : Op → Entry) (place : ℕ) (ins : Instruction) (way : Way) (t : ℕ)
+    → longest times place ins way t ≤ t + 92000099
 longest_near times place ins way = (longest_keeps_time times place ins way).within_span
 
 -- what it is of an operation of the profile
-pub longest_of : (times : Op → Entry) (place : ℕ) (ins : Instruction) (way : Way) (t : ℕ) (op : Op) → op_of ins.op ≡ Some op
-    → longest times place ins way t ≡ end_by way (times op) op ins.d place (most_units op ins.d) (most_wait op (times op)) t
+pub longest_of : (times : Op → Entry) (place : ℕ) (ins : Instruction) (way : Way) (t : ℕ) (op : Op)
+    → op_of ins.op ≡ Some op
+    → longest times place ins way t
+    ≡ end_by way (times op) op ins.d place (most_units op ins.d) (most_wait op (times op)) t
 unfolding longest
 longest_of times place ins way t op is = ap (λ (found_op : Option Op). longest_by times place ins way t found_op) is
 
 -- Some hop ends then: the one with the most units and the longest wait.
-pub longest_is_timed : (times : Op → Entry) (place : ℕ) (ins : Instruction) (way : Way) (angle begun : ℕ) (op : Op) → op_of ins.op ≡ Some op
+pub longest_is_timed : (times : Op → Entry) (place : ℕ) (ins : Instruction) (way : Way) (angle begun : ℕ) (op : Op)
+    → op_of ins.op ≡ Some op
     → IsTimed times angle (record {
       place = place;
       ins = ins;
@@ -146,23 +159,38 @@ longest_is_timed times place ins way angle begun op is =
       begun = begun;
       ended = longest times place ins way (angle + begun) - angle;
     } in
-    let ends : angle + (longest times place ins way (angle + begun) - angle) ≡ end_by way (times op) op ins.d place (most_units op ins.d) (most_wait op (times op)) (angle + begun) =
-    omega (arith, longest_later times place ins way (angle + begun), longest_of times place ins way (angle + begun) op is) in
+    let ends : angle + (longest times place ins way (angle + begun) - angle)
+    ≡ end_by way (times op) op ins.d place (most_units op ins.d) (most_wait op (times op)) (angle + begun) =
+    omega (
+      arith,
+      longest_later times place ins way (angle + begun),
+      longest_of times place ins way (angle + begun) op
+          is,
+    ) in
     let timed : IsTimed times angle hop (Some op) = (may_have_most op ins.d, may_wait_longest op (times op), ends) in
     subst (λ (found_op : Option Op). IsTimed times angle hop found_op) (sym is) timed
 
 -- No hop ends later.
-pub no_later : (times : Op → Entry) (angle : ℕ) (hop : Taken) → IsTimed times angle hop (op_of hop.ins.op) → angle + hop.ended ≤ longest times hop.place hop.ins hop.way (angle + hop.begun)
+pub no_later : (times : Op → Entry) (angle : ℕ) (hop : Taken) → IsTimed times angle hop (op_of hop.ins.op)
+    → angle + hop.ended ≤ longest times hop.place hop.ins hop.way (angle + hop.begun)
 unfolding longest
 no_later times angle hop timed = go (op_of hop.ins.op) timed
   where
-    go : (found_op : Option Op) → IsTimed times angle hop found_op → angle + hop.ended ≤ longest_by times hop.place hop.ins hop.way (angle + hop.begun) found_op
+    go : (found_op : Option Op) → IsTimed times angle hop found_op
+        → angle + hop.ended ≤ longest_by times hop.place hop.ins hop.way (angle + hop.begun) found_op
     go None h = absurd h
     go (Some op) h =
-        omega (arith, h.2, end_grows (times op) op hop.ins.d hop.place hop.units hop.wait hop.way (most_units op hop.ins.d) (most_wait op (times op)) (angle + hop.begun) (units_at_most op hop.ins.d hop.units h.0) (wait_at_most op (times op) hop.wait h.1))
+        omega (
+          arith,
+          h.2,
+          end_grows (times op) op hop.ins.d hop.place hop.units hop.wait hop.way
+              (most_units op hop.ins.d) (most_wait op (times op)) (angle + hop.begun)
+              (units_at_most op hop.ins.d hop.units h.0) (wait_at_most op (times op) hop.wait h.1),
+        )
 
 -- A search that begins when the instruction is found ends as the search that found it.
-pub longest_from_found : (times : Op → Entry) (place : ℕ) (ins : Instruction) (way : Way) (t : ℕ) (op : Op) → op_of ins.op ≡ Some op
+pub longest_from_found : (times : Op → Entry) (place : ℕ) (ins : Instruction) (way : Way) (t : ℕ) (op : Op)
+    → op_of ins.op ≡ Some op
     → longest times place ins way (first (is_available place) t) ≡ longest times place ins way t
 longest_from_found times place ins way t op is =
     longest_of times place ins way (found place t) op is
@@ -174,16 +202,22 @@ found_at_angle : (start t : ℕ) → start < 2000 → found start t ≡ first (i
 found_at_angle start t below = ap (λ (had : ℕ → Bool). first had t) (drum_at_angle start below)
 
 -- From the angle behind the start's the first instruction is found a revolution less one later.
-pub first_fetch_behind : (start : ℕ) → start < 2000 → first (is_available start) ((start + 1) % 50) ≡ (start + 1) % 50 + 49
-first_fetch_behind start below = found_at_angle start ((start + 1) % 50) below ∙ longest_behind (start % 50) (omega arith) ((start + 1) % 50) (omega arith)
+pub first_fetch_behind : (start : ℕ) → start < 2000
+    → first (is_available start) ((start + 1) % 50) ≡ (start + 1) % 50 + 49
+first_fetch_behind start below =
+    found_at_angle start ((start + 1) % 50) below
+    ∙ longest_behind (start % 50) (omega arith) ((start + 1) % 50) (omega arith)
 
 -- From each angle it is found no later than from that one, and whole revolutions earlier.
 pub first_fetch : (start angle : ℕ) → start < 2000 → angle < 50
-    → (k : ℕ) × (first (is_available start) angle + 50 * k ≡ (start + 1) % 50 + 49) × (first (is_available start) angle ≤ angle + 49)
+    → (k : ℕ) × (first (is_available start) angle + 50 * k ≡ (start + 1) % 50 + 49)
+    × (first (is_available start) angle ≤ angle + 49)
 first_fetch start angle below on_drum =
     let on : start % 50 < 50 = omega arith in
     let here : found start angle ≡ first (is_angle (start % 50)) angle = found_at_angle start angle below in
-    let behind : first (is_angle (start % 50)) ((start + 1) % 50) ≡ (start + 1) % 50 + 49 = longest_behind (start % 50) on ((start + 1) % 50) (omega arith) in
+    let behind : first (is_angle (start % 50)) ((start + 1) % 50) ≡ (start + 1) % 50 + 49 =
+    longest_behind (start % 50) on ((start + 1) % 50) (omega arith) in
     let near : found start angle ≤ angle + 49 = (found_keeps_time start).within_span angle in
-    let apart = angles_apart (start % 50) on angle ((start + 1) % 50) (omega (arith, here, near, behind, at_angle (start % 50) on angle, on_drum)) in
+    let apart = angles_apart (start % 50) on angle ((start + 1) % 50)
+    (omega (arith, here, near, behind, at_angle (start % 50) on angle, on_drum)) in
     (apart.0, omega (arith, here, behind, apart.1), near)

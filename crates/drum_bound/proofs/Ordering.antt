@@ -26,14 +26,18 @@ split_at : (xs : List ℕ) (x : ℕ) → Contains xs x → IsSplit xs x
 split_at [] x has = absurd (contains_none x has)
 split_at (y ∷ xs) x has = elim (contains_cases y x xs has) [
   | inl same ↦ record { before = []; behind = xs; at = ap (λ (first : ℕ). first ∷ xs) same }
-  | inr there ↦ (let rest = split_at xs x there in record { before = y ∷ rest.before; behind = rest.behind; at = ap (λ (more : List ℕ). y ∷ more) rest.at })
+  | inr there ↦ (let rest =
+      split_at xs x there in
+      record { before = y ∷ rest.before; behind = rest.behind; at = ap (λ (more : List ℕ). y ∷ more) rest.at })
 ]
 
 -- each other member of it is one of the parts
-member_of_parts : (before behind : List ℕ) (x y : ℕ) → (x ≡ y → ⊥) → Contains (before ++ x ∷ behind) y → Contains (before ++ behind) y
+member_of_parts : (before behind : List ℕ) (x y : ℕ) → (x ≡ y → ⊥) → Contains (before ++ x ∷ behind) y
+    → Contains (before ++ behind) y
 member_of_parts before behind x y other has = elim (Contains-append_cases before (x ∷ behind) y has) [
   | inl left ↦ Contains-append_left before behind y left
-  | inr right ↦ elim (contains_cases x y behind right) [ inl same ↦ absurd (other same) | inr later ↦ Contains-append_right before behind y later ]
+  | inr right ↦ elim (contains_cases x y behind right)
+      [ inl same ↦ absurd (other same) | inr later ↦ Contains-append_right before behind y later ]
 ]
 
 -- Numbers without repeats that are all of a list are no more than its members.
@@ -46,23 +50,34 @@ no_more (x ∷ xs) ys different within =
     (λ y has. member_of_parts split.before split.behind x y
     (λ same. different.0 (subst (λ (z : ℕ). Contains xs z) (sym same) has))
     (subst (λ (all : List ℕ). Contains all y) split.at (within y (contains_there x y xs has)))) in
-    omega (arith, fewer, ap length split.at, length-append split.before split.behind, length-append split.before (x ∷ split.behind))
+    omega (
+      arith,
+      fewer,
+      ap length split.at,
+      length-append split.before split.behind,
+      length-append split.before
+          (x ∷ split.behind),
+    )
 
-module _ (loads : ℕ → Option Word) (notes : Notes) (start : ℕ) (executed : List ℕ) (accepted : IsAccepted loads notes start executed) where
+module _ (loads : ℕ → Option Word) (notes : Notes) (start : ℕ) (executed : List ℕ)
+    (accepted : IsAccepted loads notes start executed) where
   -- The executed locations of an accepted deck are just the members of the order of discovery.
   pub are_executed : AreExecuted loads notes start executed
-  are_executed = all_executed loads notes start accepted.order.turns executed accepted.order.after accepted.order.all good
+  are_executed = all_executed loads notes start accepted.order.turns executed accepted.order.after accepted.order.all
+      good
     where
       good : (k place : ℕ) → k < accepted.order.turns → slice_get executed k ≡ Some place → IsGood loads notes place
       good k place below at =
           let there : Contains executed place = contains_from_get executed k place at in
-          let is = only_executed loads notes start accepted.order.turns place (subst (λ (places : List ℕ). Contains places place) (sym accepted.order.after) there) in
+          let is = only_executed loads notes start accepted.order.turns place
+          (subst (λ (places : List ℕ). Contains places place) (sym accepted.order.after) there) in
           (accepted.there place is, accepted.profile place is)
 
   module _ (order : List ℕ) (free : IsFreeOrder loads notes executed order) (different : AreDifferent executed) where
     -- The order has as many locations as are executed.
     pub as_many_places : length order ≡ length executed
-    as_many_places = omega (arith, no_more order executed free.different free.only, no_more executed order different free.all)
+    as_many_places = omega
+        (arith, no_more order executed free.different free.only, no_more executed order different free.all)
 
     -- Keys can be made of the order.
     pub is_ordered : AreSound notes → IsOrdered loads notes start order
@@ -71,7 +86,8 @@ module _ (loads : ℕ → Option Word) (notes : Notes) (start : ℕ) (executed :
       different = free.different;
       closed = λ place next has edge.
           let is = are_executed.only place (free.only place has) in
-          free.all next (are_executed.all next (is.0 ++ next ∷ [], lead_push loads notes start start place next is.0 is.1 edge));
+          free.all next (are_executed.all next
+          (is.0 ++ next ∷ [], lead_push loads notes start start place next is.0 is.1 edge));
       onward = free.onward;
       sound = sound;
       few = few;
@@ -79,19 +95,28 @@ module _ (loads : ℕ → Option Word) (notes : Notes) (start : ℕ) (executed :
       where
         few : keys_of notes.marks order ≤ 4000000
         few =
-            let same : counts_of notes.marks * length order ≡ counts_of notes.marks * length executed = ap (λ (n : ℕ). counts_of notes.marks * n) as_many_places in
+            let same : counts_of notes.marks * length order ≡ counts_of notes.marks * length executed =
+            ap (λ (n : ℕ). counts_of notes.marks * n) as_many_places in
             omega (arith, same, accepted.small)
 
 -- The order of a flow of an accepted deck has as many locations as are executed.
-pub as_many : (flow : Flow) → IsAccepted (loads_in (deck_of flow)) (notes_of flow) (start_in (deck_of flow)) (executed_in flow)
-    → IsFreeOrder (loads_in (deck_of flow)) (notes_of flow) (executed_in flow) (order_in flow) → AreDifferent (executed_in flow)
+pub as_many : (flow : Flow)
+    → IsAccepted (loads_in (deck_of flow)) (notes_of flow) (start_in (deck_of flow)) (executed_in flow)
+    → IsFreeOrder (loads_in (deck_of flow)) (notes_of flow) (executed_in flow) (order_in flow)
+    → AreDifferent (executed_in flow)
     → length (order_in flow) ≡ length (executed_in flow)
 as_many flow accepted free different =
-    as_many_places (loads_in (deck_of flow)) (notes_of flow) (start_in (deck_of flow)) (executed_in flow) accepted (order_in flow) free different
+    as_many_places (loads_in (deck_of flow)) (notes_of flow) (start_in (deck_of flow)) (executed_in flow) accepted
+    (order_in flow) free different
 
 -- Keys can be made of a flow of an accepted deck.
-pub can_have_keys : (flow : Flow) → IsAccepted (loads_in (deck_of flow)) (notes_of flow) (start_in (deck_of flow)) (executed_in flow)
-    → IsFreeOrder (loads_in (deck_of flow)) (notes_of flow) (executed_in flow) (order_in flow) → AreSound (notes_of flow) → AreDifferent (executed_in flow)
+pub can_have_keys : (flow : Flow)
+    → IsAccepted (loads_in (deck_of flow)) (notes_of flow) (start_in (deck_of flow)) (executed_in flow)
+    → IsFreeOrder (loads_in (deck_of flow)) (notes_of flow) (executed_in flow) (order_in flow)
+    → AreSound (notes_of flow) → AreDifferent (executed_in flow)
     → CanHaveKeys flow
-can_have_keys flow accepted free sound different =
-    (is_ordered (loads_in (deck_of flow)) (notes_of flow) (start_in (deck_of flow)) (executed_in flow) accepted (order_in flow) free different sound, free.only)
+can_have_keys flow accepted free sound different = (
+  is_ordered (loads_in (deck_of flow)) (notes_of flow) (start_in (deck_of flow)) (executed_in flow) accepted
+      (order_in flow) free different sound,
+  free.only,
+)

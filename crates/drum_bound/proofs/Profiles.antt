@@ -20,7 +20,9 @@ way_may_end notes ins way h = by_op (op_of ins.op) refl h
     by_operand : (op : Op) → op_of ins.op ≡ Some op → (fits : Bool) → is_operand (operand_of op) ins.d ≡ fits
         → Contains (if fits then ways_of notes op ins.d ins.i else early ∷ []) way → MayEnd ins way
     by_operand op is true fits there = (op, is, inr fits)
-    by_operand op is false unfit there = elim (contains_cases early way [] there) [ inl same ↦ (op, is, inl (sym same)) | inr none ↦ absurd (omega (arith, none.1)) ]
+    by_operand op is false unfit there =
+        elim (contains_cases early way [] there)
+        [ inl same ↦ (op, is, inl (sym same)) | inr none ↦ absurd (omega (arith, none.1)) ]
 
     by_op : (one : Option Op) → op_of ins.op ≡ one → Contains (ways_with notes one ins.d ins.i) way → MayEnd ins way
     by_op None is there = absurd (omega (arith, there.1))
@@ -38,7 +40,8 @@ of_instruction ins (way ∷ all) hop may there =
     ]
 
 -- of each hop of some instructions
-of_instructions : (notes : Notes) (all : List Instruction) (hop : Hop) → Contains (flat_map (hops_of notes) all) hop → MayEnd hop.ins hop.way
+of_instructions : (notes : Notes) (all : List Instruction) (hop : Hop) → Contains (flat_map (hops_of notes) all) hop
+    → MayEnd hop.ins hop.way
 of_instructions notes [] hop there = absurd (omega (arith, there.1))
 of_instructions notes (ins ∷ all) hop there =
     elim (Contains-append_cases (hops_of notes ins) (flat_map (hops_of notes) all) hop there) [
@@ -49,4 +52,5 @@ of_instructions notes (ins ∷ all) hop there =
 -- The instruction of each hop of a location may end by its way.
 pub hop_may_end : (loads : ℕ → Option Word) (notes : Notes) (place : ℕ) (ins : Instruction) (way : Way)
     → Contains (hops loads notes place) (record { ins = ins; way = way }) → MayEnd ins way
-hop_may_end loads notes place ins way there = of_instructions notes (allowed loads notes place) (record { ins = ins; way = way }) there
+hop_may_end loads notes place ins way there =
+    of_instructions notes (allowed loads notes place) (record { ins = ins; way = way }) there

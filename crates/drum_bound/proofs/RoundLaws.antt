@@ -30,19 +30,39 @@ pub record IsFound (marks : List Mark) (begin target place found : ℕ) : Type 0
   pub from : mark.from.number ≡ begin
   pub onto : mark.onto.number ≡ target
 
-found_from : (place : ℕ) (marks : List Mark) (from onto found : ℕ) → mark_from place marks from onto ≡ Some found → IsFound marks from onto place found
+found_from : (place : ℕ) (marks : List Mark) (from onto found : ℕ) → mark_from place marks from onto ≡ Some found
+    → IsFound marks from onto place found
 found_from place [] from onto found e = absurd (cc)
-found_from place (mark ∷ marks) from onto found e = go (is_on mark from onto) refl (found_from (place + 1) marks from onto found) e
+found_from place (mark ∷ marks) from onto found e =
+    go (is_on mark from onto) refl (found_from (place + 1) marks from onto found) e
   where
-    go : (on : Bool) → is_on mark from onto ≡ on → (mark_from (place + 1) marks from onto ≡ Some found → IsFound marks from onto (place + 1) found)
-        → (if on then Some place else mark_from (place + 1) marks from onto) ≡ Some found → IsFound (mark ∷ marks) from onto place found
+    go : (on : Bool) → is_on mark from onto ≡ on
+        → (mark_from (place + 1) marks from onto ≡ Some found → IsFound marks from onto (place + 1) found)
+        → (if on then Some place else mark_from (place + 1) marks from onto) ≡ Some found
+        → IsFound (mark ∷ marks) from onto place found
     go true on rest e =
         let same : place ≡ found = cc in
         let edge = both (mark.from.number == from) (mark.onto.number == onto) on in
-        record { k = 0; at = omega (arith, same); mark = mark; there = refl; from = eqb-true _ _ edge.0; onto = eqb-true _ _ edge.1 }
+        record {
+          k = 0;
+          at = omega (arith, same);
+          mark = mark;
+          there = refl;
+          from = eqb-true _ _ edge.0;
+          onto =
+              eqb-true _ _ edge.1;
+        }
     go false off rest e =
         let later : IsFound marks from onto (place + 1) found = rest e in
-        record { k = suc later.k; at = omega (arith, later.at); mark = later.mark; there = later.there; from = later.from; onto = later.onto }
+        record {
+          k = suc later.k;
+          at = omega (arith, later.at);
+          mark = later.mark;
+          there = later.there;
+          from =
+              later.from;
+          onto = later.onto;
+        }
 
 -- the mark on an edge, by its place
 pub mark_there : (marks : List Mark) (from onto found : ℕ) → mark_on marks from onto ≡ Some found
@@ -52,8 +72,10 @@ mark_there marks from onto found e =
     let same : is.k ≡ found = omega (arith, is.at) in
     (is.mark, ap (slice_get marks) (sym same) ∙ is.there, is.from, is.onto)
 
-pub mark_inside : (marks : List Mark) (from onto found : ℕ) → mark_on marks from onto ≡ Some found → found < length marks
-mark_inside marks from onto found e = slice_get_within marks found (mark_there marks from onto found e).0 (mark_there marks from onto found e).1
+pub mark_inside : (marks : List Mark) (from onto found : ℕ) → mark_on marks from onto ≡ Some found
+    → found < length marks
+mark_inside marks from onto found e =
+    slice_get_within marks found (mark_there marks from onto found e).0 (mark_there marks from onto found e).1
 
 -- what a hop along an edge leads to, from the counts of this number
 abbrev pub IsLed : Flow → ℕ → ℕ → ℕ → Option Counted → Type 0
@@ -62,26 +84,32 @@ IsLed flow number place next counted =
     let after = after_pass marks place next (digits marks number) in
     MatchOption counted (¬ AreWithin marks after) (λ c. IsCounted flow after c × AreWithin marks after)
 
-pub round_leads : (flow : Flow) (number place next : ℕ) (round : Round) (mark : Option ℕ) → IsRound flow number round → AreWithin (notes_of flow).marks (digits (notes_of flow).marks number)
+pub round_leads : (flow : Flow) (number place next : ℕ) (round : Round) (mark : Option ℕ) → IsRound flow number round
+    → AreWithin (notes_of flow).marks (digits (notes_of flow).marks number)
     → mark_on (notes_of flow).marks place next ≡ mark → IsLed flow number place next (counted_after round mark)
 round_leads flow number place next round None is within on =
     let marks = (notes_of flow).marks in
-    let stays : digits marks number ≡ after_pass marks place next (digits marks number) = sym (unmarked_stays marks place next (digits marks number) on) in
+    let stays : digits marks number ≡ after_pass marks place next (digits marks number) =
+    sym (unmarked_stays marks place next (digits marks number) on) in
     (subst (λ (counts : List ℕ). IsCounted flow counts round.own) stays is.own, subst (AreWithin marks) stays within)
 round_leads flow number place next round (Some m) is within on =
     let marks = (notes_of flow).marks in
     let mark = mark_there marks place next m on in
-    let passed : IsPassed flow (digits marks number) mark.0 (slice_index_or round.passed m None) = is.passed m mark.0 mark.1 in
+    let passed : IsPassed flow (digits marks number) mark.0 (slice_index_or round.passed m None) =
+    is.passed m mark.0 mark.1 in
     subst (λ (n : ℕ). IsLed flow number place n (slice_index_or round.passed m None)) mark.3
     (subst (λ (n : ℕ). IsLed flow number n mark.0.onto.number (slice_index_or round.passed m None)) mark.2 passed)
 
 -- the key that it leads to
-pub led_key : (flow : Flow) (counts : List ℕ) (counted : Counted) (index next : ℕ) → IsCounted flow counts counted → AreWithin (notes_of flow).marks counts → slice_get (order_in flow) index ≡ Some next
+pub led_key : (flow : Flow) (counts : List ℕ) (counted : Counted) (index next : ℕ) → IsCounted flow counts counted
+    → AreWithin (notes_of flow).marks counts → slice_get (order_in flow) index ≡ Some next
     → IsKey (notes_of flow).marks (order_in flow) (counted.first + index) next counts
 led_key flow counts counted index next is within at =
     subst (λ (first : ℕ). IsKey (notes_of flow).marks (order_in flow) (first + index) next counts) (sym is.first)
     (key_of_place (notes_of flow).marks (order_in flow) counts index next within at)
 
 -- the first key of a round
-pub round_first : (flow : Flow) (number : ℕ) (round : Round) → IsRound flow number round → number < counts_of (notes_of flow).marks → round.own.first ≡ number * length (order_in flow)
-round_first flow number round is small = is.own.first ∙ ap (λ (n : ℕ). n * length (order_in flow)) (leading_digits (notes_of flow).marks number small)
+pub round_first : (flow : Flow) (number : ℕ) (round : Round) → IsRound flow number round
+    → number < counts_of (notes_of flow).marks → round.own.first ≡ number * length (order_in flow)
+round_first flow number round is small =
+    is.own.first ∙ ap (λ (n : ℕ). n * length (order_in flow)) (leading_digits (notes_of flow).marks number small)

@@ -22,14 +22,16 @@ use Rattle.drum_bound.proofs.Unpassed.{no_later_arrival}
 use Rattle.drum_bound.proofs.Walked.{not_before, comes_from_start}
 
 -- rows without repeats, and one more that none of them is like
-apart_push : (rows : List Row) (row : Row) → AreApart rows → ((other : Row) → Contains rows other → other.place ≡ row.place → other.counts ≡ row.counts → ⊥)
+apart_push : (rows : List Row) (row : Row) → AreApart rows
+    → ((other : Row) → Contains rows other → other.place ≡ row.place → other.counts ≡ row.counts → ⊥)
     → AreApart (rows ++ row ∷ [])
 apart_push [] row apart unlike = (λ other none _ _. contains_none other none, tt)
 apart_push (first ∷ rows) row apart unlike = (
   λ other there places counts. elim (Contains-append_cases rows (row ∷ []) other there) [
     | inl behind ↦ apart.0 other behind places counts
     | inr at_end ↦ elim (contains_cases row other [] at_end) [
-      | inl same ↦ unlike first (contains_here first rows) (places ∙ ap (λ (r : Row). r.place) (sym same)) (counts ∙ ap (λ (r : Row). r.counts) (sym same))
+      | inl same ↦ unlike first (contains_here first rows) (places ∙ ap (λ (r : Row). r.place) (sym same))
+          (counts ∙ ap (λ (r : Row). r.counts) (sym same))
       | inr none ↦ contains_none other none
     ]
   ],
@@ -48,12 +50,16 @@ module _ (g : Setting) (order : List ℕ) (cells : List (Option Latest)) where
   -- each of the rows is that of one of the first keys
   pub row_from : (n : ℕ) (row : Row) → Contains (rows_below g order cells n) row → IsRowOf g order cells n row
   row_from zero row has = absurd (contains_none row has)
-  row_from (suc key) row has = elim (Contains-append_cases (rows_below g order cells key) (rows_at g order key (cell_at cells key)) row has) [
-    | inl before ↦ (let is = row_from key row before in record { key = is.key; below = omega (arith, is.below); kept = is.kept; there = is.there; is = is.is })
-    | inr here ↦ go (cell_at cells key) refl here
-  ]
+  row_from (suc key) row has =
+      elim (Contains-append_cases (rows_below g order cells key) (rows_at g order key (cell_at cells key)) row has) [
+        | inl before ↦ (let is =
+            row_from key row before in
+            record { key = is.key; below = omega (arith, is.below); kept = is.kept; there = is.there; is = is.is })
+        | inr here ↦ go (cell_at cells key) refl here
+      ]
     where
-      go : (cell : Option Latest) → cell_at cells key ≡ cell → Contains (rows_at g order key cell) row → IsRowOf g order cells (suc key) row
+      go : (cell : Option Latest) → cell_at cells key ≡ cell → Contains (rows_at g order key cell) row
+          → IsRowOf g order cells (suc key) row
       go None there none = absurd (contains_none row none)
       go (Some kept) there one = elim (contains_cases (row_of g order key kept) row [] one) [
         | inl same ↦ record { key = key; below = omega arith; kept = kept; there = there; is = same }
@@ -61,17 +67,21 @@ module _ (g : Setting) (order : List ℕ) (cells : List (Option Latest)) where
       ]
 
   -- and each of the first keys that something is kept at has its row
-  pub has_row : (n key : ℕ) (kept : Latest) → key < n → cell_at cells key ≡ Some kept → Contains (rows_below g order cells n) (row_of g order key kept)
+  pub has_row : (n key : ℕ) (kept : Latest) → key < n → cell_at cells key ≡ Some kept
+      → Contains (rows_below g order cells n) (row_of g order key kept)
   has_row zero key kept below there = absurd (omega (arith, below))
   has_row (suc n) key kept below there = elim (cases_lt key n) [
-    | inl before ↦ Contains-append_left (rows_below g order cells n) (rows_at g order n (cell_at cells n)) (row_of g order key kept) (has_row n key kept before there)
+    | inl before ↦ Contains-append_left (rows_below g order cells n) (rows_at g order n (cell_at cells n))
+        (row_of g order key kept) (has_row n key kept before there)
     | inr past ↦ (
         let same : key ≡ n = omega (arith, below, past) in
         let here : cell_at cells n ≡ Some kept = subst (λ (k : ℕ). cell_at cells k ≡ Some kept) same there in
         let row : Contains (rows_at g order n (cell_at cells n)) (row_of g order n kept) =
-        subst (λ (cell : Option Latest). Contains (rows_at g order n cell) (row_of g order n kept)) (sym here) (contains_here (row_of g order n kept) []) in
+        subst (λ (cell : Option Latest). Contains (rows_at g order n cell) (row_of g order n kept)) (sym here)
+        (contains_here (row_of g order n kept) []) in
         subst (λ (k : ℕ). Contains (rows_below g order cells (suc n)) (row_of g order k kept)) (sym same)
-        (Contains-append_right (rows_below g order cells n) (rows_at g order n (cell_at cells n)) (row_of g order n kept) row))
+        (Contains-append_right (rows_below g order cells n) (rows_at g order n (cell_at cells n))
+        (row_of g order n kept) row))
   ]
 
   -- how many hops a row's location has
@@ -79,7 +89,9 @@ module _ (g : Setting) (order : List ℕ) (cells : List (Option Latest)) where
   hops_at row = length (hops g.loads g.notes row.place)
 
   -- The rows' locations have as many hops as the first keys that something is kept at.
-  pub turns_of_rows : (n : ℕ) → sum (map (λ (row : Row). length (hops g.loads g.notes row.place)) (rows_below g order cells n)) ≡ turns_below g order cells n
+  pub turns_of_rows : (n : ℕ)
+      → sum (map (λ (row : Row). length (hops g.loads g.notes row.place)) (rows_below g order cells n))
+      ≡ turns_below g order cells n
   turns_of_rows zero = refl
   turns_of_rows (suc key) =
       let before : List Row = rows_below g order cells key in
@@ -99,12 +111,15 @@ module _ (g : Setting) (order : List ℕ) (cells : List (Option Latest)) where
       go (Some kept) = omega arith
 
   -- Keys of one location and one number of counts are one.
-  pub one_row : (a b : ℕ) → AreDifferent order → a < keys_of g.notes.marks order → b < keys_of g.notes.marks order → place_at order a ≡ place_at order b
-      → number_of g.notes.marks (counts_at g.notes.marks order a) ≡ number_of g.notes.marks (counts_at g.notes.marks order b) → a ≡ b
+  pub one_row : (a b : ℕ) → AreDifferent order → a < keys_of g.notes.marks order → b < keys_of g.notes.marks order
+      → place_at order a ≡ place_at order b
+      → number_of g.notes.marks (counts_at g.notes.marks order a)
+      ≡ number_of g.notes.marks (counts_at g.notes.marks order b) → a ≡ b
   one_row a b different below before places numbers =
       let marks : List Mark = g.notes.marks in
       let counts : counts_at marks order a ≡ counts_at marks order b =
-      number_injective marks (counts_at marks order a) (counts_at marks order b) (counts_within marks order a below) (counts_within marks order b before) numbers in
+      number_injective marks (counts_at marks order a) (counts_at marks order b) (counts_within marks order a below)
+      (counts_within marks order b before) numbers in
       one_key marks order (place_at order b) (counts_at marks order b) a b different
       (record { below = below; at = places; passed = counts }) (record { below = before; at = refl; passed = refl })
 
@@ -113,7 +128,8 @@ module _ (g : Setting) (order : List ℕ) (cells : List (Option Latest)) where
   rows_apart zero different few = tt
   rows_apart (suc key) different few = go (cell_at cells key) (rows_apart key different (omega (arith, few)))
     where
-      go : (cell : Option Latest) → AreApart (rows_below g order cells key) → AreApart (rows_below g order cells key ++ rows_at g order key cell)
+      go : (cell : Option Latest) → AreApart (rows_below g order cells key)
+          → AreApart (rows_below g order cells key ++ rows_at g order key cell)
       go None before = subst AreApart (sym (append-nil (rows_below g order cells key))) before
       go (Some kept) before =
           apart_push (rows_below g order cells key) (row_of g order key kept) before
@@ -128,7 +144,8 @@ module _ (g : Setting) (order : List ℕ) (cells : List (Option Latest)) (last :
     (ordered : IsOrdered g.loads g.notes g.start order) (starts : g.start < 2000)
     (s : Scanned g order (keys_of g.notes.marks order) (keys_of g.notes.marks order) cells last) where
   -- what is kept at one key is one
-  pub one_kept : (a b : ℕ) (p q : Latest) → a ≡ b → cell_at cells a ≡ Some p → cell_at cells b ≡ Some q → p.clock ≡ q.clock
+  pub one_kept : (a b : ℕ) (p q : Latest) → a ≡ b → cell_at cells a ≡ Some p → cell_at cells b ≡ Some q
+      → p.clock ≡ q.clock
   one_kept a b p q same there here =
       let at : cell_at cells b ≡ Some p = subst (λ (k : ℕ). cell_at cells k ≡ Some p) same there in
       go (sym at ∙ here)
@@ -144,7 +161,8 @@ module _ (g : Setting) (order : List ℕ) (cells : List (Option Latest)) (last :
 
   -- the row of a key is reached, by a walk from the angle behind the start's
   row_reached : (key : ℕ) (kept : Latest) → cell_at cells key ≡ Some kept
-      → IsReached g (start_angle g.start) (place_at order key) (number_of g.notes.marks (counts_at g.notes.marks order key)) (kept.clock - start_angle g.start)
+      → IsReached g (start_angle g.start) (place_at order key)
+      (number_of g.notes.marks (counts_at g.notes.marks order key)) (kept.clock - start_angle g.start)
   row_reached key kept there =
       let comes = comes_from_start g order cells last ordered starts s key kept there [] tt in
       record {
@@ -152,16 +170,20 @@ module _ (g : Setting) (order : List ℕ) (cells : List (Option Latest)) (last :
         walk = record { on_drum = omega arith; from_start = comes.1 };
         passes = counts_at g.notes.marks order key;
         number = refl;
-        arrives = comes.3 (place_at order key) (kept.clock - start_angle g.start) (counts_at g.notes.marks order key) (refl, refl, refl);
+        arrives = comes.3 (place_at order key) (kept.clock - start_angle g.start) (counts_at g.notes.marks order key)
+            (refl, refl, refl);
       }
 
   -- and by none later
   row_most : (key : ℕ) (kept : Latest) → cell_at cells key ≡ Some kept → (angle time : ℕ)
-      → IsReached g angle (place_at order key) (number_of g.notes.marks (counts_at g.notes.marks order key)) time → time ≤ kept.clock - start_angle g.start
+      → IsReached g angle (place_at order key) (number_of g.notes.marks (counts_at g.notes.marks order key)) time
+      → time ≤ kept.clock - start_angle g.start
   row_most key kept there angle time reached =
-      let came = no_later_arrival g order cells last ordered starts s angle reached.hops (place_at order key) time reached.passes reached.walk reached.arrives in
+      let came = no_later_arrival g order cells last ordered starts s angle reached.hops (place_at order key) time
+      reached.passes reached.walk reached.arrives in
       let same : came.key ≡ key =
-      one_row g order cells came.key key ordered.different came.is.below (is_inside key kept there) came.is.at (ap (number_of g.notes.marks) came.is.passed ∙ reached.number) in
+      one_row g order cells came.key key ordered.different came.is.below (is_inside key kept there) came.is.at
+      (ap (number_of g.notes.marks) came.is.passed ∙ reached.number) in
       omega (arith, came.after, one_kept came.key key came.kept kept same came.there there)
 
   -- each row is right
@@ -179,7 +201,8 @@ module _ (g : Setting) (order : List ℕ) (cells : List (Option Latest)) (last :
   is_table = record {
     right = λ row has. row_right row (row_from g order cells (keys_of g.notes.marks order) row has);
     all = λ angle place counts time reached.
-        let came = no_later_arrival g order cells last ordered starts s angle reached.hops place time reached.passes reached.walk reached.arrives in (
+        let came = no_later_arrival g order cells last ordered starts s angle reached.hops place time reached.passes
+        reached.walk reached.arrives in (
           row_of g order came.key came.kept,
           has_row g order cells (keys_of g.notes.marks order) came.key came.kept came.is.below came.there,
           came.is.at,

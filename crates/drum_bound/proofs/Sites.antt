@@ -24,20 +24,26 @@ use Rattle.drum_bound.specs.KeysOf.{AreKeys, HaveIndices, numbers, sites_in}
 
 -- each of the first locations' place stands at its number
 abbrev pub HaveIndicesBelow : ℕ → List Location → List ℕ → Type 0
-HaveIndicesBelow below order places = (k place : ℕ) → k < below → slice_get (numbers order) k ≡ Some place → slice_get places place ≡ Some k
+HaveIndicesBelow below order places =
+    (k place : ℕ) → k < below → slice_get (numbers order) k ≡ Some place → slice_get places place ≡ Some k
 
 -- a member of a list without repeats stands in one place
-one_place : (order : List ℕ) (a b place : ℕ) → AreDifferent order → slice_get order a ≡ Some place → slice_get order b ≡ Some place → a ≡ b
+one_place : (order : List ℕ) (a b place : ℕ) → AreDifferent order → slice_get order a ≡ Some place
+    → slice_get order b ≡ Some place → a ≡ b
 one_place order a b place different p q =
-    one_index order a b different (slice_get_within order a place p) (slice_get_within order b place q) (get_or_from_slice_get order a place 0 p ∙ sym (get_or_from_slice_get order b place 0 q))
+    one_index order a b different (slice_get_within order a place p) (slice_get_within order b place q)
+    (get_or_from_slice_get order a place 0 p ∙ sym (get_or_from_slice_get order b place 0 q))
 
 -- one more location's place is written
-pub place_written : (order : List Location) (places : List ℕ) (k number : ℕ) → AreDifferent (numbers order) → number < length places
-    → slice_get (numbers order) k ≡ Some number → HaveIndicesBelow k order places → HaveIndicesBelow (k + 1) order (set places number k)
+pub place_written : (order : List Location) (places : List ℕ) (k number : ℕ) → AreDifferent (numbers order)
+    → number < length places
+    → slice_get (numbers order) k ≡ Some number → HaveIndicesBelow k order places
+    → HaveIndicesBelow (k + 1) order (set places number k)
 place_written order places k number different inside here before other place below at = elim (cases_eq place number) [
   | inl same ↦ (
       let one : other ≡ k = one_place (numbers order) other k number different (at ∙ ap Some same) here in
-      subst (λ (n : ℕ). slice_get (set places number k) n ≡ Some other) (sym same) (get_written places number k inside ∙ ap Some (sym one)))
+      subst (λ (n : ℕ). slice_get (set places number k) n ≡ Some other) (sym same)
+      (get_written places number k inside ∙ ap Some (sym one)))
   | inr ne ↦ (
       let apart : other ≡ k → ⊥ = λ e. ne (same_place (sym at ∙ ap (slice_get (numbers order)) e ∙ here)) in
       get_other places number place k ne ∙ before other place (omega (arith, below, apart)) at)
@@ -46,23 +52,35 @@ place_written order places k number different inside here before other place bel
     same_place : Some place ≡ Some number → place ≡ number
     same_place e = cc
 
-pub all_places : (order : List Location) (places : List ℕ) (below : ℕ) → length order ≤ below → HaveIndicesBelow below order places → HaveIndices (numbers order) places
+pub all_places : (order : List Location) (places : List ℕ) (below : ℕ) → length order ≤ below
+    → HaveIndicesBelow below order places → HaveIndices (numbers order) places
 all_places order places below le have k place at =
-    have k place (omega (arith, le, slice_get_within (numbers order) k place at, length-map order (λ (one : Location). one.number))) at
+    have k place (omega (
+      arith,
+      le,
+      slice_get_within (numbers order) k place at,
+      length-map order
+          (λ (one : Location). one.number),
+    )) at
 
 -- the locations of sites with one more
-pub sites_more : (sites : List Site) (site : Site) → sites_in (sites ++ site ∷ []) ≡ sites_in sites ++ site.location.number ∷ []
+pub sites_more : (sites : List Site) (site : Site)
+    → sites_in (sites ++ site ∷ []) ≡ sites_in sites ++ site.location.number ∷ []
 sites_more sites site = map-append (λ (one : Site). one.location.number) sites (site ∷ [])
 
 -- the key of counts, by their number, and of a place
-pub key_of_place : (marks : List Mark) (order counts : List ℕ) (k next : ℕ) → AreWithin marks counts → slice_get order k ≡ Some next
+pub key_of_place : (marks : List Mark) (order counts : List ℕ) (k next : ℕ) → AreWithin marks counts
+    → slice_get order k ≡ Some next
     → IsKey marks order (leading marks counts * length order + k) next counts
 key_of_place marks order counts k next within at =
     let inside : k < length order = slice_get_within order k next at in
     let small : leading marks counts < counts_of marks = leading-< marks counts within in
-    let up : length order * suc (leading marks counts) ≤ length order * counts_of marks = mul-le-mul_left (length order) small in
-    let rest : (leading marks counts * length order + k) % length order ≡ k = mod-mul-add (leading marks counts) (length order) k inside in
-    let whole : (leading marks counts * length order + k) / length order ≡ leading marks counts = div-mul-add (leading marks counts) (length order) k inside in
+    let up : length order * suc (leading marks counts) ≤ length order * counts_of marks =
+    mul-le-mul_left (length order) small in
+    let rest : (leading marks counts * length order + k) % length order ≡ k =
+    mod-mul-add (leading marks counts) (length order) k inside in
+    let whole : (leading marks counts * length order + k) / length order ≡ leading marks counts =
+    div-mul-add (leading marks counts) (length order) k inside in
     record {
       below = omega (arith, inside, up);
       at = ap (λ (n : ℕ). get_or order n 0) rest ∙ get_or_from_slice_get order k next 0 at;
@@ -71,17 +89,23 @@ key_of_place marks order counts k next within at =
 
 -- a key has as many locations as its order
 pub same_length : (keys : Keys) → AreKeys keys → length keys.sites.items ≡ length (order_in keys.flow.now)
-same_length keys are = sym (length-map keys.sites.items (λ (site : Site). site.location.number)) ∙ ap (λ (ns : List ℕ). length ns) are.sites
+same_length keys are =
+    sym (length-map keys.sites.items (λ (site : Site). site.location.number))
+    ∙ ap (λ (ns : List ℕ). length ns) are.sites
 
 -- the key of the first location with counts is small
-pub small_product : (marks : List Mark) (order counts : List ℕ) → AreWithin marks counts → keys_of marks order ≤ 4000000 → leading marks counts * length order ≤ 4000000
+pub small_product : (marks : List Mark) (order counts : List ℕ) → AreWithin marks counts → keys_of marks order ≤ 4000000
+    → leading marks counts * length order ≤ 4000000
 small_product marks order counts within few =
-    let up : length order * suc (leading marks counts) ≤ length order * counts_of marks = mul-le-mul_left (length order) (leading-< marks counts within) in
+    let up : length order * suc (leading marks counts) ≤ length order * counts_of marks =
+    mul-le-mul_left (length order) (leading-< marks counts within) in
     omega (arith, up, few)
 
 -- counts that are within what the marks allow have a small number
-pub small_number : (marks : List Mark) (order counts : List ℕ) (k place : ℕ) → AreWithin marks counts → keys_of marks order ≤ 4000000 → slice_get order k ≡ Some place
+pub small_number : (marks : List Mark) (order counts : List ℕ) (k place : ℕ) → AreWithin marks counts
+    → keys_of marks order ≤ 4000000 → slice_get order k ≡ Some place
     → leading marks counts * length order + k < 4000000
 small_number marks order counts k place within few at =
-    let up : length order * suc (leading marks counts) ≤ length order * counts_of marks = mul-le-mul_left (length order) (leading-< marks counts within) in
+    let up : length order * suc (leading marks counts) ≤ length order * counts_of marks =
+    mul-le-mul_left (length order) (leading-< marks counts within) in
     omega (arith, up, few, slice_get_within order k place at)

@@ -3,10 +3,10 @@ use Rattle.std.proofs.Common.{◌≡◌, ℕ, suc, ◌<◌, List, ◌∷◌, ap,
 use Rattle.std.specs.Prelude.{Contains}
 use Rattle.drum_machine.specs.Ways.{Way, to}
 use Rattle.drum_flow.specs.Hops.{Hop, hops, IsEdge}
-use Rattle.drum_flow.specs.Seen.{seen_hop, seen_way}
+use Rattle.drum_flow.proofs.Lists.{contains_from_get}
 use Rattle.drum_flow.specs.Walk.{Setting}
 use Rattle.drum_bound.specs.declared.latest.Latest.{Latest}
-use Rattle.drum_bound.specs.declared.latest.Origin.{Origin}
+use Rattle.drum_bound.specs.declared.key_hop.KeyHop.{KeyHop}
 use Rattle.drum_bound.specs.Keys.{keys_of, place_at, IsOrdered}
 use Rattle.drum_bound.proofs.Onward.{leads_on}
 use Rattle.drum_bound.proofs.Raises.{raised_agree}
@@ -14,33 +14,50 @@ use Rattle.drum_bound.specs.Scanned.{cell_at, raised, Taking, LeadsOn}
 use Rattle.drum_bound.specs.ScanOf.{Goes, IsAgreed}
 use Rattle.drum_bound.proofs.Scans.{Comes, take_barred, take_on}
 
-module _ (g : Setting) (order : List ℕ) (ordered : IsOrdered g.loads g.notes g.start order) (key : ℕ) (below : key < keys_of g.notes.marks order) where
+module _ (g : Setting) (order : List ℕ) (ordered : IsOrdered g.loads g.notes g.start order) (key : ℕ)
+    (below : key < keys_of g.notes.marks order) where
   -- a hop that goes on is along an edge
-  pub edge_of : (hop : Hop) (next : ℕ) → Contains (hops g.loads g.notes (place_at order key)) hop → hop.way ≡ to next → IsEdge g.loads g.notes (place_at order key) next
-  edge_of hop next has goes = (hop.ins, subst (λ (w : Way). Contains (hops g.loads g.notes (place_at order key)) (record { ins = hop.ins; way = w })) goes has)
+  pub edge_of : (hop : Hop) (next : ℕ) → Contains (hops g.loads g.notes (place_at order key)) hop → hop.way ≡ to next
+      → IsEdge g.loads g.notes (place_at order key) next
+  edge_of hop next has goes = (
+    hop.ins,
+    subst (λ (w : Way).
+        Contains (hops g.loads g.notes (place_at order key)) (record { ins = hop.ins; way = w })) goes has,
+  )
 
-  pub goes_agreed : (hop : Hop) (next : ℕ) (new : Latest) (cells : List (Option Latest)) (last : Latest) (cells' : List (Option Latest)) (last' : Latest)
-      → Contains (hops g.loads g.notes (place_at order key)) hop → hop.way ≡ to next → Goes g order key next new cells last cells' last' → IsAgreed key cells cells'
-  goes_agreed hop next new cells last cells' last' has goes (inl barred) other within = ap (λ (all : List (Option Latest)). cell_at all other) barred.1
+  pub goes_agreed : (hop : Hop) (next : ℕ) (new : Latest) (cells : List (Option Latest)) (last : Latest)
+      (cells' : List (Option Latest)) (last' : Latest)
+      → Contains (hops g.loads g.notes (place_at order key)) hop → hop.way ≡ to next
+      → Goes g order key next new cells last cells' last' → IsAgreed key cells cells'
+  goes_agreed hop next new cells last cells' last' has goes (inl barred) other within =
+      ap (λ (all : List (Option Latest)). cell_at all other) barred.1
   goes_agreed hop next new cells last cells' last' has goes (inr onto) other within =
-      let leads : LeadsOn g order key hop onto.0 = leads_on g order ordered key hop onto.0 next below has goes onto.1 onto.2 in
-      ap (λ (all : List (Option Latest)). cell_at all other) onto.3 ∙ raised_agree cells (suc key) onto.0 new (omega (arith, leads.later)) other within
+      let leads : LeadsOn g order key hop onto.0 =
+      leads_on g order ordered key hop onto.0 next below has goes onto.1 onto.2 in
+      ap (λ (all : List (Option Latest)). cell_at all other) onto.3
+      ∙ raised_agree cells (suc key) onto.0 new (omega (arith, leads.later)) other within
 
-  pub goes_taken : (clock : ℕ) (origin : Origin) (next : ℕ) (new : Latest) (cells : List (Option Latest)) (last : Latest) (cells' : List (Option Latest)) (last' : Latest)
-      → Comes g order key clock origin new → seen_way origin.hop.way ≡ to next → Goes g order key next new cells last cells' last'
-      → (left : List Hop) → Taking g order key clock (seen_hop origin.hop ∷ left) cells last → Taking g order key clock left cells' last'
-  goes_taken clock origin next new cells last cells' last' comes goes (inl barred) left taking =
+  pub goes_taken : (clock : ℕ) (origin : KeyHop) (hop : Hop) (next : ℕ) (new : Latest) (cells : List (Option Latest))
+      (last : Latest) (cells' : List (Option Latest)) (last' : Latest)
+      → Comes g order key clock origin hop new → hop.way ≡ to next → Goes g order key next new cells last cells' last'
+      → (left : List Hop) → Taking g order key clock (hop ∷ left) cells last
+      → Taking g order key clock left cells' last'
+  goes_taken clock origin hop next new cells last cells' last' comes goes (inl barred) left taking =
       subst (λ (all : List (Option Latest)). Taking g order key clock left all last') (sym barred.1)
       (subst (λ (l : Latest). Taking g order key clock left cells l) (sym barred.2)
-      (take_barred g order key clock (seen_hop origin.hop) next left cells last goes barred.0 taking))
-  goes_taken clock origin next new cells last cells' last' comes goes (inr onto) left taking =
-      let leads : LeadsOn g order key (seen_hop origin.hop) onto.0 = leads_on g order ordered key (seen_hop origin.hop) onto.0 next below comes.hop goes onto.1 onto.2 in
+      (take_barred g order key clock hop next left cells last goes barred.0 taking))
+  goes_taken clock origin hop next new cells last cells' last' comes goes (inr onto) left taking =
+      let leads : LeadsOn g order key hop onto.0 =
+      leads_on g order ordered key hop onto.0 next below
+      (contains_from_get (hops g.loads g.notes (place_at order key)) origin.hop hop comes.is) goes onto.1 onto.2 in
       subst (λ (all : List (Option Latest)). Taking g order key clock left all last') (sym onto.3)
       (subst (λ (l : Latest). Taking g order key clock left (raised cells onto.0 new) l) (sym onto.4)
-      (take_on g order key clock origin new onto.0 left cells last comes leads taking))
+      (take_on g order key clock origin hop new onto.0 left cells last comes leads taking))
 
 -- what goes on from cells goes on from those that are the same
-pub goes_as : (g : Setting) (order : List ℕ) (from next : ℕ) (new : Latest) (a b : List (Option Latest)) (x y : Latest) (cells' : List (Option Latest)) (last' : Latest)
+pub goes_as : (g : Setting) (order : List ℕ) (from next : ℕ) (new : Latest) (a b : List (Option Latest)) (x y : Latest)
+    (cells' : List (Option Latest)) (last' : Latest)
     → a ≡ b → x ≡ y → Goes g order from next new a x cells' last' → Goes g order from next new b y cells' last'
 goes_as g order from next new a b x y cells' last' cells last goes =
-    subst (λ (l : Latest). Goes g order from next new b l cells' last') last (subst (λ (all : List (Option Latest)). Goes g order from next new all x cells' last') cells goes)
+    subst (λ (l : Latest). Goes g order from next new b l cells' last') last
+    (subst (λ (all : List (Option Latest)). Goes g order from next new all x cells' last') cells goes)

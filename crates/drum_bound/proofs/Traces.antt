@@ -2,38 +2,42 @@
 use Rattle.std.proofs.Common.{◌≡◌, ℕ, ◌+◌, ◌-◌, ◌<◌, ◌≤◌, List, [], ◌∷◌, ◌++◌, map, reverse, refl, ap, sym, ◌∙◌, subst, inl, inr, ◌⊎◌, Option, Some, None, arith}
 use Rattle.std.proofs.lemmas.List.{reverse-append}
 use Rattle.drum_machine.specs.Counts.{no_counts}
-use Rattle.drum_flow.specs.Seen.{seen_hop}
+use Rattle.drum_flow.specs.Hops.{Hop}
 use Rattle.drum_flow.specs.Walk.{Setting, Taken, IsWalkFrom, IsWalk, time_from, time_of}
 use Rattle.drum_bound.specs.declared.latest.Latest.{Latest}
-use Rattle.drum_bound.specs.declared.latest.Origin.{Origin}
+use Rattle.drum_bound.specs.declared.key_hop.KeyHop.{KeyHop}
 use Rattle.drum_bound.specs.declared.visit.Visit.{Visit}
 use Rattle.drum_bound.specs.Keys.{keys_of, place_at, counts_at, IsOrdered}
 use Rattle.drum_bound.proofs.LongestLaws.{longest_later}
-use Rattle.drum_bound.specs.Scanned.{start_angle, cell_at, IsEndOf, IsBackedBy, IsLastBy, Scanned}
+use Rattle.drum_bound.specs.Scanned.{start_angle, cell_at, IsKeyHop, IsEndOf, IsBackedBy, IsLastBy, Scanned}
 use Rattle.drum_bound.specs.Visited.{Visited, visited, seen_visit, IsWalkOf}
 use Rattle.drum_bound.specs.TakenOf.{taken_of}
 use Rattle.drum_bound.proofs.Walked.{hop_before, hop_last}
 
 -- These hops are a walk from what is kept at a key on, up to the latest of all.
-pub record IsFollowed (g : Setting) (order : List ℕ) (cells : List (Option Latest)) (last end : Latest) (hops : List Taken) : Type 0 where
+pub record IsFollowed (g : Setting) (order : List ℕ) (cells : List (Option Latest)) (last end : Latest)
+    (hops : List Taken) : Type 0 where
   pub key : ℕ
   pub there : cell_at cells key ≡ Some end
-  pub walk : IsWalkFrom g (start_angle g.start) (place_at order key) (end.clock - start_angle g.start) (counts_at g.notes.marks order key) hops
+  pub walk : IsWalkFrom g (start_angle g.start) (place_at order key) (end.clock - start_angle g.start)
+      (counts_at g.notes.marks order key) hops
   pub time : time_from (end.clock - start_angle g.start) hops ≡ last.clock - start_angle g.start
 
 -- The visits, the last first, are those of the walk from an end on, which is the latest of all or kept at a key.
-pub record IsTraced (g : Setting) (order : List ℕ) (cells : List (Option Latest)) (last end : Latest) (visits : List Visit) : Type 0 where
+pub record IsTraced (g : Setting) (order : List ℕ) (cells : List (Option Latest)) (last end : Latest)
+    (visits : List Visit) : Type 0 where
   pub hops : List Taken
   pub same : map visited hops ≡ map seen_visit (reverse visits)
   pub from : ((end ≡ last) × (hops ≡ [])) ⊎ IsFollowed g order cells last end hops
 
 -- one more than the key that an end comes from, if there is one
-abbrev pub key_after : Option Origin → ℕ
+abbrev pub key_after : Option KeyHop → ℕ
 key_after None = 0
 key_after (Some origin) = origin.key + 1
 
 -- one more visit, behind which the others come
-visits_more : (hop : Taken) (hops : List Taken) (visits : List Visit) (visit : Visit) → map visited hops ≡ map seen_visit (reverse visits)
+visits_more : (hop : Taken) (hops : List Taken) (visits : List Visit) (visit : Visit)
+    → map visited hops ≡ map seen_visit (reverse visits)
     → seen_visit visit ≡ visited hop → map visited (hop ∷ hops) ≡ map seen_visit (reverse (visits ++ visit ∷ []))
 visits_more hop hops visits visit same is =
     ap (λ (others : List Visited). visited hop ∷ others) same
@@ -41,24 +45,29 @@ visits_more hop hops visits visit same is =
     ∙ sym (ap (map seen_visit) (reverse-append visits (visit ∷ [])))
 
 -- no hop has been followed at the latest of all
-pub trace_none : (g : Setting) (order : List ℕ) (cells : List (Option Latest)) (last : Latest) → IsTraced g order cells last last []
+pub trace_none : (g : Setting) (order : List ℕ) (cells : List (Option Latest)) (last : Latest)
+    → IsTraced g order cells last last []
 trace_none g order cells last = record { hops = []; same = refl; from = inl (refl, refl) }
 
 module _ (g : Setting) (order : List ℕ) (cells : List (Option Latest)) (last : Latest)
     (ordered : IsOrdered g.loads g.notes g.start order) (starts : g.start < 2000)
     (s : Scanned g order (keys_of g.notes.marks order) (keys_of g.notes.marks order) cells last) where
   -- what an end comes from
-  end_of : (end : Latest) (hops : List Taken) → ((end ≡ last) × (hops ≡ [])) ⊎ IsFollowed g order cells last end hops → (origin : Origin) → end.origin ≡ Some origin
+  end_of : (end : Latest) (hops : List Taken) → ((end ≡ last) × (hops ≡ [])) ⊎ IsFollowed g order cells last end hops
+      → (origin : KeyHop) → end.origin ≡ Some origin
       → IsEndOf g order (keys_of g.notes.marks order) cells origin end.clock
   end_of end hops (inl is) origin from =
       let is_last : IsLastBy g order (keys_of g.notes.marks order) cells end.clock end.origin =
-      subst (λ (one : Latest). IsLastBy g order (keys_of g.notes.marks order) cells one.clock one.origin) (sym is.0) s.ends in
+      subst (λ (one : Latest). IsLastBy g order (keys_of g.notes.marks order) cells one.clock one.origin) (sym is.0)
+      s.ends in
       (subst (IsLastBy g order (keys_of g.notes.marks order) cells end.clock) from is_last).0
   end_of end hops (inr is) origin from =
-      (subst (IsBackedBy g order (keys_of g.notes.marks order) cells is.key end.clock) from (s.backed is.key end is.there)).0
+      (subst (IsBackedBy g order (keys_of g.notes.marks order) cells is.key end.clock) from
+      (s.backed is.key end is.there)).0
 
   -- something is kept there
-  pub origin_kept : (end : Latest) (visits : List Visit) (origin : Origin) → IsTraced g order cells last end visits → end.origin ≡ Some origin
+  pub origin_kept : (end : Latest) (visits : List Visit) (origin : KeyHop) → IsTraced g order cells last end visits
+      → end.origin ≡ Some origin
       → IsEndOf g order (keys_of g.notes.marks order) cells origin end.clock
   origin_kept end visits origin t from = end_of end t.hops t.from origin from
 
@@ -70,81 +79,112 @@ module _ (g : Setting) (order : List ℕ) (cells : List (Option Latest)) (last :
       go e = cc
 
   -- and no later than the end
-  pub begins_before : (end : Latest) (visits : List Visit) (origin : Origin) (begin : Latest) → IsTraced g order cells last end visits → end.origin ≡ Some origin
+  pub begins_before : (end : Latest) (visits : List Visit) (origin : KeyHop) (begin : Latest)
+      → IsTraced g order cells last end visits → end.origin ≡ Some origin
       → cell_at cells origin.key ≡ Some begin → begin.clock ≤ end.clock
   begins_before end visits origin begin t from there =
       let e = origin_kept end visits origin t from in
       omega (
         arith,
         e.end,
-        longest_later g.times (place_at order origin.key) (seen_hop origin.hop).ins (seen_hop origin.hop).way e.kept.clock,
+        longest_later g.times (place_at order origin.key) e.hop.ins e.hop.way e.kept.clock,
         ap (λ (kept : Latest). kept.clock) (same_kept origin.key e.kept begin e.there there),
       )
 
-  -- the hops with one more before them
-  followed_more : (end begin : Latest) (hops : List Taken) (origin : Origin) → ((end ≡ last) × (hops ≡ [])) ⊎ IsFollowed g order cells last end hops
+  -- the hops with one more before them, which the end is of
+  followed_more : (end begin : Latest) (hops : List Taken) (origin : KeyHop) → ((end ≡ last) × (hops ≡ []))
+      ⊎ IsFollowed g order cells last end hops
       → end.origin ≡ Some origin → cell_at cells origin.key ≡ Some begin
-      → IsFollowed g order cells last begin (taken_of g order origin (begin.clock - start_angle g.start) (end.clock - start_angle g.start) ∷ hops)
+      → (hop : Hop) × IsKeyHop g order origin hop
+      × IsFollowed g order cells last begin
+      (taken_of g order origin.key hop (begin.clock - start_angle g.start) (end.clock - start_angle g.start) ∷ hops)
   followed_more end begin hops origin (inl is) from there =
       let angle : ℕ = start_angle g.start in
       let is_last : IsLastBy g order (keys_of g.notes.marks order) cells end.clock end.origin =
-      subst (λ (one : Latest). IsLastBy g order (keys_of g.notes.marks order) cells one.clock one.origin) (sym is.0) s.ends in
-      let by : IsLastBy g order (keys_of g.notes.marks order) cells end.clock (Some origin) = subst (IsLastBy g order (keys_of g.notes.marks order) cells end.clock) from is_last in
-      let one : IsWalkFrom g angle (place_at order origin.key) (begin.clock - angle) (counts_at g.notes.marks order origin.key)
-      (taken_of g order origin (begin.clock - angle) (end.clock - angle) ∷ []) =
-      subst (λ (kept : Latest). IsWalkFrom g angle (place_at order origin.key) (kept.clock - angle) (counts_at g.notes.marks order origin.key)
-      (taken_of g order origin (kept.clock - angle) (end.clock - angle) ∷ []))
+      subst (λ (one : Latest). IsLastBy g order (keys_of g.notes.marks order) cells one.clock one.origin) (sym is.0)
+      s.ends in
+      let by : IsLastBy g order (keys_of g.notes.marks order) cells end.clock (Some origin) =
+      subst (IsLastBy g order (keys_of g.notes.marks order) cells end.clock) from is_last in
+      let hop : Hop = by.0.hop in
+      let one : IsWalkFrom g angle (place_at order origin.key) (begin.clock - angle)
+      (counts_at g.notes.marks order origin.key)
+      (taken_of g order origin.key hop (begin.clock - angle) (end.clock - angle) ∷ []) =
+      subst (λ (kept : Latest).
+      IsWalkFrom g angle (place_at order origin.key) (kept.clock - angle) (counts_at g.notes.marks order origin.key)
+      (taken_of g order origin.key hop (kept.clock - angle) (end.clock - angle) ∷ []))
       (same_kept origin.key by.0.kept begin by.0.there there)
-      (hop_last g order cells last ordered starts s origin end.clock by.0 by.1) in
-      record {
-        key = origin.key;
-        there = there;
-        walk = subst (λ (more : List Taken). IsWalkFrom g angle (place_at order origin.key) (begin.clock - angle) (counts_at g.notes.marks order origin.key)
-            (taken_of g order origin (begin.clock - angle) (end.clock - angle) ∷ more)) (sym is.1) one;
-        time = ap (time_from (end.clock - angle)) is.1 ∙ ap (λ (one : Latest). one.clock - angle) is.0;
-      }
+      (hop_last g order cells last ordered starts s origin end.clock by.0 by.1) in (
+        hop,
+        by.0.is,
+        record {
+          key = origin.key;
+          there = there;
+          walk = subst (λ (more : List Taken).
+              IsWalkFrom g angle (place_at order origin.key) (begin.clock - angle)
+              (counts_at g.notes.marks order origin.key)
+              (taken_of g order origin.key hop (begin.clock - angle) (end.clock - angle) ∷ more)) (sym is.1) one;
+          time = ap (time_from (end.clock - angle)) is.1 ∙ ap (λ (one : Latest). one.clock - angle) is.0;
+        },
+      )
   followed_more end begin hops origin (inr is) from there =
       let angle : ℕ = start_angle g.start in
       let by : IsBackedBy g order (keys_of g.notes.marks order) cells is.key end.clock (Some origin) =
-      subst (IsBackedBy g order (keys_of g.notes.marks order) cells is.key end.clock) from (s.backed is.key end is.there) in
-      record {
-        key = origin.key;
-        there = there;
-        walk = subst (λ (kept : Latest). IsWalkFrom g angle (place_at order origin.key) (kept.clock - angle) (counts_at g.notes.marks order origin.key)
-            (taken_of g order origin (kept.clock - angle) (end.clock - angle) ∷ hops))
-            (same_kept origin.key by.0.kept begin by.0.there there)
-            (hop_before g order cells last ordered starts s origin end.clock is.key hops by.0 by.1 is.walk);
-        time = is.time;
-      }
+      subst (IsBackedBy g order (keys_of g.notes.marks order) cells is.key end.clock) from
+      (s.backed is.key end is.there) in
+      let hop : Hop = by.0.hop in (
+        hop,
+        by.0.is,
+        record {
+          key = origin.key;
+          there = there;
+          walk = subst (λ (kept : Latest).
+              IsWalkFrom g angle (place_at order origin.key) (kept.clock - angle)
+              (counts_at g.notes.marks order origin.key)
+              (taken_of g order origin.key hop (kept.clock - angle) (end.clock - angle) ∷ hops))
+              (same_kept origin.key by.0.kept begin by.0.there there)
+              (hop_before g order cells last ordered starts s origin end.clock is.key hops by.0 by.1 is.walk);
+          time = is.time;
+        },
+      )
 
   -- One more hop is followed back.
-  pub trace_more : (end begin : Latest) (visits : List Visit) (origin : Origin) (visit : Visit) → IsTraced g order cells last end visits
+  pub trace_more : (end begin : Latest) (visits : List Visit) (origin : KeyHop) (visit : Visit)
+      → IsTraced g order cells last end visits
       → end.origin ≡ Some origin → cell_at cells origin.key ≡ Some begin
-      → seen_visit visit ≡ visited (taken_of g order origin (begin.clock - start_angle g.start) (end.clock - start_angle g.start))
+      → ((hop : Hop) → IsKeyHop g order origin hop
+      → seen_visit visit ≡ visited
+      (taken_of g order origin.key hop (begin.clock - start_angle g.start) (end.clock - start_angle g.start)))
       → IsTraced g order cells last begin (visits ++ visit ∷ [])
   trace_more end begin visits origin visit t from there is =
-      let hop : Taken = taken_of g order origin (begin.clock - start_angle g.start) (end.clock - start_angle g.start) in
+      let more = followed_more end begin t.hops origin t.from from there in
+      let hop : Taken = taken_of g order origin.key more.0 (begin.clock - start_angle g.start)
+      (end.clock - start_angle g.start) in
       record {
         hops = hop ∷ t.hops;
-        same = visits_more hop t.hops visits visit t.same is;
-        from = inr (followed_more end begin t.hops origin t.from from there);
+        same = visits_more hop t.hops visits visit t.same (is more.0 more.1);
+        from = inr more.2;
       }
 
   -- What is kept at a key comes from an earlier one.
-  pub falls : (origin : Origin) (begin : Latest) → cell_at cells origin.key ≡ Some begin → key_after begin.origin < origin.key + 1
+  pub falls : (origin : KeyHop) (begin : Latest) → cell_at cells origin.key ≡ Some begin
+      → key_after begin.origin < origin.key + 1
   falls origin begin there = go begin.origin (s.backed origin.key begin there)
     where
-      go : (from : Option Origin) → IsBackedBy g order (keys_of g.notes.marks order) cells origin.key begin.clock from → key_after from < origin.key + 1
+      go : (from : Option KeyHop) → IsBackedBy g order (keys_of g.notes.marks order) cells origin.key begin.clock from
+          → key_after from < origin.key + 1
       go None is = omega arith
       go (Some earlier) is = omega (arith, is.1.later)
 
   -- hops from an end that comes from nowhere are a walk
-  whole : (end : Latest) (hops : List Taken) → ((end ≡ last) × (hops ≡ [])) ⊎ IsFollowed g order cells last end hops → end.origin ≡ None
+  whole : (end : Latest) (hops : List Taken) → ((end ≡ last) × (hops ≡ [])) ⊎ IsFollowed g order cells last end hops
+      → end.origin ≡ None
       → IsWalk g (start_angle g.start) hops × (time_of hops ≡ last.clock - start_angle g.start)
   whole end hops (inl is) from =
       let is_last : IsLastBy g order (keys_of g.notes.marks order) cells end.clock end.origin =
-      subst (λ (one : Latest). IsLastBy g order (keys_of g.notes.marks order) cells one.clock one.origin) (sym is.0) s.ends in
-      let now : end.clock ≡ start_angle g.start = subst (IsLastBy g order (keys_of g.notes.marks order) cells end.clock) from is_last in (
+      subst (λ (one : Latest). IsLastBy g order (keys_of g.notes.marks order) cells one.clock one.origin) (sym is.0)
+      s.ends in
+      let now : end.clock ≡ start_angle g.start =
+      subst (IsLastBy g order (keys_of g.notes.marks order) cells end.clock) from is_last in (
         record {
           on_drum = omega arith;
           from_start = subst (IsWalkFrom g (start_angle g.start) g.start 0 (no_counts g.notes.marks)) (sym is.1) tt;
@@ -154,11 +194,19 @@ module _ (g : Setting) (order : List ℕ) (cells : List (Option Latest)) (last :
   whole end hops (inr is) from =
       let angle : ℕ = start_angle g.start in
       let at : IsBackedBy g order (keys_of g.notes.marks order) cells is.key end.clock None =
-      subst (IsBackedBy g order (keys_of g.notes.marks order) cells is.key end.clock) from (s.backed is.key end is.there) in
+      subst (IsBackedBy g order (keys_of g.notes.marks order) cells is.key end.clock) from
+      (s.backed is.key end is.there) in
       let nothing : end.clock - angle ≡ 0 = omega (arith, at.1) in
-      let at_start = subst (λ (place : ℕ). IsWalkFrom g angle place (end.clock - angle) (counts_at g.notes.marks order is.key) hops) at.0.at is.walk in
-      let unpassed = subst (λ (counts : List ℕ). IsWalkFrom g angle g.start (end.clock - angle) counts hops) at.0.passed at_start in (
-        record { on_drum = omega arith; from_start = subst (λ (time : ℕ). IsWalkFrom g angle g.start time (no_counts g.notes.marks) hops) nothing unpassed },
+      let at_start = subst
+      (λ (place : ℕ). IsWalkFrom g angle place (end.clock - angle) (counts_at g.notes.marks order is.key) hops)
+      at.0.at is.walk in
+      let unpassed = subst (λ (counts : List ℕ). IsWalkFrom g angle g.start (end.clock - angle) counts hops) at.0.passed
+      at_start in (
+        record {
+          on_drum = omega arith;
+          from_start =
+              subst (λ (time : ℕ). IsWalkFrom g angle g.start time (no_counts g.notes.marks) hops) nothing unpassed;
+        },
         ap (λ (time : ℕ). time_from time hops) (sym nothing) ∙ is.time,
       )
 

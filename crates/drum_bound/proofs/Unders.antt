@@ -17,7 +17,8 @@ use Rattle.drum_bound.specs.Table.{number_of, GoesOn, Arrive, IsReached, Row, Is
 use Rattle.drum_bound.specs.Under.{IsUnder, ArriveUnder}
 
 -- nothing is taken after a stop
-stop_follows : (because : whys.Why) (Right : ℕ → Type 0) (hops : List Taken) → Follow (stops_by because) Right hops → hops ≡ []
+stop_follows : (because : whys.Why) (Right : ℕ → Type 0) (hops : List Taken) → Follow (stops_by because) Right hops
+    → hops ≡ []
 stop_follows why.Operation Right hops none = none
 stop_follows why.Operand Right hops none = none
 stop_follows why.Card Right hops none = none
@@ -43,25 +44,33 @@ module _ (g : Setting) where
   arrive_one : (place time : ℕ) (counts : List ℕ) (next : ℕ) (hop : Taken) → hop.way ≡ to next
       → Arrive g place time counts (hop ∷ []) next hop.ended (after place next counts)
   arrive_one place time counts next hop onto =
-      subst (λ (way : Way). GoesOn way (λ target. (target ≡ next) × (hop.ended ≡ hop.ended) × (after place target counts ≡ after place next counts)))
+      subst (λ (way : Way).
+      GoesOn way (λ target. (target ≡ next) × (hop.ended ≡ hop.ended)
+      × (after place target counts ≡ after place next counts)))
       (sym onto) (refl, refl, refl)
 
   -- hops that arrive somewhere, and one more that goes on from there, arrive where it goes on to
-  arrive_more : (front : List Taken) (place time : ℕ) (counts : List ℕ) (from used next : ℕ) (passes : List ℕ) (hop : Taken)
+  arrive_more : (front : List Taken) (place time : ℕ) (counts : List ℕ) (from used next : ℕ) (passes : List ℕ)
+      (hop : Taken)
       → Arrive g place time counts front from used passes → hop.way ≡ to next
       → Arrive g place time counts (front ++ hop ∷ []) next hop.ended (after from next passes)
   arrive_more [] place time counts from used next passes hop arrives onto =
-      let Right : ℕ → List ℕ → Type 0 = λ at passed. Arrive g place time counts (hop ∷ []) next hop.ended (after at next passed) in
-      subst (Right from) arrives.2 (subst (λ (at : ℕ). Right at counts) arrives.0 (arrive_one place time counts next hop onto))
+      let Right : ℕ → List ℕ → Type 0 =
+      λ at passed. Arrive g place time counts (hop ∷ []) next hop.ended (after at next passed) in
+      subst (Right from) arrives.2
+      (subst (λ (at : ℕ). Right at counts) arrives.0 (arrive_one place time counts next hop onto))
   arrive_more (first ∷ front) place time counts from used next passes hop arrives onto =
       go first.way arrives
-      (λ target goes. arrive_more front target first.ended (after place target counts) from used next passes hop goes onto)
+      (λ target goes. arrive_more front target first.ended (after place target counts) from used next passes hop goes
+      onto)
     where
       Goes : ℕ → Type 0
       Goes target = Arrive g target first.ended (after place target counts) front from used passes
 
       GoesFurther : ℕ → Type 0
-      GoesFurther target = Arrive g target first.ended (after place target counts) (front ++ hop ∷ []) next hop.ended (after from next passes)
+      GoesFurther target =
+          Arrive g target first.ended (after place target counts) (front ++ hop ∷ []) next hop.ended
+          (after from next passes)
 
       go : (way : Way) → GoesOn way Goes → ((target : ℕ) → Goes target → GoesFurther target) → GoesOn way GoesFurther
       go early goes further = absurd goes
@@ -69,7 +78,8 @@ module _ (g : Setting) where
       go late goes further = absurd goes
 
   -- a walk that arrives somewhere, and one hop from there, are a walk
-  walk_more : (angle : ℕ) (front : List Taken) (place time : ℕ) (counts : List ℕ) (from used : ℕ) (passes : List ℕ) (hop : Taken)
+  walk_more : (angle : ℕ) (front : List Taken) (place time : ℕ) (counts : List ℕ) (from used : ℕ) (passes : List ℕ)
+      (hop : Taken)
       → IsWalkFrom g angle place time counts front → Arrive g place time counts front from used passes
       → IsWalkFrom g angle from used passes (hop ∷ []) → IsWalkFrom g angle place time counts (front ++ hop ∷ [])
   walk_more angle [] place time counts from used passes hop walk arrives last =
@@ -106,20 +116,27 @@ module _ (g : Setting) where
         let counts : ℕ = number_of g.notes.marks passes in
         let entry = table.all angle place counts time reached in
         let row : Row = entry.0 in
-        let at_place : IsReached g angle row.place counts time = subst (λ (at : ℕ). IsReached g angle at counts time) (sym entry.2) reached in
+        let at_place : IsReached g angle row.place counts time =
+        subst (λ (at : ℕ). IsReached g angle at counts time) (sym entry.2) reached in
         let at_entry : IsReached g angle row.place row.counts time =
         subst (λ (number : ℕ). IsReached g angle row.place number time) (sym entry.3) at_place in
         (row, entry.1, entry.2, entry.3, (table.right row entry.1).most angle time at_entry)
 
     -- a hop that goes on, behind a walk that arrives where it begins, arrives under an entry
-    hop_under : (front : List Taken) (from used next : ℕ) (passes : List ℕ) (hop : Taken) → Walks angle front → Arrives front from used passes
-        → IsWalkFrom g angle from used passes (hop ∷ []) → hop.way ≡ to next → IsUnder g.notes.marks rows next (after from next passes) hop.ended
+    hop_under : (front : List Taken) (from used next : ℕ) (passes : List ℕ) (hop : Taken) → Walks angle front
+        → Arrives front from used passes
+        → IsWalkFrom g angle from used passes (hop ∷ []) → hop.way ≡ to next
+        → IsUnder g.notes.marks rows next (after from next passes) hop.ended
     hop_under front from used next passes hop walk arrives last onto =
         let none : List ℕ = no_counts g.notes.marks in
         reached_under next hop.ended (after from next passes)
         (record {
           hops = front ++ hop ∷ [];
-          walk = record { on_drum = on_drum; from_start = walk_more angle front g.start 0 none from used passes hop walk arrives last };
+          walk = record {
+            on_drum = on_drum;
+            from_start =
+                walk_more angle front g.start 0 none from used passes hop walk arrives last;
+          };
           passes = after from next passes;
           number = refl;
           arrives = arrive_more front g.start 0 none from used next passes hop arrives onto;
@@ -127,7 +144,8 @@ module _ (g : Setting) where
 
     -- of these turns, behind a walk that arrives where they begin, each that goes on arrives under an entry
     abbrev UnderBehind : List Turn → Type 0
-    UnderBehind turns = (front : List Taken) (from used : ℕ) (passes : List ℕ) → Walks angle front → Arrives front from used passes
+    UnderBehind turns = (front : List Taken) (from used : ℕ) (passes : List ℕ) → Walks angle front
+        → Arrives front from used passes
         → IsWalkFrom g angle from used passes (hops_taken turns) → ArriveUnder g.notes rows passes turns
 
     -- turns without hops are none
@@ -154,7 +172,7 @@ module _ (g : Setting) where
               (arrive_more front g.start 0 none s.sought used next.sought passes hop arrives refl)
               left.1.1,
         )
-    turn_under s wait (stopped because moment) turns behind front used passes walk arrives left =
+    turn_under s wait (stopped held because moment) turns behind front used passes walk arrives left =
         (tt, none_under turns passes (stop_follows because _ (hops_taken turns) left.1))
 
     -- turns from where a walk arrives, one after the other
@@ -167,9 +185,13 @@ module _ (g : Setting) where
         (subst (λ (at : ℕ). IsWalkFrom g angle at used passes (hops_taken (turn ∷ turns))) here left)
 
 -- Each step of a kept run that goes on arrives under an entry of the table.
-pub arrive_under : (g : Setting) (rows : List Row) (executed : List ℕ) (s : State) (turns : List Turn) → IsTable g rows → IsProper g
-    → IsAccepted g.loads g.notes g.start executed → IsFirstState g.loads (IsFixed g.loads g.notes g.start) g.start s → IsRun g.times s turns
+pub arrive_under : (g : Setting) (rows : List Row) (executed : List ℕ) (s : State) (turns : List Turn) → IsTable g rows
+    → IsProper g
+    → IsAccepted g.loads g.notes g.start executed → IsFirstState g.loads (IsFixed g.loads g.notes g.start) g.start s
+    → IsRun g.times s turns
     → IsKept g.loads g.notes s turns → ArriveUnder g.notes rows (no_counts g.notes.marks) turns
 arrive_under g rows executed s turns table proper accepted first is_run kept =
-    let walk : IsWalk g s.start (hops_taken turns) = (kept_walk g executed s turns proper accepted first is_run kept).0 in
-    turns_under g rows table s.start walk.on_drum turns [] g.start 0 (no_counts g.notes.marks) tt (refl, refl, refl) walk.from_start
+    let walk : IsWalk g s.start (hops_taken turns) =
+    (kept_walk g executed s turns proper accepted first is_run kept).0 in
+    turns_under g rows table s.start walk.on_drum turns [] g.start 0 (no_counts g.notes.marks) tt (refl, refl, refl)
+    walk.from_start

@@ -2,7 +2,7 @@
 use Rattle.std.proofs.Common.{ℕ, ◌-◌, ◌<◌, ◌≤◌, List, [], ◌∷◌, Option, Some, None, arith}
 use Rattle.drum_flow.specs.Walk.{Setting, Taken, IsWalk, time_of}
 use Rattle.drum_bound.specs.declared.latest.Latest.{Latest}
-use Rattle.drum_bound.specs.declared.latest.Origin.{Origin}
+use Rattle.drum_bound.specs.declared.key_hop.KeyHop.{KeyHop}
 use Rattle.drum_bound.specs.Keys.{keys_of, IsOrdered}
 use Rattle.drum_bound.specs.Scanned.{start_angle, IsLastBy, Scanned}
 use Rattle.drum_bound.proofs.Unpassed.{no_walk_passes}
@@ -21,7 +21,8 @@ module _ (g : Setting) (order : List ℕ) (cells : List (Option Latest)) (last :
       bounded : (angle : ℕ) (hops : List Taken) → IsWalk g angle hops → time_of hops ≤ last.clock - start_angle g.start
       bounded angle hops walk = omega (arith, no_walk_passes g order cells last ordered starts s angle hops walk)
 
-      go : (origin : Option Origin) → IsLastBy g order (keys_of g.notes.marks order) cells last.clock origin → IsWorst g (last.clock - start_angle g.start)
+      go : (origin : Option KeyHop) → IsLastBy g order (keys_of g.notes.marks order) cells last.clock origin
+          → IsWorst g (last.clock - start_angle g.start)
       go None is = record {
         angle = start_angle g.start;
         hops = [];
@@ -33,5 +34,13 @@ module _ (g : Setting) (order : List ℕ) (cells : List (Option Latest)) (last :
           let angle : ℕ = start_angle g.start in
           let e = is.0 in
           let comes = comes_from_start g order cells last ordered starts s origin.key e.kept e.there
-          (taken_of g order origin (e.kept.clock - angle) (last.clock - angle) ∷ []) (hop_last g order cells last ordered starts s origin last.clock e is.1) in
-          record { angle = angle; hops = comes.0; walk = record { on_drum = omega arith; from_start = comes.1 }; time = comes.2; most = bounded }
+          (taken_of g order origin.key e.hop (e.kept.clock - angle) (last.clock - angle) ∷ [])
+          (hop_last g order cells last ordered starts s origin last.clock e is.1) in
+          record {
+            angle = angle;
+            hops = comes.0;
+            walk = record { on_drum = omega arith; from_start = comes.1 };
+            time =
+                comes.2;
+            most = bounded;
+          }

@@ -18,7 +18,8 @@ use Rattle.drum_bound.specs.Worst.{IsWorst}
 
 -- what the walks of a deck under its notes are in, with a timing table
 abbrev pub setting : Deck → Times → Notes → Setting
-setting deck times notes = record { loads = loads_in deck; notes = notes; times = entry_in times; start = start_in deck }
+setting deck times notes =
+    record { loads = loads_in deck; notes = notes; times = entry_in times; start = start_in deck }
 
 -- the bound, in word times
 abbrev pub bound_of : Analysis → ℕ
@@ -54,7 +55,9 @@ passed_of analysis = analysis.passed
 
 -- Each mark's number is how often these hops pass it.
 abbrev pub ArePasses : List Mark → List Visited → List ℕ → Type 0
-ArePasses marks visits passed = (k : ℕ) (mark : Mark) → slice_get marks k ≡ Some mark → slice_index passed k ≡ passes_in mark visits
+ArePasses marks visits passed =
+    (k : ℕ) (mark : Mark) → slice_get marks k ≡ Some mark
+    → slice_index passed k ≡ passes_in mark visits
 
 -- The analysis is that of the walks of a setting where so many locations are executed.
 pub record IsAnalysis (g : Setting) (words : ℕ) (analysis : Analysis) : Type 0 where
@@ -62,10 +65,13 @@ pub record IsAnalysis (g : Setting) (words : ℕ) (analysis : Analysis) : Type 0
   pub walk : IsWalkOf g (angle_of analysis) (bound_of analysis) (visits_of analysis)
   pub table : IsTable g (rows_of analysis)
   pub few : length (rows_of analysis) ≤ words_of analysis * counts_in_all analysis
-  pub short : (angle : ℕ) (hops : List Taken) → IsWalk g angle hops → length hops ≤ words_of analysis * counts_in_all analysis
+  pub short : (angle : ℕ) (hops : List Taken) → IsWalk g angle hops
+      → length hops ≤ words_of analysis * counts_in_all analysis
   pub executed : words_of analysis ≡ words
   pub counts : counts_in_all analysis ≡ counts_of g.notes.marks
-  pub turns : turns_of analysis ≡ sum (map (λ row. length (hops g.loads g.notes row.place)) (rows_of analysis))
-  pub ends : (ends : List HopEnd) × AreEnds g (rows_of analysis) ends × AreRaised g (rows_of analysis) ends × (turns_of analysis ≡ length ends)
+  pub turns : turns_of analysis
+      ≡ sum (map (λ row. length (hops g.loads g.notes row.place)) (rows_of analysis))
+  pub ends : (ends : List HopEnd) × AreEnds g (rows_of analysis) ends
+      × AreRaised g (rows_of analysis) ends × (turns_of analysis ≡ length ends)
   pub passed : ArePasses g.notes.marks (visits_of analysis) (passed_of analysis)
   pub below : bound_of analysis < 2 ^ 50

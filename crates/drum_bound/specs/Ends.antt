@@ -28,17 +28,20 @@ pub record IsHopEnd (g : Setting) (row : Row) (number : ℕ) (hop : Hop) (end : 
   pub counts : end.counts ≡ row.counts
   pub of : end.hop ≡ number
   pub begun : end.begun ≡ row.time
-  pub ended : (g.start + 1) % 50 + end.ended ≡ longest g.times row.place hop.ins hop.way ((g.start + 1) % 50 + row.time)
+  pub ended : (g.start + 1) % 50 + end.ended
+      ≡ longest g.times row.place hop.ins hop.way ((g.start + 1) % 50 + row.time)
 
 -- no two ends are of one place, counts and hop
 abbrev pub AreUnlike : List HopEnd → Type 0
 AreUnlike [] = Unit {0}
 AreUnlike (end ∷ ends) =
-    ((other : HopEnd) → Contains ends other → end.place ≡ other.place → end.counts ≡ other.counts → end.hop ≡ other.hop → ⊥) × AreUnlike ends
+    ((other : HopEnd) → Contains ends other → end.place ≡ other.place → end.counts ≡ other.counts
+    → end.hop ≡ other.hop → ⊥) × AreUnlike ends
 
 -- The ends of the hops of a table's entries: one of each hop of each entry, and none twice.
 pub record AreEnds (g : Setting) (rows : List Row) (ends : List HopEnd) : Type 0 where
-  pub each : (end : HopEnd) → Contains ends end → (row : Row) × (hop : Hop) × Contains rows row × IsHop g row.place end.hop hop × IsHopEnd g row end.hop hop end
+  pub each : (end : HopEnd) → Contains ends end → (row : Row) × (hop : Hop) × Contains rows row
+      × IsHop g row.place end.hop hop × IsHopEnd g row end.hop hop end
   pub all : (row : Row) (number : ℕ) (hop : Hop) → Contains rows row → IsHop g row.place number hop
       → (end : HopEnd) × Contains ends end × IsHopEnd g row number hop end
   pub once : AreUnlike ends
@@ -53,7 +56,8 @@ pub record LeadsTo (g : Setting) (end : HopEnd) (row : Row) : Type 0 where
   pub within : AreWithin g.notes.marks passes
   pub before : number_of g.notes.marks passes ≡ end.counts
   pub unbarred : AreWithin g.notes.marks (after_pass g.notes.marks end.place row.place passes)
-  pub after : number_of g.notes.marks (after_pass g.notes.marks end.place row.place passes) ≡ row.counts
+  pub after : number_of g.notes.marks (after_pass g.notes.marks end.place row.place passes)
+      ≡ row.counts
 
 -- the start's entry: no word times used, at the angle behind the start's, no mark passed
 abbrev pub start_row : Setting → Row
@@ -63,5 +67,7 @@ start_row g = record { place = g.start; angle = (g.start + 1) % 50; counts = 0; 
 -- end that leads to an entry is later than its time.
 pub record AreRaised (g : Setting) (rows : List Row) (ends : List HopEnd) : Type 0 where
   pub start : Contains rows (start_row g)
-  pub raised : (row : Row) → Contains rows row → (row ≡ start_row g) ⊎ ((end : HopEnd) × Contains ends end × LeadsTo g end row × (row.time ≡ end.ended))
-  pub most : (row : Row) (end : HopEnd) → Contains rows row → Contains ends end → LeadsTo g end row → end.ended ≤ row.time
+  pub raised : (row : Row) → Contains rows row → (row ≡ start_row g)
+      ⊎ ((end : HopEnd) × Contains ends end × LeadsTo g end row × (row.time ≡ end.ended))
+  pub most : (row : Row) (end : HopEnd) → Contains rows row → Contains ends end → LeadsTo g end row
+      → end.ended ≤ row.time

@@ -1,6 +1,6 @@
 -- Which hops of keys come after which.
 use Rattle.std.specs.Prelude.{◌≡◌, ℕ, ◌<◌, List, Option, Some, None, ◌⊎◌}
-use Rattle.drum_bound.specs.declared.cells.end.KeyHop.{KeyHop}
+use Rattle.drum_bound.specs.declared.key_hop.KeyHop.{KeyHop}
 use Rattle.drum_bound.specs.declared.latest.Latest.{Latest}
 use Rattle.drum_bound.specs.Scanned.{cell_at}
 

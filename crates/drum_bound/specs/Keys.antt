@@ -23,7 +23,8 @@ abbrev pub counts_at : List Mark → List ℕ → ℕ → List ℕ
 counts_at marks order key = digits marks (key / length order)
 
 -- The key is that of this location and these counts.
-pub record IsKey (marks : List Mark) (order : List ℕ) (key place : ℕ) (counts : List ℕ) : Type 0 where
+pub record IsKey (marks : List Mark) (order : List ℕ) (key place : ℕ) (counts : List ℕ) : Type
+    0 where
   pub below : key < keys_of marks order
   pub at : place_at order key ≡ place
   pub passed : counts_at marks order key ≡ counts
@@ -31,10 +32,12 @@ pub record IsKey (marks : List Mark) (order : List ℕ) (key place : ℕ) (count
 -- What is so of the order: it has the start, no location twice, and with each location those that
 -- its hops go on at; an edge that no mark stands on leads to a later location; the notes are sound,
 -- and the keys few.
-pub record IsOrdered (loads : ℕ → Option Word) (notes : Notes) (start : ℕ) (order : List ℕ) : Type 0 where
+pub record IsOrdered (loads : ℕ → Option Word) (notes : Notes) (start : ℕ) (order : List ℕ) : Type
+    0 where
   pub starts : Contains order start
   pub different : AreDifferent order
-  pub closed : (place next : ℕ) → Contains order place → IsEdge loads notes place next → Contains order next
+  pub closed : (place next : ℕ) → Contains order place → IsEdge loads notes place next
+      → Contains order next
   pub onward : GoOn (IsFree loads notes) order
   pub sound : AreSound notes
   pub few : keys_of notes.marks order ≤ 4000000

@@ -20,7 +20,8 @@ setting_of flow times = setting (deck_of flow) times (notes_of flow)
 
 -- the order of the executed locations is one that keys can be made of
 abbrev pub CanHaveKeys : Flow → Type 0
-CanHaveKeys flow = IsOrdered (loads_in (deck_of flow)) (notes_of flow) (start_in (deck_of flow)) (order_in flow)
+CanHaveKeys flow = IsOrdered (loads_in (deck_of flow)) (notes_of flow) (start_in (deck_of flow))
+    (order_in flow)
     × ((place : ℕ) → Contains (order_in flow) place → Contains (executed_in flow) place)
 
 -- the numbers of locations
@@ -38,7 +39,8 @@ HaveHops flow sites = (site : Site) → Contains sites site
 
 -- each location's index stands at its number
 abbrev pub HaveIndices : List ℕ → List ℕ → Type 0
-HaveIndices order indices = (k place : ℕ) → slice_get order k ≡ Some place → slice_get indices place ≡ Some k
+HaveIndices order indices =
+    (k place : ℕ) → slice_get order k ≡ Some place → slice_get indices place ≡ Some k
 
 -- The keys of a flow graph.
 pub record AreKeys (keys : Keys) : Type 0 where

@@ -1,4 +1,5 @@
--- What is known of a hop before the scan: how long it takes from the angle that it begins at, and where it goes on.
+-- What is known of a hop before the scan: how long it takes from the angle that it begins at, and
+-- where it goes on.
 use Rattle.std.specs.Prelude.{◌≡◌, ℕ, ◌+◌, ◌%◌, ◌<◌, List, length, map, slice_get, Option, Some, Contains}
 use Rattle.std.proofs.Common.{Vec, Global}
 use Rattle.drum_machine.specs.Counts.{mark_on}
@@ -9,11 +10,14 @@ use Rattle.drum_flow.specs.Walk.{Setting}
 use Rattle.drum_bound.specs.declared.leap.Leap.{Leap}
 use Rattle.drum_bound.specs.Longest.{longest}
 
--- From a clock at this angle on, the hop of this place ends so many word times later at the latest. Where it goes on, this is
--- the place that it goes on at, by its index in the order, and the mark on its edge.
+-- From a clock at this angle on, the hop of this place ends so many word times later at the latest.
+-- Where it goes on, this is the place that it goes on at, by its index in the order, and the mark
+-- on its edge.
 pub record IsLeap (g : Setting) (order : List ℕ) (place angle : ℕ) (leap : Leap) : Type 0 where
-  pub time : (clock : ℕ) → clock % 50 ≡ angle → longest g.times place leap.hop.instruction (seen_way leap.hop.way) clock ≡ clock + leap.time
-  pub onto : (next : ℕ) → seen_way leap.hop.way ≡ to next → (slice_get order leap.index ≡ Some next) × (mark_on g.notes.marks place next ≡ leap.mark)
+  pub time : (clock : ℕ) → clock % 50 ≡ angle
+      → longest g.times place leap.hop.instruction (seen_way leap.hop.way) clock ≡ clock + leap.time
+  pub onto : (next : ℕ) → seen_way leap.hop.way ≡ to next → (slice_get order leap.index ≡ Some next)
+      × (mark_on g.notes.marks place next ≡ leap.mark)
 
 -- the hop that a leap is of
 abbrev pub leap_hop : Leap → Hop
@@ -26,6 +30,8 @@ pub record AreLeaps (g : Setting) (order : List ℕ) (place : ℕ) (leaps : List
   pub drum : place < 2000
 
 -- Each location of the order that has leaps has its own.
-pub record HaveLeaps (g : Setting) (order : List ℕ) (all : List (Option (Vec Leap Global))) : Type 0 where
+pub record HaveLeaps (g : Setting) (order : List ℕ) (all : List (Option (Vec Leap Global))) : Type
+    0 where
   pub long : length all ≡ length order
-  pub each : (k place : ℕ) (leaps : Vec Leap Global) → slice_get order k ≡ Some place → slice_get all k ≡ Some (Some leaps) → AreLeaps g order place leaps.items
+  pub each : (k place : ℕ) (leaps : Vec Leap Global) → slice_get order k ≡ Some place
+      → slice_get all k ≡ Some (Some leaps) → AreLeaps g order place leaps.items

@@ -9,4 +9,5 @@ use Rattle.drum_machine.specs.Ways.{Way, early}
 -- The instruction may end by the way: the profile has its operation, and where its D isn't what the
 -- operation wants it stops before it acts.
 abbrev pub MayEnd : Instruction → Way → Type 0
-MayEnd ins way = (op : Op) × (op_of ins.op ≡ Some op) × ((way ≡ early) ⊎ (is_operand (operand_of op) ins.d ≡ true))
+MayEnd ins way = (op : Op) × (op_of ins.op ≡ Some op)
+    × ((way ≡ early) ⊎ (is_operand (operand_of op) ins.d ≡ true))

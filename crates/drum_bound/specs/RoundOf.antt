@@ -20,13 +20,15 @@ abbrev pub IsPassed : Flow → List ℕ → Mark → Option Counted → Type 0
 IsPassed flow counts mark passed =
     let marks = (notes_of flow).marks in
     let after = after_pass marks mark.from.number mark.onto.number counts in
-    MatchOption passed (¬ AreWithin marks after) (λ counted. IsCounted flow after counted × AreWithin marks after)
+    MatchOption passed (¬ AreWithin marks after)
+    (λ counted. IsCounted flow after counted × AreWithin marks after)
 
 -- The keys with the counts of this number, with the first mark's leading.
 pub record IsRound (flow : Flow) (number : ℕ) (round : Round) : Type 0 where
   pub own : IsCounted flow (digits (notes_of flow).marks number) round.own
   pub passed : (k : ℕ) (mark : Mark) → slice_get (notes_of flow).marks k ≡ Some mark
-      → IsPassed flow (digits (notes_of flow).marks number) mark (slice_index_or round.passed k None)
+      → IsPassed flow (digits (notes_of flow).marks number) mark
+      (slice_index_or round.passed k None)
 
 -- the counts after a hop along an edge with this mark, or with none
 abbrev pub counted_after : Round → Option ℕ → Option Counted

@@ -10,7 +10,13 @@ use Rattle.drum_bound.specs.Table.{number_of, Row}
 
 -- an entry as the code has it
 abbrev pub row_in : Worst → Row
-row_in worst = record { place = worst.place.number; angle = worst.angle; counts = worst.counts; time = worst.time }
+row_in worst = record {
+  place = worst.place.number;
+  angle = worst.angle;
+  counts =
+      worst.counts;
+  time = worst.time;
+}
 
 -- the number of a key's counts
 abbrev pub counts_number : List Mark → List ℕ → ℕ → ℕ
@@ -33,4 +39,5 @@ rows_at g order key (Some kept) = row_of g order key kept ∷ []
 -- the rows of the first keys
 abbrev pub rows_below : Setting → List ℕ → List (Option Latest) → ℕ → List Row
 rows_below g order cells zero = []
-rows_below g order cells (suc key) = rows_below g order cells key ++ rows_at g order key (cell_at cells key)
+rows_below g order cells (suc key) =
+    rows_below g order cells key ++ rows_at g order key (cell_at cells key)

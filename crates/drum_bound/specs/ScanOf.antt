@@ -46,8 +46,10 @@ pub record IsScanned (scan : Scan) (taken : ℕ) : Type 0 where
   pub keys : AreKeys scan.keys.now
   pub leaps : HaveLeaps (setting_in scan) (order_of scan) scan.leaps.now
   pub cells : AreCells (setting_in scan) (order_of scan) scan.cells
-  pub scanned : Scanned (setting_in scan) (order_of scan) taken taken (kept_in scan.cells) scan.cells.last
-  pub turns : scan.cells.made.count ≡ turns_below (setting_in scan) (order_of scan) (kept_in scan.cells) taken
+  pub scanned : Scanned (setting_in scan) (order_of scan) taken taken (kept_in scan.cells)
+      scan.cells.last
+  pub turns : scan.cells.made.count
+      ≡ turns_below (setting_in scan) (order_of scan) (kept_in scan.cells) taken
   pub before : IsBefore scan.cells.made.last taken
 
 -- All have.
@@ -55,23 +57,30 @@ abbrev pub IsDone : Scan → Type 0
 IsDone scan = IsScanned scan (size_in scan)
 
 -- A hop of the key whose instruction is sought, of this number, is to be taken.
-pub record IsReady (scan : Scan) (own_round : Round) (own_search : Search) (number : ℕ) (own_leap : Leap) : Type 0 where
+pub record IsReady (scan : Scan) (own_round : Round) (own_search : Search) (number : ℕ)
+    (own_leap : Leap) : Type 0 where
   pub keys : AreKeys scan.keys.now
   pub cells : AreCells (setting_in scan) (order_of scan) scan.cells
   pub below : own_search.key < scan.keys.now.size
   pub round : IsRound scan.keys.now.flow.now (own_search.key / length (order_of scan)) own_round
   pub search : IsSearch (order_of scan) (kept_in scan.cells) own_search
-  pub hop : slice_get (hops (setting_in scan).loads (setting_in scan).notes (place_at (order_of scan) own_search.key)) number ≡ Some (leap_hop own_leap)
-  pub leap : IsLeap (setting_in scan) (order_of scan) (place_at (order_of scan) own_search.key) (own_search.found % 50) own_leap
+  pub hop : slice_get (hops (setting_in scan).loads (setting_in scan).notes
+      (place_at (order_of scan) own_search.key)) number ≡ Some (leap_hop own_leap)
+  pub leap : IsLeap (setting_in scan) (order_of scan) (place_at (order_of scan) own_search.key)
+      (own_search.found % 50) own_leap
 
 -- the cells up to a key are the same
 abbrev pub IsAgreed : ℕ → List (Option Latest) → List (Option Latest) → Type 0
-IsAgreed key cells cells' = (other : ℕ) → other < suc key → cell_at cells' other ≡ cell_at cells other
+IsAgreed key cells cells' =
+    (other : ℕ) → other < suc key → cell_at cells' other ≡ cell_at cells other
 
 -- A hop from a key goes on to a location: what came is kept at the key that it leads to, and of
 -- all; or a full mark bars it, and nothing is.
-abbrev pub Goes : Setting → List ℕ → ℕ → ℕ → Latest → List (Option Latest) → Latest → List (Option Latest) → Latest → Type 0
+abbrev pub Goes : Setting → List ℕ → ℕ → ℕ → Latest → List (Option Latest) → Latest
+    → List (Option Latest) → Latest → Type 0
 Goes g order from next new cells last cells' last' =
-    let passed = after_pass g.notes.marks (place_at order from) next (counts_at g.notes.marks order from) in
+    let passed = after_pass g.notes.marks (place_at order from) next
+    (counts_at g.notes.marks order from) in
     ((¬ AreWithin g.notes.marks passed) × (cells' ≡ cells) × (last' ≡ last))
-    ⊎ ((key : ℕ) × IsKey g.notes.marks order key next passed × AreWithin g.notes.marks passed × (cells' ≡ raised cells key new) × (last' ≡ later last new))
+    ⊎ ((key : ℕ) × IsKey g.notes.marks order key next passed × AreWithin g.notes.marks passed
+    × (cells' ≡ raised cells key new) × (last' ≡ later last new))

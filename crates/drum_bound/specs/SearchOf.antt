@@ -7,8 +7,8 @@ use Rattle.drum_bound.specs.declared.search.Search.{Search}
 use Rattle.drum_bound.specs.KeyHops.{KeepsAt}
 use Rattle.drum_bound.specs.Keys.{place_at}
 
--- It is for the location of its key, begins at the clock that is kept there, and finds the instruction when that can first be
--- had.
+-- It is for the location of its key, begins at the clock that is kept there, and finds the
+-- instruction when that can first be had.
 pub record IsSearch (order : List ℕ) (cells : List (Option Latest)) (search : Search) : Type 0 where
   pub there : search.location.number ≡ place_at order search.key
   pub begun : KeepsAt cells search.key search.begun

@@ -19,9 +19,12 @@ GoesOn late Right = ⊥
 
 -- hops from a place, a time and counts on arrive at another place, at its time and with its counts
 abbrev pub Arrive : Setting → ℕ → ℕ → List ℕ → List Taken → ℕ → ℕ → List ℕ → Type 0
-Arrive g place time counts [] place' time' counts' = (place ≡ place') × (time ≡ time') × (counts ≡ counts')
+Arrive g place time counts [] place' time' counts' =
+    (place ≡ place') × (time ≡ time') × (counts ≡ counts')
 Arrive g place time counts (hop ∷ hops) place' time' counts' =
-    GoesOn hop.way (λ next. Arrive g next hop.ended (after_pass g.notes.marks place next counts) hops place' time' counts')
+    GoesOn hop.way (λ next.
+    Arrive g next hop.ended (after_pass g.notes.marks place next counts) hops place' time'
+    counts')
 
 -- A walk, empty or ending with a To, arrives at a place at a time with the counts of this number.
 pub record IsReached (g : Setting) (angle place counts time : ℕ) : Type 0 where
@@ -48,10 +51,13 @@ pub record IsRow (g : Setting) (row : Row) : Type 0 where
 -- no two entries for one place and counts
 abbrev pub AreApart : List Row → Type 0
 AreApart [] = Unit {0}
-AreApart (row ∷ rows) = ((other : Row) → Contains rows other → row.place ≡ other.place → row.counts ≡ other.counts → ⊥) × AreApart rows
+AreApart (row ∷ rows) =
+    ((other : Row) → Contains rows other → row.place ≡ other.place → row.counts ≡ other.counts → ⊥)
+    × AreApart rows
 
 -- The table: exactly one entry for each reached place and counts.
 pub record IsTable (g : Setting) (rows : List Row) : Type 0 where
   pub right : (row : Row) → Contains rows row → IsRow g row
-  pub all : (angle place counts time : ℕ) → IsReached g angle place counts time → (row : Row) × Contains rows row × (row.place ≡ place) × (row.counts ≡ counts)
+  pub all : (angle place counts time : ℕ) → IsReached g angle place counts time → (row : Row)
+      × Contains rows row × (row.place ≡ place) × (row.counts ≡ counts)
   pub apart : AreApart rows

@@ -4,9 +4,8 @@ use Rattle.drum_core.specs.declared.instruction.Instruction.{Instruction}
 use Rattle.drum_core.specs.declared.op.Op.{Op}
 use Rattle.drum_core.specs.Op.{op_of}
 use Rattle.drum_times.specs.declared.entry.Entry.{Entry}
-use Rattle.drum_flow.specs.Seen.{seen_hop}
+use Rattle.drum_flow.specs.Hops.{Hop}
 use Rattle.drum_flow.specs.Walk.{Setting, Taken}
-use Rattle.drum_bound.specs.declared.latest.Origin.{Origin}
 use Rattle.drum_bound.specs.Keys.{place_at}
 use Rattle.drum_bound.specs.Longest.{most_units, most_wait}
 
@@ -20,14 +19,14 @@ abbrev pub wait_of : (Op → Entry) → Option Op → ℕ
 wait_of times None = 0
 wait_of times (Some op) = most_wait op (times op)
 
--- the hop of an origin as it is taken for the longest, between these times
-abbrev pub taken_of : Setting → List ℕ → Origin → ℕ → ℕ → Taken
-taken_of g order origin begun ended = record {
-  place = place_at order origin.key;
-  ins = (seen_hop origin.hop).ins;
-  way = (seen_hop origin.hop).way;
-  units = units_of (seen_hop origin.hop).ins (op_of (seen_hop origin.hop).ins.op);
-  wait = wait_of g.times (op_of (seen_hop origin.hop).ins.op);
+-- a hop of a key as it is taken for the longest, between these times
+abbrev pub taken_of : Setting → List ℕ → ℕ → Hop → ℕ → ℕ → Taken
+taken_of g order key hop begun ended = record {
+  place = place_at order key;
+  ins = hop.ins;
+  way = hop.way;
+  units = units_of hop.ins (op_of hop.ins.op);
+  wait = wait_of g.times (op_of hop.ins.op);
   begun = begun;
   ended = ended;
 }

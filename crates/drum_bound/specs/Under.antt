@@ -10,17 +10,19 @@ use Rattle.drum_bound.specs.Table.{number_of, Row}
 -- an entry of this place and counts has this time or a greater one
 abbrev pub IsUnder : List Mark → List Row → ℕ → List ℕ → ℕ → Type 0
 IsUnder marks rows place counts time =
-    (row : Row) × Contains rows row × (row.place ≡ place) × (row.counts ≡ number_of marks counts) × (time ≤ row.time)
+    (row : Row) × Contains rows row × (row.place ≡ place) × (row.counts ≡ number_of marks counts)
+    × (time ≤ row.time)
 
 -- a step that goes on leaves a state with this property
 abbrev pub IfOn : Stepped → (State → Type 0) → Type 0
 IfOn (on s) Right = Right s
-IfOn (stopped because moment) Right = Unit {0}
+IfOn (stopped held because moment) Right = Unit {0}
 
 -- Each of these steps that goes on, with so many passes of the marks before the first, arrives
 -- under an entry: at the location that it goes on to, with the passes and the word times used then.
 abbrev pub ArriveUnder : Notes → List Row → List ℕ → List Turn → Type 0
 ArriveUnder notes rows counts [] = Unit {0}
 ArriveUnder notes rows counts (turn ∷ steps) =
-    IfOn turn.outcome (λ s. IsUnder notes.marks rows s.sought (counts_after notes counts turn) s.time)
+    IfOn turn.outcome (λ s.
+    IsUnder notes.marks rows s.sought (counts_after notes counts turn) s.time)
     × ArriveUnder notes rows (counts_after notes counts turn) steps

@@ -50,6 +50,8 @@ passes_in mark [] = 0
 passes_in mark (visit ∷ visits) = passes_by mark visit.place visit.way + passes_in mark visits
 
 -- A walk passes a mark as often as its hops, however they are handed out.
-pub passes_of_visited : (mark : Mark) (hops : List Taken) → passes_of mark hops ≡ passes_in mark (map visited hops)
+pub passes_of_visited : (mark : Mark) (hops : List Taken)
+    → passes_of mark hops ≡ passes_in mark (map visited hops)
 passes_of_visited mark [] = refl
-passes_of_visited mark (hop ∷ hops) = ap (λ (passes : ℕ). passes_by mark hop.place hop.way + passes) (passes_of_visited mark hops)
+passes_of_visited mark (hop ∷ hops) =
+    ap (λ (passes : ℕ). passes_by mark hop.place hop.way + passes) (passes_of_visited mark hops)

@@ -9,4 +9,5 @@ pub record IsWorst (g : Setting) (bound : ℕ) : Type 0 where
   pub walk : IsWalk g angle hops
   pub time : time_of hops ≡ bound
   -- none has more
-  pub most : (other_angle : ℕ) (others : List Taken) → IsWalk g other_angle others → time_of others ≤ bound
+  pub most : (other_angle : ℕ) (others : List Taken) → IsWalk g other_angle others
+      → time_of others ≤ bound

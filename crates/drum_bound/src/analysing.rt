@@ -71,6 +71,7 @@ fn analysis_of<'a>(
     ensures { IfOk result (IsAnalysis (setting_of flow.now times.now) (length (order_in
         flow.now))) }
 {
+    // by match: the checker has no proof yet for `?` on what borrows and is dropped here
     let keys: Result<Keys<'a>, AllocError> = Keys::of(alloc, flow);
     let Ok(keys) = keys else {
         return Err(AllocError);
@@ -92,7 +93,8 @@ pub fn analyse(
     notes: &Notes,
 ) -> Result<Analysis, Refusal>
     ensures accepted { IfOk result (λ analysis. (executed : List ℕ)
-        × IsAccepted (loads_in deck.now) notes.now (start_in deck.now) executed × (words_of analysis ≡ length executed)) }
+        × IsAccepted (loads_in deck.now) notes.now (start_in deck.now) executed
+        × (words_of analysis ≡ length executed)) }
     ensures worst { IfOk result (λ analysis.
         IsWorst (setting deck.now times.now notes.now) (bound_of analysis)) }
     ensures walk { IfOk result (λ analysis.
@@ -118,21 +120,22 @@ pub fn analyse(
     ensures counts { IfOk result (λ analysis.
         counts_in_all analysis ≡ said.counts_of notes.now.marks) }
     ensures turns { IfOk result (λ analysis. turns_of analysis
-        ≡ sum (map (λ row. length (flows.hops (loads_in deck.now) notes.now row.place)) (rows_of analysis))) }
+        ≡ sum (map (λ row. length (flows.hops (loads_in deck.now) notes.now row.place))
+        (rows_of analysis))) }
     ensures ends { IfOk result (λ analysis. (ends : List HopEnd)
         × AreEnds (setting deck.now times.now notes.now) (rows_of analysis) ends
-        × AreRaised (setting deck.now times.now notes.now) (rows_of analysis) ends × (turns_of analysis ≡ length ends)) }
+        × AreRaised (setting deck.now times.now notes.now) (rows_of analysis) ends
+        × (turns_of analysis ≡ length ends)) }
     ensures passed { IfOk result (λ analysis. (k : ℕ) (mark : Mark)
         → slice_get notes.now.marks k ≡ Some mark
         → slice_index (passed_of analysis) k ≡ passes_in mark (visits_of analysis)) }
     ensures below { IfOk result (λ analysis. bound_of analysis < 2 ^ 50) }
     ensures refused { IfErr result (IsRefusal (loads_in deck.now) notes.now (start_in deck.now)) }
 {
+    // `mark`'s facts: the marks are eight at most.
     let _marks = notes.marks();
-    let flow = match accept(alloc, deck, notes) {
-        Ok(flow) => flow,
-        Err(refusal) => return Err(refusal),
-    };
+    let flow = accept(alloc, deck, notes)?;
+    // `accepted` names these.
     let _executed = flow.executed();
     let Ok(analysis) = analysis_of(alloc, &flow, times) else {
         return Err(Refusal::Memory);

@@ -1,3 +1,5 @@
+//! What an analysis hands out: the bound, the table of worst times, and a walk.
+
 ghost use Rattle.std.specs.Prelude.{◌≡◌, ◌-◌, ◌^◌, ◌<◌, ◌≤◌, length, map};
 ghost use Rattle.drum_bound.specs.Visited.{AreInTime, seen_visit};
 
@@ -9,15 +11,16 @@ use drum_machine::passes::MOST_MARKS;
 /// What [`analyse`](crate::analyse) finds for a deck with its timing table and notes. The hops of
 /// its walk follow one another in time, from 0 to the bound, and are 4,000,000 at most.
 ///
-/// Its table is the one that was raised, entry by entry, by ends of hops: bound, table and turns are
-/// read from it.
+/// Its table is the one that was raised, entry by entry, by ends of hops: bound, table and turns
+/// are read from it.
 #[derive(Debug, Drop)]
 pub struct Analysis {
     cells: Cells,
     walk: Vec<Visit>,
     /// By the marks' places in the notes; what stands past the last mark means nothing.
     passed: [u64; MOST_MARKS],
-    ghost in_time: { ∥ AreInTime 0 (map seen_visit walk.items) (cells.last.clock - cells.angle) ∥₁ },
+    ghost in_time: { ∥ AreInTime 0 (map seen_visit walk.items)
+        (cells.last.clock - cells.angle) ∥₁ },
     ghost after: { cells.angle ≤ cells.last.clock },
     ghost on_drum: { cells.angle < 50 },
     ghost below: { cells.last.clock - cells.angle < 2 ^ 50 },
@@ -29,9 +32,9 @@ impl Analysis {
     ghost use Rattle.drum_bound.specs.AnalysisOf.{angle_of, bound_of, counts_in_all, passed_of, rows_of, turns_of, visits_of, words_of};
     ghost use Rattle.drum_bound.specs.RowOf.{row_in};
 
-    /// The analysis of a table, which it keeps as it was raised, with a walk that takes as long as its
-    /// latest end, and how often that passes each mark. (That the table is finished and the walk is
-    /// one is said by who calls this.)
+    /// The analysis of a table, which it keeps as it was raised, with a walk that takes as long as
+    /// its latest end, and how often that passes each mark. (That the table is finished and the
+    /// walk is one is said by who calls this.)
     pub(crate) fn of(cells: Cells, walk: Vec<Visit>, passed: [u64; MOST_MARKS]) -> Analysis
         requires in_time { AreInTime 0 (map seen_visit walk.items) (cells.last.clock -
             cells.angle) }

@@ -4,21 +4,22 @@ ghost use Rattle.std.specs.Prelude.{◌≡◌, ◌*◌, ◌≤◌, length};
 
 mod end;
 
-use crate::latest::{Latest, Origin};
+use crate::key_hop::KeyHop;
+use crate::latest::Latest;
 use crate::leap::Leap;
 use crate::search::Search;
 use crate::worst::Worst;
 use drum_core::Location;
+pub use end::End;
 use end::Made;
-pub use end::{End, KeyHop};
 use std::alloc::{AllocError, Global};
 
 /// The latest end at each key, of the hops that lead there, or the moment of the start; and the
 /// latest of all that no full mark bars. Where something is kept, an entry of the table of worst
 /// times holds it: the table is handed out as it was raised.
 ///
-/// An [`End`] alone raises what is kept. One is made from the clock that its key keeps, and no two of
-/// one key and number, since each is of a later hop than the one before; and what its key keeps
+/// An [`End`] alone raises what is kept. One is made from the clock that its key keeps, and no two
+/// of one key and number, since each is of a later hop than the one before; and what its key keeps
 /// stays, since only later keys are raised from then on.
 #[derive(Debug, Drop)]
 pub struct Cells {
@@ -27,7 +28,7 @@ pub struct Cells {
     /// The start's, and behind it the others', in the order in which they were first led to.
     entries: Vec<Worst>,
     /// Where each entry's time comes from. The start's comes from its own key, which no hop does.
-    origins: Vec<Origin>,
+    origins: Vec<KeyHop>,
     last: Latest,
     made: Made,
     /// The start angle: an entry's clock is its time from there on.
@@ -52,7 +53,7 @@ impl Cells {
     ghost use Rattle.drum_bound.specs.Longest.{longest};
     ghost use Rattle.drum_bound.specs.Profile.{MayEnd};
     ghost use Rattle.drum_bound.specs.Scanned.{cell_at, later, raised};
-    ghost use Rattle.drum_bound.specs.KeyHops.{IsBefore, IsLater, KeepsAt};
+    ghost use Rattle.drum_bound.specs.KeyHops.{IsLater, KeepsAt};
 
     /// The cells of so many executed locations and counts: the start's key keeps the moment of the
     /// start, at this angle, and no other keeps anything.
@@ -94,7 +95,10 @@ impl Cells {
             counts: 0,
             time: 0,
         })?;
-        origins.push(Origin::of_start(start_key))?;
+        origins.push(KeyHop {
+            key: start_key as u32,
+            hop: 0,
+        })?;
         places[start_key] = 1;
         let last = Latest {
             clock: angle,
@@ -214,7 +218,8 @@ impl Cells {
     }
 
     /// Makes the end of a hop of the key whose instruction was sought, from when it is found: where
-    /// the leap is that of the hop, the latest at which it can end from the clock that its key keeps.
+    /// the leap is that of the hop, the latest at which it can end from the clock that its key
+    /// keeps.
     #[inline(always)]
     pub fn end(&mut self, search: &Search, number: usize, leap: &Leap) -> End
         requires kept { KeepsAt (kept_in self.old) search.now.key search.now.begun }
@@ -226,12 +231,13 @@ impl Cells {
         }) }
         requires few { self.old.made.count < 2 ^ 62 }
         requires narrow { search.now.key < 2 ^ 32 }
+        requires few_hops { number < 2 ^ 32 }
         requires soon { search.now.found ≤ 2 ^ 62 }
         ensures same { self.new ≡ record self.old { made = self.new.made } }
         ensures counted { self.new.made.count ≡ self.old.made.count + 1 }
         ensures now_last { self.new.made.last
             ≡ Some (record { key = search.now.key; hop = number }) }
-        ensures origin { result.origin ≡ record { key = search.now.key; hop = leap.now.hop } }
+        ensures origin { result.origin ≡ record { key = search.now.key; hop = number } }
         ensures clock { (g : Setting) (order : List ℕ)
             → MayEnd leap.now.hop.instruction (seen_way leap.now.hop.way)
             → IsLeap g order search.now.location.number (search.now.found % 50) leap.now
@@ -240,21 +246,21 @@ impl Cells {
         ensures after { search.now.begun ≤ result.clock }
     {
         let key_hop = KeyHop {
-            key: search.key,
-            hop: number,
+            key: search.key as u32,
+            hop: number as u32,
         };
         self.made.end(key_hop, search.found, leap)
     }
 
-    /// Keeps the end of a hop that goes on at a key, where it is later than what is kept there, and
-    /// of all. The key is later than those whose ends have been made; it is at this location, with
-    /// the counts of this number.
+    /// Keeps the end that was made last, of a hop that goes on at a key, where it is later than
+    /// what is kept there, and of all. The key is later than the end's own; it is at this location,
+    /// with the counts of this number.
     #[inline(always)]
     pub fn raise(&mut self, key: usize, location: Location, counts: u32, end: &End)
         requires held { AreHeld self.old }
         requires there { key < length self.old.places.items }
-        requires onward { IsBefore self.old.made.last key }
-        requires from { end.now.origin.key < key }
+        requires made { self.old.made.last ≡ Some end.now.origin }
+        requires onward { end.now.origin.key < key }
         requires after { self.old.angle ≤ end.now.clock }
         ensures held { AreHeld self.new }
         ensures kept { kept_in self.new ≡ raised (kept_in self.old) key (latest_in end.now) }
@@ -335,10 +341,11 @@ impl Cells {
         self.places[key] = before as u32 + 1;
     }
 
-    /// Keeps the end of a hop, where it is later than all that were kept before: that of one that
-    /// stops is kept nowhere else.
+    /// Keeps the end that was made last, where it is later than all that were kept before: that of
+    /// a hop that stops is kept nowhere else.
     #[inline(always)]
     pub fn keep_last(&mut self, end: &End)
+        requires made { self.old.made.last ≡ Some end.now.origin }
         ensures same { self.new ≡ record self.old { last = self.new.last } }
         ensures last { self.new.last ≡ later self.old.last (latest_in end.now) }
     {

@@ -82,9 +82,9 @@ impl Counts {
     pub fn passed(self, marks: &[Mark], from: Location, onto: Location) -> Option<Counts>
         requires few { length marks.now ≤ 8 }
         requires within { AreWithin marks.now (counts_in self marks.now) }
-        ensures { MatchOption result
-            (¬ AreWithin marks.now (after_pass marks.now from.number onto.number (counts_in self marks.now)))
-            (λ counts. (counts_in counts marks.now ≡ after_pass marks.now from.number onto.number (counts_in self marks.now))
+        ensures { let after = after_pass marks.now from.number onto.number (counts_in self marks.now) in
+            MatchOption result (¬ AreWithin marks.now after) (λ counts.
+            (counts_in counts marks.now ≡ after)
             × AreWithin marks.now (counts_in counts marks.now)) }
     {
         let Some(passed) = mark_on(marks, from, onto) else {

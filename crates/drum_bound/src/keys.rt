@@ -82,12 +82,8 @@ impl<'a> Keys<'a> {
         ensures keys { IfOk result (λ keys. AreKeys keys) }
         ensures flow { IfOk result (λ keys. keys.flow.now ≡ flow.now) }
     {
-        let Ok(sites) = sites_of(alloc, flow) else {
-            return Err(AllocError);
-        };
-        let Ok(indices) = indices_of(alloc, flow.order()) else {
-            return Err(AllocError);
-        };
+        let sites = sites_of(alloc, flow)?;
+        let indices = indices_of(alloc, flow.order())?;
         let counts = counts_of(flow.notes().marks()) as usize;
         let size = counts * sites.len();
         Ok(Keys {

@@ -26,8 +26,8 @@ const MOST_LEAPS: usize = 262_144;
 #[derive(Clone, Copy, Debug)]
 pub struct Leap {
     pub hop: Hop,
-    /// The most word times that it takes from when its instruction is found, which is at an angle of
-    /// the location.
+    /// The most word times that it takes from when its instruction is found, which is at an angle
+    /// of the location.
     pub time: u32,
     /// The index of the location that it goes on at; of a hop that stops it means nothing.
     pub index: u32,
@@ -109,8 +109,8 @@ impl Keys<'_> {
         Ok(Some(leaps))
     }
 
-    /// The leaps of the executed locations, in their order. Where those of one don't fit, the room is
-    /// halved, so that few are made and thrown away.
+    /// The leaps of the executed locations, in their order. Where those of one don't fit, the room
+    /// is halved, so that few are made and thrown away.
     pub fn leaps(&self, alloc: Global, times: &Times) -> Result<Vec<Option<Vec<Leap>>>, AllocError>
         requires { AreKeys self.now }
         ensures { IfOk result (λ all. HaveLeaps (setting_of self.now.flow.now times.now)

@@ -3,9 +3,10 @@
 #![tactic(auto)]
 
 mod analysing;
-pub mod analysis;
+mod analysis;
 mod cells;
 mod counts;
+mod key_hop;
 mod keys;
 mod latest;
 mod leap;
@@ -15,8 +16,8 @@ mod round;
 mod scan;
 mod search;
 mod trace;
-pub mod visit;
-pub mod worst;
+mod visit;
+mod worst;
 
 pub use analysing::analyse;
 pub use analysis::Analysis;

@@ -28,7 +28,7 @@ pub struct Round {
     /// Their own counts.
     pub own: Counted,
     /// The counts after a pass of each mark, by the marks' places; `None` where it is full.
-    pub passed: [Option<Counted>; MOST_MARKS],
+    passed: [Option<Counted>; MOST_MARKS],
 }
 
 impl Round {

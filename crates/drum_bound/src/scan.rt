@@ -16,7 +16,7 @@ use std::alloc::{AllocError, Global};
 /// What is known when some of the keys have been taken: the latest end at each key, and of all.
 #[derive(Debug, Drop)]
 pub struct Scan<'a> {
-    pub times: &'a Times,
+    times: &'a Times,
     pub keys: &'a Keys<'a>,
     /// The leaps of each location, in their order; `None` where they are made for each key.
     pub leaps: &'a [Option<Vec<Leap>>],
@@ -39,7 +39,7 @@ impl<'a> Scan<'a> {
     ghost use Rattle.drum_bound.specs.Scanned.{start_angle, Taking};
     ghost use Rattle.drum_bound.specs.ScanOf.{setting_in, order_of, AreCells, IsScanned, IsDone, IsReady, Goes, IsAgreed};
     ghost use Rattle.drum_bound.specs.SearchOf.{IsSearch};
-    ghost use Rattle.drum_bound.specs.KeyHops.{IsBefore, IsLater};
+    ghost use Rattle.drum_bound.specs.KeyHops.{IsLater};
     ghost use Rattle.drum_flow.specs.Flow.{order_in};
 
     /// The latest ends at all keys, and of all: each key is taken once, after all that can raise
@@ -57,9 +57,7 @@ impl<'a> Scan<'a> {
         ensures times { IfOk result (λ scan. scan.times.now ≡ times.now) }
         ensures keys { IfOk result (λ scan. scan.keys.now ≡ keys.now) }
     {
-        let Ok(mut scan) = Scan::new(alloc, times, keys, leaps) else {
-            return Err(AllocError);
-        };
+        let mut scan = Scan::new(alloc, times, keys, leaps)?;
         for counts in 0..keys.counts {
             scan.take_round(counts);
         }
@@ -89,9 +87,7 @@ impl<'a> Scan<'a> {
     {
         let (key, start) = (keys.start_key(), keys.flow.deck().start());
         let (words, angle) = (keys.sites.len(), keys.start_angle());
-        let Ok(cells) = Cells::new(alloc, words, keys.counts, key, start, angle) else {
-            return Err(AllocError);
-        };
+        let cells = Cells::new(alloc, words, keys.counts, key, start, angle)?;
         Ok(Scan {
             times,
             keys,
@@ -113,7 +109,7 @@ impl<'a> Scan<'a> {
         requires next { seen_way leap.now.hop.way ≡ to next.number }
         requires edge { IsEdge (setting_in self.old).loads (setting_in self.old).notes (place_at
             (order_of self.old) search.now.key) next.number }
-        requires before { IsBefore self.old.cells.made.last (search.now.key + 1) }
+        requires made { self.old.cells.made.last ≡ Some end.now.origin }
         requires from { end.now.origin.key ≡ search.now.key }
         requires after { self.old.cells.angle ≤ end.now.clock }
         ensures goes { Goes (setting_in self.old) (order_of self.old) search.now.key next.number
@@ -134,11 +130,8 @@ impl<'a> Scan<'a> {
     #[inline(always)]
     fn take_leap(&mut self, round: &Round, search: &Search, number: usize, leap: &Leap)
         requires ready { IsReady self.old round.now search.now number leap.now }
-        requires later { IsLater self.old.cells.made.last (record {
-          key = search.now.key;
-          hop =
-              number;
-        }) }
+        requires later { IsLater self.old.cells.made.last
+            (record { key = search.now.key; hop = number }) }
         requires soon { search.now.found ≤ 2 ^ 62 }
         requires few { self.old.cells.made.count < 2 ^ 62 }
         ensures same { self.new ≡ record self.old { cells = self.new.cells } }

@@ -1,3 +1,5 @@
+//! The search for a key's instruction.
+
 use drum_core::Location;
 
 /// The search for the instruction of a key.

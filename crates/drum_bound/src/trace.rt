@@ -1,31 +1,60 @@
 //! The walk whose end is the latest of all that a finished scan keeps.
 
-ghost use Rattle.std.specs.Prelude.{◌≡◌, ◌-◌, ◌≤◌, map, Some, IfOk};
+ghost use Rattle.std.specs.Prelude.{◌≡◌, ℕ, ◌-◌, ◌<◌, ◌≤◌, length, map, slice_get, Some, IfOk};
+ghost use Rattle.std.specs.Option.{option_map};
+ghost use Rattle.drum_flow.specs.Hops.{Hop as HopOf, hops};
+ghost use Rattle.drum_flow.specs.Seen.{seen_hop};
 ghost use Rattle.drum_bound.specs.Held.{kept_in};
-ghost use Rattle.drum_bound.specs.ScanOf.{IsDone, order_of, setting_in};
-ghost use Rattle.drum_bound.specs.Scanned.{cell_at, start_angle};
+ghost use Rattle.drum_bound.specs.ScanOf.{IsDone, order_of, setting_in, size_in};
+ghost use Rattle.drum_bound.specs.Scanned.{cell_at, start_angle, IsEndOf, IsKeyHop};
 ghost use Rattle.drum_bound.specs.Visited.{IsWalkOf, seen_visit, visited};
 ghost use Rattle.drum_bound.specs.TakenOf.{taken_of};
 
-use crate::latest::{Latest, Origin};
+use crate::key_hop::KeyHop;
+use crate::latest::Latest;
 use crate::scan::Scan;
 use crate::visit::Visit;
+use drum_flow::Hop;
 use std::alloc::{AllocError, Global};
 
 impl Scan<'_> {
-    /// The hop of an origin, between the word times used when it begins and when it ends.
-    fn visit(&self, origin: Origin, begin: Latest, end: Latest) -> Visit
+    /// The hop of this number of a location, of this index: one of its leaps, or, where none are
+    /// kept, found among its hops.
+    fn hop_at(&self, index: usize, number: usize) -> Option<Hop>
         requires done { IsDone self.now }
+        requires there { index < length (order_of self.now) }
+        ensures { (place : ℕ) → slice_get (order_of self.now) index ≡ Some place
+            → slice_get (hops (setting_in self.now).loads (setting_in self.now).notes place) number
+            ≡ option_map seen_hop result }
+    {
+        match &self.leaps[index] {
+            Some(leaps) => Some(leaps.get(number)?.hop),
+            None => self.keys.site(index).hops.nth(number),
+        }
+    }
+
+    /// The hop of a key, between the word times used when it begins and when it ends.
+    fn visit(&self, origin: KeyHop, begin: Latest, end: Latest) -> Visit
+        requires done { IsDone self.now }
+        requires from { IsEndOf (setting_in self.now) (order_of self.now) (size_in self.now)
+            (kept_in self.now.cells) origin end.clock }
         requires begun { cell_at (kept_in self.now.cells) origin.key ≡ Some begin }
         requires later { begin.clock ≤ end.clock }
         ensures { let angle = start_angle (setting_in self.now).start in
-            seen_visit result ≡ visited (taken_of (setting_in self.now) (order_of self.now) origin (begin.clock - angle) (end.clock - angle)) }
+            (hop : HopOf) → IsKeyHop (setting_in self.now) (order_of self.now) origin hop
+            → seen_visit result ≡ visited (taken_of (setting_in self.now) (order_of self.now)
+            origin.key hop (begin.clock - angle) (end.clock - angle)) }
     {
         let angle = self.start_angle();
+        let key = origin.key as usize;
+        let index = key % self.keys.sites.len();
+        let Some(hop) = self.hop_at(index, origin.hop as usize) else {
+            unreachable!()
+        };
         Visit {
-            place: self.keys.location_at(origin.key as usize),
-            instruction: origin.hop.instruction,
-            way: origin.hop.way,
+            place: self.keys.location_at(key),
+            instruction: hop.instruction,
+            way: hop.way,
             begun: begin.clock - angle,
             ended: end.clock - angle,
         }
@@ -36,7 +65,8 @@ impl Scan<'_> {
     pub fn walk(&self, alloc: Global) -> Result<Vec<Visit>, AllocError>
         requires { IsDone self.now }
         ensures { let angle = start_angle (setting_in self.now).start in
-            IfOk result (λ visits. IsWalkOf (setting_in self.now) angle (self.now.cells.last.clock - angle) (map seen_visit visits.items)) }
+            IfOk result (λ visits. IsWalkOf (setting_in self.now) angle
+            (self.now.cells.last.clock - angle) (map seen_visit visits.items)) }
     {
         let mut visits = Vec::new(alloc);
         let mut end = self.cells.last();

@@ -1,3 +1,5 @@
+//! The hops of a walk, as they are handed out.
+
 ghost use Rattle.std.specs.Prelude.{◌≡◌};
 ghost use Rattle.drum_flow.specs.Seen.{seen_way};
 ghost use Rattle.drum_flow.specs.Walk.{passes_by};

@@ -1,3 +1,5 @@
+//! The entries of the table of worst times.
+
 use drum_core::Location;
 
 /// An entry of the table of worst times: the most word times that can be used when a search begins

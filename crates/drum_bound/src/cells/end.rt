@@ -2,14 +2,15 @@
 
 ghost use Rattle.std.specs.Prelude.{◌≡◌, ◌+◌, ◌%◌, ◌<◌, ◌≤◌, ◌^◌, None, Some};
 
-use crate::latest::{Latest, Origin};
+use crate::key_hop::KeyHop;
+use crate::latest::Latest;
 use crate::leap::Leap;
 
 /// The latest end of a hop from a key. It is made by [`Made::end`] alone, which counts it.
 #[derive(Debug, Drop)]
 pub struct End {
     clock: u64,
-    origin: Origin,
+    origin: KeyHop,
 }
 
 impl End {
@@ -29,8 +30,8 @@ impl End {
         (self.clock % 50) as u8
     }
 
-    /// The key and the hop that it is of.
-    pub fn origin(&self) -> Origin
+    /// The hop of a key that it is of.
+    pub fn origin(&self) -> KeyHop
         ensures { result ≡ self.now.origin }
     {
         self.origin
@@ -47,15 +48,8 @@ impl End {
     }
 }
 
-/// A hop of a key, by its number among those of the key's location, from 0.
-#[derive(Clone, Copy, Debug, PartialEq, Eq)]
-pub struct KeyHop {
-    pub key: usize,
-    pub hop: usize,
-}
-
-/// The ends of hops that have been made: how many, and, for the contracts alone, which was the last.
-/// Each is of a later hop than the one before it, so that no two are of one key and number.
+/// The ends of hops that have been made: how many, and, for the contracts alone, which was the
+/// last. Each is of a later hop than the one before it, so that no two are of one key and number.
 #[derive(Debug, Drop)]
 pub struct Made {
     count: u64,
@@ -89,21 +83,17 @@ impl Made {
     pub fn end(&mut self, key_hop: KeyHop, found: u64, leap: &Leap) -> End
         requires few { self.old.count < 2 ^ 62 }
         requires later { IsLater self.old.last key_hop }
-        requires narrow { key_hop.key < 2 ^ 32 }
         requires soon { found ≤ 2 ^ 62 }
         ensures counted { self.new.count ≡ self.old.count + 1 }
         ensures last { self.new.last ≡ Some key_hop }
-        ensures origin { result.origin ≡ record { key = key_hop.key; hop = leap.now.hop } }
+        ensures origin { result.origin ≡ key_hop }
         ensures clock { result.clock ≡ found + leap.now.time }
     {
         self.count += 1;
         self.last = Some(key_hop);
         End {
             clock: found + u64::from(leap.time),
-            origin: Origin {
-                key: key_hop.key as u32,
-                hop: leap.hop,
-            },
+            origin: key_hop,
         }
     }
 }

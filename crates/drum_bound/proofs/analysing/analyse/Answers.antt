@@ -14,55 +14,64 @@ use Rattle.drum_bound.proofs.Unders.{arrive_under}
 use Rattle.drum_bound.proofs.analysing.analyse.Goals as goal
 
 -- what is so of one deck and its notes is so of those that are the same
-moved : (Holds : Deck → Notes → Type 0) (deck other : Deck) (notes others : Notes) → deck ≡ other → notes ≡ others → Holds deck notes → Holds other others
-moved Holds deck other notes others same equal holds = subst (Holds other) equal (subst (λ (d : Deck). Holds d notes) same holds)
+moved : (Holds : Deck → Notes → Type 0) (deck other : Deck) (notes others : Notes) → deck ≡ other → notes ≡ others
+    → Holds deck notes → Holds other others
+moved Holds deck other notes others same equal holds =
+    subst (Holds other) equal (subst (λ (d : Deck). Holds d notes) same holds)
 
 pub analysis_of-requires : goal.analysis_of-requires
 analysis_of-requires c =
-    let flow = c.in-Ok.flow in
+    let flow = c.in_ok-flow.flow in
     let deck = c.args.deck.now in
     let notes = c.args.notes.now in
-    let ensures = c.in-Ok.ensures in
+    let ensures = c.in_ok-flow.ensures in
     can_have_keys flow
-    (moved (λ d n. IsAccepted (loads_in d) n (start_in d) (executed_in flow)) deck (deck_of flow) notes (notes_of flow) (sym ensures.deck) (sym ensures.notes) ensures.accepted)
-    (moved (λ d n. IsFreeOrder (loads_in d) n (executed_in flow) (order_in flow)) deck (deck_of flow) notes (notes_of flow) (sym ensures.deck) (sym ensures.notes) ensures.order)
+    (moved (λ d n. IsAccepted (loads_in d) n (start_in d) (executed_in flow)) deck (deck_of flow) notes (notes_of flow)
+    (sym ensures.deck) (sym ensures.notes) ensures.accepted)
+    (moved (λ d n. IsFreeOrder (loads_in d) n (executed_in flow) (order_in flow)) deck (deck_of flow) notes
+    (notes_of flow) (sym ensures.deck) (sym ensures.notes) ensures.order)
     (subst AreSound (sym ensures.notes) c.marks-marks.ensures.sound) c.executed-executed.ensures.different
 
 pub returns-clause-accepted : goal.returns-clause-accepted
 returns-clause-accepted c =
-    let flow = c.in-Ok.flow in
+    let flow = c.in_ok-flow.flow in
     let deck = c.args.deck.now in
     let notes = c.args.notes.now in
-    let ensures = c.in-Ok.ensures in
+    let ensures = c.in_ok-flow.ensures in
     let same =
     as_many flow
-    (moved (λ d n. IsAccepted (loads_in d) n (start_in d) (executed_in flow)) deck (deck_of flow) notes (notes_of flow) (sym ensures.deck) (sym ensures.notes) ensures.accepted)
-    (moved (λ d n. IsFreeOrder (loads_in d) n (executed_in flow) (order_in flow)) deck (deck_of flow) notes (notes_of flow) (sym ensures.deck) (sym ensures.notes) ensures.order)
+    (moved (λ d n. IsAccepted (loads_in d) n (start_in d) (executed_in flow)) deck (deck_of flow) notes (notes_of flow)
+    (sym ensures.deck) (sym ensures.notes) ensures.accepted)
+    (moved (λ d n. IsFreeOrder (loads_in d) n (executed_in flow) (order_in flow)) deck (deck_of flow) notes
+    (notes_of flow) (sym ensures.deck) (sym ensures.notes) ensures.order)
     c.executed-executed.ensures.different in
-    (executed_in flow, ensures.accepted, c.in-Ok-analysis_of.ensures.executed ∙ same)
+    (executed_in flow, ensures.accepted, c.in-Ok.ensures.executed ∙ same)
 
 pub returns-clause-kept : goal.returns-clause-kept
 returns-clause-kept c = λ s turns first is_run kept.
-    let flow = c.in-Ok.flow in
+    let flow = c.in_ok-flow.flow in
     let deck = c.args.deck.now in
     let notes = c.args.notes.now in
     let times = c.args.times.now in
-    let analysis = c.in-Ok-analysis_of.analysis in
-    let ensures = c.in-Ok.ensures in
+    let analysis = c.in-Ok.analysis in
+    let ensures = c.in_ok-flow.ensures in
     let analysed : IsAnalysis (setting deck times notes) (length (order_in flow)) analysis =
-    moved (λ d n. IsAnalysis (setting d times n) (length (order_in flow)) analysis) (deck_of flow) deck (notes_of flow) notes ensures.deck ensures.notes c.in-Ok-analysis_of.ensures in
-    let walked = kept_walk (setting deck times notes) (executed_in flow) s turns (is_proper deck times notes c.marks-marks.ensures.sound) ensures.accepted first is_run kept in
+    moved (λ d n. IsAnalysis (setting d times n) (length (order_in flow)) analysis) (deck_of flow) deck (notes_of flow)
+    notes ensures.deck ensures.notes c.in-Ok.ensures in
+    let walked = kept_walk (setting deck times notes) (executed_in flow) s turns
+    (is_proper deck times notes c.marks-marks.ensures.sound) ensures.accepted first is_run kept in
     omega (arith, analysed.worst.most s.start (hops_taken turns) walked.0, walked.1)
 
 pub returns-clause-under : goal.returns-clause-under
 returns-clause-under c = λ s turns first is_run kept.
-    let flow = c.in-Ok.flow in
+    let flow = c.in_ok-flow.flow in
     let deck = c.args.deck.now in
     let notes = c.args.notes.now in
     let times = c.args.times.now in
-    let analysis = c.in-Ok-analysis_of.analysis in
-    let ensures = c.in-Ok.ensures in
+    let analysis = c.in-Ok.analysis in
+    let ensures = c.in_ok-flow.ensures in
     let analysed : IsAnalysis (setting deck times notes) (length (order_in flow)) analysis =
-    moved (λ d n. IsAnalysis (setting d times n) (length (order_in flow)) analysis) (deck_of flow) deck (notes_of flow) notes ensures.deck ensures.notes c.in-Ok-analysis_of.ensures in
+    moved (λ d n. IsAnalysis (setting d times n) (length (order_in flow)) analysis) (deck_of flow) deck (notes_of flow)
+    notes ensures.deck ensures.notes c.in-Ok.ensures in
     arrive_under (setting deck times notes) (rows_of analysis) (executed_in flow) s turns analysed.table
     (is_proper deck times notes c.marks-marks.ensures.sound) ensures.accepted first is_run kept

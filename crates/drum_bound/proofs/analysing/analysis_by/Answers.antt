@@ -31,7 +31,8 @@ of-requires-2-clause-in_time c =
     let cells = c.in_ok-scan.scan.cells in
     let visits = map seen_visit c.in_ok-walk.walk.items in
     let is : IsFound keys times cells visits =
-    is_found keys times c.in_ok-scan.scan visits c.in_ok-scan.ensures.keys c.in_ok-scan.ensures.times c.in_ok-scan.ensures.done c.in_ok-walk.ensures in
+    is_found keys times c.in_ok-scan.scan visits c.in_ok-scan.ensures.keys c.in_ok-scan.ensures.times
+    c.in_ok-scan.ensures.done c.in_ok-walk.ensures in
     let g = setting_of keys.flow.now times in
     subst (AreInTime 0 visits) (sym (bound keys times cells visits is))
     (walk_in_time g (start_angle g.start) (cells.last.clock - start_angle g.start) visits is.walk)
@@ -42,7 +43,8 @@ of-requires-2-clause-after c =
     let times = c.args.times.now in
     let visits = map seen_visit c.in_ok-walk.walk.items in
     let is : IsFound keys times c.in_ok-scan.scan.cells visits =
-    is_found keys times c.in_ok-scan.scan visits c.in_ok-scan.ensures.keys c.in_ok-scan.ensures.times c.in_ok-scan.ensures.done c.in_ok-walk.ensures in
+    is_found keys times c.in_ok-scan.scan visits c.in_ok-scan.ensures.keys c.in_ok-scan.ensures.times
+    c.in_ok-scan.ensures.done c.in_ok-walk.ensures in
     last_after (setting_of keys.flow.now times) (order_in keys.flow.now) c.in_ok-scan.scan.cells is.are is.scanned
 
 pub of-requires-2-clause-on_drum : goal.of-requires-2-clause-on_drum
@@ -54,7 +56,8 @@ of-requires-2-clause-below c =
     let times = c.args.times.now in
     let visits = map seen_visit c.in_ok-walk.walk.items in
     let is : IsFound keys times c.in_ok-scan.scan.cells visits =
-    is_found keys times c.in_ok-scan.scan visits c.in_ok-scan.ensures.keys c.in_ok-scan.ensures.times c.in_ok-scan.ensures.done c.in_ok-walk.ensures in
+    is_found keys times c.in_ok-scan.scan visits c.in_ok-scan.ensures.keys c.in_ok-scan.ensures.times
+    c.in_ok-scan.ensures.done c.in_ok-walk.ensures in
     omega (arith, is.scanned.last_near, c.requires.ordered.0.few)
 
 pub of-requires-2-clause-few : goal.of-requires-2-clause-few
@@ -63,7 +66,8 @@ of-requires-2-clause-few c =
     let g = setting_of keys.flow.now c.args.times.now in
     let visits = map seen_visit c.in_ok-walk.walk.items in
     let is : IsFound keys c.args.times.now c.in_ok-scan.scan.cells visits =
-    is_found keys c.args.times.now c.in_ok-scan.scan visits c.in_ok-scan.ensures.keys c.in_ok-scan.ensures.times c.in_ok-scan.ensures.done c.in_ok-walk.ensures in
+    is_found keys c.args.times.now c.in_ok-scan.scan visits c.in_ok-scan.ensures.keys c.in_ok-scan.ensures.times
+    c.in_ok-scan.ensures.done c.in_ok-walk.ensures in
     omega (
       arith,
       c.requires.ordered.0.few,
@@ -82,19 +86,29 @@ returns c =
     let g = setting_of keys.flow.now times in
     let order = order_in keys.flow.now in
     let is : IsFound keys times cells visits =
-    is_found keys times c.in_ok-scan.scan visits c.in_ok-scan.ensures.keys c.in_ok-scan.ensures.times c.in_ok-scan.ensures.done c.in_ok-walk.ensures in
+    is_found keys times c.in_ok-scan.scan visits c.in_ok-scan.ensures.keys c.in_ok-scan.ensures.times
+    c.in_ok-scan.ensures.done c.in_ok-walk.ensures in
     let analysis : Analysis = c.of-2.result in
-    let marks : c.marks.result.now ≡ (notes_of keys.flow.now).marks = c.marks.ensures.all ∙ ap (λ notes. notes.marks) c.notes.ensures in
+    let marks : c.marks.result.now ≡ (notes_of keys.flow.now).marks =
+    c.marks.ensures.all ∙ ap (λ notes. notes.marks) c.notes.ensures in
     let passed : ArePasses c.marks.result.now visits c.passes_of_marks-passed.result =
-    subst (λ (walk : List Visit). ArePasses c.marks.result.now (map seen_visit walk) c.passes_of_marks-passed.result) c.deref-2.ensures.value c.passes_of_marks-passed.ensures.passed in
-    let own : ArePasses g.notes.marks visits c.passes_of_marks-passed.result = subst (λ (all : List Mark). ArePasses all visits c.passes_of_marks-passed.result) marks passed in
+    subst (λ (walk : List Visit). ArePasses c.marks.result.now (map seen_visit walk) c.passes_of_marks-passed.result)
+    c.deref-2.ensures.value c.passes_of_marks-passed.ensures.passed in
+    let own : ArePasses g.notes.marks visits c.passes_of_marks-passed.result =
+    subst (λ (all : List Mark). ArePasses all visits c.passes_of_marks-passed.result) marks passed in
     let same : c.of-2.result.cells ≡ cells = c.of-2.ensures.cells in
-    let walked : map seen_visit c.of-2.result.walk.items ≡ visits = ap (λ (walk : Vec Visit Global). map seen_visit walk.items) c.of-2.ensures.walk in
+    let walked : map seen_visit c.of-2.result.walk.items ≡ visits =
+    ap (λ (walk : Vec Visit Global). map seen_visit walk.items) c.of-2.ensures.walk in
     is_analysis g order analysis c.requires.ordered.0 (deck_of keys.flow.now).on_drum
     (subst (AreCells g order) (sym same) is.are)
-    (subst (λ (all : Cells). Scanned g order (keys_of g.notes.marks order) (keys_of g.notes.marks order) (kept_in all) all.last) (sym same) is.scanned)
-    (subst (λ (all : Cells). all.made.count ≡ turns_below g order (kept_in all) (keys_of g.notes.marks order)) (sym same) is.turns)
-    (subst (λ (all : Cells). IsWalkOf g (start_angle g.start) (all.last.clock - start_angle g.start) (map seen_visit c.of-2.result.walk.items)) (sym same)
+    (subst (λ (all : Cells).
+    Scanned g order (keys_of g.notes.marks order) (keys_of g.notes.marks order) (kept_in all) all.last) (sym same)
+    is.scanned)
+    (subst (λ (all : Cells). all.made.count ≡ turns_below g order (kept_in all) (keys_of g.notes.marks order))
+    (sym same) is.turns)
+    (subst (λ (all : Cells).
+    IsWalkOf g (start_angle g.start) (all.last.clock - start_angle g.start)
+    (map seen_visit c.of-2.result.walk.items)) (sym same)
     (subst (IsWalkOf g (start_angle g.start) (cells.last.clock - start_angle g.start)) (sym walked) is.walk))
     (subst (λ (all : List Visited). ArePasses g.notes.marks all c.of-2.result.passed) (sym walked)
     (subst (λ (all : List ℕ). ArePasses g.notes.marks visits all) (sym c.of-2.ensures.passed) own))

@@ -8,5 +8,6 @@ use Rattle.drum_bound.proofs.analysing.passes_of_marks.Given as goal
 abbrev pub invariant-loop-place : goal.invariant-loop-place
 invariant-loop-place l = record {
   places : length l.passed ≡ 8;
-  counted : (k : ℕ) (mark : Mark) → k < l.place → slice_get l.marks k ≡ Some mark → slice_index l.passed k ≡ passes_in mark (map seen_visit l.walk);
+  counted : (k : ℕ) (mark : Mark) → k < l.place → slice_get l.marks k ≡ Some mark
+      → slice_index l.passed k ≡ passes_in mark (map seen_visit l.walk);
 }

@@ -20,14 +20,21 @@ loop-location-preserved c =
     let location = c.location-item.result in
     let sites = c.loop-location.sites.items in
     let site : Site = record { location = location; hops = c.hops-hops.result } in
-    let here : slice_get (order_in c.args.flow.now) k ≡ Some location.number = number_at locations (order_in c.args.flow.now) k location c.order-location-items.ensures c.loop-location-test.true c.location-item.is in
-    let executed : Contains (executed_in c.args.flow.now) location.number = c.requires location.number (contains_from_get (order_in c.args.flow.now) k location.number here) in
+    let here : slice_get (order_in c.args.flow.now) k ≡ Some location.number =
+    number_at locations (order_in c.args.flow.now) k location c.order-location-items.ensures
+    c.loop-location-test.true c.location-item.is in
+    let executed : Contains (executed_in c.args.flow.now) location.number =
+    c.requires location.number (contains_from_get (order_in c.args.flow.now) k location.number here) in
     let pushed : c.push.new.self.items ≡ sites ++ site ∷ [] = c.in_ok-push.ensures.items in
     record {
       places = subst (λ (all : List Site). sites_in all ≡ numbers (take (k + 1) locations)) (sym pushed)
-          (sites_more sites site ∙ ap (λ (ns : List ℕ). ns ++ location.number ∷ []) c.loop-location.invariant.places ∙ sym (numbers_more locations k location c.loop-location-test.true c.location-item.is));
-      hops = subst (HaveHops c.args.flow.now) (sym pushed) (λ one there. elim (Contains-push_cases sites site one there) [
-        | inl before ↦ c.loop-location.invariant.hops one before
-        | inr same ↦ subst (λ (s : Site). hops_left s.hops ≡ hops (loads_in (deck_of c.args.flow.now)) (notes_of c.args.flow.now) s.location.number) same (c.hops-hops.ensures.executed executed)
-      ]);
+          (sites_more sites site ∙ ap (λ (ns : List ℕ). ns ++ location.number ∷ []) c.loop-location.invariant.places
+          ∙ sym (numbers_more locations k location c.loop-location-test.true c.location-item.is));
+      hops = subst (HaveHops c.args.flow.now) (sym pushed)
+          (λ one there. elim (Contains-push_cases sites site one there) [
+            | inl before ↦ c.loop-location.invariant.hops one before
+            | inr same ↦ subst (λ (s : Site). hops_left s.hops
+                ≡ hops (loads_in (deck_of c.args.flow.now)) (notes_of c.args.flow.now) s.location.number) same
+                (c.hops-hops.ensures.executed executed)
+          ]);
     }

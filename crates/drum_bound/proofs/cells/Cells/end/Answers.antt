@@ -19,4 +19,10 @@ returns-clause-clock c = λ g order may is.
 pub returns-clause-after : goal.returns-clause-after
 returns-clause-after c =
     let search = c.args.search.now in
-    omega (arith, c.end.ensures.clock, c.requires.found, never_earlier (available_recurs search.location.number) search.begun)
+    omega (
+      arith,
+      c.end.ensures.clock,
+      c.requires.found,
+      never_earlier (available_recurs search.location.number)
+          search.begun,
+    )

@@ -14,6 +14,7 @@ loop-key-preserved c = λ key from below. elim (cases_lt key c.loop-key.key) [
       let same : c.loop-key.key ≡ key = omega (arith, below, past) in
       let inside : c.loop-key.key < length cells.places.items = omega (arith, c.loop-key-test.true, c.requires.there) in
       let none : entry_of cells.places.items c.loop-key.key ≡ 0 =
-      sym (get_or_default_zero cells.places.items c.loop-key.key c.index.result.now inside) ∙ sym c.index.ensures ∙ omega (arith, c.if-index-gt0.false) in
+      sym (get_or_default_zero cells.places.items c.loop-key.key c.index.result.now inside) ∙ sym c.index.ensures
+      ∙ omega (arith, c.if-index-gt0.false) in
       subst (λ (k : ℕ). cell_at (kept_in cells) k ≡ None) same (none_kept cells c.loop-key.key none))
 ]

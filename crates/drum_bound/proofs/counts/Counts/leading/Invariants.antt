@@ -8,4 +8,5 @@ use Rattle.drum_bound.proofs.counts.Counts.leading.Given as goal
 -- the number so far leads the counts that are left
 abbrev pub invariant-loop-place : goal.invariant-loop-place
 invariant-loop-place l =
-    l.number * counts_of (drop l.place l.marks) + leading (drop l.place l.marks) (counts_from l.marks l.place l.self.counts) ≡ leading l.marks (counts_in l.self l.marks)
+    l.number * counts_of (drop l.place l.marks) + leading (drop l.place l.marks)
+    (counts_from l.marks l.place l.self.counts) ≡ leading l.marks (counts_in l.self l.marks)

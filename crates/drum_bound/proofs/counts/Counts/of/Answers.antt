@@ -4,7 +4,11 @@ use Rattle.drum_bound.proofs.CountLoops.{leads_none, leads_more, leads_all}
 use Rattle.drum_bound.proofs.counts.Counts.of.Goals as goal
 
 pub loop-place-init : goal.loop-place-init
-loop-place-init c = record { taken = leads_none c.args.marks.now (replicate 8 0) c.args.number c.requires.few; eight = refl }
+loop-place-init c = record {
+  taken = leads_none c.args.marks.now (replicate 8 0) c.args.number c.requires.few;
+  eight =
+      refl;
+}
 
 pub loop-place-preserved : goal.loop-place-preserved
 loop-place-preserved c =
@@ -13,9 +17,11 @@ loop-place-preserved c =
     let d = c.index-marks-place.result in
     let eight = c.loop-place.invariant.eight in
     record {
-      taken = leads_more marks place c.loop-place.place d c.loop-place.counts c.loop-place.rest c.args.number (omega arith) (omega arith) (omega (arith, eight)) c.loop-place.invariant.taken;
+      taken = leads_more marks place c.loop-place.place d c.loop-place.counts c.loop-place.rest c.args.number
+          (omega arith) (omega arith) (omega (arith, eight)) c.loop-place.invariant.taken;
       eight = length-set c.loop-place.counts place (c.loop-place.rest % ((get_or marks place d).most + 1)) ∙ eight;
     }
 
 pub returns : goal.returns
-returns c = leads_all c.args.marks.now c.loop-place.place c.loop-place.counts c.loop-place.rest c.args.number c.loop-place-test.false c.loop-place.invariant.taken c.requires.below
+returns c = leads_all c.args.marks.now c.loop-place.place c.loop-place.counts c.loop-place.rest c.args.number
+    c.loop-place-test.false c.loop-place.invariant.taken c.requires.below

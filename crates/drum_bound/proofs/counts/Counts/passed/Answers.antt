@@ -7,7 +7,9 @@ use Rattle.drum_bound.proofs.counts.Counts.passed.Goals as goal
 pub returns-then-self-passed : goal.returns-then-self-passed
 returns-then-self-passed c =
     let most = ap (λ (m : Mark). m.most) c.index-marks-passed.is in
-    too_often c.args.marks.now c.args.self.counts c.args.from.number c.args.onto.number c.in-Some.passed c.index-marks-passed.result c.in-Some.ensures.value c.in-Some.ensures.inside c.index-marks-passed.is (omega (arith, most))
+    too_often c.args.marks.now c.args.self.counts c.args.from.number c.args.onto.number c.in-Some.passed
+    c.index-marks-passed.result c.in-Some.ensures.value c.in-Some.ensures.inside c.index-marks-passed.is
+    (omega (arith, most))
 
 pub returns : goal.returns
 returns c =
@@ -18,7 +20,10 @@ returns c =
     let passed = c.in-Some.passed in
     let most = ap (λ (m : Mark). m.most) c.index-marks-passed.is in
     let after : take (length marks) c.count_pass.new.counts ≡ after_pass marks from onto (take (length marks) counts) =
-    c.count_pass.ensures ∙ sym (counts_passed marks from onto passed (take (length marks) counts) c.in-Some.ensures.value) in (
+    c.count_pass.ensures
+    ∙ sym (counts_passed marks from onto passed (take (length marks) counts) c.in-Some.ensures.value) in (
       after,
-      subst (AreWithin marks) (sym after) (within_after marks counts from onto passed c.index-marks-passed.result c.in-Some.ensures.value c.in-Some.ensures.inside c.index-marks-passed.is (omega (arith, most)) c.requires.within),
+      subst (AreWithin marks) (sym after)
+          (within_after marks counts from onto passed c.index-marks-passed.result c.in-Some.ensures.value
+          c.in-Some.ensures.inside c.index-marks-passed.is (omega (arith, most)) c.requires.within),
     )

@@ -12,9 +12,12 @@ overflow_mul-result c =
     let marks = (notes_of c.args.self.now.flow.now).marks in
     let order = order_in c.args.self.now.flow.now in
     let counts = counts_in c.args.counts marks in
-    let lead : c.leading.result ≡ leading marks counts = c.leading.ensures ∙ ap (λ (all : List Mark). leading all (counts_in c.args.counts all)) c.marks.ensures.all in
-    let words : c.len.result ≡ length order = omega (arith, c.len.ensures, c.args.self.now.sites.ok.0, same_length c.args.self.now c.requires.keys) in
-    let product : c.leading.result * c.len.result ≡ leading marks counts * length order = ap (λ (n : ℕ). n * c.len.result) lead ∙ ap (λ (n : ℕ). leading marks counts * n) words in
+    let lead : c.leading.result ≡ leading marks counts =
+    c.leading.ensures ∙ ap (λ (all : List Mark). leading all (counts_in c.args.counts all)) c.marks.ensures.all in
+    let words : c.len.result ≡ length order =
+    omega (arith, c.len.ensures, c.args.self.now.sites.ok.0, same_length c.args.self.now c.requires.keys) in
+    let product : c.leading.result * c.len.result ≡ leading marks counts * length order =
+    ap (λ (n : ℕ). n * c.len.result) lead ∙ ap (λ (n : ℕ). leading marks counts * n) words in
     omega (arith, product, small_product marks order counts c.requires.within c.requires.keys.ordered.0.few)
 
 pub returns : goal.returns
@@ -22,9 +25,12 @@ returns c =
     let marks = (notes_of c.args.self.now.flow.now).marks in
     let order = order_in c.args.self.now.flow.now in
     let counts = counts_in c.args.counts marks in
-    let lead : c.leading.result ≡ leading marks counts = c.leading.ensures ∙ ap (λ (all : List Mark). leading all (counts_in c.args.counts all)) c.marks.ensures.all in
-    let words : c.len.result ≡ length order = omega (arith, c.len.ensures, c.args.self.now.sites.ok.0, same_length c.args.self.now c.requires.keys) in
+    let lead : c.leading.result ≡ leading marks counts =
+    c.leading.ensures ∙ ap (λ (all : List Mark). leading all (counts_in c.args.counts all)) c.marks.ensures.all in
+    let words : c.len.result ≡ length order =
+    omega (arith, c.len.ensures, c.args.self.now.sites.ok.0, same_length c.args.self.now c.requires.keys) in
     record {
       first = ap (λ (n : ℕ). n * c.len.result) lead ∙ ap (λ (n : ℕ). leading marks counts * n) words;
-      number = c.number.ensures ∙ ap (λ (all : List Mark). number_of all (counts_in c.args.counts all)) c.marks-2.ensures.all;
+      number = c.number.ensures
+          ∙ ap (λ (all : List Mark). number_of all (counts_in c.args.counts all)) c.marks-2.ensures.all;
     }

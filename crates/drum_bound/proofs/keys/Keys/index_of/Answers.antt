@@ -9,11 +9,17 @@ pub index-requires : goal.index-requires
 index-requires c =
     let found = contains_at (order_in c.args.self.now.flow.now) c.args.location.number c.requires.there in
     let places = c.args.self.now.indices in
-    omega (arith, slice_get_within places.items c.args.location.number found.0 (c.requires.keys.indices found.0 c.args.location.number found.1), places.ok.0)
+    omega (
+      arith,
+      slice_get_within places.items c.args.location.number found.0
+          (c.requires.keys.indices found.0 c.args.location.number found.1),
+      places.ok.0,
+    )
 
 pub returns : goal.returns
 returns c =
     let found = contains_at (order_in c.args.self.now.flow.now) c.args.location.number c.requires.there in
     let places = c.args.self.now.indices in
-    let is = get_or_from_slice_get places.items c.args.location.number found.0 c.index.result.now (c.requires.keys.indices found.0 c.args.location.number found.1) in
+    let is = get_or_from_slice_get places.items c.args.location.number found.0 c.index.result.now
+    (c.requires.keys.indices found.0 c.args.location.number found.1) in
     ap (slice_get (order_in c.args.self.now.flow.now)) (c.index.ensures ∙ is) ∙ found.1

@@ -9,16 +9,20 @@ use Rattle.drum_bound.proofs.Sites.{key_of_place, same_length, small_number, sma
 use Rattle.drum_bound.proofs.keys.Keys.key_of.Goals as goal
 
 pub leading-requires-clause-within : goal.leading-requires-clause-within
-leading-requires-clause-within c = subst (λ (all : List Mark). AreWithin all (counts_in c.args.counts all)) (sym c.marks.ensures.all) c.requires.within
+leading-requires-clause-within c =
+    subst (λ (all : List Mark). AreWithin all (counts_in c.args.counts all)) (sym c.marks.ensures.all) c.requires.within
 
 pub overflow_mul-result : goal.overflow_mul-result
 overflow_mul-result c =
     let marks = (notes_of c.args.self.now.flow.now).marks in
     let order = order_in c.args.self.now.flow.now in
     let counts = counts_in c.args.counts marks in
-    let lead : c.leading.result ≡ leading marks counts = c.leading.ensures ∙ ap (λ (all : List Mark). leading all (counts_in c.args.counts all)) c.marks.ensures.all in
-    let words : c.len.result ≡ length order = omega (arith, c.len.ensures, c.args.self.now.sites.ok.0, same_length c.args.self.now c.requires.keys) in
-    let product : c.leading.result * c.len.result ≡ leading marks counts * length order = ap (λ (n : ℕ). n * c.len.result) lead ∙ ap (λ (n : ℕ). leading marks counts * n) words in
+    let lead : c.leading.result ≡ leading marks counts =
+    c.leading.ensures ∙ ap (λ (all : List Mark). leading all (counts_in c.args.counts all)) c.marks.ensures.all in
+    let words : c.len.result ≡ length order =
+    omega (arith, c.len.ensures, c.args.self.now.sites.ok.0, same_length c.args.self.now c.requires.keys) in
+    let product : c.leading.result * c.len.result ≡ leading marks counts * length order =
+    ap (λ (n : ℕ). n * c.len.result) lead ∙ ap (λ (n : ℕ). leading marks counts * n) words in
     omega (arith, product, small_product marks order counts c.requires.within c.requires.keys.ordered.0.few)
 
 pub overflow_add-result : goal.overflow_add-result
@@ -26,18 +30,30 @@ overflow_add-result c =
     let marks = (notes_of c.args.self.now.flow.now).marks in
     let order = order_in c.args.self.now.flow.now in
     let counts = counts_in c.args.counts marks in
-    let lead : c.leading.result ≡ leading marks counts = c.leading.ensures ∙ ap (λ (all : List Mark). leading all (counts_in c.args.counts all)) c.marks.ensures.all in
-    let words : c.len.result ≡ length order = omega (arith, c.len.ensures, c.args.self.now.sites.ok.0, same_length c.args.self.now c.requires.keys) in
-    let product : c.leading.result * c.len.result ≡ leading marks counts * length order = ap (λ (n : ℕ). n * c.len.result) lead ∙ ap (λ (n : ℕ). leading marks counts * n) words in
-    omega (arith, product, small_number marks order counts c.index_of.result c.args.location.number c.requires.within c.requires.keys.ordered.0.few c.index_of.ensures)
+    let lead : c.leading.result ≡ leading marks counts =
+    c.leading.ensures ∙ ap (λ (all : List Mark). leading all (counts_in c.args.counts all)) c.marks.ensures.all in
+    let words : c.len.result ≡ length order =
+    omega (arith, c.len.ensures, c.args.self.now.sites.ok.0, same_length c.args.self.now c.requires.keys) in
+    let product : c.leading.result * c.len.result ≡ leading marks counts * length order =
+    ap (λ (n : ℕ). n * c.len.result) lead ∙ ap (λ (n : ℕ). leading marks counts * n) words in
+    omega (
+      arith,
+      product,
+      small_number marks order counts c.index_of.result c.args.location.number c.requires.within
+          c.requires.keys.ordered.0.few c.index_of.ensures,
+    )
 
 pub returns : goal.returns
 returns c =
     let marks = (notes_of c.args.self.now.flow.now).marks in
     let order = order_in c.args.self.now.flow.now in
     let counts = counts_in c.args.counts marks in
-    let lead : c.leading.result ≡ leading marks counts = c.leading.ensures ∙ ap (λ (all : List Mark). leading all (counts_in c.args.counts all)) c.marks.ensures.all in
-    let words : c.len.result ≡ length order = omega (arith, c.len.ensures, c.args.self.now.sites.ok.0, same_length c.args.self.now c.requires.keys) in
-    let product : c.leading.result * c.len.result ≡ leading marks counts * length order = ap (λ (n : ℕ). n * c.len.result) lead ∙ ap (λ (n : ℕ). leading marks counts * n) words in
-    subst (λ (key : ℕ). IsKey marks order key c.args.location.number counts) (ap (λ (n : ℕ). n + c.index_of.result) (sym product))
+    let lead : c.leading.result ≡ leading marks counts =
+    c.leading.ensures ∙ ap (λ (all : List Mark). leading all (counts_in c.args.counts all)) c.marks.ensures.all in
+    let words : c.len.result ≡ length order =
+    omega (arith, c.len.ensures, c.args.self.now.sites.ok.0, same_length c.args.self.now c.requires.keys) in
+    let product : c.leading.result * c.len.result ≡ leading marks counts * length order =
+    ap (λ (n : ℕ). n * c.len.result) lead ∙ ap (λ (n : ℕ). leading marks counts * n) words in
+    subst (λ (key : ℕ). IsKey marks order key c.args.location.number counts)
+    (ap (λ (n : ℕ). n + c.index_of.result) (sym product))
     (key_of_place marks order counts c.index_of.result c.args.location.number c.requires.within c.index_of.ensures)

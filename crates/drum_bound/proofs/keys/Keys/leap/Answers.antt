@@ -22,14 +22,16 @@ one_next n next e = cc
 pub longest-requires-clause-may_end : goal.longest-requires-clause-may_end
 longest-requires-clause-may_end c =
     let flow = c.args.self.now.flow.now in
-    hop_may_end (loads_in (deck_of flow)) (notes_of flow) c.args.location.number c.args.hop.instruction (seen_way c.args.hop.way) c.requires.hop
+    hop_may_end (loads_in (deck_of flow)) (notes_of flow) c.args.location.number c.args.hop.instruction
+    (seen_way c.args.hop.way) c.requires.hop
 
 pub index_of-requires-clause-there : goal.index_of-requires-clause-there
 index_of-requires-clause-there c =
     let flow = c.args.self.now.flow.now in
     c.requires.keys.ordered.0.closed c.args.location.number c.in-To.next.number c.requires.there (
       c.args.hop.instruction,
-      subst (λ (w : Way). Contains (hops (loads_in (deck_of flow)) (notes_of flow) c.args.location.number) (record { ins = c.args.hop.instruction; way = w }))
+      subst (λ (w : Way). Contains (hops (loads_in (deck_of flow)) (notes_of flow) c.args.location.number)
+          (record { ins = c.args.hop.instruction; way = w }))
           (ap seen_way c.in-To.is) c.requires.hop,
     )
 
@@ -37,7 +39,11 @@ pub overflow_cast-index : goal.overflow_cast-index
 overflow_cast-index c =
     let flow = c.args.self.now.flow.now in
     let marks = (notes_of flow).marks in
-    omega (arith, small_number marks (order_in flow) (no_counts marks) c.index_of.result c.in-To.next.number (no_counts_within marks) c.requires.keys.ordered.0.few c.index_of.ensures)
+    omega (
+      arith,
+      small_number marks (order_in flow) (no_counts marks) c.index_of.result c.in-To.next.number
+          (no_counts_within marks) c.requires.keys.ordered.0.few c.index_of.ensures,
+    )
 
 pub returns-in-To-clause-leap : goal.returns-in-To-clause-leap
 returns-in-To-clause-leap c =
@@ -47,9 +53,11 @@ returns-in-To-clause-leap c =
     let ins = c.args.hop.instruction in
     let goes = seen_way c.args.hop.way in
     record {
-      time = λ clock at. leap_time times place ins goes c.args.angle clock c.requires.on_drum at ∙ ap (λ (n : ℕ). clock + (n - c.args.angle)) (sym c.longest.ensures.value);
+      time = λ clock at. leap_time times place ins goes c.args.angle clock c.requires.on_drum at
+          ∙ ap (λ (n : ℕ). clock + (n - c.args.angle)) (sym c.longest.ensures.value);
       onto = λ next on.
-          let same : c.in-To.next.number ≡ next = one_next c.in-To.next.number next (sym (ap seen_way c.in-To.is) ∙ on) in (
+          let same : c.in-To.next.number ≡ next =
+          one_next c.in-To.next.number next (sym (ap seen_way c.in-To.is) ∙ on) in (
             c.index_of.ensures ∙ ap Some same,
             ap (mark_on (notes_of flow).marks place) (sym same) ∙ c.mark_between.ensures,
           );
@@ -64,7 +72,8 @@ returns-in-Early c =
     let goes = seen_way c.args.hop.way in
     record {
       leap = record {
-        time = λ clock at. leap_time times place ins goes c.args.angle clock c.requires.on_drum at ∙ ap (λ (n : ℕ). clock + (n - c.args.angle)) (sym c.longest.ensures.value);
+        time = λ clock at. leap_time times place ins goes c.args.angle clock c.requires.on_drum at
+            ∙ ap (λ (n : ℕ). clock + (n - c.args.angle)) (sym c.longest.ensures.value);
         onto = λ next on. absurd (stops c.args.hop.way next c.in-Early.is on);
       };
       hop = refl;

@@ -17,15 +17,21 @@ use Rattle.drum_bound.proofs.keys.Keys.leaps.Goals.{in-Some, in-None}
 
 -- the leaps of the location, if it has them
 own_leaps : (flow : Flow) (times : Times) (place : ℕ) (made : Option (Vec Leap Global)) (leaps : Vec Leap Global)
-    → IfSome made (λ leaps. AreLeaps (setting_of flow times) (order_in flow) place leaps.items) → made ≡ Some leaps → AreLeaps (setting_of flow times) (order_in flow) place leaps.items
+    → IfSome made (λ leaps. AreLeaps (setting_of flow times) (order_in flow) place leaps.items) → made ≡ Some leaps
+    → AreLeaps (setting_of flow times) (order_in flow) place leaps.items
 own_leaps flow times place made leaps are is =
-    subst (λ (one : Option (Vec Leap Global)). IfSome one (λ leaps. AreLeaps (setting_of flow times) (order_in flow) place leaps.items)) is are
+    subst (λ (one : Option (Vec Leap Global)).
+    IfSome one (λ leaps. AreLeaps (setting_of flow times) (order_in flow) place leaps.items)) is are
 
 -- the leaps of one more location
-leaps_more : (flow : Flow) (times : Times) (all : List (Option (Vec Leap Global))) (made : Option (Vec Leap Global)) (place : ℕ)
-    → slice_get (order_in flow) (length all) ≡ Some place → IfSome made (λ leaps. AreLeaps (setting_of flow times) (order_in flow) place leaps.items)
-    → ((k one : ℕ) (leaps : Vec Leap Global) → slice_get (order_in flow) k ≡ Some one → slice_get all k ≡ Some (Some leaps) → AreLeaps (setting_of flow times) (order_in flow) one leaps.items)
-    → (k one : ℕ) (leaps : Vec Leap Global) → slice_get (order_in flow) k ≡ Some one → slice_get (all ++ made ∷ []) k ≡ Some (Some leaps)
+leaps_more : (flow : Flow) (times : Times) (all : List (Option (Vec Leap Global))) (made : Option (Vec Leap Global))
+    (place : ℕ)
+    → slice_get (order_in flow) (length all) ≡ Some place
+    → IfSome made (λ leaps. AreLeaps (setting_of flow times) (order_in flow) place leaps.items)
+    → ((k one : ℕ) (leaps : Vec Leap Global) → slice_get (order_in flow) k ≡ Some one
+    → slice_get all k ≡ Some (Some leaps) → AreLeaps (setting_of flow times) (order_in flow) one leaps.items)
+    → (k one : ℕ) (leaps : Vec Leap Global) → slice_get (order_in flow) k ≡ Some one
+    → slice_get (all ++ made ∷ []) k ≡ Some (Some leaps)
     → AreLeaps (setting_of flow times) (order_in flow) one leaps.items
 leaps_more flow times all made place here are before k one leaps at there = elim (cases_lt k (length all)) [
   | inl within ↦ before k one leaps at (sym (get_before all made k within) ∙ there)
@@ -34,7 +40,8 @@ leaps_more flow times all made place here are before k one leaps at there = elim
       let last : k ≡ length all = omega (arith, past, inside, length-append all (made ∷ [])) in
       let same : place ≡ one = one_place (sym here ∙ ap (slice_get (order_in flow)) (sym last) ∙ at) in
       let is : made ≡ Some leaps = one_made (sym (get_behind all made k last) ∙ there) in
-      subst (λ (n : ℕ). AreLeaps (setting_of flow times) (order_in flow) n leaps.items) same (own_leaps flow times place made leaps are is))
+      subst (λ (n : ℕ). AreLeaps (setting_of flow times) (order_in flow) n leaps.items) same
+      (own_leaps flow times place made leaps are is))
 ]
   where
     one_place : {a b : ℕ} → Some a ≡ Some b → a ≡ b
@@ -52,7 +59,8 @@ loop-site-preserved c =
     let count : length all ≡ k = omega (arith, c.loop-site.invariant.long, c.loop-site.all.ok.0) in
     let site : slice_get keys.sites.items k ≡ Some c.site-item.result =
     ap (λ (sites : List Site). slice_get sites k) (sym c.deref-site-items.ensures.value)
-    ∙ slice_get_read c.deref-site-items.result.now (length c.deref-site-items.result.now) k c.site-item.result refl c.loop-site-test.true c.site-item.is in
+    ∙ slice_get_read c.deref-site-items.result.now (length c.deref-site-items.result.now) k c.site-item.result refl
+    c.loop-site-test.true c.site-item.is in
     let here : slice_get (order_in flow) k ≡ Some c.site-item.result.location.number =
     ap (λ (order : List ℕ). slice_get order k) (sym c.requires.sites)
     ∙ slice_get-map (λ (one : Site). one.location.number) keys.sites.items k
@@ -60,8 +68,11 @@ loop-site-preserved c =
     record {
       long = omega (arith, c.in_ok-push.ensures.len, c.loop-site.invariant.long);
       each = λ j one leaps at there.
-          leaps_more flow c.args.times.now all c.in_ok-leaps.leaps c.site-item.result.location.number (ap (slice_get (order_in flow)) count ∙ here) c.in_ok-leaps.ensures.leaps
-          c.loop-site.invariant.each j one leaps at (subst (λ (held : List (Option (Vec Leap Global))). slice_get held j ≡ Some (Some leaps)) c.in_ok-push.ensures.items there);
+          leaps_more flow c.args.times.now all c.in_ok-leaps.leaps c.site-item.result.location.number
+          (ap (slice_get (order_in flow)) count ∙ here) c.in_ok-leaps.ensures.leaps
+          c.loop-site.invariant.each j one leaps at
+          (subst (λ (held : List (Option (Vec Leap Global))). slice_get held j ≡ Some (Some leaps))
+          c.in_ok-push.ensures.items there);
       room = elim c.match-leaps.branch [
         | in-Some w ↦ omega (arith, w.room-is, c.loop-site.invariant.room)
         | in-None w ↦ omega (arith, w.room-is, c.loop-site.invariant.room)

@@ -10,7 +10,8 @@ use Rattle.drum_bound.proofs.keys.Keys.leaps.Given as goal
 abbrev pub invariant-loop-site : goal.invariant-loop-site
 invariant-loop-site l = record {
   long : vec_len l.all ≡ l.site-index;
-  each : (k place : ℕ) (leaps : Vec Leap Global) → slice_get (order_in l.self.flow.now) k ≡ Some place → slice_get l.all.items k ≡ Some (Some leaps)
+  each : (k place : ℕ) (leaps : Vec Leap Global) → slice_get (order_in l.self.flow.now) k ≡ Some place
+      → slice_get l.all.items k ≡ Some (Some leaps)
       → AreLeaps (setting_of l.self.flow.now l.times) (order_in l.self.flow.now) place leaps.items;
   room : l.room ≤ 262144;
 }

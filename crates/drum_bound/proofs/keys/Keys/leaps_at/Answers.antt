@@ -13,7 +13,8 @@ use Rattle.drum_bound.specs.LeapOf.{IsLeap, leap_hop}
 use Rattle.drum_bound.proofs.keys.Keys.leaps_at.Goals as goal
 
 -- the leaps with one more, and the hops that are left without it
-more : (leaps : List Leap) (leap : Leap) (rest : List Hop) → map leap_hop (leaps ++ leap ∷ []) ++ rest ≡ map leap_hop leaps ++ leap_hop leap ∷ rest
+more : (leaps : List Leap) (leap : Leap) (rest : List Hop)
+    → map leap_hop (leaps ++ leap ∷ []) ++ rest ≡ map leap_hop leaps ++ leap_hop leap ∷ rest
 more leaps leap rest =
     ap (λ (hops : List Hop). hops ++ rest) (map-append leap_hop leaps (leap ∷ []))
     ∙ append_assoc (map leap_hop leaps) (leap_hop leap ∷ []) rest
@@ -34,10 +35,12 @@ loop-hop-preserved c =
           ∙ ap (λ (h : Hop). map leap_hop leaps ++ h ∷ rest) hop
           ∙ ap (λ (left : List Hop). map leap_hop leaps ++ left) (sym c.in-Some.ensures.steps)
           ∙ c.loop-hop.invariant.hops;
-      each = λ one has. elim (Contains-push_cases leaps leap one (subst (λ (all : List Leap). Contains all one) pushed has)) [
-        | inl before ↦ c.loop-hop.invariant.each one before
-        | inr same ↦ subst (IsLeap (setting_of flow c.args.times.now) (order_in flow) place (place % 50)) same
-            (subst (λ (angle : ℕ). IsLeap (setting_of flow c.args.times.now) (order_in flow) place angle leap) angle c.leap.ensures.leap)
-      ];
+      each = λ one has. elim (Contains-push_cases leaps leap one
+          (subst (λ (all : List Leap). Contains all one) pushed has)) [
+            | inl before ↦ c.loop-hop.invariant.each one before
+            | inr same ↦ subst (IsLeap (setting_of flow c.args.times.now) (order_in flow) place (place % 50)) same
+                (subst (λ (angle : ℕ). IsLeap (setting_of flow c.args.times.now) (order_in flow) place angle leap) angle
+                c.leap.ensures.leap)
+          ];
       few = omega (arith, c.in_ok-push.ensures.len, c.if-len-room.false, c.len.ensures);
     }

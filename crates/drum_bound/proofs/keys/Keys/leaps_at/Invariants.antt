@@ -14,6 +14,8 @@ abbrev pub invariant-loop-hop : goal.invariant-loop-hop
 invariant-loop-hop l = record {
   hops : map leap_hop l.leaps.items ++ hops_left l.hop-iterator
       ≡ hops (loads_in (deck_of l.self.flow.now)) (notes_of l.self.flow.now) l.site.location.number;
-  each : (leap : Leap) → Contains l.leaps.items leap → IsLeap (setting_of l.self.flow.now l.times) (order_in l.self.flow.now) l.site.location.number (l.site.location.number % 50) leap;
+  each : (leap : Leap) → Contains l.leaps.items leap
+      → IsLeap (setting_of l.self.flow.now l.times) (order_in l.self.flow.now) l.site.location.number
+      (l.site.location.number % 50) leap;
   few : vec_len l.leaps ≤ l.room;
 }

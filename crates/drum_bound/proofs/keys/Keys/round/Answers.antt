@@ -18,29 +18,37 @@ use Rattle.drum_bound.proofs.DigitsLaws.{digits_within}
 use Rattle.drum_bound.proofs.keys.Keys.round.Goals as goal
 
 -- the counts that were read off the number
-counted : (marks : List Mark) (leading : ℕ) (counts : Counts) (all : List Mark) → all ≡ marks → counts_in counts all ≡ digits all leading → counts_in counts marks ≡ digits marks leading
+counted : (marks : List Mark) (leading : ℕ) (counts : Counts) (all : List Mark) → all ≡ marks
+    → counts_in counts all ≡ digits all leading → counts_in counts marks ≡ digits marks leading
 counted marks leading counts all same is = subst (λ (ms : List Mark). counts_in counts ms ≡ digits ms leading) same is
 
-within : (keys : Keys) (leading : ℕ) (counts : Counts) → AreKeys keys → leading < keys.counts → counts_in counts (notes_of keys.flow.now).marks ≡ digits (notes_of keys.flow.now).marks leading
+within : (keys : Keys) (leading : ℕ) (counts : Counts) → AreKeys keys → leading < keys.counts
+    → counts_in counts (notes_of keys.flow.now).marks ≡ digits (notes_of keys.flow.now).marks leading
     → AreWithin (notes_of keys.flow.now).marks (counts_in counts (notes_of keys.flow.now).marks)
 within keys leading counts are below is =
     let marks = (notes_of keys.flow.now).marks in
     subst (AreWithin marks) (sym is) (digits_within marks leading (omega (arith, below, are.counts)))
 
 -- one more mark
-passed_more : (flow : Flow) (number place : ℕ) (passed : List (Option Counted)) (mark : Mark) (after : Option Counted) → place < length passed
+passed_more : (flow : Flow) (number place : ℕ) (passed : List (Option Counted)) (mark : Mark) (after : Option Counted)
+    → place < length passed
     → slice_get (notes_of flow).marks place ≡ Some mark → IsPassed flow (digits (notes_of flow).marks number) mark after
-    → ((k : ℕ) (one : Mark) → k < place → slice_get (notes_of flow).marks k ≡ Some one → IsPassed flow (digits (notes_of flow).marks number) one (slice_index_or passed k None))
+    → ((k : ℕ) (one : Mark) → k < place → slice_get (notes_of flow).marks k ≡ Some one
+    → IsPassed flow (digits (notes_of flow).marks number) one (slice_index_or passed k None))
     → (k : ℕ) (one : Mark) → k < place + 1 → slice_get (notes_of flow).marks k ≡ Some one
     → IsPassed flow (digits (notes_of flow).marks number) one (slice_index_or (set passed place after) k None)
 passed_more flow number place passed mark after inside here right before k one below at = elim (cases_eq k place) [
   | inl same ↦ (
-      let there : slice_get (notes_of flow).marks place ≡ Some one = subst (λ (n : ℕ). slice_get (notes_of flow).marks n ≡ Some one) same at in
+      let there : slice_get (notes_of flow).marks place ≡ Some one =
+      subst (λ (n : ℕ). slice_get (notes_of flow).marks n ≡ Some one) same at in
       let is : mark ≡ one = one_mark (sym here ∙ there) in
-      subst (λ (n : ℕ). IsPassed flow (digits (notes_of flow).marks number) one (slice_index_or (set passed place after) n None)) (sym same)
-      (subst (IsPassed flow (digits (notes_of flow).marks number) one) (sym (get_or-set_same passed place after None inside))
+      subst (λ (n : ℕ). IsPassed flow (digits (notes_of flow).marks number) one
+      (slice_index_or (set passed place after) n None)) (sym same)
+      (subst (IsPassed flow (digits (notes_of flow).marks number) one)
+      (sym (get_or-set_same passed place after None inside))
       (subst (λ (m : Mark). IsPassed flow (digits (notes_of flow).marks number) m after) is right)))
-  | inr ne ↦ subst (IsPassed flow (digits (notes_of flow).marks number) one) (sym (get_or-set_other passed place k after None ne)) (before k one (omega (arith, below, ne)) at)
+  | inr ne ↦ subst (IsPassed flow (digits (notes_of flow).marks number) one)
+      (sym (get_or-set_other passed place k after None ne)) (before k one (omega (arith, below, ne)) at)
 ]
   where
     one_mark : {a b : Mark} → Some a ≡ Some b → a ≡ b
@@ -50,7 +58,8 @@ pub counted_after-requires-clause-within : goal.counted_after-requires-clause-wi
 counted_after-requires-clause-within c =
     let keys = c.args.self.now in
     within keys c.args.leading c.of-counts.result c.requires.keys c.requires.below
-    (counted (notes_of keys.flow.now).marks c.args.leading c.of-counts.result c.marks-marks.result.now c.marks-marks.ensures.all c.of-counts.ensures)
+    (counted (notes_of keys.flow.now).marks c.args.leading c.of-counts.result c.marks-marks.result.now
+    c.marks-marks.ensures.all c.of-counts.ensures)
 
 pub loop-place-preserved : goal.loop-place-preserved
 loop-place-preserved c =
@@ -58,15 +67,19 @@ loop-place-preserved c =
     let marks = (notes_of keys.flow.now).marks in
     let place = c.loop-place.place in
     let is : counts_in c.of-counts.result marks ≡ digits marks c.args.leading =
-    counted marks c.args.leading c.of-counts.result c.marks-marks.result.now c.marks-marks.ensures.all c.of-counts.ensures in
+    counted marks c.args.leading c.of-counts.result c.marks-marks.result.now c.marks-marks.ensures.all
+    c.of-counts.ensures in
     let here : slice_get marks place ≡ Some c.index-marks-place.result =
     ap (λ (all : List Mark). slice_get all place) (sym c.marks-marks.ensures.all)
-    ∙ slice_get_read c.marks-marks.result.now (length c.marks-marks.result.now) place c.index-marks-place.result refl c.loop-place-test.true c.index-marks-place.is in
+    ∙ slice_get_read c.marks-marks.result.now (length c.marks-marks.result.now) place c.index-marks-place.result refl
+    c.loop-place-test.true c.index-marks-place.is in
     record {
       places = length-set c.loop-place.passed place c.counted_after.result ∙ c.loop-place.invariant.places;
-      passed = passed_more keys.flow.now c.args.leading place c.loop-place.passed c.index-marks-place.result c.counted_after.result
+      passed = passed_more keys.flow.now c.args.leading place c.loop-place.passed c.index-marks-place.result
+          c.counted_after.result
           (omega (arith, c.loop-place-test.true, c.marks-marks.ensures.few, c.loop-place.invariant.places)) here
-          (subst (λ (counts : List ℕ). IsPassed keys.flow.now counts c.index-marks-place.result c.counted_after.result) is c.counted_after.ensures)
+          (subst (λ (counts : List ℕ). IsPassed keys.flow.now counts c.index-marks-place.result c.counted_after.result)
+          is c.counted_after.ensures)
           c.loop-place.invariant.passed;
     }
 
@@ -74,16 +87,24 @@ pub counted-requires-clause-within : goal.counted-requires-clause-within
 counted-requires-clause-within c =
     let keys = c.args.self.now in
     within keys c.args.leading c.of-counts.result c.requires.keys c.requires.below
-    (counted (notes_of keys.flow.now).marks c.args.leading c.of-counts.result c.marks-marks.result.now c.marks-marks.ensures.all c.of-counts.ensures)
+    (counted (notes_of keys.flow.now).marks c.args.leading c.of-counts.result c.marks-marks.result.now
+    c.marks-marks.ensures.all c.of-counts.ensures)
 
 pub returns : goal.returns
 returns c =
     let keys = c.args.self.now in
     let marks = (notes_of keys.flow.now).marks in
     let is : counts_in c.of-counts.result marks ≡ digits marks c.args.leading =
-    counted marks c.args.leading c.of-counts.result c.marks-marks.result.now c.marks-marks.ensures.all c.of-counts.ensures in
+    counted marks c.args.leading c.of-counts.result c.marks-marks.result.now c.marks-marks.ensures.all
+    c.of-counts.ensures in
     record {
       own = subst (λ (counts : List ℕ). IsCounted keys.flow.now counts c.counted.result) is c.counted.ensures;
       passed = λ k mark at. c.loop-place.invariant.passed k mark
-          (omega (arith, slice_get_within marks k mark at, c.loop-place-test.false, ap (λ (all : List Mark). length all) c.marks-marks.ensures.all)) at;
+          (omega (
+            arith,
+            slice_get_within marks k mark at,
+            c.loop-place-test.false,
+            ap (λ (all : List Mark). length all)
+                c.marks-marks.ensures.all,
+          )) at;
     }

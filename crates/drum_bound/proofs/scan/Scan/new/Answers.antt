@@ -1,7 +1,7 @@
 use Rattle.std.proofs.Common.{◌≡◌, ℕ, ◌*◌, List, length, Option, None, set, replicate, Some, ap, sym, ◌∙◌, refl, subst, arith}
 use Rattle.drum_core.specs.Loads.{start_in}
 use Rattle.drum_flow.specs.Flow.{deck_of, order_in}
-use Rattle.drum_bound.specs.declared.cells.end.KeyHop.{KeyHop}
+use Rattle.drum_bound.specs.declared.key_hop.KeyHop.{KeyHop}
 use Rattle.drum_bound.specs.declared.latest.Latest.{Latest}
 use Rattle.drum_bound.specs.KeysOf.{setting_of}
 use Rattle.drum_bound.specs.Keys.{keys_of, place_at}
@@ -22,25 +22,30 @@ returns-clause-scanned c =
     let order = order_in keys.flow.now in
     let key = c.start_key-key.result in
     let start : Latest = record { clock = c.start_angle-angle.result; origin = None } in
-    let words : c.len-words.result ≡ length order = omega (arith, c.len-words.ensures, keys.sites.ok.0, same_length keys c.requires.keys) in
-    let size : keys.counts * c.len-words.result ≡ keys_of g.notes.marks order = ap (λ (n : ℕ). keys.counts * n) words ∙ ap (λ (n : ℕ). n * length order) c.requires.keys.counts in
-    let cells : kept_in c.in-Ok.cells ≡ set (replicate (keys_of g.notes.marks order) None) key (Some start) =
-    c.in-Ok.ensures.kept ∙ ap (λ (n : ℕ). set (replicate n None) key (Some start)) size in
-    let starts : c.start-start.result.number ≡ start_in (deck_of keys.flow.now) = c.start-start.ensures.held ∙ ap start_in c.deck.ensures in
+    let words : c.len-words.result ≡ length order =
+    omega (arith, c.len-words.ensures, keys.sites.ok.0, same_length keys c.requires.keys) in
+    let size : keys.counts * c.len-words.result ≡ keys_of g.notes.marks order =
+    ap (λ (n : ℕ). keys.counts * n) words ∙ ap (λ (n : ℕ). n * length order) c.requires.keys.counts in
+    let cells : kept_in c.in_ok-cells.cells ≡ set (replicate (keys_of g.notes.marks order) None) key (Some start) =
+    c.in_ok-cells.ensures.kept ∙ ap (λ (n : ℕ). set (replicate n None) key (Some start)) size in
+    let starts : c.start-start.result.number ≡ start_in (deck_of keys.flow.now) =
+    c.start-start.ensures.held ∙ ap start_in c.deck.ensures in
     record {
       keys = c.requires.keys;
       leaps = c.requires.leaps;
       cells = record {
-        held = c.in-Ok.ensures.held;
-        entries = c.in-Ok.ensures.entries (place_at order) (counts_number g.notes.marks order)
-            (starts ∙ sym c.start_key-key.ensures.at) (sym (ap (number_of g.notes.marks) c.start_key-key.ensures.passed ∙ number_none g.notes.marks));
-        angle = c.in-Ok.ensures.angle ∙ c.start_angle-angle.ensures;
-        words = c.in-Ok.ensures.words ∙ words;
-        counts = c.in-Ok.ensures.counts ∙ c.requires.keys.counts;
+        held = c.in_ok-cells.ensures.held;
+        entries = c.in_ok-cells.ensures.entries (place_at order) (counts_number g.notes.marks order)
+            (starts ∙ sym c.start_key-key.ensures.at)
+            (sym (ap (number_of g.notes.marks) c.start_key-key.ensures.passed ∙ number_none g.notes.marks));
+        angle = c.in_ok-cells.ensures.angle ∙ c.start_angle-angle.ensures;
+        words = c.in_ok-cells.ensures.words ∙ words;
+        counts = c.in_ok-cells.ensures.counts ∙ c.requires.keys.counts;
       };
-      scanned = subst (λ (last : Latest). Scanned g order 0 0 (kept_in c.in-Ok.cells) last) (sym c.in-Ok.ensures.last)
+      scanned = subst (λ (last : Latest). Scanned g order 0 0 (kept_in c.in_ok-cells.cells) last)
+          (sym c.in_ok-cells.ensures.last)
           (subst (λ (all : List (Option Latest)). Scanned g order 0 0 all start) (sym cells)
           (begun g order key start c.start_key-key.ensures c.start_angle-angle.ensures refl));
-      turns = c.in-Ok.ensures.made;
-      before = subst (λ (last : Option KeyHop). IsBefore last 0) (sym c.in-Ok.ensures.unmade) tt;
+      turns = c.in_ok-cells.ensures.made;
+      before = subst (λ (last : Option KeyHop). IsBefore last 0) (sym c.in_ok-cells.ensures.unmade) tt;
     }

@@ -6,13 +6,19 @@ use Rattle.drum_bound.proofs.scan.Scan.of.Goals as goal
 
 pub loop-counts-init : goal.loop-counts-init
 loop-counts-init c =
-    let none : 0 ≡ 0 * length (order_of c.in-Ok.scan) = omega arith in
-    record { scanned = subst (IsScanned c.in-Ok.scan) none c.in-Ok.ensures.scanned; times = c.in-Ok.ensures.times; keys = c.in-Ok.ensures.keys }
+    let none : 0 ≡ 0 * length (order_of c.in_ok-scan.scan) = omega arith in
+    record {
+      scanned = subst (IsScanned c.in_ok-scan.scan) none c.in_ok-scan.ensures.scanned;
+      times =
+          c.in_ok-scan.ensures.times;
+      keys = c.in_ok-scan.ensures.keys;
+    }
 
 pub returns-clause-done : goal.returns-clause-done
 returns-clause-done c =
     let known = c.loop-counts.invariant in
     let scan = c.loop-counts.scan in
     let counts : scan.keys.now.counts ≡ c.args.keys.now.counts = ap (λ (keys : Keys). keys.counts) known.keys in
-    let all : c.loop-counts.counts ≡ counts_of (setting_in scan).notes.marks = omega (arith, c.loop-counts-test.false, c.loop-counts.auto.counts-end, counts, known.scanned.keys.counts) in
+    let all : c.loop-counts.counts ≡ counts_of (setting_in scan).notes.marks =
+    omega (arith, c.loop-counts-test.false, c.loop-counts.auto.counts-end, counts, known.scanned.keys.counts) in
     subst (IsScanned scan) (ap (λ (n : ℕ). n * length (order_of scan)) all) known.scanned

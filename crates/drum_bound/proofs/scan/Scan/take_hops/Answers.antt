@@ -26,10 +26,13 @@ loop-number-init-derived c =
     let scan = c.args.self.now in
     let g = setting_in scan in
     let each = c.into_iter-number-iterator in
-    let number : enumerate_count each.result ≡ 0 = ap enumerate_count each.ensures.into_iter_gives ∙ c.enumerate-number-items.ensures.count in
+    let number : enumerate_count each.result ≡ 0 =
+    ap enumerate_count each.ensures.into_iter_gives ∙ c.enumerate-number-items.ensures.count in
     let left : hops_left (enumerate_source each.result) ≡ hops_at scan c.args.search.now.key =
-    ap (λ (e : Enumerate Hops). hops_left (enumerate_source e)) each.ensures.into_iter_gives ∙ ap hops_left c.enumerate-number-items.ensures.source ∙ c.requires.hops in
-    let few = few_hops g.loads g.notes (place_at (order_of scan) c.args.search.now.key) c.requires.scanned.keys.ordered.0.sound in
+    ap (λ (e : Enumerate Hops). hops_left (enumerate_source e)) each.ensures.into_iter_gives
+    ∙ ap hops_left c.enumerate-number-items.ensures.source ∙ c.requires.hops in
+    let few = few_hops g.loads g.notes (place_at (order_of scan) c.args.search.now.key)
+    c.requires.scanned.keys.ordered.0.sound in
     ((tt, tt, inl (omega (arith, number, few, ap (λ (hops : List Hop). length hops) left))), tt)
 
 pub loop-number-init : goal.loop-number-init
@@ -37,25 +40,30 @@ loop-number-init c =
     let scan = c.args.self.now in
     let key = c.args.search.now.key in
     let each = c.into_iter-number-iterator in
-    let number : enumerate_count each.result ≡ 0 = ap enumerate_count each.ensures.into_iter_gives ∙ c.enumerate-number-items.ensures.count in
+    let number : enumerate_count each.result ≡ 0 =
+    ap enumerate_count each.ensures.into_iter_gives ∙ c.enumerate-number-items.ensures.count in
     let left : hops_left (enumerate_source each.result) ≡ hops_at scan key =
-    ap (λ (e : Enumerate Hops). hops_left (enumerate_source e)) each.ensures.into_iter_gives ∙ ap hops_left c.enumerate-number-items.ensures.source ∙ c.requires.hops in
+    ap (λ (e : Enumerate Hops). hops_left (enumerate_source e)) each.ensures.into_iter_gives
+    ∙ ap hops_left c.enumerate-number-items.ensures.source ∙ c.requires.hops in
     record {
       same = refl;
-      half = subst (λ (n : ℕ). IsHalfway scan key c.args.search.now.begun n scan.cells) (sym number) (half_none scan key c.args.search.now.begun c.requires.scanned c.requires.search.begun);
+      half = subst (λ (n : ℕ). IsHalfway scan key c.args.search.now.begun n scan.cells) (sym number)
+          (half_none scan key c.args.search.now.begun c.requires.scanned c.requires.search.begun);
       left = ap (λ (n : ℕ). drop n (hops_at scan key)) number ∙ sym left;
       counted = omega (arith, number, ap (λ (hops : List Hop). length hops) left);
     }
 
 -- the hop that comes is that of its number
-comes : (scan : Scan) (key number : ℕ) (left rest : List Hop) (hop : Hop) → drop number (hops_at scan key) ≡ left → left ≡ hop ∷ rest → slice_get (hops_at scan key) number ≡ Some hop
+comes : (scan : Scan) (key number : ℕ) (left rest : List Hop) (hop : Hop) → drop number (hops_at scan key) ≡ left
+    → left ≡ hop ∷ rest → slice_get (hops_at scan key) number ≡ Some hop
 comes scan key number left rest hop so_far step = first_left number (hops_at scan key) rest hop (so_far ∙ step)
 
 pub leap-leap-requires-clause-there : goal.leap-leap-requires-clause-there
 leap-leap-requires-clause-there c =
     let scan = c.args.self.now in
     subst (Contains (order_of scan)) (sym c.requires.search.there)
-    (place_there (setting_in scan).notes.marks (order_of scan) c.args.search.now.key (omega (arith, c.requires.below, c.requires.scanned.keys.size)))
+    (place_there (setting_in scan).notes.marks (order_of scan) c.args.search.now.key
+    (omega (arith, c.requires.below, c.requires.scanned.keys.size)))
 
 pub leap-leap-requires-clause-hop : goal.leap-leap-requires-clause-hop
 leap-leap-requires-clause-hop c =
@@ -64,12 +72,17 @@ leap-leap-requires-clause-hop c =
     let hop : Hop = seen_hop c.in-Some.hop in
     let number = enumerate_count c.loop-number.number-iterator in
     let at : slice_get (hops_at scan key) number ≡ Some hop =
-    comes scan key number (hops_left (enumerate_source c.loop-number.number-iterator)) (hops_left (enumerate_source c.next.new.self)) hop c.loop-number.invariant.left c.in-Some.ensures.steps.0 in
-    subst (λ (place : ℕ). Contains (hops (setting_in scan).loads (setting_in scan).notes place) hop) (sym c.requires.search.there) (hop_among scan key number hop at)
+    comes scan key number (hops_left (enumerate_source c.loop-number.number-iterator))
+    (hops_left (enumerate_source c.next.new.self)) hop c.loop-number.invariant.left c.in-Some.ensures.steps.0 in
+    subst (λ (place : ℕ). Contains (hops (setting_in scan).loads (setting_in scan).notes place) hop)
+    (sym c.requires.search.there) (hop_among scan key number hop at)
 
 -- its leap, by the place of its key
-leap_there : (scan : Scan) (place other angle : ℕ) (leap : Leap) → place ≡ other → IsLeap (setting_in scan) (order_of scan) place angle leap → IsLeap (setting_in scan) (order_of scan) other angle leap
-leap_there scan place other angle leap same is = subst (λ (n : ℕ). IsLeap (setting_in scan) (order_of scan) n angle leap) same is
+leap_there : (scan : Scan) (place other angle : ℕ) (leap : Leap) → place ≡ other
+    → IsLeap (setting_in scan) (order_of scan) place angle leap
+    → IsLeap (setting_in scan) (order_of scan) other angle leap
+leap_there scan place other angle leap same is =
+    subst (λ (n : ℕ). IsLeap (setting_in scan) (order_of scan) n angle leap) same is
 
 pub take_leap-requires-clause-ready : goal.take_leap-requires-clause-ready
 take_leap-requires-clause-ready c =
@@ -78,18 +91,24 @@ take_leap-requires-clause-ready c =
     let leap = c.leap-leap.result in
     let number = enumerate_count c.loop-number.number-iterator in
     let at : slice_get (hops_at scan search.key) number ≡ Some (seen_hop c.in-Some.hop) =
-    comes scan search.key number (hops_left (enumerate_source c.loop-number.number-iterator)) (hops_left (enumerate_source c.next.new.self)) (seen_hop c.in-Some.hop) c.loop-number.invariant.left c.in-Some.ensures.steps.0 in
+    comes scan search.key number (hops_left (enumerate_source c.loop-number.number-iterator))
+    (hops_left (enumerate_source c.next.new.self)) (seen_hop c.in-Some.hop) c.loop-number.invariant.left
+    c.in-Some.ensures.steps.0 in
     subst (λ (n : ℕ). IsReady c.loop-number.self c.args.round.now search n leap) (sym c.in-Some.ensures.steps.1)
-    (half_ready scan c.loop-number.self c.args.round.now search number leap c.loop-number.invariant.same c.requires.scanned c.loop-number.invariant.half c.requires.below c.requires.round c.requires.search
+    (half_ready scan c.loop-number.self c.args.round.now search number leap c.loop-number.invariant.same
+    c.requires.scanned c.loop-number.invariant.half c.requires.below c.requires.round c.requires.search
     (at ∙ ap (λ (h : code.Hop). Some (seen_hop h)) (sym c.leap-leap.ensures.hop))
-    (leap_there scan search.location.number (place_at (order_of scan) search.key) (search.found % 50) leap c.requires.search.there c.leap-leap.ensures.leap))
+    (leap_there scan search.location.number (place_at (order_of scan) search.key) (search.found % 50) leap
+    c.requires.search.there c.leap-leap.ensures.leap))
 
 pub take_leap-requires-clause-soon : goal.take_leap-requires-clause-soon
-take_leap-requires-clause-soon c = found_soon c.args.self.now c.args.search.now c.requires.scanned c.requires.below c.requires.search
+take_leap-requires-clause-soon c =
+    found_soon c.args.self.now c.args.search.now c.requires.scanned c.requires.below c.requires.search
 
 pub take_leap-requires-clause-later : goal.take_leap-requires-clause-later
 take_leap-requires-clause-later c =
-    subst (λ (n : ℕ). IsLater c.loop-number.self.cells.made.last (record { key = c.args.search.now.key; hop = n })) (sym c.in-Some.ensures.steps.1) c.loop-number.invariant.half.later
+    subst (λ (n : ℕ). IsLater c.loop-number.self.cells.made.last (record { key = c.args.search.now.key; hop = n }))
+    (sym c.in-Some.ensures.steps.1) c.loop-number.invariant.half.later
 
 within : (hops : List Hop) (number : ℕ) (hop : Hop) → slice_get hops number ≡ Some hop → number ≤ length hops
 within hops number hop at = omega (arith, slice_get_within hops number hop at)
@@ -99,9 +118,12 @@ take_leap-requires-clause-few c =
     let scan = c.args.self.now in
     let key = c.args.search.now.key in
     let number = enumerate_count c.loop-number.number-iterator in
-    half_few scan key c.args.search.now.begun number c.loop-number.self.cells c.requires.scanned c.requires.below c.loop-number.invariant.half
+    half_few scan key c.args.search.now.begun number c.loop-number.self.cells c.requires.scanned c.requires.below
+    c.loop-number.invariant.half
     (within (hops_at scan key) number (seen_hop c.in-Some.hop)
-    (comes scan key number (hops_left (enumerate_source c.loop-number.number-iterator)) (hops_left (enumerate_source c.next.new.self)) (seen_hop c.in-Some.hop) c.loop-number.invariant.left c.in-Some.ensures.steps.0))
+    (comes scan key number (hops_left (enumerate_source c.loop-number.number-iterator))
+    (hops_left (enumerate_source c.next.new.self)) (seen_hop c.in-Some.hop) c.loop-number.invariant.left
+    c.in-Some.ensures.steps.0))
 
 pub loop-number-preserved : goal.loop-number-preserved
 loop-number-preserved c =
@@ -114,17 +136,23 @@ loop-number-preserved c =
     let rest = hops_left (enumerate_source c.next.new.self) in
     let step : hops_left (enumerate_source c.loop-number.number-iterator) ≡ hop ∷ rest = c.in-Some.ensures.steps.0 in
     let next_number : enumerate_count c.next.new.self ≡ number + 1 = c.in-Some.ensures.steps.2 in
-    let at : slice_get (hops_at scan key) number ≡ Some hop = comes scan key number (hops_left (enumerate_source c.loop-number.number-iterator)) rest hop c.loop-number.invariant.left step in
+    let at : slice_get (hops_at scan key) number ≡ Some hop =
+    comes scan key number (hops_left (enumerate_source c.loop-number.number-iterator)) rest hop
+    c.loop-number.invariant.left step in
     let own : leap_hop leap ≡ hop = ap (λ (h : code.Hop). seen_hop h) c.leap-leap.ensures.hop in
     let after = c.take_leap.new.self in
     let last : after.cells.made.last ≡ Some (record { key = key; hop = number }) =
     c.take_leap.ensures.last ∙ ap (λ (n : ℕ). Some (record { key = key; hop = n })) c.in-Some.ensures.steps.1 in
     record {
-      same = c.take_leap.ensures.same ∙ ap (λ (one : Scan). record one { cells = after.cells }) c.loop-number.invariant.same;
+      same = c.take_leap.ensures.same
+          ∙ ap (λ (one : Scan). record one { cells = after.cells }) c.loop-number.invariant.same;
       half = subst (λ (n : ℕ). IsHalfway scan key search.begun n after.cells) (sym next_number)
-          (half_more scan c.loop-number.self key search.begun number (leap_hop leap) after.cells c.loop-number.invariant.same c.loop-number.invariant.half
-          (at ∙ ap (λ (h : Hop). Some h) (sym own)) c.take_leap.ensures.cells c.take_leap.ensures.counted last c.take_leap.ensures.agreed c.take_leap.ensures.taken);
-      left = ap (λ (n : ℕ). drop n (hops_at scan key)) next_number ∙ others_left number (hops_at scan key) rest hop (c.loop-number.invariant.left ∙ step);
+          (half_more scan c.loop-number.self key search.begun number (leap_hop leap) after.cells
+          c.loop-number.invariant.same c.loop-number.invariant.half
+          (at ∙ ap (λ (h : Hop). Some h) (sym own)) c.take_leap.ensures.cells c.take_leap.ensures.counted last
+          c.take_leap.ensures.agreed c.take_leap.ensures.taken);
+      left = ap (λ (n : ℕ). drop n (hops_at scan key)) next_number
+          ∙ others_left number (hops_at scan key) rest hop (c.loop-number.invariant.left ∙ step);
       counted = omega (arith, c.loop-number.invariant.counted, next_number, ap (λ (hops : List Hop). length hops) step);
     }
 
@@ -134,6 +162,8 @@ returns-clause-scanned c =
     let key = c.args.search.now.key in
     let number = enumerate_count c.loop-number.number-iterator in
     let none : hops_left (enumerate_source c.loop-number.number-iterator) ≡ [] = c.in-None.ensures.steps.0.0 in
-    let all : number ≡ length (hops_at scan key) = omega (arith, c.loop-number.invariant.counted, ap (λ (hops : List Hop). length hops) none) in
+    let all : number ≡ length (hops_at scan key) =
+    omega (arith, c.loop-number.invariant.counted, ap (λ (hops : List Hop). length hops) none) in
     subst (λ (one : Scan). IsScanned one (key + 1)) (sym c.loop-number.invariant.same)
-    (half_all scan key c.args.search.now.begun number c.loop-number.self.cells c.requires.scanned c.requires.search.begun c.loop-number.invariant.half all)
+    (half_all scan key c.args.search.now.begun number c.loop-number.self.cells c.requires.scanned
+    c.requires.search.begun c.loop-number.invariant.half all)

@@ -10,6 +10,8 @@ abbrev pub invariant-loop-number : goal.invariant-loop-number
 invariant-loop-number l = record {
   same : l.self ≡ record l.fn.self { cells = l.self.cells };
   half : IsHalfway l.fn.self l.search.key l.search.begun (enumerate_count l.number-iterator) l.self.cells;
-  left : drop (enumerate_count l.number-iterator) (hops_at l.fn.self l.search.key) ≡ hops_left (enumerate_source l.number-iterator);
-  counted : enumerate_count l.number-iterator + length (hops_left (enumerate_source l.number-iterator)) ≡ length (hops_at l.fn.self l.search.key);
+  left : drop (enumerate_count l.number-iterator) (hops_at l.fn.self l.search.key)
+      ≡ hops_left (enumerate_source l.number-iterator);
+  counted : enumerate_count l.number-iterator + length (hops_left (enumerate_source l.number-iterator))
+      ≡ length (hops_at l.fn.self l.search.key);
 }

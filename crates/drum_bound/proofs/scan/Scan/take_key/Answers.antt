@@ -10,15 +10,19 @@ use Rattle.drum_bound.proofs.KeysTaken.{skipped}
 use Rattle.drum_bound.proofs.scan.Scan.take_key.Goals as goal
 
 -- the location of the key
-place_is : (order : List ℕ) (key index number : ℕ) → slice_get order index ≡ Some number → key % length order ≡ index → number ≡ place_at order key
-place_is order key index number at rest = sym (get_or_from_slice_get order index number 0 at) ∙ ap (λ (k : ℕ). get_or order k 0) (sym rest)
+place_is : (order : List ℕ) (key index number : ℕ) → slice_get order index ≡ Some number → key % length order ≡ index
+    → number ≡ place_at order key
+place_is order key index number at rest =
+    sym (get_or_from_slice_get order index number 0 at) ∙ ap (λ (k : ℕ). get_or order k 0) (sym rest)
 
 pub returns-in_default-clause-scanned : goal.returns-in_default-clause-scanned
-returns-in_default-clause-scanned c = skipped c.args.self.now (c.args.round.now.own.first + c.args.index) c.requires.scanned c.in_default.ensures
+returns-in_default-clause-scanned c =
+    skipped c.args.self.now (c.args.round.now.own.first + c.args.index) c.requires.scanned c.in_default.ensures
 
 pub take_leaps-requires-clause-search : goal.take_leaps-requires-clause-search
 take_leaps-requires-clause-search c = record {
-  there = place_is (order_of c.args.self.now) (c.args.round.now.own.first + c.args.index) c.args.index c.site-site.result.location.number c.site-site.ensures.location c.requires.rest;
+  there = place_is (order_of c.args.self.now) (c.args.round.now.own.first + c.args.index) c.args.index
+      c.site-site.result.location.number c.site-site.ensures.location c.requires.rest;
   begun = c.in-Some.ensures;
   found = c.found.ensures.value;
 }
@@ -29,17 +33,21 @@ take_leaps-requires-clause-leaps c =
     let key = c.args.round.now.own.first + c.args.index in
     let leaps = c.in-Some-leaps.leaps in
     let all = scan.leaps.now in
-    let there = place_is (order_of scan) key c.args.index c.site-site.result.location.number c.site-site.ensures.location c.requires.rest in
+    let there = place_is (order_of scan) key c.args.index c.site-site.result.location.number
+    c.site-site.ensures.location c.requires.rest in
     let at : slice_get all c.args.index ≡ Some (Some leaps) =
-    slice_get_read all (length all) c.args.index c.index-leaps-index.result refl (omega (arith, c.requires.index, c.requires.scanned.leaps.long)) c.index-leaps-index.is
+    slice_get_read all (length all) c.args.index c.index-leaps-index.result refl
+    (omega (arith, c.requires.index, c.requires.scanned.leaps.long)) c.index-leaps-index.is
     ∙ ap (λ (one : Option (Vec Leap Global)). Some one) c.in-Some-leaps.is in
     subst (λ (place : ℕ). AreLeaps (setting_in scan) (order_of scan) place c.deref.result.now) there
     (subst (AreLeaps (setting_in scan) (order_of scan) c.site-site.result.location.number) (sym c.deref.ensures.value)
-    (c.requires.scanned.leaps.each c.args.index c.site-site.result.location.number leaps c.site-site.ensures.location at))
+    (c.requires.scanned.leaps.each c.args.index c.site-site.result.location.number leaps c.site-site.ensures.location
+    at))
 
 pub take_hops-requires-clause-search : goal.take_hops-requires-clause-search
 take_hops-requires-clause-search c = record {
-  there = place_is (order_of c.args.self.now) (c.args.round.now.own.first + c.args.index) c.args.index c.site-site.result.location.number c.site-site.ensures.location c.requires.rest;
+  there = place_is (order_of c.args.self.now) (c.args.round.now.own.first + c.args.index) c.args.index
+      c.site-site.result.location.number c.site-site.ensures.location c.requires.rest;
   begun = c.in-Some.ensures;
   found = c.found.ensures.value;
 }
@@ -49,4 +57,5 @@ take_hops-requires-clause-hops c =
     let scan = c.args.self.now in
     c.site-site.ensures.hops
     ∙ ap (λ (place : ℕ). hops (setting_in scan).loads (setting_in scan).notes place)
-    (place_is (order_of scan) (c.args.round.now.own.first + c.args.index) c.args.index c.site-site.result.location.number c.site-site.ensures.location c.requires.rest)
+    (place_is (order_of scan) (c.args.round.now.own.first + c.args.index) c.args.index
+    c.site-site.result.location.number c.site-site.ensures.location c.requires.rest)

@@ -19,21 +19,32 @@ use Rattle.drum_bound.proofs.LeapLaws.{found_angle}
 use Rattle.drum_bound.proofs.scan.Scan.take_leaps.Goals as goal
 
 -- a leap of the location's is of one of its hops
-hop_is : (scan : Scan) (key number : ℕ) (leaps : List Leap) (leap : Leap) → map leap_hop leaps ≡ hops_at scan key → slice_get leaps number ≡ Some leap → slice_get (hops_at scan key) number ≡ Some (leap_hop leap)
+hop_is : (scan : Scan) (key number : ℕ) (leaps : List Leap) (leap : Leap) → map leap_hop leaps ≡ hops_at scan key
+    → slice_get leaps number ≡ Some leap → slice_get (hops_at scan key) number ≡ Some (leap_hop leap)
 hop_is scan key number leaps leap same at =
-    ap (λ (hops : List Hop). slice_get hops number) (sym same) ∙ slice_get-map leap_hop leaps number ∙ ap (option_map leap_hop) at
+    ap (λ (hops : List Hop). slice_get hops number) (sym same) ∙ slice_get-map leap_hop leaps number
+    ∙ ap (option_map leap_hop) at
 
 -- and begins at the angle at which the instruction is found
-leap_is : (scan : Scan) (search : Search) (leaps : List Leap) (leap : Leap) → AreLeaps (setting_in scan) (order_of scan) (place_at (order_of scan) search.key) leaps → Contains leaps leap
-    → IsSearch (order_of scan) (kept_in scan.cells) search → IsLeap (setting_in scan) (order_of scan) (place_at (order_of scan) search.key) (search.found % 50) leap
+leap_is : (scan : Scan) (search : Search) (leaps : List Leap) (leap : Leap)
+    → AreLeaps (setting_in scan) (order_of scan) (place_at (order_of scan) search.key) leaps → Contains leaps leap
+    → IsSearch (order_of scan) (kept_in scan.cells) search
+    → IsLeap (setting_in scan) (order_of scan) (place_at (order_of scan) search.key) (search.found % 50) leap
 leap_is scan search leaps leap are has sought =
     let place = place_at (order_of scan) search.key in
     let angle : search.found % 50 ≡ place % 50 =
-    ap (λ (n : ℕ). n % 50) sought.found ∙ found_angle search.location.number search.begun (omega (arith, sought.there, are.drum)) ∙ ap (λ (n : ℕ). n % 50) sought.there in
+    ap (λ (n : ℕ). n % 50) sought.found
+    ∙ found_angle search.location.number search.begun (omega (arith, sought.there, are.drum))
+    ∙ ap (λ (n : ℕ). n % 50) sought.there in
     subst (λ (n : ℕ). IsLeap (setting_in scan) (order_of scan) place n leap) (sym angle) (are.each leap has)
 
 pub loop-number-init : goal.loop-number-init
-loop-number-init c = record { same = refl; half = half_none c.args.self.now c.args.search.now.key c.args.search.now.begun c.requires.scanned c.requires.search.begun }
+loop-number-init c =
+    record {
+      same = refl;
+      half =
+          half_none c.args.self.now c.args.search.now.key c.args.search.now.begun c.requires.scanned c.requires.search.begun;
+    }
 
 pub take_leap-requires-clause-ready : goal.take_leap-requires-clause-ready
 take_leap-requires-clause-ready c =
@@ -42,22 +53,28 @@ take_leap-requires-clause-ready c =
     let leaps = c.args.leaps.now in
     let number = c.loop-number.number in
     let leap = c.index-leaps-number.result in
-    let at : slice_get leaps number ≡ Some leap = slice_get_read leaps (length leaps) number leap refl c.loop-number-test.true c.index-leaps-number.is in
-    half_ready scan c.loop-number.self c.args.round.now search number leap c.loop-number.invariant.same c.requires.scanned c.loop-number.invariant.half c.requires.below c.requires.round c.requires.search
-    (hop_is scan search.key number leaps leap c.requires.leaps.hops at) (leap_is scan search leaps leap c.requires.leaps (contains_from_get leaps number leap at) c.requires.search)
+    let at : slice_get leaps number ≡ Some leap =
+    slice_get_read leaps (length leaps) number leap refl c.loop-number-test.true c.index-leaps-number.is in
+    half_ready scan c.loop-number.self c.args.round.now search number leap c.loop-number.invariant.same
+    c.requires.scanned c.loop-number.invariant.half c.requires.below c.requires.round c.requires.search
+    (hop_is scan search.key number leaps leap c.requires.leaps.hops at)
+    (leap_is scan search leaps leap c.requires.leaps (contains_from_get leaps number leap at) c.requires.search)
 
 pub take_leap-requires-clause-soon : goal.take_leap-requires-clause-soon
-take_leap-requires-clause-soon c = found_soon c.args.self.now c.args.search.now c.requires.scanned c.requires.below c.requires.search
+take_leap-requires-clause-soon c =
+    found_soon c.args.self.now c.args.search.now c.requires.scanned c.requires.below c.requires.search
 
 -- there are as many leaps as hops
-as_many : (scan : Scan) (key : ℕ) (leaps : List Leap) → map leap_hop leaps ≡ hops_at scan key → length leaps ≡ length (hops_at scan key)
+as_many : (scan : Scan) (key : ℕ) (leaps : List Leap) → map leap_hop leaps ≡ hops_at scan key
+    → length leaps ≡ length (hops_at scan key)
 as_many scan key leaps same = sym (length-map leaps leap_hop) ∙ ap (λ (hops : List Hop). length hops) same
 
 pub take_leap-requires-clause-few : goal.take_leap-requires-clause-few
 take_leap-requires-clause-few c =
     let scan = c.args.self.now in
     let key = c.args.search.now.key in
-    half_few scan key c.args.search.now.begun c.loop-number.number c.loop-number.self.cells c.requires.scanned c.requires.below c.loop-number.invariant.half
+    half_few scan key c.args.search.now.begun c.loop-number.number c.loop-number.self.cells c.requires.scanned
+    c.requires.below c.loop-number.invariant.half
     (omega (arith, c.loop-number-test.true, as_many scan key c.args.leaps.now c.requires.leaps.hops))
 
 pub loop-number-preserved : goal.loop-number-preserved
@@ -67,18 +84,30 @@ loop-number-preserved c =
     let leaps = c.args.leaps.now in
     let number = c.loop-number.number in
     let leap = c.index-leaps-number.result in
-    let at : slice_get leaps number ≡ Some leap = slice_get_read leaps (length leaps) number leap refl c.loop-number-test.true c.index-leaps-number.is in
+    let at : slice_get leaps number ≡ Some leap =
+    slice_get_read leaps (length leaps) number leap refl c.loop-number-test.true c.index-leaps-number.is in
     let after = c.take_leap.new.self in
     record {
-      same = c.take_leap.ensures.same ∙ ap (λ (one : Scan). record one { cells = after.cells }) c.loop-number.invariant.same;
-      half = half_more scan c.loop-number.self search.key search.begun number (leap_hop leap) after.cells c.loop-number.invariant.same c.loop-number.invariant.half
-          (hop_is scan search.key number leaps leap c.requires.leaps.hops at) c.take_leap.ensures.cells c.take_leap.ensures.counted c.take_leap.ensures.last c.take_leap.ensures.agreed c.take_leap.ensures.taken;
+      same = c.take_leap.ensures.same
+          ∙ ap (λ (one : Scan). record one { cells = after.cells }) c.loop-number.invariant.same;
+      half = half_more scan c.loop-number.self search.key search.begun number (leap_hop leap) after.cells
+          c.loop-number.invariant.same c.loop-number.invariant.half
+          (hop_is scan search.key number leaps leap c.requires.leaps.hops at) c.take_leap.ensures.cells
+          c.take_leap.ensures.counted c.take_leap.ensures.last c.take_leap.ensures.agreed c.take_leap.ensures.taken;
     }
 
 pub returns-clause-scanned : goal.returns-clause-scanned
 returns-clause-scanned c =
     let scan = c.args.self.now in
     let key = c.args.search.now.key in
-    let all : c.loop-number.number ≡ length (hops_at scan key) = omega (arith, c.loop-number-test.false, c.loop-number.auto.number-end, as_many scan key c.args.leaps.now c.requires.leaps.hops) in
+    let all : c.loop-number.number ≡ length (hops_at scan key) =
+    omega (
+      arith,
+      c.loop-number-test.false,
+      c.loop-number.auto.number-end,
+      as_many scan key c.args.leaps.now
+          c.requires.leaps.hops,
+    ) in
     subst (λ (one : Scan). IsScanned one (key + 1)) (sym c.loop-number.invariant.same)
-    (half_all scan key c.args.search.now.begun c.loop-number.number c.loop-number.self.cells c.requires.scanned c.requires.search.begun c.loop-number.invariant.half all)
+    (half_all scan key c.args.search.now.begun c.loop-number.number c.loop-number.self.cells c.requires.scanned
+    c.requires.search.begun c.loop-number.invariant.half all)

@@ -17,33 +17,62 @@ next_round : (counts words : ℕ) → counts * words + words ≡ (counts + 1) * 
 next_round counts words = omega arith
 
 -- a round's keys are keys
-round_below : (scan : Scan) (counts index first first' : ℕ) → IsScanned scan first → counts < scan.keys.now.counts → index < length (order_of scan) → first' ≡ counts * length (order_of scan)
+round_below : (scan : Scan) (counts index first first' : ℕ) → IsScanned scan first → counts < scan.keys.now.counts
+    → index < length (order_of scan) → first' ≡ counts * length (order_of scan)
     → first' + index < scan.keys.now.size
 round_below scan counts index first first' is below inside at =
-    let up : length (order_of scan) * suc counts ≤ length (order_of scan) * counts_of (setting_in scan).notes.marks = mul-le-mul_left (length (order_of scan)) (omega (arith, below, is.keys.counts)) in
+    let up : length (order_of scan) * suc counts ≤ length (order_of scan) * counts_of (setting_in scan).notes.marks =
+    mul-le-mul_left (length (order_of scan)) (omega (arith, below, is.keys.counts)) in
     omega (arith, up, inside, at, is.keys.size)
 
 -- the first key of a round
-first_is : (scan : Scan) (counts first : ℕ) (round : Round) → IsScanned scan first → counts < scan.keys.now.counts → IsRound scan.keys.now.flow.now counts round → round.own.first ≡ counts * length (order_of scan)
-first_is scan counts first round is below of = round_first scan.keys.now.flow.now counts round of (omega (arith, below, is.keys.counts))
+first_is : (scan : Scan) (counts first : ℕ) (round : Round) → IsScanned scan first → counts < scan.keys.now.counts
+    → IsRound scan.keys.now.flow.now counts round → round.own.first ≡ counts * length (order_of scan)
+first_is scan counts first round is below of =
+    round_first scan.keys.now.flow.now counts round of (omega (arith, below, is.keys.counts))
 
 pub keeps_any-requires-clause-there : goal.keeps_any-requires-clause-there
 keeps_any-requires-clause-there c =
     let scan = c.args.self.now in
-    let words : c.len-words.result ≡ length (order_of scan) = omega (arith, c.len-words.ensures, scan.keys.now.sites.ok.0, same_length scan.keys.now c.requires.scanned.keys) in
-    let product : c.args.counts * c.len-words.result ≡ c.args.counts * length (order_of scan) = ap (λ (n : ℕ). c.args.counts * n) words in
-    let up : length (order_of scan) * suc c.args.counts ≤ length (order_of scan) * counts_of (setting_in scan).notes.marks =
+    let words : c.len-words.result ≡ length (order_of scan) =
+    omega (
+      arith,
+      c.len-words.ensures,
+      scan.keys.now.sites.ok.0,
+      same_length scan.keys.now
+          c.requires.scanned.keys,
+    ) in
+    let product : c.args.counts * c.len-words.result ≡ c.args.counts * length (order_of scan) =
+    ap (λ (n : ℕ). c.args.counts * n) words in
+    let up : length (order_of scan) * suc c.args.counts
+    ≤ length (order_of scan) * counts_of (setting_in scan).notes.marks =
     mul-le-mul_left (length (order_of scan)) (omega (arith, c.requires.below, c.requires.scanned.keys.counts)) in
-    omega (arith, words, product, up, places_size (setting_in scan) (order_of scan) scan.cells c.requires.scanned.keys.ordered.0 c.requires.scanned.cells)
+    omega (
+      arith,
+      words,
+      product,
+      up,
+      places_size (setting_in scan) (order_of scan) scan.cells
+          c.requires.scanned.keys.ordered.0 c.requires.scanned.cells,
+    )
 
 pub returns-then-not-keeps_any-clause-scanned : goal.returns-then-not-keeps_any-clause-scanned
 returns-then-not-keeps_any-clause-scanned c =
     let scan = c.args.self.now in
     let n : ℕ = length (order_of scan) in
-    let words : c.len-words.result ≡ n = omega (arith, c.len-words.ensures, scan.keys.now.sites.ok.0, same_length scan.keys.now c.requires.scanned.keys) in
+    let words : c.len-words.result ≡ n =
+    omega (
+      arith,
+      c.len-words.ensures,
+      scan.keys.now.sites.ok.0,
+      same_length scan.keys.now
+          c.requires.scanned.keys,
+    ) in
     let product : c.args.counts * c.len-words.result ≡ c.args.counts * n = ap (λ (w : ℕ). c.args.counts * w) words in
     subst (IsScanned scan) (next_round c.args.counts n)
-    (skipped_all scan (c.args.counts * n) n c.requires.scanned (λ key from below. c.if-not-keeps_any.ensures.none refl key (omega (arith, from, product)) (omega (arith, below, product, words))))
+    (skipped_all scan (c.args.counts * n) n c.requires.scanned
+    (λ key from below. c.if-not-keeps_any.ensures.none refl key (omega (arith, from, product))
+    (omega (arith, below, product, words))))
 
 pub loop-index-init : goal.loop-index-init
 loop-index-init c =
@@ -54,47 +83,82 @@ loop-index-init c =
 pub take_key-requires-clause-scanned : goal.take_key-requires-clause-scanned
 take_key-requires-clause-scanned c =
     let scan = c.args.self.now in
-    let first = first_is scan c.args.counts (c.args.counts * length (order_of scan)) c.round-round.result c.requires.scanned c.requires.below c.round-round.ensures in
+    let first = first_is scan c.args.counts (c.args.counts * length (order_of scan)) c.round-round.result
+    c.requires.scanned c.requires.below c.round-round.ensures in
     subst (λ (n : ℕ). IsScanned c.loop-index.self (n + c.loop-index.index)) (sym first) c.loop-index.invariant.scanned
 
 pub take_key-requires-clause-below : goal.take_key-requires-clause-below
 take_key-requires-clause-below c =
     let scan = c.args.self.now in
     let n : ℕ = length (order_of scan) in
-    let words : c.len-words.result ≡ n = omega (arith, c.len-words.ensures, scan.keys.now.sites.ok.0, same_length scan.keys.now c.requires.scanned.keys) in
-    let first = first_is scan c.args.counts (c.args.counts * n) c.round-round.result c.requires.scanned c.requires.below c.round-round.ensures in
-    subst (λ (s : Scan). c.round-round.result.own.first + c.loop-index.index < s.keys.now.size) (sym c.loop-index.invariant.same)
-    (round_below scan c.args.counts c.loop-index.index (c.args.counts * n) c.round-round.result.own.first c.requires.scanned c.requires.below (omega (arith, c.loop-index-test.true, words)) first)
+    let words : c.len-words.result ≡ n =
+    omega (
+      arith,
+      c.len-words.ensures,
+      scan.keys.now.sites.ok.0,
+      same_length scan.keys.now
+          c.requires.scanned.keys,
+    ) in
+    let first = first_is scan c.args.counts (c.args.counts * n) c.round-round.result c.requires.scanned c.requires.below
+    c.round-round.ensures in
+    subst (λ (s : Scan). c.round-round.result.own.first + c.loop-index.index < s.keys.now.size)
+    (sym c.loop-index.invariant.same)
+    (round_below scan c.args.counts c.loop-index.index (c.args.counts * n) c.round-round.result.own.first
+    c.requires.scanned c.requires.below (omega (arith, c.loop-index-test.true, words)) first)
 
 pub take_key-requires-clause-round : goal.take_key-requires-clause-round
 take_key-requires-clause-round c =
     let scan = c.args.self.now in
     let n : ℕ = length (order_of scan) in
-    let words : c.len-words.result ≡ n = omega (arith, c.len-words.ensures, scan.keys.now.sites.ok.0, same_length scan.keys.now c.requires.scanned.keys) in
-    let first = first_is scan c.args.counts (c.args.counts * n) c.round-round.result c.requires.scanned c.requires.below c.round-round.ensures in
+    let words : c.len-words.result ≡ n =
+    omega (
+      arith,
+      c.len-words.ensures,
+      scan.keys.now.sites.ok.0,
+      same_length scan.keys.now
+          c.requires.scanned.keys,
+    ) in
+    let first = first_is scan c.args.counts (c.args.counts * n) c.round-round.result c.requires.scanned c.requires.below
+    c.round-round.ensures in
     let whole : (c.round-round.result.own.first + c.loop-index.index) / n ≡ c.args.counts =
-    ap (λ (f : ℕ). (f + c.loop-index.index) / n) first ∙ div-mul-add c.args.counts n c.loop-index.index (omega (arith, c.loop-index-test.true, words)) in
-    subst (λ (s : Scan). IsRound s.keys.now.flow.now ((c.round-round.result.own.first + c.loop-index.index) / length (order_of s)) c.round-round.result) (sym c.loop-index.invariant.same)
+    ap (λ (f : ℕ). (f + c.loop-index.index) / n) first
+    ∙ div-mul-add c.args.counts n c.loop-index.index (omega (arith, c.loop-index-test.true, words)) in
+    subst (λ (s : Scan).
+    IsRound s.keys.now.flow.now ((c.round-round.result.own.first + c.loop-index.index) / length (order_of s))
+    c.round-round.result) (sym c.loop-index.invariant.same)
     (subst (λ (k : ℕ). IsRound scan.keys.now.flow.now k c.round-round.result) (sym whole) c.round-round.ensures)
 
 pub take_key-requires-clause-rest : goal.take_key-requires-clause-rest
 take_key-requires-clause-rest c =
     let scan = c.args.self.now in
     let n : ℕ = length (order_of scan) in
-    let words : c.len-words.result ≡ n = omega (arith, c.len-words.ensures, scan.keys.now.sites.ok.0, same_length scan.keys.now c.requires.scanned.keys) in
-    let first = first_is scan c.args.counts (c.args.counts * n) c.round-round.result c.requires.scanned c.requires.below c.round-round.ensures in
+    let words : c.len-words.result ≡ n =
+    omega (
+      arith,
+      c.len-words.ensures,
+      scan.keys.now.sites.ok.0,
+      same_length scan.keys.now
+          c.requires.scanned.keys,
+    ) in
+    let first = first_is scan c.args.counts (c.args.counts * n) c.round-round.result c.requires.scanned c.requires.below
+    c.round-round.ensures in
     let rest : (c.round-round.result.own.first + c.loop-index.index) % n ≡ c.loop-index.index =
-    ap (λ (f : ℕ). (f + c.loop-index.index) % n) first ∙ mod-mul-add c.args.counts n c.loop-index.index (omega (arith, c.loop-index-test.true, words)) in
-    subst (λ (s : Scan). (c.round-round.result.own.first + c.loop-index.index) % length (order_of s) ≡ c.loop-index.index) (sym c.loop-index.invariant.same) rest
+    ap (λ (f : ℕ). (f + c.loop-index.index) % n) first
+    ∙ mod-mul-add c.args.counts n c.loop-index.index (omega (arith, c.loop-index-test.true, words)) in
+    subst (λ (s : Scan). (c.round-round.result.own.first + c.loop-index.index) % length (order_of s)
+    ≡ c.loop-index.index) (sym c.loop-index.invariant.same) rest
 
 pub loop-index-preserved : goal.loop-index-preserved
 loop-index-preserved c =
     let scan = c.args.self.now in
     let n : ℕ = length (order_of scan) in
-    let first = first_is scan c.args.counts (c.args.counts * n) c.round-round.result c.requires.scanned c.requires.below c.round-round.ensures in
-    let next : c.round-round.result.own.first + c.loop-index.index + 1 ≡ c.args.counts * n + (c.loop-index.index + 1) = omega (arith, first) in
+    let first = first_is scan c.args.counts (c.args.counts * n) c.round-round.result c.requires.scanned c.requires.below
+    c.round-round.ensures in
+    let next : c.round-round.result.own.first + c.loop-index.index + 1 ≡ c.args.counts * n + (c.loop-index.index + 1) =
+    omega (arith, first) in
     record {
-      same = c.take_key.ensures.same ∙ ap (λ (one : Scan). record one { cells = c.take_key.new.self.cells }) c.loop-index.invariant.same;
+      same = c.take_key.ensures.same
+          ∙ ap (λ (one : Scan). record one { cells = c.take_key.new.self.cells }) c.loop-index.invariant.same;
       scanned = subst (IsScanned c.take_key.new.self) next c.take_key.ensures.scanned;
     }
 
@@ -102,6 +166,14 @@ pub returns-clause-scanned : goal.returns-clause-scanned
 returns-clause-scanned c =
     let scan = c.args.self.now in
     let n : ℕ = length (order_of scan) in
-    let words : c.len-words.result ≡ n = omega (arith, c.len-words.ensures, scan.keys.now.sites.ok.0, same_length scan.keys.now c.requires.scanned.keys) in
+    let words : c.len-words.result ≡ n =
+    omega (
+      arith,
+      c.len-words.ensures,
+      scan.keys.now.sites.ok.0,
+      same_length scan.keys.now
+          c.requires.scanned.keys,
+    ) in
     let all : c.loop-index.index ≡ n = omega (arith, c.loop-index-test.false, c.loop-index.auto.index-end, words) in
-    subst (IsScanned c.loop-index.self) (ap (λ (k : ℕ). c.args.counts * n + k) all ∙ next_round c.args.counts n) c.loop-index.invariant.scanned
+    subst (IsScanned c.loop-index.self) (ap (λ (k : ℕ). c.args.counts * n + k) all ∙ next_round c.args.counts n)
+    c.loop-index.invariant.scanned

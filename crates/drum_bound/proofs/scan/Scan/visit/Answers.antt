@@ -1,10 +1,96 @@
-use Rattle.std.proofs.Common.{arith}
+use Rattle.std.proofs.Common.{◌≡◌, ℕ, ◌-◌, ◌%◌, ◌<◌, List, length, Some, None, ap, sym, ◌∙◌, subst, arith}
+use Rattle.std.specs.Prelude.{slice_get, vec_len}
+use Rattle.std.proofs.Math.Nat.{mod-lt}
+use Rattle.std.proofs.lemmas.List.{length-map}
+use Rattle.std.proofs.lemmas.Option.{slice_get-get_or}
+use Rattle.drum_flow.specs.Hops.{Hop}
+use Rattle.drum_flow.specs.Seen.{seen_hop, seen_way}
+use Rattle.drum_flow.specs.Walk.{Setting}
+use Rattle.drum_bound.specs.declared.keys.Site.{Site}
+use Rattle.drum_bound.specs.declared.scan.Scan.{Scan}
+use Rattle.drum_bound.specs.Keys.{place_at}
+use Rattle.drum_bound.specs.ScanOf.{IsDone, order_of, setting_in, size_in}
+use Rattle.drum_bound.specs.TakenOf.{taken_of}
+use Rattle.drum_bound.specs.Visited.{visited}
+use Rattle.drum_bound.proofs.KeyLaws.{some_places}
 use Rattle.drum_bound.proofs.Finished.{kept_after}
 use Rattle.drum_bound.proofs.scan.Scan.visit.Goals as goal
 
+-- there are as many sites as locations
+as_long : (scan : Scan) (words : ℕ) → IsDone scan → words ≡ vec_len scan.keys.now.sites → words ≡ length (order_of scan)
+as_long scan words done is =
+    is ∙ scan.keys.now.sites.ok.0 ∙ sym (length-map scan.keys.now.sites.items (λ (site : Site). site.location.number))
+    ∙ ap (λ (all : List ℕ). length all) done.keys.sites
+
 pub overflow_sub-result : goal.overflow_sub-result
-overflow_sub-result c = omega (arith, kept_after c.args.self.now c.args.origin.key c.args.begin c.requires.done c.requires.begun, c.start_angle-angle.ensures)
+overflow_sub-result c =
+    omega (
+      arith,
+      kept_after c.args.self.now c.args.origin.key c.args.begin c.requires.done c.requires.begun,
+      c.start_angle-angle.ensures,
+    )
 
 pub overflow_sub-result-2 : goal.overflow_sub-result-2
 overflow_sub-result-2 c =
-    omega (arith, kept_after c.args.self.now c.args.origin.key c.args.begin c.requires.done c.requires.begun, c.start_angle-angle.ensures, c.requires.later)
+    omega (
+      arith,
+      kept_after c.args.self.now c.args.origin.key c.args.begin c.requires.done c.requires.begun,
+      c.start_angle-angle.ensures,
+      c.requires.later,
+    )
+
+-- the index of a key's location is one of the order
+index_inside : (scan : Scan) (key words : ℕ) → IsDone scan → key < size_in scan → words ≡ vec_len scan.keys.now.sites
+    → key % words < length (order_of scan)
+index_inside scan key words done below is =
+    let long : words ≡ length (order_of scan) = as_long scan words done is in
+    subst (λ (n : ℕ). key % n < length (order_of scan)) (sym long)
+    (mod-lt key (some_places (setting_in scan).notes.marks (order_of scan) key below))
+
+-- and the location there is the key's
+place_read : (scan : Scan) (key words : ℕ) → IsDone scan → key < size_in scan → words ≡ vec_len scan.keys.now.sites
+    → slice_get (order_of scan) (key % words) ≡ Some (place_at (order_of scan) key)
+place_read scan key words done below is =
+    let long : words ≡ length (order_of scan) = as_long scan words done is in
+    ap (λ (n : ℕ). slice_get (order_of scan) (key % n)) long
+    ∙ slice_get-get_or (order_of scan) (key % length (order_of scan)) 0
+    (mod-lt key (some_places (setting_in scan).notes.marks (order_of scan) key below))
+
+pub hop_at-requires-clause-there : goal.hop_at-requires-clause-there
+hop_at-requires-clause-there c =
+    index_inside c.args.self.now c.args.origin.key c.len.result c.requires.done c.requires.from.below c.len.ensures
+
+pub unreachable-requires : goal.unreachable-requires
+unreachable-requires c =
+    go c.requires.from.hop
+    (sym c.requires.from.is ∙ c.in_default.ensures (place_at (order_of c.args.self.now) c.args.origin.key)
+    (place_read c.args.self.now c.args.origin.key c.len.result c.requires.done c.requires.from.below c.len.ensures))
+  where
+    go : (hop : Hop) → Some hop ≡ None → ⊥
+    go hop e = cc
+
+pub returns : goal.returns
+returns c = λ hop is.
+    let scan = c.args.self.now in
+    let g : Setting = setting_in scan in
+    let order : List ℕ = order_of scan in
+    let key = c.args.origin.key in
+    let begun = c.args.begin.clock - c.start_angle-angle.result in
+    let ended = c.args.end.clock - c.start_angle-angle.result in
+    let read = c.in-Some.ensures (place_at order key)
+    (place_read scan key c.len.result c.requires.done c.requires.from.below c.len.ensures) in
+    let same : seen_hop c.in-Some.hop ≡ hop = go (seen_hop c.in-Some.hop) hop (sym read ∙ is) in
+    ap (λ (place : ℕ). record {
+      place = place;
+      ins = c.in-Some.hop.instruction;
+      way =
+          seen_way c.in-Some.hop.way;
+      begun = begun;
+      ended = ended;
+    }) c.location_at.ensures
+    ∙ ap (λ (h : Hop). visited (taken_of g order key h begun ended)) same
+    ∙ ap (λ (angle : ℕ). visited (taken_of g order key hop (c.args.begin.clock - angle) (c.args.end.clock - angle)))
+    c.start_angle-angle.ensures
+  where
+    go : (one other : Hop) → Some one ≡ Some other → one ≡ other
+    go one other e = cc
