@@ -70,14 +70,6 @@ all_said text rest stating number p nothing =
     let all : lines_of text ≡ p.texts = p.split ∙ ap (λ (xs : List (List ℕ)). p.texts ++ xs) nothing ∙ append-nil p.texts in
     subst (λ (texts : List (List ℕ)). Say texts p.lines) (sym all) p.said
 
-pub inputs_of_all : (text rest : List ℕ) (stating : Stating) (number : ℕ) (inputs : Inputs) → (IsTooLong text → ⊥) → Progress text rest stating number → lines_of rest ≡ []
-    → ((lines : List Line) → HoldsLines stating lines → AreInputsOf inputs lines) → (lines : List Line) × AreInputs text lines × AreInputsOf inputs lines
-inputs_of_all text rest stating number inputs short p nothing finished = (
-  p.lines,
-  record { short = short; said = all_said text rest stating number p nothing; sound = p.holds.sound },
-  finished p.lines p.holds,
-)
-
 pub left_too_long : (left : Option (List ℕ)) → IfSome left (λ bytes. 804000 < length bytes) → IfSome left IsTooLong
 left_too_long None more = tt
 left_too_long (Some bytes) more = longer_by_bytes 4000 200 bytes more

@@ -6,9 +6,8 @@ ghost use Rattle.drum_inputs.specs.Said.{said};
 use crate::digits::read_wait;
 use crate::key::behind;
 use crate::setting::Setting;
-use drum_core::Word;
-use drum_core::deck::card::Card as DeckCard;
 use drum_core::spaced::read_words;
+use drum_core::{DeckCard, Word};
 use drum_machine::Card;
 
 /// How many words a card has.

@@ -5,9 +5,7 @@ ghost use Rattle.drum_inputs.specs.InputsText.{Line, IsTooLong, AreInputs, IsRef
 use crate::fault::InputFault;
 use crate::inputs::Inputs;
 use crate::stating::Stating;
-use drum_core::Input;
-use drum_core::deck::lines::{Lines, is_longer};
-use drum_core::device::whole::{WholeError, read_whole};
+use drum_core::{Input, Lines, WholeError, is_longer, read_whole};
 use std::alloc::Global;
 
 /// The most lines of inputs.

@@ -8,8 +8,7 @@ use crate::fault::InputFault;
 use crate::inputs::Inputs;
 use crate::line::Line;
 use crate::settings::Settings;
-use drum_core::Word;
-use drum_core::deck::card::Card as DeckCard;
+use drum_core::{DeckCard, Word};
 use drum_machine::{Card, Feed, Setup};
 use std::alloc::{AllocError, Global};
 

@@ -15,8 +15,7 @@ mod refusal_line;
 pub mod verdict_line;
 
 use crate::failed_write::WriteFault;
-use drum_core::device::pieces::{write_pieces, write_whole};
-use drum_core::{Location, Output};
+use drum_core::{Location, Output, write_pieces, write_whole};
 use itoa::Buffer;
 
 /// Writes the line of a bound.

@@ -30,7 +30,7 @@ pub went_on : (turn : Turn) (outcome : Stepped) (origin from next : Location) (w
 went_on turn (on s) origin from next word load read words punch used before ins is tells sought time of =
     same_visit turn from.number before used ins (to next.number) (ap (λ (place : Location). place.number) tells.0 ∙ sought)
     (of ∙ ap instruction_of tells.1) (ap to tells.2 ∙ sym (ap ended_by is)) time (tells.3 ∙ sym (ap time_of is))
-went_on turn (stopped because moment) origin from next word load read words punch used before ins is tells sought time of = cc
+went_on turn (stopped held because moment) origin from next word load read words punch used before ins is tells sought time of = cc
 
 -- a step that stops
 pub stopped_there : (turn : Turn) (outcome : Stepped) (origin from : Location) (word : Word) (load : Bool) (words : Option (List Word)) (why : whys.Why) (used before : ℕ) (ins : Instruction) (way : Way)
@@ -38,7 +38,7 @@ pub stopped_there : (turn : Turn) (outcome : Stepped) (origin from : Location) (
     → origin.number ≡ turn.origin.sought → turn.origin.time ≡ before → ins ≡ instruction_of word → way ≡ stops_by why
     → record { place = from.number; ins = ins; way = way; begun = before; ended = used } ≡ visited (hop_of turn)
 stopped_there turn (on s) origin from word load words why used before ins way is tells sought time of ends = absurd tells
-stopped_there turn (stopped because moment) origin from word load words why used before ins way is tells sought time of ends =
+stopped_there turn (stopped held because moment) origin from word load words why used before ins way is tells sought time of ends =
     let place : from ≡ origin = cc in
     let fetch : word ≡ fetched turn.origin = cc in
     let same : why ≡ because = cc in

@@ -12,6 +12,7 @@ use Rattle.drum_machine.specs.declared.setup.Setup.{Setup}
 use Rattle.drum_machine.specs.declared.step.Step as answers
 use Rattle.drum_machine.specs.declared.step.Step.TheVariants as answer
 use Rattle.drum_machine.specs.declared.why.Why as whys
+use Rattle.drum_machine.specs.Contents.{Contents}
 use Rattle.drum_machine.specs.Counts.{no_counts}
 use Rattle.drum_machine.specs.FirstState.{IsSetUp}
 use Rattle.drum_machine.specs.Feed.{cards_left, waits_left}
@@ -19,7 +20,7 @@ use Rattle.drum_machine.specs.Keeps.{IsAsDeclared, Leaves, reads_load}
 use Rattle.drum_machine.specs.Machine.{GoesOn, Tells, Becomes, TakesStep, state_in, used_by, sought_by, op_in, punched_with}
 use Rattle.drum_machine.specs.Monitor.{HasSeen, IsToldOf, answer_of, counts_over}
 use Rattle.drum_machine.specs.Run.{Turn, IsFirstState, time_of, used_from}
-use Rattle.drum_machine.specs.Step.{State, Stepped, on, stopped, fetched}
+use Rattle.drum_machine.specs.Step.{State, Stepped, on, stopped, contents_after, fetched}
 use Rattle.drum_flow.specs.Walk.{Setting}
 use Rattle.drum_lines.specs.declared.verdict.Verdict.TheVariants.{Kept, Left}
 use Rattle.drum_tool.specs.declared.following.Following.{Following}
@@ -152,7 +153,7 @@ module _ (g : Setting) where
                   counted = counts_more turns turn before.steps following.counted;
                   each_takes_time = omega (arith, later becomes.0, following.each_takes_time);
                 }
-            go (stopped because moment) is tells becomes =
+            go (stopped held because moment) is tells becomes =
                 absurd (goes (sought_by before.machine) (fetched now) because moment tells)
 
         few : length more ≤ bound + 1
@@ -167,7 +168,7 @@ module _ (g : Setting) where
             → said ≡ answer.Stopped origin word because used
             → IsFollowed g first waits bound more (Kept used bound because)
         stops_here seer seen origin word because used stops =
-            let is : turn.outcome ≡ stopped because used =
+            let is : turn.outcome ≡ stopped (contents_after turn.outcome) because used =
             go turn.outcome refl (subst (TellsOf turn.outcome) stops takes.tells) in
             record {
               says = λ given are. (
@@ -178,6 +179,7 @@ module _ (g : Setting) where
                   last = turn;
                   replayed = replayed given are;
                   kept = seen.kept;
+                  held = contents_after turn.outcome;
                   stops = is;
                   number = length-append turns (turn ∷ []);
                 },
@@ -188,12 +190,14 @@ module _ (g : Setting) where
             }
           where
             go : (outcome : Stepped) → turn.outcome ≡ outcome
-                → TellsOf outcome (answer.Stopped origin word because used) → turn.outcome ≡ stopped because used
+                → TellsOf outcome (answer.Stopped origin word because used) → turn.outcome ≡ stopped (contents_after turn.outcome) because used
             go (on next) is tells = absurd tells
-            go (stopped why moment) is tells =
+            go (stopped held why moment) is tells =
                 let same : why ≡ because = cc in
                 let at : moment ≡ used = cc in
-                cc
+                let holds : held ≡ contents_after turn.outcome = ap contents_after (sym is) in
+                is ∙ ap (λ (c : Contents). stopped c why moment) holds ∙ ap (λ (w : whys.Why). stopped (contents_after turn.outcome) w moment) same
+                ∙ ap (stopped (contents_after turn.outcome) because) at
 
         -- A step that leaves the notes is the last.
         pub leaves_here : (what : lefts.Left) → Leaves g.loads g.notes counts turn what

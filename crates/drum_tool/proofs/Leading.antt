@@ -11,15 +11,15 @@ use Rattle.drum_tool.specs.Replay.{AreFed}
 
 goes_any : (outcome : Stepped) (Right : State → Type 0) (Thing : Type 0) → ((next : State) → Right next → Thing) → Goes outcome Right → Thing
 goes_any (on next) Right Thing so goes = so next goes
-goes_any (stopped because moment) Right Thing so goes = absurd goes
+goes_any (stopped held because moment) Right Thing so goes = absurd goes
 
 goes_goes : (outcome : Stepped) (Right Other : State → Type 0) → ((next : State) → Right next → Other next) → Goes outcome Right → Goes outcome Other
 goes_goes (on next) Right Other so goes = so next goes
-goes_goes (stopped because moment) Right Other so goes = absurd goes
+goes_goes (stopped held because moment) Right Other so goes = absurd goes
 
 goes_follows : (outcome : Stepped) (Right Other : State → Type 0) (turns : List Turn) → ((next : State) → Right next → Other next) → Goes outcome Right → Follow outcome Other turns
 goes_follows (on next) Right Other turns so goes = so next goes
-goes_follows (stopped because moment) Right Other turns so goes = absurd goes
+goes_follows (stopped held because moment) Right Other turns so goes = absurd goes
 
 -- the time after turns is that after the last
 pub used_more : (time : ℕ) (turns : List Turn) (turn : Turn) → used_from time (turns ++ turn ∷ []) ≡ time_of turn.outcome
@@ -42,7 +42,7 @@ module _ (times : Op → Entry) where
 
   last_follows : (outcome : Stepped) → Follow outcome (λ next. IsRun times next []) []
   last_follows (on next) = tt
-  last_follows (stopped because moment) = refl
+  last_follows (stopped held because moment) = refl
 
   -- one turn more is a run,
   pub lead_run : (s : State) (waits : List ℕ) (turns : List Turn) (now : State) (left : List ℕ) → MayBe now left → Lead s waits turns now left
@@ -90,7 +90,7 @@ module _ (times : Op → Entry) where
   used_along : (outcome : Stepped) (turns : List Turn) (now : State) (Right : State → Type 0)
       → ((next : State) → Right next → used_from next.time turns ≡ now.time) → Goes outcome Right → used_from (time_of outcome) turns ≡ now.time
   used_along (on next) turns now Right so goes = so next goes
-  used_along (stopped because moment) turns now Right so goes = absurd goes
+  used_along (stopped held because moment) turns now Right so goes = absurd goes
 
   -- the time that turns lead to
   pub lead_used : (s : State) (waits : List ℕ) (turns : List Turn) (now : State) (left : List ℕ) → Lead s waits turns now left

@@ -105,7 +105,7 @@ module _ (times : Op → Entry) where
       → Follow outcome (λ next. IsRun times next others) others
       → ((next : State) → IsRun times next turns → IsRun times next others → turns ≡ others) → turns ≡ others
   one_rest (on next) turns others follow follow_other so = so next follow follow_other
-  one_rest (stopped because moment) turns others follow follow_other so = follow ∙ sym follow_other
+  one_rest (stopped held because moment) turns others follow follow_other so = follow ∙ sym follow_other
 
   -- a state and the waits fix the turns, but for how many they are
   one_from : (turns others : List Turn) (s : State) (waits : List ℕ) → IsRun times s turns → AreFed times waits turns

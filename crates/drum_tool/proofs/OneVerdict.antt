@@ -5,6 +5,7 @@ use Rattle.drum_core.proofs.Same.{same_location}
 use Rattle.drum_machine.specs.declared.left.Left as lefts
 use Rattle.drum_machine.specs.declared.left.Left.TheVariants as left
 use Rattle.drum_machine.specs.declared.why.Why as whys
+use Rattle.drum_machine.specs.Contents.{Contents}
 use Rattle.drum_machine.specs.Counts.{no_counts}
 use Rattle.drum_machine.specs.Keeps.{AreKept, IsKeptTurn, IsAsDeclared, Leaves, GoesTo, counts_after}
 use Rattle.drum_machine.specs.Machine.{op_in, waits_with}
@@ -19,7 +20,7 @@ use Rattle.drum_tool.proofs.OneRun.{one_first, one_turn}
 
 goes_to_one : (outcome : Stepped) (a b : ℕ) → GoesTo outcome a → GoesTo outcome b → a ≡ b
 goes_to_one (on next) a b one other = sym one ∙ other
-goes_to_one (stopped because moment) a b one other = absurd one
+goes_to_one (stopped held because moment) a b one other = absurd one
 
 -- there is an end: a list with a last is not empty
 some_last : (turns : List Turn) (last : Turn) → turns ++ last ∷ [] ≡ [] → ⊥
@@ -66,19 +67,19 @@ module _ (g : Setting) where
   abbrev Ends : List ℕ → Turn → Type 0
   Ends counts turn =
       (KeptTurn counts turn
-      × ((because : whys.Why) × (moment : ℕ) × (turn.outcome ≡ stopped because moment)))
+      × ((held : Contents) × (because : whys.Why) × (moment : ℕ) × (turn.outcome ≡ stopped held because moment)))
       ⊎ ((what : lefts.Left) × Leave counts turn what)
 
-  stops_last : (outcome : Stepped) (because : whys.Why) (moment : ℕ) (Right : State → Type 0) (turns : List Turn) (last : Turn)
-      → outcome ≡ stopped because moment → Follow outcome Right (turns ++ last ∷ []) → ⊥
-  stops_last (on next) because moment Right turns last stops follow = cc
-  stops_last (stopped why time) because moment Right turns last stops follow = some_last turns last follow
+  stops_last : (outcome : Stepped) (held : Contents) (because : whys.Why) (moment : ℕ) (Right : State → Type 0) (turns : List Turn) (last : Turn)
+      → outcome ≡ stopped held because moment → Follow outcome Right (turns ++ last ∷ []) → ⊥
+  stops_last (on next) held because moment Right turns last stops follow = cc
+  stops_last (stopped then why time) held because moment Right turns last stops follow = some_last turns last follow
 
   -- none comes with a turn that keeps to the notes, where turns follow it
   ends_last : (counts : List ℕ) (turn : Turn) (Right : State → Type 0) (turns : List Turn) (last : Turn) → Ends counts turn → KeptTurn counts turn
       → Follow turn.outcome Right (turns ++ last ∷ []) → ⊥
-  ends_last counts turn Right turns last (inl (kept, (because, moment, stops))) keeps follow =
-      stops_last turn.outcome because moment Right turns last stops follow
+  ends_last counts turn Right turns last (inl (kept, (held, because, moment, stops))) keeps follow =
+      stops_last turn.outcome held because moment Right turns last stops follow
   ends_last counts turn Right turns last (inr (what, leaves)) keeps follow = kept_leaves_none counts turn what keeps leaves
 
   -- Turns from a state with waits, and a last one with which a verdict comes; marks were passed so
@@ -97,12 +98,12 @@ module _ (g : Setting) where
   ending_rest (on state) waits counts turns last follow fed kept ends next onto =
       let same : state ≡ next = cc in
       record { run = subst (λ (s : State). IsRun g.times s (turns ++ last ∷ [])) same follow; fed = fed; kept = kept; ends = ends }
-  ending_rest (stopped because moment) waits counts turns last follow fed kept ends next onto = absurd (some_last turns last follow)
+  ending_rest (stopped held because moment) waits counts turns last follow fed kept ends next onto = absurd (some_last turns last follow)
 
   goes_or_none : (outcome : Stepped) (Right : State → Type 0) (turns : List Turn) (last : Turn) → Follow outcome Right (turns ++ last ∷ [])
       → (next : State) × (outcome ≡ on next)
   goes_or_none (on next) Right turns last follow = (next, refl)
-  goes_or_none (stopped because moment) Right turns last follow = absurd (some_last turns last follow)
+  goes_or_none (stopped held because moment) Right turns last follow = absurd (some_last turns last follow)
 
   -- the turns, and the last, are one
   one_ending : (turns others : List Turn) (last end : Turn) (s : State) (waits counts : List ℕ) → Ending s waits counts turns last
@@ -156,7 +157,7 @@ module _ (g : Setting) where
     stops_ended : (step used : ℕ) (because : whys.Why) (at : StopsAt g given step used because) → Ended at.turns at.last
     stops_ended step used because at =
         let kept = kept_last (no_counts g.notes.marks) at.turns at.last at.kept in
-        record { replayed = at.replayed; kept = kept.0; ends = inl (kept.1, (because, used, at.stops)) }
+        record { replayed = at.replayed; kept = kept.0; ends = inl (kept.1, (at.held, because, used, at.stops)) }
 
     leaves_ended : (step used : ℕ) (what : lefts.Left) (at : LeavesAt g given step used what) → Ended at.turns at.last
     leaves_ended step used what at = record { replayed = at.replayed; kept = at.kept; ends = inr (what, at.leaves) }
@@ -166,7 +167,7 @@ module _ (g : Setting) where
         → (used ≡ used') × (because ≡ because') × (step ≡ step')
     one_stop step step' used used' because because' at other =
         let same = one_end at.turns other.turns at.last other.last (stops_ended step used because at) (stops_ended step' used' because' other) in
-        let outcomes : stopped because used ≡ stopped because' used' = sym at.stops ∙ ap (λ (turn : Turn). turn.outcome) same.1 ∙ other.stops in
+        let outcomes : stopped at.held because used ≡ stopped other.held because' used' = sym at.stops ∙ ap (λ (turn : Turn). turn.outcome) same.1 ∙ other.stops in
         let times : used ≡ used' = cc in
         let reasons : because ≡ because' = cc in
         (times, reasons, at.number ∙ ap (λ (turns : List Turn). length turns + 1) same.0 ∙ sym other.number)

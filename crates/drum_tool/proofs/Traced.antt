@@ -39,18 +39,18 @@ lines_more times number (one ∷ turns) turn =
 -- ---- a run keeps its angle at time 0
 
 leaves_start : (s : State) (clock : ℕ) (outcome : Outcome) (next : State) → leaves s clock outcome ≡ on next → next.start ≡ s.start
-leaves_start s clock (stops because) next is = absurd (let bad = is in cc)
+leaves_start s clock (stops held because) next is = absurd (let bad = is in cc)
 leaves_start s clock (goes contents place) next is = go (is_location place) is
   where
     went : State
     went = record { contents = contents; sought = place; time = clock - s.start; start = s.start }
 
-    go : (b : Bool) → (if b then on went else stopped why.Next (clock - s.start)) ≡ on next → next.start ≡ s.start
+    go : (b : Bool) → (if b then on went else stopped contents why.Next (clock - s.start)) ≡ on next → next.start ≡ s.start
     go true same = let one : went ≡ next = cc in ap (λ (state : State). state.start) (sym one)
     go false same = absurd (let bad = same in cc)
 
 acted_start : (s : State) (x e : ℕ) (outcome : Outcome) (next : State) (wanted lacks : Bool)
-    → (if not wanted then stopped why.Operand (x - s.start) else (if lacks then stopped why.Card (x - s.start) else leaves s e outcome)) ≡ on next
+    → (if not wanted then stopped s.contents why.Operand (x - s.start) else (if lacks then stopped s.contents why.Card (x - s.start) else leaves s e outcome)) ≡ on next
     → next.start ≡ s.start
 acted_start s x e outcome next false lacks is = absurd (let bad = is in cc)
 acted_start s x e outcome next true true is = absurd (let bad = is in cc)
@@ -71,7 +71,7 @@ goes_start : (s : State) (now : State) (outcome reached : Stepped) (Right : Stat
     → ((next : State) → reached ≡ on next → next.start ≡ s.start) → ((next : State) → Right next → now.start ≡ next.start)
     → Goes outcome Right → now.start ≡ s.start
 goes_start s now (on next) reached Right is here later onward = later next onward ∙ here next (sym is)
-goes_start s now (stopped because moment) reached Right is here later onward = absurd onward
+goes_start s now (stopped held because moment) reached Right is here later onward = absurd onward
 
 -- turns that lead on keep it
 pub lead_start : (times : Op → Entry) (s : State) (waits : List ℕ) (turns : List Turn) (now : State) (left : List ℕ)

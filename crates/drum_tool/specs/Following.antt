@@ -74,7 +74,7 @@ used_so_far following = used_by following.machine
 -- the step goes on to a state that is right
 abbrev pub Goes : Stepped → (State → Type 0) → Type 0
 Goes (on next) Right = Right next
-Goes (stopped because moment) Right = ⊥
+Goes (stopped held because moment) Right = ⊥
 
 -- turns from a state with waits, each of which goes on, lead to a state with the waits that are
 -- left

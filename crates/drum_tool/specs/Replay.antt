@@ -7,6 +7,7 @@ use Rattle.drum_machine.specs.declared.left.Left as lefts
 use Rattle.drum_machine.specs.declared.left.Left.TheVariants as left
 use Rattle.drum_machine.specs.declared.setup.Setup.{Setup}
 use Rattle.drum_machine.specs.declared.why.Why.{Why}
+use Rattle.drum_machine.specs.Contents.{Contents}
 use Rattle.drum_machine.specs.Counts.{no_counts}
 use Rattle.drum_machine.specs.FirstState.{IsSetUp}
 use Rattle.drum_machine.specs.Keeps.{IsAsDeclared, AreKept, Leaves}
@@ -54,7 +55,9 @@ pub record StopsAt (g : Setting) (given : Given) (step used : ℕ) (because : Wh
   pub last : Turn
   pub replayed : IsReplayed g given (turns ++ last ∷ [])
   pub kept : AreKept g.loads g.notes (no_counts g.notes.marks) (turns ++ last ∷ [])
-  pub stops : last.outcome ≡ stopped because used
+  -- what the machine then holds
+  pub held : Contents
+  pub stops : last.outcome ≡ stopped held because used
   pub number : step ≡ length turns + 1
 
 -- The run keeps to the notes before this step, with so many word times used, and leaves them with

@@ -7,8 +7,7 @@ ghost use Rattle.drum_tool.specs.Files.{AreHeld, AreNotHeld, AreTold, Holds, Hol
 use crate::documents::Documents;
 use crate::source::Source;
 use drum_command::Files;
-use drum_core::device::whole::{WholeError, read_whole};
-use drum_core::{Deck, Input, read_deck};
+use drum_core::{Deck, Input, WholeError, read_deck, read_whole};
 use drum_inputs::{Inputs, read_inputs};
 use drum_lines::{Fault, Part, PartFault};
 use drum_times::{Notes, Times, read_notes, read_times};
