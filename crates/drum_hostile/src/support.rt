@@ -103,12 +103,12 @@ pub struct Ran {
 
 impl Ran {
     /// Whether it ended so, with these texts on standard output and on standard error.
-    pub fn is(&self, status: Status, out: &str, err: &str) -> bool {
+    pub(crate) fn is(&self, status: Status, out: &str, err: &str) -> bool {
         self.status == status && self.out.as_str() == out && self.err.as_str() == err
     }
 
     /// Whether it gave this line: that of a bound, or of a fault that refuses what was given.
-    pub fn gave(&self, line: &str) -> bool {
+    pub(crate) fn gave(&self, line: &str) -> bool {
         if line.starts_with("bound") {
             self.is(Status::Done, line, "")
         } else {
@@ -123,7 +123,7 @@ fn text_of(alloc: Global, bytes: &[u8]) -> Result<String, AllocError> {
 }
 
 /// Runs the joined form that a reader gives.
-pub fn run_input(alloc: Global, text: Tap<'_>) -> Result<Ran, AllocError> {
+pub(crate) fn run_input(alloc: Global, text: Tap<'_>) -> Result<Ran, AllocError> {
     let mut input = Reading::new(text);
     let mut out = Writing::new(Vec::new(alloc));
     let mut err = Writing::new(Vec::new(alloc));
@@ -138,7 +138,11 @@ pub fn run_input(alloc: Global, text: Tap<'_>) -> Result<Ran, AllocError> {
 }
 
 /// Runs words over these files, of which nothing was read yet.
-pub fn run_files(alloc: Global, words: &[&str], files: Shelf<'_>) -> Result<Ran, AllocError> {
+pub(crate) fn run_files(
+    alloc: Global,
+    words: &[&str],
+    files: Shelf<'_>,
+) -> Result<Ran, AllocError> {
     let mut source = Shelf {
         failures: 0,
         ..files
@@ -157,12 +161,17 @@ pub fn run_files(alloc: Global, words: &[&str], files: Shelf<'_>) -> Result<Ran,
 }
 
 /// The joined form of a deck, a timing table and notes.
-pub fn joined(alloc: Global, deck: &str, times: &str, notes: &str) -> Result<String, AllocError> {
+pub(crate) fn joined(
+    alloc: Global,
+    deck: &str,
+    times: &str,
+    notes: &str,
+) -> Result<String, AllocError> {
     format!(in alloc; "{deck}%TIMES\n{times}%NOTES\n{notes}")
 }
 
 /// That these documents give this line, as a joined form and as files.
-pub fn give(
+pub(crate) fn give(
     rt: &(impl AllocGlobal + Abort),
     deck: &str,
     times: &str,
@@ -183,7 +192,7 @@ pub fn give(
 
 /// That a deck with the timing table that the tests share, and with notes that say this beside the
 /// least, gives this line.
-pub fn deck_gives(
+pub(crate) fn deck_gives(
     rt: &(impl AllocGlobal + Abort),
     deck: &str,
     more: &str,

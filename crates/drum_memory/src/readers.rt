@@ -1,8 +1,10 @@
 //! What reads texts: decks, timing tables, notes and inputs.
 
 use crate::window::Round;
-use drum_core::device::whole::{WholeError, read_whole};
-use drum_core::{Deck, DeckFault, Location, Op, Parity, Position, Reading, Word, read_deck};
+use drum_core::{
+    Deck, DeckFault, Location, Op, Parity, Position, Reading, WholeError, Word, read_deck,
+    read_whole,
+};
 use drum_texts::{BOTH_ROADS, LOOPS, NESTED, NOTES, ROADS, TIMES, TWO_ROADS, TWO_WORDS};
 use drum_times::{NoteFault, Notes, Programmed, Times, read_notes, read_times};
 use drum_tool::{InputFault, Inputs, read_inputs};

@@ -2,8 +2,9 @@
 
 use crate::page::Page;
 use crate::window::{close_spared, open};
-use drum_core::location::Kind;
-use drum_core::{Input, Instruction, Location, Op, Operand, Output, Reading, Store, Word, Writing};
+use drum_core::{
+    Input, Instruction, Kind, Location, Op, Operand, Output, Reading, Store, Word, Writing,
+};
 use drum_tool::Status;
 use std::io::Write;
 use std::test::Fail;
