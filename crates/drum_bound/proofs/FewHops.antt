@@ -1,18 +1,22 @@
 -- A location has few hops: a list has 64 patterns at most, each of which 10,000 instructions match at most, and an
 -- instruction ends in four ways at most.
-use Rattle.std.proofs.Common.{ℕ, ◌+◌, ◌*◌, ◌^◌, ◌≤◌, Bool, true, false, cond, List, [], ◌∷◌, ◌++◌, length, map, Option, Some, None, arith, length-append}
+use Rattle.std.proofs.Common.{ℕ, ◌+◌, ◌*◌, ◌^◌, ◌≤◌, Bool, true, false, cond, List, [], ◌∷◌, ◌++◌, length, map, Option}
+use Rattle.std.proofs.Common.{Some, None, arith, length-append}
 use Rattle.std.specs.Prelude.{flat_map, filter, ◌==◌, ◌||◌, not}
 use Rattle.std.specs.List.{AllByRecursion, list_any}
 use Rattle.std.proofs.lemmas.List.{length-map}
 use Rattle.drum_core.specs.declared.instruction.Instruction.{Instruction}
 use Rattle.drum_core.specs.declared.op.Op.{Op}
-use Rattle.drum_core.specs.declared.op.Op.TheVariants.{NoOperation, Stop, Add, ResetAdd, Divide, DivideReset, Multiply, Store, Shift, Branch, LoadDistributor, Read, Punch, BranchOnDigit}
+use Rattle.drum_core.specs.declared.op.Op.TheVariants.{NoOperation, Stop, Add, ResetAdd, Divide, DivideReset, Multiply}
+use Rattle.drum_core.specs.declared.op.Op.TheVariants.{Store, Shift, Branch, LoadDistributor, Read, Punch}
+use Rattle.drum_core.specs.declared.op.Op.TheVariants.{BranchOnDigit}
 use Rattle.drum_core.specs.declared.word.Word.{Word}
 use Rattle.drum_core.specs.Location.{is_location}
 use Rattle.drum_core.specs.Op.{op_of, operand_of}
 use Rattle.drum_times.specs.declared.notes.programmed.Programmed as switches
 use Rattle.drum_times.specs.declared.notes.programmed.Programmed.TheVariants as switch
-use Rattle.drum_times.specs.Allowed.{Listed, Notes, AreSound, matching, patterns_in, patterns_of, loaded, listed, allowed}
+use Rattle.drum_times.specs.Allowed.{Listed, Notes, AreSound, matching, patterns_in, patterns_of, loaded, listed}
+use Rattle.drum_times.specs.Allowed.{allowed}
 use Rattle.drum_machine.specs.Step.{is_operand}
 use Rattle.drum_machine.specs.Ways.{Way, early, to, late, in_order, ways_of_stop, ways_of, ways_with, ways}
 use Rattle.drum_flow.proofs.Instructed.{few_match}

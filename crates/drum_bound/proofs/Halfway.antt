@@ -1,5 +1,6 @@
 -- How a key is taken hop by hop.
-use Rattle.std.proofs.Common.{◌≡◌, ℕ, zero, suc, ◌+◌, ◌/◌, ◌%◌, ◌<◌, ◌≤◌, ◌-◌, List, [], ◌∷◌, length, drop, refl, ap, sym, ◌∙◌, subst, Some, arith}
+use Rattle.std.proofs.Common.{◌≡◌, ℕ, zero, suc, ◌+◌, ◌/◌, ◌%◌, ◌<◌, ◌≤◌, ◌-◌, List, [], ◌∷◌, length, drop, refl, ap}
+use Rattle.std.proofs.Common.{sym, ◌∙◌, subst, Some, arith}
 use Rattle.std.specs.Prelude.{slice_get}
 use Rattle.drum_core.specs.Kind.{kind_of}
 use Rattle.drum_core.specs.Recurs.{within_span}

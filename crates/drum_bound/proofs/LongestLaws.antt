@@ -1,6 +1,7 @@
 -- Laws of the latest end of a hop: those of a clockwork, as the chain of a step has them, that it is the end of some
 -- hop and that of none is later, and what the search for the first instruction takes.
-use Rattle.std.proofs.Common.{◌≡◌, ℕ, ◌+◌, ◌-◌, ◌*◌, ◌%◌, ◌<◌, ◌≤◌, Bool, true, false, if◌then◌else◌, Option, Some, None, refl, ap, sym, ◌∙◌, subst, arith}
+use Rattle.std.proofs.Common.{◌≡◌, ℕ, ◌+◌, ◌-◌, ◌*◌, ◌%◌, ◌<◌, ◌≤◌, Bool, true, false, if◌then◌else◌, Option, Some}
+use Rattle.std.proofs.Common.{None, refl, ap, sym, ◌∙◌, subst, arith}
 use Rattle.std.specs.Prelude.{◌==◌}
 use Rattle.std.proofs.Math.Nat.{mul-le-mul_left}
 use Rattle.drum_core.specs.declared.instruction.Instruction.{Instruction}
@@ -17,7 +18,8 @@ use Rattle.drum_times.specs.declared.entry.Entry.{Entry}
 use Rattle.drum_machine.specs.Effect.{places}
 use Rattle.drum_machine.specs.Timing.{found, IsWait}
 use Rattle.drum_machine.specs.Ways.{Way, early, to, late}
-use Rattle.drum_machine.proofs.Chained.{found_keeps_time, ready_keeps_time, ready_from_found, ended_keeps_time, ended_from_found, ended_grows}
+use Rattle.drum_machine.proofs.Chained.{found_keeps_time, ready_keeps_time, ready_from_found, ended_keeps_time}
+use Rattle.drum_machine.proofs.Chained.{ended_from_found, ended_grows}
 use Rattle.drum_flow.specs.Walk.{Taken, MayHaveUnits, end_by, IsTimed}
 use Rattle.drum_bound.specs.Longest.{most_units, most_wait, longest_by, longest}
 

@@ -1,5 +1,6 @@
 -- Each hop that goes on leads to a later key.
-use Rattle.std.proofs.Common.{◌≡◌, ℕ, zero, suc, ◌*◌, ◌/◌, ◌%◌, ◌<◌, ◌≤◌, List, [], ◌∷◌, length, get_or, refl, ap, sym, ◌∙◌, subst, Option, Some, None, arith}
+use Rattle.std.proofs.Common.{◌≡◌, ℕ, zero, suc, ◌*◌, ◌/◌, ◌%◌, ◌<◌, ◌≤◌, List, [], ◌∷◌, length, get_or, refl, ap, sym}
+use Rattle.std.proofs.Common.{◌∙◌, subst, Option, Some, None, arith}
 use Rattle.std.specs.Prelude.{IsNone, Contains}
 use Rattle.std.proofs.Math.Nat.{mul-le-mul_left, div-add-mod, mod-lt}
 use Rattle.drum_machine.specs.Counts.{after_pass, AreWithin, mark_on}
@@ -71,7 +72,8 @@ module _ (g : Setting) (order : List ℕ) (ordered : IsOrdered g.loads g.notes g
       edge = (
         hop.ins,
         subst
-            (λ (w : Way). Contains (hops g.loads g.notes (place_at order from)) (record { ins = hop.ins; way = w })) goes
+            (λ (w : Way). Contains (hops g.loads g.notes (place_at order from)) (record { ins = hop.ins; way = w }))
+            goes
             has,
       )
 

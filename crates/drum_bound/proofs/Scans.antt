@@ -1,5 +1,6 @@
 -- How taking a hop of a key, and going on to the next key, keep what is known of a scan.
-use Rattle.std.proofs.Common.{◌≡◌, ℕ, suc, ◌+◌, ◌*◌, ◌<◌, ◌≤◌, List, [], ◌∷◌, length, slice_get, refl, ap, sym, ◌∙◌, subst, inl, inr, ◌⊎◌, Option, Some, None, arith}
+use Rattle.std.proofs.Common.{◌≡◌, ℕ, suc, ◌+◌, ◌*◌, ◌<◌, ◌≤◌, List, [], ◌∷◌, length, slice_get, refl, ap, sym, ◌∙◌}
+use Rattle.std.proofs.Common.{subst, inl, inr, ◌⊎◌, Option, Some, None, arith}
 use Rattle.std.specs.Prelude.{Contains}
 use Rattle.std.proofs.lemmas.Bool.{cases_lt}
 use Rattle.drum_machine.specs.Counts.{after_pass, AreWithin}
@@ -11,8 +12,10 @@ use Rattle.drum_bound.specs.declared.latest.Latest.{Latest}
 use Rattle.drum_bound.specs.declared.key_hop.KeyHop.{KeyHop}
 use Rattle.drum_bound.specs.Keys.{place_at, counts_at}
 use Rattle.drum_bound.proofs.LongestLaws.{longest_near}
-use Rattle.drum_bound.specs.Scanned.{longest_step, cell_at, later, raised, Begins, end_from, LeadsOn, IsOpen, IsEndOf, IsBackedBy, IsLastBy, IsTakenBy, IsTaken, Scanned, Taking}
-use Rattle.drum_bound.proofs.Raises.{later_either, later_old, later_new, Grows, Agree, grows_same, raised_length, raised_agree, raised_grows, raised_new, raised_each, arrives_grows}
+use Rattle.drum_bound.specs.Scanned.{longest_step, cell_at, later, raised, Begins, end_from, LeadsOn, IsOpen, IsEndOf}
+use Rattle.drum_bound.specs.Scanned.{IsBackedBy, IsLastBy, IsTakenBy, IsTaken, Scanned, Taking}
+use Rattle.drum_bound.proofs.Raises.{later_either, later_old, later_new, Grows, Agree, grows_same, raised_length}
+use Rattle.drum_bound.proofs.Raises.{raised_agree, raised_grows, raised_new, raised_each, arrives_grows}
 
 module _ (g : Setting) (order : List ℕ) where
   -- ends, where the cells of the first keys stay

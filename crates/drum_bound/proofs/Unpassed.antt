@@ -1,5 +1,6 @@
 -- No walk passes what a finished scan keeps, nor the latest of all.
-use Rattle.std.proofs.Common.{◌≡◌, ℕ, zero, suc, ◌+◌, ◌*◌, ◌<◌, ◌≤◌, List, [], ◌∷◌, ap, sym, ◌∙◌, subst, Option, Some, arith}
+use Rattle.std.proofs.Common.{◌≡◌, ℕ, zero, suc, ◌+◌, ◌*◌, ◌<◌, ◌≤◌, List, [], ◌∷◌, ap, sym, ◌∙◌, subst, Option, Some}
+use Rattle.std.proofs.Common.{arith}
 use Rattle.std.specs.Prelude.{Contains}
 use Rattle.drum_core.specs.declared.instruction.Instruction.{Instruction}
 use Rattle.drum_core.specs.declared.op.Op.{Op}
@@ -13,7 +14,8 @@ use Rattle.drum_flow.specs.Walk.{Setting, Taken, IsHopAt, Follow, IsWalkFrom, Is
 use Rattle.drum_bound.specs.declared.latest.Latest.{Latest}
 use Rattle.drum_bound.specs.Keys.{keys_of, place_at, counts_at, IsKey, IsOrdered}
 use Rattle.drum_bound.specs.Longest.{longest}
-use Rattle.drum_bound.proofs.LongestLaws.{longest_monotone, longest_periodic, no_later, longest_from_found, first_fetch, first_fetch_behind}
+use Rattle.drum_bound.proofs.LongestLaws.{longest_monotone, longest_periodic, no_later, longest_from_found, first_fetch}
+use Rattle.drum_bound.proofs.LongestLaws.{first_fetch_behind}
 use Rattle.drum_bound.proofs.Profiles.{hop_may_end}
 use Rattle.drum_bound.specs.Scanned.{start_angle, cell_at, end_from, Arrives, IsTakenBy, Scanned}
 use Rattle.drum_bound.specs.Table.{GoesOn, Arrive}

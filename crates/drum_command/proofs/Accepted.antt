@@ -1,15 +1,19 @@
 -- Words that clap accepts name a command and all of its files.
-use Rattle.std.proofs.Common.{◌≡◌, ◌&&◌, ◌||◌, ℕ, Bool, cond, true, false, not, refl, length, map, List, [], ◌∷◌, ◌++◌, Option, Some, None, is_some, nat_lt}
+use Rattle.std.proofs.Common.{◌≡◌, ◌&&◌, ◌||◌, ℕ, Bool, cond, true, false, not, refl, length, map, List, [], ◌∷◌, ◌++◌}
+use Rattle.std.proofs.Common.{Option, Some, None, is_some, nat_lt}
 use Rattle.std.specs.Prelude.{find, option_and_then, option_map, slice_get}
 use Rattle.std.specs.List.{list_all, list_any}
 use Rattle.std.specs.Option.{option_map_or}
 use Rattle.std.specs.Str.{bytes_eq}
 use Rattle.clap.specs.Facts.{explicit_source}
-use Rattle.clap.specs.Faults.{defaults_fault, entered_fault, fault_of, is_simple_and_free, level_fault, settle_fault, walk_fault}
+use Rattle.clap.specs.Faults.{defaults_fault, entered_fault, fault_of, is_simple_and_free, level_fault, settle_fault}
+use Rattle.clap.specs.Faults.{walk_fault}
 use Rattle.clap.specs.Kinds.{Kinds, check_kinds, or_else}
-use Rattle.clap.specs.Simple.{Shape, built, entered, filled_from, help_rule, is_simple, label_of, names_of, new_shape, rows_at, subcommand_of}
+use Rattle.clap.specs.Simple.{Shape, built, entered, filled_from, help_rule, is_simple, label_of, names_of, new_shape}
+use Rattle.clap.specs.Simple.{rows_at, subcommand_of}
 use Rattle.clap.specs.Takes.{is_given}
-use Rattle.clap.specs.Walk.{Row, Rule, Text, answers_to, finished, first_of, nothing_held, rows_after, settled, stop_after, walk, walk_from}
+use Rattle.clap.specs.Walk.{Row, Rule, Text, answers_to, finished, first_of, nothing_held, rows_after, settled}
+use Rattle.clap.specs.Walk.{stop_after, walk, walk_from}
 use Rattle.clap.proofs.OnLiterals.{clap_on_literals}
 use Rattle.drum_command.specs.Line.{Verb, drum650, file_rule, is_whole}
 use Rattle.drum_command.specs.Line as line
@@ -45,7 +49,8 @@ built_subs = refl
 
 -- ---- one command
 
-rules_pass : (files : List Text) (i : ℕ) → list_all is_file_or_request (filled_from i (map file_rule files ++ help_rule ∷ [])) ≡ true
+rules_pass : (files : List Text) (i : ℕ)
+    → list_all is_file_or_request (filled_from i (map file_rule files ++ help_rule ∷ [])) ≡ true
 rules_pass [] i = refl
 rules_pass (file ∷ files) i = rules_pass files _
 
@@ -58,14 +63,16 @@ given_from true missing none = (refl, none)
 given_from false missing none = cc
 
 all_given : (files : List Text) (i : ℕ) (rows : List Row)
-    → list_any (is_missing rows) (filled_from i (map file_rule files ++ help_rule ∷ [])) ≡ false → list_all (λ file. is_given file rows) files ≡ true
+    → list_any (is_missing rows) (filled_from i (map file_rule files ++ help_rule ∷ [])) ≡ false
+    → list_all (λ file. is_given file rows) files ≡ true
 all_given [] i rows none = refl
 all_given (file ∷ files) i rows none =
     let parts = given_from (is_given file rows) _ none in
     and_of _ _ parts.0 (all_given files _ rows parts.1)
 
 -- a file that is given has a value
-given_is_some : (rows : List Row) (file : Text) → are_full rows ≡ true → is_given file rows ≡ true → is_some (first_of file rows) ≡ true
+given_is_some : (rows : List Row) (file : Text) → are_full rows ≡ true → is_given file rows ≡ true
+    → is_some (first_of file rows) ≡ true
 given_is_some rows file full given = go (find named rows) (find_passes named is_full rows full) given
   where
     named : Row → Bool
@@ -81,7 +88,8 @@ given_is_some rows file full given = go (find named rows) (find_passes named is_
     go None passes there = cc
     go (Some row) passes there = value row.values (and_both _ _ passes).1
 
-all_some : (rows : List Row) (files : List Text) → are_full rows ≡ true → list_all (λ file. is_given file rows) files ≡ true
+all_some : (rows : List Row) (files : List Text) → are_full rows ≡ true
+    → list_all (λ file. is_given file rows) files ≡ true
     → list_all (λ file. is_some (first_of file rows)) files ≡ true
 all_some rows [] full given = refl
 all_some rows (file ∷ files) full given =
@@ -106,7 +114,8 @@ leaf_has_files verb words none =
     let end = (walk rules [] nothing_held words).held in
     let after_settling = (or_else_none (settle_fault rules false end) _ after_walk).1 in
     let checked = (or_else_none (defaults_fault (settled rules end).rows rules) _ after_settling).1 in
-    all_some rows verb.files (rows_after-full rules [] (rules_pass verb.files 1) words) (all_given verb.files 1 rows (none_missing _ checked))
+    all_some rows verb.files (rows_after-full rules [] (rules_pass verb.files 1) words)
+    (all_given verb.files 1 rows (none_missing _ checked))
 
 -- ---- the command that a line names
 
@@ -138,8 +147,10 @@ below_fault o words = option_map_or (λ s. level_fault s [] nothing_held words f
 abbrev rows_below : Option Shape → List Text → Option (Text × List Row)
 rows_below o words = option_map (λ s. rows_at s words) o
 
-found_whole : (p : Shape → Bool) (shapes : List Shape) (words : List Text) → AllRead shapes → below_fault (find p shapes) words ≡ []
-    → is_some (rows_below (find p shapes) words) ≡ true → option_map_or is_whole (rows_below (find p shapes) words) false ≡ true
+found_whole : (p : Shape → Bool) (shapes : List Shape) (words : List Text) → AllRead shapes
+    → below_fault (find p shapes) words ≡ []
+    → is_some (rows_below (find p shapes) words) ≡ true
+    → option_map_or is_whole (rows_below (find p shapes) words) false ≡ true
 unfolding AllRead
 found_whole p [] words read none there = cc
 found_whole p (s ∷ rest) words read none there = go (p s) none there (found_whole p rest words read.1)
@@ -152,23 +163,29 @@ found_whole p (s ∷ rest) words read none there = go (p s) none there (found_wh
     go true none there later = read.0 words none
     go false none there later = later none there
 
-entered_whole : (stop : Option (Text × List Text)) → entered_fault (built drum650) stop ≡ [] → is_some (entered (built drum650) stop) ≡ true
+entered_whole : (stop : Option (Text × List Text)) → entered_fault (built drum650) stop ≡ []
+    → is_some (entered (built drum650) stop) ≡ true
     → option_map_or is_whole (entered (built drum650) stop) false ≡ true
 entered_whole None none there = cc
 entered_whole (Some p) none there = found_whole (λ s. answers_to p.0 (label_of s)) leaves p.1 all_read none there
 
-subcommand_there : (has missing : Bool) → check_kinds (not has && false) (not has && true) (not false && missing) ≡ [] → has ≡ true
+subcommand_there : (has missing : Bool) → check_kinds (not has && false) (not has && true) (not false && missing) ≡ []
+    → has ≡ true
 subcommand_there true missing none = refl
 subcommand_there false missing none = cc
 
 -- words that have no fault name a command and all of its files
-pub accepted_whole : (words : List Text) → fault_of drum650 words ≡ [] → option_map_or is_whole (subcommand_of drum650 words) false ≡ true
+pub accepted_whole : (words : List Text) → fault_of drum650 words ≡ []
+    → option_map_or is_whole (subcommand_of drum650 words) false ≡ true
 accepted_whole words none =
     let top : Shape = (built drum650).top in
     let stop = stop_after top.rules (names_of (built drum650)) words in
     let end = (walk top.rules (names_of (built drum650)) nothing_held words).held in
-    let after_walk = (or_else_none (walk_fault top (names_of (built drum650)) (walk_from nothing_held) words) _ none).1 in
+    let after_walk =
+    (or_else_none (walk_fault top (names_of (built drum650)) (walk_from nothing_held) words) _ none).1 in
     let below = or_else_none (entered_fault (built drum650) stop) _ after_walk in
     let after_settling = (or_else_none (settle_fault top.rules false end) _ below.1).1 in
     let checked = (or_else_none (defaults_fault (settled top.rules end).rows top.rules) _ after_settling).1 in
-    entered_whole stop below.0 (subcommand_there (is_some (entered (built drum650) stop)) (list_any (is_missing (finished top.rules end)) top.rules) checked)
+    entered_whole stop below.0
+    (subcommand_there (is_some (entered (built drum650) stop))
+    (list_any (is_missing (finished top.rules end)) top.rules) checked)

@@ -1,6 +1,7 @@
 -- A walk of clap's over words, at a command all of whose options ask for help: each argument that
 -- it finds has a value.
-use Rattle.std.proofs.Common.{◌≡◌, ◌∙◌, ◌&&◌, ◌||◌, ℕ, Bool, cond, true, false, not, zero, suc, ap, refl, arith, length, drop, List, [], ◌∷◌, ◌++◌, Option, Some, None, is_some, nat_lt}
+use Rattle.std.proofs.Common.{◌≡◌, ◌∙◌, ◌&&◌, ◌||◌, ℕ, Bool, cond, true, false, not, zero, suc, ap, refl, arith, length}
+use Rattle.std.proofs.Common.{drop, List, [], ◌∷◌, ◌++◌, Option, Some, None, is_some, nat_lt}
 use Rattle.std.specs.Prelude.{encode_utf8, fold, slice_get}
 use Rattle.std.specs.List.{list_all}
 use Rattle.std.specs.Option.{option_map_or}
@@ -12,7 +13,15 @@ use Rattle.clap.specs.declared.builder.action.ArgAction.TheVariants as action
 use Rattle.clap.specs.declared.parser.matches.ValueSource.{ValueSource}
 use Rattle.clap.specs.declared.parser.matches.ValueSource.TheVariants.{DefaultValue, CommandLine}
 use Rattle.clap.specs.declared.builder.value_parser.Reading.{Reading}
-use Rattle.clap.specs.Walk.{Held, Names, Outcome, Row, Rule, Step, Text, Waiting, Walk, action_of, after_flag, after_step, arg_by_id, arg_by_index, arg_by_long, arg_by_short, at_row, attached_value, bundle, bundle_met, bundle_step, default_rows, done, flag_met, has_long, has_row, has_short, idle, is_pending, long_met, long_or_other, more_values, next, nothing_held, option, option_met, option_word, plain, plain_word, positional, pushed, reacted, reading_by, refused, rows_after, settled, settled_rows, short_met, short_or_plain, started, subcommand, subcommand_met, subcommand_or_other, takes_several, takes_values, to_positional, trailing, used, used_as, used_by_id, value, values_or_missing, waits, walk, walk_from, walked, walked_from, with_default, with_values, without, word_met}
+use Rattle.clap.specs.Walk.{Held, Names, Outcome, Row, Rule, Step, Text, Waiting, Walk, action_of, after_flag}
+use Rattle.clap.specs.Walk.{after_step, arg_by_id, arg_by_index, arg_by_long, arg_by_short, at_row, attached_value}
+use Rattle.clap.specs.Walk.{bundle, bundle_met, bundle_step, default_rows, done, flag_met, has_long, has_row, has_short}
+use Rattle.clap.specs.Walk.{idle, is_pending, long_met, long_or_other, more_values, next, nothing_held, option}
+use Rattle.clap.specs.Walk.{option_met, option_word, plain, plain_word, positional, pushed, reacted, reading_by}
+use Rattle.clap.specs.Walk.{refused, rows_after, settled, settled_rows, short_met, short_or_plain, started, subcommand}
+use Rattle.clap.specs.Walk.{subcommand_met, subcommand_or_other, takes_several, takes_values, to_positional, trailing}
+use Rattle.clap.specs.Walk.{used, used_as, used_by_id, value, values_or_missing, waits, walk, walk_from, walked}
+use Rattle.clap.specs.Walk.{walked_from, with_default, with_values, without, word_met}
 use Rattle.drum_command.proofs.Own.{and_both, and_of, find_passes}
 
 -- a row has a value
@@ -60,10 +69,12 @@ more_full : (xs ys : List Text) → nat_lt 0 (length ys) ≡ true → nat_lt 0 (
 more_full [] ys more = more
 more_full (x ∷ xs) ys more = grind arith
 
-are_full-with_values : (id : Text) (how : Reading) (s : ValueSource) (values : List Text) (rows : List Row) → nat_lt 0 (length values) ≡ true
+are_full-with_values : (id : Text) (how : Reading) (s : ValueSource) (values : List Text) (rows : List Row)
+    → nat_lt 0 (length values) ≡ true
     → are_full rows ≡ true → are_full (with_values id how s values rows) ≡ true
 are_full-with_values id how s values rows some full =
-    are_full-at_row id (more_values s values) _ rows (λ row first. and_of _ _ (more_full row.values values some) refl) (and_of _ _ some refl) full
+    are_full-at_row id (more_values s values) _ rows (λ row first. and_of _ _ (more_full row.values values some) refl)
+    (and_of _ _ some refl) full
 
 are_full-without : (id : Text) (rows : List Row) → are_full rows ≡ true → are_full (without id rows) ≡ true
 are_full-without id rows full = are_full-at_row id (λ _. []) [] rows (λ row first. refl) refl full
@@ -71,22 +82,30 @@ are_full-without id rows full = are_full-at_row id (λ _. []) [] rows (λ row fi
 -- ---- a use of an argument
 
 -- a use with a value
-are_full-used_as : (a : ArgAction) (id : Text) (how : Reading) (v : Text) (vs : List Text) (rows : List Row) → are_full rows ≡ true
+are_full-used_as : (a : ArgAction) (id : Text) (how : Reading) (v : Text) (vs : List Text) (rows : List Row)
+    → are_full rows ≡ true
     → are_full (used_as a id how (v ∷ vs) rows) ≡ true
-are_full-used_as action.Set id how v vs rows full = are_full-with_values id how CommandLine (v ∷ vs) _ (grind arith) (are_full-without id rows full)
-are_full-used_as action.SetTrue id how v vs rows full = are_full-with_values id how CommandLine (v ∷ vs) _ (grind arith) (are_full-without id rows full)
-are_full-used_as action.SetFalse id how v vs rows full = are_full-with_values id how CommandLine (v ∷ vs) _ (grind arith) (are_full-without id rows full)
-are_full-used_as action.Append id how v vs rows full = are_full-with_values id how CommandLine (v ∷ vs) rows (grind arith) full
-are_full-used_as action.Count id how v vs rows full = are_full-with_values id how CommandLine (v ∷ vs) _ (grind arith) (are_full-without id rows full)
+are_full-used_as action.Set id how v vs rows full =
+    are_full-with_values id how CommandLine (v ∷ vs) _ (grind arith) (are_full-without id rows full)
+are_full-used_as action.SetTrue id how v vs rows full =
+    are_full-with_values id how CommandLine (v ∷ vs) _ (grind arith) (are_full-without id rows full)
+are_full-used_as action.SetFalse id how v vs rows full =
+    are_full-with_values id how CommandLine (v ∷ vs) _ (grind arith) (are_full-without id rows full)
+are_full-used_as action.Append id how v vs rows full =
+    are_full-with_values id how CommandLine (v ∷ vs) rows (grind arith) full
+are_full-used_as action.Count id how v vs rows full =
+    are_full-with_values id how CommandLine (v ∷ vs) _ (grind arith) (are_full-without id rows full)
 are_full-used_as _ id how v vs rows full = full
 
-are_full-used : (a : Rule) (values : List Text) (rows : List Row) → nat_lt 0 (length values) ≡ true → are_full rows ≡ true
+are_full-used : (a : Rule) (values : List Text) (rows : List Row) → nat_lt 0 (length values) ≡ true
+    → are_full rows ≡ true
     → are_full (used a values rows) ≡ true
 are_full-used a [] rows some full = absurd (grind arith)
 are_full-used a (v ∷ vs) rows some full = are_full-used_as (action_of a) a.id (reading_by a) v vs rows full
 
 -- a use that asks for help changes nothing
-used_as-request : (a : ArgAction) (id : Text) (how : Reading) (values : List Text) (rows : List Row) → is_request a ≡ true
+used_as-request : (a : ArgAction) (id : Text) (how : Reading) (values : List Text) (rows : List Row)
+    → is_request a ≡ true
     → used_as a id how values rows ≡ rows
 used_as-request action.Help id how values rows request = refl
 used_as-request action.HelpShort id how values rows request = refl
@@ -96,7 +115,8 @@ used_as-request _ id how values rows request = cc
 
 -- ---- what is held
 
-settled_rows-full : (c : List Rule) (pending : Option (Text × List Text)) (rows : List Row) → is_full_pending pending ≡ true
+settled_rows-full : (c : List Rule) (pending : Option (Text × List Text)) (rows : List Row)
+    → is_full_pending pending ≡ true
     → are_full rows ≡ true → are_full (settled_rows c pending rows) ≡ true
 settled_rows-full c None rows some full = full
 settled_rows-full c (Some p) rows some full = go (arg_by_id c p.0)
@@ -133,20 +153,24 @@ reacted-full c a h flag full =
 abbrev is_flag_if_some : Option Rule → Bool
 is_flag_if_some o = option_map_or is_flag o true
 
-long_met-full : (c : List Rule) (o : Option Rule) (v : Option Text) (h : Held) → is_flag_if_some o ≡ true → IsFull h → IsFull (long_met c o v h).0
+long_met-full : (c : List Rule) (o : Option Rule) (v : Option Text) (h : Held) → is_flag_if_some o ≡ true → IsFull h
+    → IsFull (long_met c o v h).0
 long_met-full c None v h flag full = full
 long_met-full c (Some a) v h flag full = go (takes_values a) v (and_both _ _ flag).0
   where
-    go : (takes : Bool) (v : Option Text) → not takes ≡ true → IsFull (cond takes (option_met c a v h) (flag_met c a v h)).0
+    go : (takes : Bool) (v : Option Text) → not takes ≡ true
+        → IsFull (cond takes (option_met c a v h) (flag_met c a v h)).0
     go true v free = cc
     go false (Some x) free = full
     go false None free = reacted-full c a h flag full
 
 -- what follows keeps what is held full
 abbrev KeepsFull : (Text → ℕ → Outcome → Held → Held × Outcome) → Type 0
-KeepsFull follow = (flags : Text) (skip : ℕ) (so_far : Outcome) (h : Held) → IsFull h → IsFull (follow flags skip so_far h).0
+KeepsFull follow =
+    (flags : Text) (skip : ℕ) (so_far : Outcome) (h : Held) → IsFull h → IsFull (follow flags skip so_far h).0
 
-short_met-full : (c : List Rule) (o : Option Rule) (rest : Text) (h : Held) (follow : Text → ℕ → Outcome → Held → Held × Outcome)
+short_met-full : (c : List Rule) (o : Option Rule) (rest : Text) (h : Held)
+    (follow : Text → ℕ → Outcome → Held → Held × Outcome)
     → is_flag_if_some o ≡ true → KeepsFull follow → IsFull h → IsFull (short_met c o rest h (follow rest 0 done)).0
 short_met-full c None rest h follow flag keeps full = full
 short_met-full c (Some a) rest h follow flag keeps full = go (takes_values a) (and_both _ _ flag).0
@@ -158,9 +182,11 @@ short_met-full c (Some a) rest h follow flag keeps full = go (takes_values a) (a
 
 module _ (c : List Rule) (names : Names) (all : list_all is_file_or_request c ≡ true) where
   by_long : (name : Text) → is_flag_if_some (arg_by_long c name) ≡ true
-  by_long name = go (arg_by_long c name) (find_passes (λ a. not (is_some a.index) && has_long a name) is_file_or_request c all)
+  by_long name =
+      go (arg_by_long c name) (find_passes (λ a. not (is_some a.index) && has_long a name) is_file_or_request c all)
     where
-      go : (o : Option Rule) → option_map_or (λ a. (not (is_some a.index) && has_long a name) && is_file_or_request a) o true ≡ true
+      go : (o : Option Rule) → option_map_or (λ a. (not (is_some a.index) && has_long a name) && is_file_or_request a) o
+          true ≡ true
           → is_flag_if_some o ≡ true
       go None passes = refl
       go (Some a) passes =
@@ -168,21 +194,25 @@ module _ (c : List Rule) (names : Names) (all : list_all is_file_or_request c �
           is_flag-of (is_some a.index) _ _ parts.0 parts.1
 
   by_short : (x : ℕ) → is_flag_if_some (arg_by_short c x) ≡ true
-  by_short x = go (arg_by_short c x) (find_passes (λ a. not (is_some a.index) && has_short a x) is_file_or_request c all)
+  by_short x =
+      go (arg_by_short c x) (find_passes (λ a. not (is_some a.index) && has_short a x) is_file_or_request c all)
     where
-      go : (o : Option Rule) → option_map_or (λ a. (not (is_some a.index) && has_short a x) && is_file_or_request a) o true ≡ true
+      go : (o : Option Rule) → option_map_or (λ a. (not (is_some a.index) && has_short a x) && is_file_or_request a) o
+          true ≡ true
           → is_flag_if_some o ≡ true
       go None passes = refl
       go (Some a) passes =
           let parts = and_both _ _ passes in
           is_flag-of (is_some a.index) _ _ parts.0 parts.1
 
-  bundle_step-full : (o : Option ℕ) (flags : Text) (skip : ℕ) (so_far : Outcome) (h : Held) (follow : Text → ℕ → Outcome → Held → Held × Outcome)
+  bundle_step-full : (o : Option ℕ) (flags : Text) (skip : ℕ) (so_far : Outcome) (h : Held)
+      (follow : Text → ℕ → Outcome → Held → Held × Outcome)
       → KeepsFull follow → IsFull h → IsFull (bundle_step c o flags skip so_far h follow).0
   bundle_step-full None flags skip so_far h follow keeps full = full
   bundle_step-full (Some x) flags zero so_far h follow keeps full =
       short_met-full c (arg_by_short c x) (drop (length (encode_utf8 x)) flags) h follow (by_short x) keeps full
-  bundle_step-full (Some x) flags (suc skip) so_far h follow keeps full = keeps (drop (length (encode_utf8 x)) flags) skip so_far h full
+  bundle_step-full (Some x) flags (suc skip) so_far h follow keeps full =
+      keeps (drop (length (encode_utf8 x)) flags) skip so_far h full
 
   bundle_met-full : (k : ℕ) → KeepsFull (bundle_met c k)
   unfolding bundle_met
@@ -201,7 +231,8 @@ module _ (c : List Rule) (names : Names) (all : list_all is_file_or_request c �
   plain_word-full idle word h full = full
   plain_word-full positional word h full = full
 
-  after_flag-full : (waiting : Waiting) (word : Text) (h : Held) (o : Outcome) → IsFull h → IsFull (after_flag c waiting word h o).0
+  after_flag-full : (waiting : Waiting) (word : Text) (h : Held) (o : Outcome) → IsFull h
+      → IsFull (after_flag c waiting word h o).0
   after_flag-full waiting word h done full = full
   after_flag-full waiting word h (waits id) full = full
   after_flag-full waiting word h plain full = plain_word-full waiting word h full
@@ -209,9 +240,11 @@ module _ (c : List Rule) (names : Names) (all : list_all is_file_or_request c �
 
   bundle-full : (flags : Text) (h : Held) → IsFull h → IsFull (bundle c flags h).0
   bundle-full flags h full =
-      bundle_met-full (length flags) flags h.skip plain (record h { skip = 0 }) (record { rows = full.rows; pending = full.pending })
+      bundle_met-full (length flags) flags h.skip plain (record h { skip = 0 })
+      (record { rows = full.rows; pending = full.pending })
 
-  short_or_plain-full : (waiting : Waiting) (word : Text) (flags : Option Text) (h : Held) → IsFull h → IsFull (short_or_plain c waiting word flags h).0
+  short_or_plain-full : (waiting : Waiting) (word : Text) (flags : Option Text) (h : Held) → IsFull h
+      → IsFull (short_or_plain c waiting word flags h).0
   short_or_plain-full waiting word None h full = plain_word-full waiting word h full
   short_or_plain-full waiting word (Some flags) h full =
       after_flag-full waiting word (bundle c flags h).0 (bundle c flags h).1 (bundle-full flags h full)
@@ -240,7 +273,8 @@ module _ (c : List Rule) (names : Names) (all : list_all is_file_or_request c �
 
   -- ---- the walk
 
-  to_positional-full : (o : Option Rule) (word : Text) (w : Walk) (h : Held) → IsFull h → IsFull (to_positional c o word w h).held
+  to_positional-full : (o : Option Rule) (word : Text) (w : Walk) (h : Held) → IsFull h
+      → IsFull (to_positional c o word w h).held
   to_positional-full None word w h full = full
   to_positional-full (Some a) word w h full = go (is_pending a h.pending && takes_several a)
     where
@@ -248,13 +282,15 @@ module _ (c : List Rule) (names : Names) (all : list_all is_file_or_request c �
       go true = pushed-full a.id word h full
       go false = pushed-full a.id word (settled c h) (settled-full c h full)
 
-  after_step-full : (word : Text) (w : Walk) (h : Held) (step : Step) → IsFull h → IsFull (after_step c word w h step).held
+  after_step-full : (word : Text) (w : Walk) (h : Held) (step : Step) → IsFull h
+      → IsFull (after_step c word w h step).held
   after_step-full word w h (next waiting) full = full
   after_step-full word w h (trailing position) full = full
   after_step-full word w h (subcommand name) full = full
   after_step-full word w h value full = to_positional-full (arg_by_index c w.position) word w h full
 
-  walked_from-full : (stop : Option (Text × List Text)) (w : Walk) (word : Text) → IsFull w.held → IsFull (walked_from c names stop w word).held
+  walked_from-full : (stop : Option (Text × List Text)) (w : Walk) (word : Text) → IsFull w.held
+      → IsFull (walked_from c names stop w word).held
   walked_from-full (Some p) w word full = full
   walked_from-full None w word full =
       let met = word_met c names w.is_trailing w.waiting w.position word w.held in
@@ -273,7 +309,8 @@ module _ (c : List Rule) (names : Names) (all : list_all is_file_or_request c �
   default_rows-full : (id : Text) (how : Reading) (values : List Text) (rows : List Row) → are_full rows ≡ true
       → are_full (default_rows id how values rows) ≡ true
   default_rows-full id how [] rows full = full
-  default_rows-full id how (v ∷ vs) rows full = are_full-with_values id how DefaultValue (v ∷ vs) rows (grind arith) full
+  default_rows-full id how (v ∷ vs) rows full =
+      are_full-with_values id how DefaultValue (v ∷ vs) rows (grind arith) full
 
   with_default-full : (rows : List Row) (a : Rule) → are_full rows ≡ true → are_full (with_default rows a) ≡ true
   with_default-full rows a full = go (has_row a.id rows)
@@ -282,7 +319,8 @@ module _ (c : List Rule) (names : Names) (all : list_all is_file_or_request c �
       go true = full
       go false = default_rows-full a.id (reading_by a) a.defaults rows full
 
-  defaults-full : (rules : List Rule) (rows : List Row) → are_full rows ≡ true → are_full (fold with_default rows rules) ≡ true
+  defaults-full : (rules : List Rule) (rows : List Row) → are_full rows ≡ true
+      → are_full (fold with_default rows rules) ≡ true
   defaults-full [] rows full = full
   defaults-full (a ∷ rules) rows full = defaults-full rules (with_default rows a) (with_default-full rows a full)
 

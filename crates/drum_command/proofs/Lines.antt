@@ -1,12 +1,15 @@
 -- Words that name a command's files are taken, and found in their order.
-use Rattle.std.proofs.Common.{◌≡◌, ◌∙◌, ◌&&◌, ℕ, Bool, true, false, not, ap, refl, arith, map, List, [], ◌∷◌, Some, None}
+use Rattle.std.proofs.Common.{◌≡◌, ◌∙◌, ◌&&◌, ℕ, Bool, true, false, not, ap, refl, arith, map, List, [], ◌∷◌, Some}
+use Rattle.std.proofs.Common.{None}
 use Rattle.std.specs.Prelude.{fold}
 use Rattle.std.specs.List.{list_all}
 use Rattle.std.specs.Str.{bytes_eq}
 use Rattle.clap.specs.Lexer.{strip_byte}
 use Rattle.clap.specs.Simple.{Shape}
-use Rattle.clap.specs.Takes.{default_passes, is_valid, level_passes, settle_passes, step_passes, turn_passes, walk_passes, word_passes}
-use Rattle.clap.specs.Walk.{Held, Rule, Text, Walk, arg_by_index, finished, first_of, idle, nothing_held, rows_after, to_positional, value, walk_from, walked, word_met}
+use Rattle.clap.specs.Takes.{default_passes, is_valid, level_passes, settle_passes, step_passes, turn_passes}
+use Rattle.clap.specs.Takes.{walk_passes, word_passes}
+use Rattle.clap.specs.Walk.{Held, Rule, Text, Walk, arg_by_index, finished, first_of, idle, nothing_held, rows_after}
+use Rattle.clap.specs.Walk.{to_positional, value, walk_from, walked, word_met}
 use Rattle.drum_command.specs.Line.{NamesFilesOf, Verb, begins_with_hyphen, common_files, run_files}
 use Rattle.drum_command.proofs.Own.{and_both, and_of}
 use Rattle.drum_command.proofs.Accepted.{leaf, leaf_rules}
@@ -32,7 +35,8 @@ word_met-file : (c : List Rule) (position : ℕ) (word : Text) (h : Held) → be
 word_met-file c position word h plain =
     rw (no_dashes word plain, no_hyphen word plain) (rw (no_hyphen word plain) refl)
 
-word_passes-file : (s : Shape) (word : Text) (h : Held) → begins_with_hyphen word ≡ false → word_passes s [] false idle word h ≡ true
+word_passes-file : (s : Shape) (word : Text) (h : Held) → begins_with_hyphen word ≡ false
+    → word_passes s [] false idle word h ≡ true
 word_passes-file s word h plain =
     rw (no_dashes word plain, no_hyphen word plain) (rw (no_hyphen word plain) refl)
 
@@ -55,7 +59,8 @@ pub record Leads (s : Shape) (w : Walk) (word : Text) (after : Walk) : Type 0 wh
   pub passes : turn_passes s [] w word ≡ true
   pub walked : walked s.rules [] w word ≡ after
 
-leads : (s : Shape) (w : Walk) (word : Text) → IsIdle w → begins_with_hyphen word ≡ false → step_passes s w.position w.held value ≡ true
+leads : (s : Shape) (w : Walk) (word : Text) → IsIdle w → begins_with_hyphen word ≡ false
+    → step_passes s w.position w.held value ≡ true
     → Leads s w word (to_positional s.rules (arg_by_index s.rules w.position) word w w.held)
 leads s w word free plain passes = record {
   passes = turn_passes-file s w word free plain passes;
@@ -71,7 +76,8 @@ lead_none : (s : Shape) (w : Walk) → LeadAll s w [] w
 unfolding walk_passes
 lead_none s w = record { passes = refl; walked = refl }
 
-lead_more : (s : Shape) (w after last : Walk) (word : Text) (words : List Text) → Leads s w word after → LeadAll s after words last
+lead_more : (s : Shape) (w after last : Walk) (word : Text) (words : List Text) → Leads s w word after
+    → LeadAll s after words last
     → LeadAll s w (word ∷ words) last
 unfolding walk_passes
 lead_more s w after last word words first rest = record {
@@ -90,11 +96,14 @@ pub record GivesFiles (verb : Verb) (words : List Text) : Type 0 where
   pub files : map (λ file. first_of file (rows_after (leaf verb).rules [] words)) verb.files ≡ map Some words
 
 gives_files : (verb : Verb) (words : List Text) (last : Walk) → LeadAll (leaf verb) (walk_from nothing_held) words last
-    → end_passes (leaf verb) last ≡ true → map (λ file. first_of file (finished (leaf_rules verb.files) last.held)) verb.files ≡ map Some words
+    → end_passes (leaf verb) last ≡ true
+    → map (λ file. first_of file (finished (leaf_rules verb.files) last.held)) verb.files ≡ map Some words
     → GivesFiles verb words
 gives_files verb words last lead passes found = record {
   passes = and_of _ _ lead.passes (ap (end_passes (leaf verb)) lead.walked ∙ passes);
-  files = ap (λ (w : Walk). map (λ file. first_of file (finished (leaf_rules verb.files) w.held)) verb.files) lead.walked ∙ found;
+  files =
+      ap (λ (w : Walk). map (λ file. first_of file (finished (leaf_rules verb.files) w.held)) verb.files) lead.walked
+      ∙ found;
 }
 
 -- the walk after a file's name
@@ -112,7 +121,8 @@ not_true : (b : Bool) → not b ≡ true → b ≡ false
 not_true true free = cc
 not_true false free = refl
 
-three_given : (name a b c : Text) → begins_with_hyphen a ≡ false → begins_with_hyphen b ≡ false → begins_with_hyphen c ≡ false
+three_given : (name a b c : Text) → begins_with_hyphen a ≡ false → begins_with_hyphen b ≡ false
+    → begins_with_hyphen c ≡ false
     → GivesFiles (record { name = name; files = common_files }) (a ∷ b ∷ c ∷ [])
 three_given name a b c first second third =
     let verb : Verb = record { name = name; files = common_files } in
@@ -140,7 +150,8 @@ common_given name (a ∷ b ∷ c ∷ []) names =
     three_given name a b c (not_true _ first.0) (not_true _ second.0) (not_true _ third.0)
 common_given name (a ∷ b ∷ c ∷ d ∷ rest) names = absurd (omega (arith, names.0))
 
-four_given : (name a b c d : Text) → begins_with_hyphen a ≡ false → begins_with_hyphen b ≡ false → begins_with_hyphen c ≡ false
+four_given : (name a b c d : Text) → begins_with_hyphen a ≡ false → begins_with_hyphen b ≡ false
+    → begins_with_hyphen c ≡ false
     → begins_with_hyphen d ≡ false → GivesFiles (record { name = name; files = run_files }) (a ∷ b ∷ c ∷ d ∷ [])
 four_given name a b c d first second third fourth =
     let verb : Verb = record { name = name; files = run_files } in

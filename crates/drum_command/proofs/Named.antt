@@ -1,11 +1,14 @@
 -- A line that begins with a command's name is that command's.
-use Rattle.std.proofs.Common.{◌≡◌, ◌∙◌, ◌&&◌, Bool, true, false, ap, refl, sym, map, List, [], ◌∷◌, ◌++◌, Option, Some, is_some}
+use Rattle.std.proofs.Common.{◌≡◌, ◌∙◌, ◌&&◌, Bool, true, false, ap, refl, sym, map, List, [], ◌∷◌, ◌++◌, Option, Some}
+use Rattle.std.proofs.Common.{is_some}
 use Rattle.std.specs.Prelude.{find, fold, option_map}
 use Rattle.std.specs.List.{All, list_all}
 use Rattle.std.specs.Option.{option_map_or}
 use Rattle.clap.specs.Simple.{Shape, built, entered, label_of, names_of, rows_at}
-use Rattle.clap.specs.Takes.{default_passes, entered_passes, is_valid, level_passes, settle_passes, takes, turn_passes, walk_passes}
-use Rattle.clap.specs.Walk.{Names, Text, Walk, answers_to, finished, first_of, nothing_held, rows_after, walk, walk_from, walked}
+use Rattle.clap.specs.Takes.{default_passes, entered_passes, is_valid, level_passes, settle_passes, takes, turn_passes}
+use Rattle.clap.specs.Takes.{walk_passes}
+use Rattle.clap.specs.Walk.{Names, Text, Walk, answers_to, finished, first_of, nothing_held, rows_after, walk}
+use Rattle.clap.specs.Walk.{walk_from, walked}
 use Rattle.clap.proofs.OnLiterals.{clap_on_literals}
 use Rattle.clap.proofs.WalkLemmas.{walk_stopped}
 use Rattle.drum_command.specs.Line.{IsLineOf, NamesFilesOf, Verb, drum650, files_of, said_by_words, said_in, verbs}
@@ -62,24 +65,29 @@ unfolding walk_passes walked
 passes_stopped name seen [] = refl
 passes_stopped name seen (word ∷ words) = passes_stopped name (seen ++ word ∷ []) words
 
-whole_walk : (verb : Verb) (words : List Text) → IsNamed verb → walk top.rules names nothing_held (verb.name ∷ words) ≡ stopped_at verb.name words
+whole_walk : (verb : Verb) (words : List Text) → IsNamed verb
+    → walk top.rules names nothing_held (verb.name ∷ words) ≡ stopped_at verb.name words
 whole_walk verb words named =
     ap (λ (w : Walk). fold (walked top.rules names) w words) named.walked
     ∙ sym (walk_stopped top.rules names (walk_from nothing_held) verb.name [] words)
 
-whole_passes : (verb : Verb) (words : List Text) → IsNamed verb → walk_passes top names (walk_from nothing_held) (verb.name ∷ words) ≡ true
+whole_passes : (verb : Verb) (words : List Text) → IsNamed verb
+    → walk_passes top names (walk_from nothing_held) (verb.name ∷ words) ≡ true
 unfolding walk_passes
 whole_passes verb words named =
-    and_of _ _ named.passes (ap (λ (w : Walk). walk_passes top names w words) named.walked ∙ passes_stopped verb.name [] words)
+    and_of _ _ named.passes (ap (λ (w : Walk). walk_passes top names w words) named.walked
+    ∙ passes_stopped verb.name [] words)
 
 -- ---- a whole line
 
 -- the last checks of the program itself, on the walk's end
 abbrev top_passes : Walk → Bool
 top_passes w = settle_passes top.rules top.args_override_self w.held
-    && (list_all default_passes top.rules && is_valid top (finished top.rules w.held) (is_some (entered (built drum650) w.stopped)))
+    && (list_all default_passes top.rules
+    && is_valid top (finished top.rules w.held) (is_some (entered (built drum650) w.stopped)))
 
-line_taken : (verb : Verb) (words : List Text) → IsNamed verb → GivesFiles verb words → takes drum650 (verb.name ∷ words) ≡ true
+line_taken : (verb : Verb) (words : List Text) → IsNamed verb → GivesFiles verb words
+    → takes drum650 (verb.name ∷ words) ≡ true
 line_taken verb words named gives =
     let end = whole_walk verb words named in
     let below : entered_passes (built drum650) (Some (verb.name, words)) ≡ true =
@@ -105,7 +113,8 @@ line_said verb words named gives =
 -- words that name the command's files are taken, and said to be those
 abbrev pub IsLine : Verb → Type 0
 IsLine verb = (words : List Text) → NamesFilesOf verb words
-    → (takes drum650 (verb.name ∷ words) ≡ true) × (said_by_words (verb.name ∷ words) ≡ Some (verb.name, map Some words))
+    → (takes drum650 (verb.name ∷ words) ≡ true)
+    × (said_by_words (verb.name ∷ words) ≡ Some (verb.name, map Some words))
 
 is_line : (verb : Verb) → IsNamed verb → AreGiven verb.files → IsLine verb
 is_line verb named given words names =

@@ -1,5 +1,6 @@
 -- Lists and tests, for the proofs here.
-use Rattle.std.proofs.Common.{◌≡◌, ◌∙◌, ◌<◌, ◌+◌, ◌&&◌, ℕ, Bool, cond, true, false, ap, refl, arith, Some, map, take, length, List, [], ◌∷◌, ◌++◌, slice_index_or}
+use Rattle.std.proofs.Common.{◌≡◌, ◌∙◌, ◌<◌, ◌+◌, ◌&&◌, ℕ, Bool, cond, true, false, ap, refl, arith, Some, map, take}
+use Rattle.std.proofs.Common.{length, List, [], ◌∷◌, ◌++◌, slice_index_or}
 use Rattle.std.proofs.lemmas.List.{map-append, take_more}
 use Rattle.std.specs.Prelude.{find}
 use Rattle.std.specs.List.{list_all}

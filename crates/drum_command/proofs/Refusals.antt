@@ -16,7 +16,8 @@ fits_memory kind (Usage text) fits memory = absurd (fits.1 memory)
 fits_memory kind Memory fits memory = refl
 
 -- a refusal fits the kinds that the error has one of
-pub fits_among : (kinds : Kinds) (error : Error) (refused : Refused) → HasKind kinds error → FitsKind (kind_of error) refused → FitsAmong kinds refused
+pub fits_among : (kinds : Kinds) (error : Error) (refused : Refused) → HasKind kinds error
+    → FitsKind (kind_of error) refused → FitsAmong kinds refused
 fits_among kinds error (Help text) (inl memory) fits = cc
 fits_among kinds error (Help text) (inr among) fits = subst (λ kind. IsAmong kind kinds) fits among
 fits_among kinds error (Usage text) (inl memory) fits = absurd (fits.1 memory)

@@ -32,7 +32,13 @@ abbrev pub seek_clockworks : Clockworks
 seek_clockworks = record { row = seeks.the_row; ghosts = seek.ghosts; dict = seek.dict; lawful = seek_laws.lawful }
 
 abbrev pub parity_clockworks : Clockworks
-parity_clockworks = record { row = at_parities.the_row; ghosts = at_parity.ghosts; dict = at_parity.dict; lawful = at_parity_laws.lawful }
+parity_clockworks =
+    record {
+      row = at_parities.the_row;
+      ghosts = at_parity.ghosts;
+      dict = at_parity.dict;
+      lawful = at_parity_laws.lawful;
+    }
 
 abbrev pub delay_clockworks : Clockworks
 delay_clockworks = record { row = delays.the_row; ghosts = delay.ghosts; dict = delay.dict; lawful = delay_laws.lawful }

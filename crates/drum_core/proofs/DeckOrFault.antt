@@ -1,11 +1,14 @@
 -- Every text is a deck, or it has its fault.
-use Rattle.std.proofs.Common.{◌≡◌, ℕ, zero, suc, ◌+◌, ◌<◌, List, [], ◌∷◌, ◌++◌, length, refl, ap, sym, ◌∙◌, subst, arith, inl, inr, ◌⊎◌, append_assoc, length-append}
+use Rattle.std.proofs.Common.{◌≡◌, ℕ, zero, suc, ◌+◌, ◌<◌, List, [], ◌∷◌, ◌++◌, length, refl, ap, sym, ◌∙◌, subst}
+use Rattle.std.proofs.Common.{arith, inl, inr, ◌⊎◌, append_assoc, length-append}
 use Rattle.std.proofs.lemmas.Bool.{cases_lt, cases_eq}
 use Rattle.std.proofs.lemmas.List.{append-nil}
 use Rattle.std.specs.Prelude.{Any}
 use Rattle.drum_core.specs.declared.deck.fault.DeckFault.{DeckFault}
-use Rattle.drum_core.specs.declared.deck.fault.DeckFault.TheVariants.{Card, Twice, NoStart, TwoStarts, PastDrum, TooLong}
-use Rattle.drum_core.specs.DeckText.{Line, comment, start, card, IsLine, Say, Given, given_from, starts, IsGiven, AreSound, IsTooLong, IsDeck, IsFaultOfLine, IsFirstFault, LacksStart, IsRefused}
+use Rattle.drum_core.specs.declared.deck.fault.DeckFault.TheVariants.{Card, Twice, NoStart, TwoStarts, PastDrum}
+use Rattle.drum_core.specs.declared.deck.fault.DeckFault.TheVariants.{TooLong}
+use Rattle.drum_core.specs.DeckText.{Line, comment, start, card, IsLine, Say, Given, given_from, starts, IsGiven}
+use Rattle.drum_core.specs.DeckText.{AreSound, IsTooLong, IsDeck, IsFaultOfLine, IsFirstFault, LacksStart, IsRefused}
 use Rattle.drum_core.specs.Lines.{lines_of}
 use Rattle.drum_core.proofs.FaultLaws.{say_one, starts-append}
 use Rattle.drum_core.proofs.LineCases.{least_or_none, line_cases}
@@ -59,7 +62,11 @@ line_goes before number text comment sound is =
       comment,
       is,
       sound_more before comment sound refl (λ past. past)
-          (omega (arith, ap length (starts-append before (comment ∷ []) ∙ append-nil (starts before)), sound.one_start)),
+          (omega (
+            arith,
+            ap length (starts-append before (comment ∷ []) ∙ append-nil (starts before)),
+            sound.one_start,
+          )),
     )
 line_goes before number text (start n) sound is = elim (cases_lt n 2000) [
   | inr past ↦ inr (PastDrum number, (refl, (start n, is, past)))

@@ -1,5 +1,6 @@
 -- Laws of deck text: what is given is found, and a text has one fault.
-use Rattle.std.proofs.Common.{◌≡◌, ℕ, zero, suc, ◌+◌, ◌<◌, ◌≤◌, List, [], ◌∷◌, ◌++◌, length, take, drop, refl, ap, sym, ◌∙◌, subst, arith, length-append, append_assoc, inl, inr, Some}
+use Rattle.std.proofs.Common.{◌≡◌, ℕ, zero, suc, ◌+◌, ◌<◌, ◌≤◌, List, [], ◌∷◌, ◌++◌, length, take, drop, refl, ap, sym}
+use Rattle.std.proofs.Common.{◌∙◌, subst, arith, length-append, append_assoc, inl, inr, Some}
 use Rattle.std.proofs.Math.Seq.{take-append_seam, drop-append_seam}
 use Rattle.std.proofs.lemmas.Bool.{cases_lt, eq-eqb}
 use Rattle.std.specs.List.{AllByRecursion}
@@ -7,14 +8,18 @@ use Rattle.std.specs.Prelude.{Contains, slice_index_or}
 use borrow.Author.Tests.{ne_eqb}
 use Rattle.drum_core.proofs.Same.{same_location}
 use Rattle.drum_core.specs.declared.deck.fault.DeckFault.{DeckFault}
-use Rattle.drum_core.specs.declared.deck.fault.DeckFault.TheVariants.{Read, Memory, Card, Twice, NoStart, TwoStarts, PastDrum, TooLong}
+use Rattle.drum_core.specs.declared.deck.fault.DeckFault.TheVariants.{Read, Memory, Card, Twice, NoStart, TwoStarts}
+use Rattle.drum_core.specs.declared.deck.fault.DeckFault.TheVariants.{PastDrum, TooLong}
 use Rattle.drum_core.specs.declared.word.Word.{Word}
 use Rattle.drum_core.specs.Lines.{lines_of}
-use Rattle.drum_core.specs.DeckText.{Line, comment, start, card, IsLine, Say, Given, given_by_card, given_by, given_from, given_at, starts, IsPastDrum, IsGiven, AreDistinct, AreSound, IsFaultOfLine, IsFirstFault, LacksStart, IsRefused, IsDeck}
+use Rattle.drum_core.specs.DeckText.{Line, comment, start, card, IsLine, Say, Given, given_by_card, given_by}
+use Rattle.drum_core.specs.DeckText.{given_from, given_at, starts, IsPastDrum, IsGiven, AreDistinct, AreSound}
+use Rattle.drum_core.specs.DeckText.{IsFaultOfLine, IsFirstFault, LacksStart, IsRefused, IsDeck}
 use Rattle.drum_core.proofs.DeckLaws.{line_one}
 
 -- what is given to distinct locations is found there
-given_is_found : (given : List Given) (one : Given) (k : ℕ) → AreDistinct given → k < length given → slice_index_or given k one ≡ one → given_at given one.location ≡ Some one
+given_is_found : (given : List Given) (one : Given) (k : ℕ) → AreDistinct given → k < length given
+    → slice_index_or given k one ≡ one → given_at given one.location ≡ Some one
 given_is_found [] one k distinct within here = absurd (omega arith)
 given_is_found (first ∷ given) one zero distinct within here =
     let same : first.location ≡ one.location = ap (λ (g : Given). g.location) here in
@@ -25,7 +30,8 @@ given_is_found (first ∷ given) one (suc k) distinct within here =
     rw (ne_eqb first.location one.location other) (given_is_found given one k distinct.1 below here)
 
 -- the image is a function: one location is given one word, from one line
-pub image_is_function : (given : List Given) → AreDistinct given → (one : Given) → Contains given one → given_at given one.location ≡ Some one
+pub image_is_function : (given : List Given) → AreDistinct given → (one : Given) → Contains given one
+    → given_at given one.location ≡ Some one
 image_is_function given distinct one among = given_is_found given one among.0 distinct among.1 among.2
 
 -- texts say one list of lines
@@ -49,16 +55,26 @@ pub record Parts (texts : List (List ℕ)) (text : List ℕ) (lines : List Line)
   pub said : Say texts front
   pub says : IsLine text line
 
-parts_of : (texts : List (List ℕ)) (text : List ℕ) (others : List (List ℕ)) (lines : List Line) → Say (texts ++ text ∷ others) lines → Parts texts text lines
+parts_of : (texts : List (List ℕ)) (text : List ℕ) (others : List (List ℕ)) (lines : List Line)
+    → Say (texts ++ text ∷ others) lines → Parts texts text lines
 parts_of [] text others [] p = absurd p
-parts_of [] text others (line ∷ lines) p = record { front = []; line = line; behind = lines; split = refl; said = tt; says = p.0 }
+parts_of [] text others (line ∷ lines) p =
+    record { front = []; line = line; behind = lines; split = refl; said = tt; says = p.0 }
 parts_of (first ∷ texts) text others [] p = absurd p
 parts_of (first ∷ texts) text others (line ∷ lines) p =
     let rest = parts_of texts text others lines p.1 in
-    record { front = line ∷ rest.front; line = rest.line; behind = rest.behind; split = ap (λ (xs : List Line). line ∷ xs) rest.split; said = (p.0, rest.said); says = rest.says }
+    record {
+      front = line ∷ rest.front;
+      line = rest.line;
+      behind = rest.behind;
+      split = ap (λ (xs : List Line). line ∷ xs) rest.split;
+      said = (p.0, rest.said);
+      says = rest.says;
+    }
 
 -- a list of lines with one behind others
-on_drum_behind : (front : List Line) (line : Line) (behind : List Line) → AllByRecursion (λ one. ¬ IsPastDrum one) (front ++ line ∷ behind) → ¬ IsPastDrum line
+on_drum_behind : (front : List Line) (line : Line) (behind : List Line)
+    → AllByRecursion (λ one. ¬ IsPastDrum one) (front ++ line ∷ behind) → ¬ IsPastDrum line
 on_drum_behind [] line behind all = all.0
 on_drum_behind (first ∷ front) line behind all = on_drum_behind front line behind all.1
 
@@ -68,17 +84,22 @@ starts-append (comment ∷ front) others = starts-append front others
 starts-append (start n ∷ front) others = ap (λ (xs : List ℕ). n ∷ xs) (starts-append front others)
 starts-append (card n words ∷ front) others = starts-append front others
 
-pub given_from-append : (number : ℕ) (front others : List Line) → given_from number (front ++ others) ≡ given_from number front ++ given_from (number + length front) others
+pub given_from-append : (number : ℕ) (front others : List Line)
+    → given_from number (front ++ others) ≡ given_from number front ++ given_from (number + length front) others
 given_from-append number [] others =
     let same : number ≡ number + 0 = omega arith in
     ap (λ (n : ℕ). given_from n others) same
 given_from-append number (line ∷ front) others =
     let same : number + 1 + length front ≡ number + suc (length front) = omega arith in
-    ap (λ (xs : List Given). given_by number line ++ xs) (given_from-append (number + 1) front others ∙ ap (λ (n : ℕ). given_from (number + 1) front ++ given_from n others) same)
-    ∙ sym (append_assoc (given_by number line) (given_from (number + 1) front) (given_from (number + suc (length front)) others))
+    ap (λ (xs : List Given). given_by number line ++ xs)
+    (given_from-append (number + 1) front others
+    ∙ ap (λ (n : ℕ). given_from (number + 1) front ++ given_from n others) same)
+    ∙ sym (append_assoc (given_by number line) (given_from (number + 1) front)
+    (given_from (number + suc (length front)) others))
 
 -- what is given in a front or behind it is given
-given_in_front : (front others : List Given) (location : ℕ) → IsGiven front location → IsGiven (front ++ others) location
+given_in_front : (front others : List Given) (location : ℕ) → IsGiven front location
+    → IsGiven (front ++ others) location
 given_in_front [] others location (k, one, within, here, at) = absurd (omega arith)
 given_in_front (first ∷ front) others location (zero, one, within, here, at) = (0, one, omega arith, here, at)
 given_in_front (first ∷ front) others location (suc k, one, within, here, at) =
@@ -92,7 +113,8 @@ given_behind (first ∷ front) others location given =
     (suc rest.0, rest.1, omega (arith, rest.2), rest.3, rest.4)
 
 -- distinct locations aren't given in a front and behind it
-given_once : (front others : List Given) (location : ℕ) → AreDistinct (front ++ others) → IsGiven front location → IsGiven others location → ⊥
+given_once : (front others : List Given) (location : ℕ) → AreDistinct (front ++ others) → IsGiven front location
+    → IsGiven others location → ⊥
 given_once [] others location distinct (k, one, within, here, at) later = omega arith
 given_once (first ∷ front) others location distinct (zero, one, within, here, at) later =
     let same : first.location ≡ location = ap (λ (g : Given). g.location) here ∙ at in
@@ -101,7 +123,8 @@ given_once (first ∷ front) others location distinct (suc k, one, within, here,
     given_once front others location distinct.1 (k, one, omega arith, here, at) later
 
 -- a card gives each location from its first on
-card_gives : (number n : ℕ) (words : List Word) (location : ℕ) → n ≤ location → location < n + length words → IsGiven (given_by_card number n words) location
+card_gives : (number n : ℕ) (words : List Word) (location : ℕ) → n ≤ location → location < n + length words
+    → IsGiven (given_by_card number n words) location
 card_gives number n [] location low high = absurd (omega arith)
 card_gives number n (word ∷ words) location low high =
     elim (cases_lt n location) [
@@ -114,7 +137,8 @@ card_gives number n (word ∷ words) location low high =
     ]
 
 -- a line of sound lines has no fault
-no_fault_among : (front : List Line) (line : Line) (behind : List Line) (number : ℕ) (text : List ℕ) (fault : DeckFault) → AreSound (front ++ line ∷ behind) → IsLine text line
+no_fault_among : (front : List Line) (line : Line) (behind : List Line) (number : ℕ) (text : List ℕ) (fault : DeckFault)
+    → AreSound (front ++ line ∷ behind) → IsLine text line
     → IsFaultOfLine front number text fault → ⊥
 no_fault_among front line behind number text (Card n) sound says p = p.1 line says
 no_fault_among front line behind number text (PastDrum n) sound says p =
@@ -122,23 +146,32 @@ no_fault_among front line behind number text (PastDrum n) sound says p =
     on_drum_behind front line behind sound.on_drum (subst IsPastDrum (sym one) p.1.2)
 no_fault_among front line behind number text (TwoStarts n) sound says p =
     let one = line_one text line (start p.1.0) says p.1.1 in
-    let split : starts (front ++ line ∷ behind) ≡ starts front ++ p.1.0 ∷ starts behind = starts-append front (line ∷ behind) ∙ ap (λ (l : Line). starts front ++ starts (l ∷ behind)) one in
-    let long : length (starts (front ++ line ∷ behind)) ≡ length (starts front) + length (p.1.0 ∷ starts behind) = ap length split ∙ length-append (starts front) (p.1.0 ∷ starts behind) in
+    let split : starts (front ++ line ∷ behind) ≡ starts front ++ p.1.0 ∷ starts behind =
+    starts-append front (line ∷ behind) ∙ ap (λ (l : Line). starts front ++ starts (l ∷ behind)) one in
+    let long : length (starts (front ++ line ∷ behind)) ≡ length (starts front) + length (p.1.0 ∷ starts behind) =
+    ap length split ∙ length-append (starts front) (p.1.0 ∷ starts behind) in
     omega (arith, long, sound.one_start, p.1.3)
-no_fault_among front line behind number text (Twice location) sound says (n, words, is_card, short, low, high, before, least) =
+no_fault_among front line behind number text (Twice location) sound says
+    (n, words, is_card, short, low, high, before, least) =
     let one = line_one text line (card n words) says is_card in
-    let split : given_from 1 (front ++ line ∷ behind) ≡ given_from 1 front ++ given_from (1 + length front) (line ∷ behind) = given_from-append 1 front (line ∷ behind) in
-    let split' : given_from 1 (front ++ line ∷ behind) ≡ given_from 1 front ++ given_from (1 + length front) (card n words ∷ behind) =
+    let split : given_from 1 (front ++ line ∷ behind) ≡ given_from 1 front
+    ++ given_from (1 + length front) (line ∷ behind) = given_from-append 1 front (line ∷ behind) in
+    let split' : given_from 1 (front ++ line ∷ behind) ≡ given_from 1 front
+    ++ given_from (1 + length front) (card n words ∷ behind) =
     split ∙ ap (λ (l : Line). given_from 1 front ++ given_from (1 + length front) (l ∷ behind)) one in
-    let here = given_in_front (given_by_card (1 + length front) n words) (given_from (1 + length front + 1) behind) location.number (card_gives (1 + length front) n words location.number low high) in
-    given_once (given_from 1 front) (given_from (1 + length front) (card n words ∷ behind)) location.number (subst AreDistinct split' sound.once) before here
+    let here =
+    given_in_front (given_by_card (1 + length front) n words) (given_from (1 + length front + 1) behind)
+    location.number (card_gives (1 + length front) n words location.number low high) in
+    given_once (given_from 1 front) (given_from (1 + length front) (card n words ∷ behind)) location.number
+    (subst AreDistinct split' sound.once) before here
 no_fault_among front line behind number text Read sound says p = p
 no_fault_among front line behind number text Memory sound says p = p
 no_fault_among front line behind number text NoStart sound says p = p
 no_fault_among front line behind number text TooLong sound says p = p
 
 -- a line behind sound ones has one fault
-fault_of_line_one : (before : List Line) (number : ℕ) (text : List ℕ) (fault other : DeckFault) → IsFaultOfLine before number text fault → IsFaultOfLine before number text other → fault ≡ other
+fault_of_line_one : (before : List Line) (number : ℕ) (text : List ℕ) (fault other : DeckFault)
+    → IsFaultOfLine before number text fault → IsFaultOfLine before number text other → fault ≡ other
 fault_of_line_one before number text Read other p q = absurd p
 fault_of_line_one before number text Memory other p q = absurd p
 fault_of_line_one before number text NoStart other p q = absurd p
@@ -154,31 +187,41 @@ fault_of_line_one before number text (Card n) (Twice l) p q = absurd (p.1 (card 
 fault_of_line_one before number text (PastDrum n) (Card m) p q = absurd (q.1 p.1.0 p.1.1)
 fault_of_line_one before number text (PastDrum n) (PastDrum m) p q = ap PastDrum (p.0 ∙ sym q.0)
 fault_of_line_one before number text (PastDrum n) (TwoStarts m) p q =
-    let past : 2000 ≤ q.1.0 = subst IsPastDrum (line_one text p.1.0 (start q.1.0) p.1.1 q.1.1) p.1.2 in absurd (omega (arith, past, q.1.2))
+    let past : 2000 ≤ q.1.0 =
+    subst IsPastDrum (line_one text p.1.0 (start q.1.0) p.1.1 q.1.1) p.1.2 in absurd (omega (arith, past, q.1.2))
 fault_of_line_one before number text (PastDrum n) (Twice l) p q =
-    let past : 2000 < q.0 + length q.1 = subst IsPastDrum (line_one text p.1.0 (card q.0 q.1) p.1.1 q.2) p.1.2 in absurd (omega (arith, past, q.3))
+    let past : 2000 < q.0 + length q.1 =
+    subst IsPastDrum (line_one text p.1.0 (card q.0 q.1) p.1.1 q.2) p.1.2 in absurd (omega (arith, past, q.3))
 fault_of_line_one before number text (TwoStarts n) (Card m) p q = absurd (q.1 (start p.1.0) p.1.1)
 fault_of_line_one before number text (TwoStarts n) (PastDrum m) p q =
-    let past : 2000 ≤ p.1.0 = subst IsPastDrum (line_one text q.1.0 (start p.1.0) q.1.1 p.1.1) q.1.2 in absurd (omega (arith, past, p.1.2))
+    let past : 2000 ≤ p.1.0 =
+    subst IsPastDrum (line_one text q.1.0 (start p.1.0) q.1.1 p.1.1) q.1.2 in absurd (omega (arith, past, p.1.2))
 fault_of_line_one before number text (TwoStarts n) (TwoStarts m) p q = ap TwoStarts (p.0 ∙ sym q.0)
 fault_of_line_one before number text (TwoStarts n) (Twice l) p q =
     let other : start p.1.0 ≡ card q.0 q.1 = line_one text (start p.1.0) (card q.0 q.1) p.1.1 q.2 in cc
 fault_of_line_one before number text (Twice l) (Card m) p q = absurd (q.1 (card p.0 p.1) p.2)
 fault_of_line_one before number text (Twice l) (PastDrum m) p q =
-    let past : 2000 < p.0 + length p.1 = subst IsPastDrum (line_one text q.1.0 (card p.0 p.1) q.1.1 p.2) q.1.2 in absurd (omega (arith, past, p.3))
+    let past : 2000 < p.0 + length p.1 =
+    subst IsPastDrum (line_one text q.1.0 (card p.0 p.1) q.1.1 p.2) q.1.2 in absurd (omega (arith, past, p.3))
 fault_of_line_one before number text (Twice l) (TwoStarts m) p q =
     let other : start q.1.0 ≡ card p.0 p.1 = line_one text (start q.1.0) (card p.0 p.1) q.1.1 p.2 in cc
 fault_of_line_one before number text (Twice l) (Twice m) p q =
     let one : card p.0 p.1 ≡ card q.0 q.1 = line_one text (card p.0 p.1) (card q.0 q.1) p.2 q.2 in
     let n : p.0 ≡ q.0 = cc in
-    let least : m.number ≤ l.number = (elim (cases_lt l.number m.number) [ inl below ↦ absurd (q.7 l.number (omega (arith, p.4, n)) below p.6) | inr upto ↦ upto ]) in
-    let least' : l.number ≤ m.number = (elim (cases_lt m.number l.number) [ inl below ↦ absurd (p.7 m.number (omega (arith, q.4, n)) below q.6) | inr upto ↦ upto ]) in
+    let least : m.number ≤ l.number =
+    (elim (cases_lt l.number m.number)
+    [ inl below ↦ absurd (q.7 l.number (omega (arith, p.4, n)) below p.6) | inr upto ↦ upto ]) in
+    let least' : l.number ≤ m.number =
+    (elim (cases_lt m.number l.number)
+    [ inl below ↦ absurd (p.7 m.number (omega (arith, q.4, n)) below q.6) | inr upto ↦ upto ]) in
     let same : l.number ≡ m.number = omega arith in
     ap Twice (same_location l m same)
 
 -- of two fronts of one list, the longer has the shorter and what stands behind it
-longer_front : (texts others : List (List ℕ)) (text other : List ℕ) (behind behind' : List (List ℕ)) → length texts < length others
-    → texts ++ text ∷ behind ≡ others ++ other ∷ behind' → (between : List (List ℕ)) × (others ≡ texts ++ text ∷ between)
+longer_front : (texts others : List (List ℕ)) (text other : List ℕ) (behind behind' : List (List ℕ))
+    → length texts < length others
+    → texts ++ text ∷ behind ≡ others ++ other ∷ behind' → (between : List (List ℕ))
+    × (others ≡ texts ++ text ∷ between)
 longer_front [] [] text other behind behind' less e = absurd (omega arith)
 longer_front [] (first ∷ others) text other behind behind' less e =
     let head : text ≡ first = cc in
@@ -191,16 +234,20 @@ longer_front (first ∷ texts) (first' ∷ others) text other behind behind' les
     (rest.0, ap (λ (t : List ℕ). t ∷ others) (sym head) ∙ ap (λ (ts : List (List ℕ)). first ∷ ts) rest.1)
 
 -- the first fault of a text isn't behind that of an earlier line
-not_behind : (text : List ℕ) (fault other : DeckFault) (p : IsFirstFault text fault) (q : IsFirstFault text other) → length p.texts < length q.texts → ⊥
+not_behind : (text : List ℕ) (fault other : DeckFault) (p : IsFirstFault text fault) (q : IsFirstFault text other)
+    → length p.texts < length q.texts → ⊥
 not_behind text fault other p q less =
     let longer = longer_front p.texts q.texts p.line q.line p.others q.others less (sym p.split ∙ q.split) in
-    let said : Say (p.texts ++ p.line ∷ longer.0) q.before = subst (λ (ts : List (List ℕ)). Say ts q.before) longer.1 q.said in
+    let said : Say (p.texts ++ p.line ∷ longer.0) q.before =
+    subst (λ (ts : List (List ℕ)). Say ts q.before) longer.1 q.said in
     let parts = parts_of p.texts p.line longer.0 q.before said in
     let front : p.before ≡ parts.front = say_one p.texts p.before parts.front p.said parts.said in
-    no_fault_among parts.front parts.line parts.behind (length p.texts + 1) p.line fault (subst AreSound parts.split q.sound) parts.says
+    no_fault_among parts.front parts.line parts.behind (length p.texts + 1) p.line fault
+    (subst AreSound parts.split q.sound) parts.says
     (subst (λ (ls : List Line). IsFaultOfLine ls (length p.texts + 1) p.line fault) front p.first)
 
-pub first_fault_one : (text : List ℕ) (fault other : DeckFault) → IsFirstFault text fault → IsFirstFault text other → fault ≡ other
+pub first_fault_one : (text : List ℕ) (fault other : DeckFault) → IsFirstFault text fault → IsFirstFault text other
+    → fault ≡ other
 first_fault_one text fault other p q =
     elim (cases_lt (length p.texts) (length q.texts)) [
       | inl less ↦ absurd (not_behind text fault other p q less)
@@ -208,7 +255,8 @@ first_fault_one text fault other p q =
         | inl less ↦ absurd (not_behind text other fault q p less)
         | inr upto' ↦
             let long : length p.texts ≡ length q.texts = omega arith in
-            let parts = same_texts p.texts q.texts (p.line ∷ p.others) (q.line ∷ q.others) long (sym p.split ∙ q.split) in
+            let parts =
+            same_texts p.texts q.texts (p.line ∷ p.others) (q.line ∷ q.others) long (sym p.split ∙ q.split) in
             let line : p.line ≡ q.line = cc in
             let said : Say p.texts q.before = subst (λ (ts : List (List ℕ)). Say ts q.before) (sym parts.0) q.said in
             let before : p.before ≡ q.before = say_one p.texts p.before q.before p.said said in
@@ -220,32 +268,44 @@ first_fault_one text fault other p q =
       ]
     ]
   where
-    same_texts : (xs xs' ys ys' : List (List ℕ)) → length xs ≡ length xs' → xs ++ ys ≡ xs' ++ ys' → (xs ≡ xs') × (ys ≡ ys')
+    same_texts : (xs xs' ys ys' : List (List ℕ)) → length xs ≡ length xs' → xs ++ ys ≡ xs' ++ ys' → (xs ≡ xs')
+        × (ys ≡ ys')
     same_texts xs xs' ys ys' long e = (
-      sym (take-append_seam xs ys) ∙ ap (take (length xs)) e ∙ ap (λ n. take n (xs' ++ ys')) long ∙ take-append_seam xs' ys',
-      sym (drop-append_seam xs ys) ∙ ap (drop (length xs)) e ∙ ap (λ n. drop n (xs' ++ ys')) long ∙ drop-append_seam xs' ys',
+      sym (take-append_seam xs ys) ∙ ap (take (length xs)) e ∙ ap (λ n. take n (xs' ++ ys')) long
+          ∙ take-append_seam xs' ys',
+      sym (drop-append_seam xs ys) ∙ ap (drop (length xs)) e ∙ ap (λ n. drop n (xs' ++ ys')) long
+          ∙ drop-append_seam xs' ys',
     )
 
 -- a text whose lines are sound has no faulty line
-sound_not_faulty : (text : List ℕ) (lines : List Line) (fault : DeckFault) → Say (lines_of text) lines → AreSound lines → IsFirstFault text fault → ⊥
+sound_not_faulty : (text : List ℕ) (lines : List Line) (fault : DeckFault) → Say (lines_of text) lines → AreSound lines
+    → IsFirstFault text fault → ⊥
 sound_not_faulty text lines fault all_said sound p =
-    let said : Say (p.texts ++ p.line ∷ p.others) lines = subst (λ (ts : List (List ℕ)). Say ts lines) p.split all_said in
+    let said : Say (p.texts ++ p.line ∷ p.others) lines =
+    subst (λ (ts : List (List ℕ)). Say ts lines) p.split all_said in
     let parts = parts_of p.texts p.line p.others lines said in
     let front : p.before ≡ parts.front = say_one p.texts p.before parts.front p.said parts.said in
-    no_fault_among parts.front parts.line parts.behind (length p.texts + 1) p.line fault (subst AreSound parts.split sound) parts.says
+    no_fault_among parts.front parts.line parts.behind (length p.texts + 1) p.line fault
+    (subst AreSound parts.split sound) parts.says
     (subst (λ (ls : List Line). IsFaultOfLine ls (length p.texts + 1) p.line fault) front p.first)
 
 not_both : (text : List ℕ) (fault : DeckFault) → LacksStart text → IsFirstFault text fault → ⊥
 not_both text fault lacks p = sound_not_faulty text lacks.lines fault lacks.said lacks.sound p
 
 -- a deck isn't refused
-pub deck_not_refused : (text : List ℕ) (lines : List Line) (fault : DeckFault) → IsDeck text lines → IsRefused text fault → ⊥
+pub deck_not_refused : (text : List ℕ) (lines : List Line) (fault : DeckFault) → IsDeck text lines
+    → IsRefused text fault → ⊥
 deck_not_refused text lines Read deck p = p
 deck_not_refused text lines Memory deck p = p
 deck_not_refused text lines TooLong deck p = deck.short p
 deck_not_refused text lines NoStart deck p =
     let same : lines ≡ p.1.lines = say_one (lines_of text) lines p.1.lines deck.said p.1.said in
-    omega (arith, ap (λ (ls : List Line). length (starts ls)) same, ap (λ (ns : List ℕ). length ns) p.1.none, deck.one_start)
+    omega (
+      arith,
+      ap (λ (ls : List Line). length (starts ls)) same,
+      ap (λ (ns : List ℕ). length ns) p.1.none,
+      deck.one_start,
+    )
 deck_not_refused text lines (Card n) deck p = sound_not_faulty text lines (Card n) deck.said deck.sound p.1
 deck_not_refused text lines (PastDrum n) deck p = sound_not_faulty text lines (PastDrum n) deck.said deck.sound p.1
 deck_not_refused text lines (TwoStarts n) deck p = sound_not_faulty text lines (TwoStarts n) deck.said deck.sound p.1

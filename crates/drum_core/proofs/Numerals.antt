@@ -1,5 +1,6 @@
 -- Numbers that are written with a fixed number of decimal digits.
-use Rattle.std.proofs.Common.{◌≡◌, ℕ, zero, suc, ◌+◌, ◌-◌, ◌^◌, ◌/◌, ◌%◌, ◌<◌, ◌≤◌, List, [], ◌∷◌, ◌++◌, length, get_or, refl, sym, ◌∙◌, subst, inl, inr, ◌⊎◌, arith, length-append}
+use Rattle.std.proofs.Common.{◌≡◌, ℕ, zero, suc, ◌+◌, ◌-◌, ◌^◌, ◌/◌, ◌%◌, ◌<◌, ◌≤◌, List, [], ◌∷◌, ◌++◌, length, get_or}
+use Rattle.std.proofs.Common.{refl, sym, ◌∙◌, subst, inl, inr, ◌⊎◌, arith, length-append}
 use Rattle.std.proofs.Math.ListN.{get_or-append}
 use Rattle.std.proofs.lemmas.Bool.{cases_lt}
 use Rattle.std.proofs.lemmas.List.{get_or-append_right}
@@ -22,7 +23,8 @@ digit_at (suc k) n i h =
           rw get_or-append (digit_at k (n / 10) i before)
       | inr past ↦
           let start : i - k ≡ 0 = omega arith in
-          let here : get_or (digits_of k (n / 10) ++ (48 + n % 10) ∷ []) i 0 ≡ 48 + n % 10 = get_or-append_right (digits_of k (n / 10)) ((48 + n % 10) ∷ []) k i 0 long past ∙ rw start refl in
+          let here : get_or (digits_of k (n / 10) ++ (48 + n % 10) ∷ []) i 0 ≡ 48 + n % 10 =
+          get_or-append_right (digits_of k (n / 10)) ((48 + n % 10) ∷ []) k i 0 long past ∙ rw start refl in
           (omega (arith, here), omega (arith, here))
     ]
 
@@ -33,7 +35,8 @@ pow_fits k h = let below : k ≤ 18 = omega arith in
     pow-le-pow_right ten below
 
 -- a text with another byte writes no number
-pub not_digits : (text : List ℕ) (i : ℕ) → i < length text → (get_or text i 0 < 48) ⊎ (57 < get_or text i 0) → (n : ℕ) → text ≡ digits_of (length text) n → ⊥
+pub not_digits : (text : List ℕ) (i : ℕ) → i < length text → (get_or text i 0 < 48) ⊎ (57 < get_or text i 0) → (n : ℕ)
+    → text ≡ digits_of (length text) n → ⊥
 not_digits text i within other n e =
     let P : List ℕ → Type 0 = λ t. (48 ≤ get_or t i 0) × (get_or t i 0 ≤ 57) in
     let digit : P text = subst P (sym e) (digit_at (length text) n i within) in

@@ -3,10 +3,14 @@ use Rattle.std.proofs.Common.{◌≡◌, ◌≢◌, ℕ, ◌<◌, lit<, List, []
 use Rattle.std.specs.Prelude.{◌==◌, slice_get, find, IfSome, IfNone}
 use borrow.Author.Tests.{ne_eqb}
 use Rattle.drum_core.specs.declared.op.Op.{Op}
-use Rattle.drum_core.specs.declared.op.Op.TheVariants.{NoOperation, Stop, Add, ResetAdd, Divide, DivideReset, Multiply, Store, Shift, Branch, LoadDistributor, Read, Punch, BranchOnDigit}
-use Rattle.drum_core.specs.declared.op.amount.Amount.TheVariants.{Upper, MinusUpper, Lower, MinusLower, AbsoluteLower, MinusAbsoluteLower}
+use Rattle.drum_core.specs.declared.op.Op.TheVariants.{NoOperation, Stop, Add, ResetAdd, Divide, DivideReset, Multiply}
+use Rattle.drum_core.specs.declared.op.Op.TheVariants.{Store, Shift, Branch, LoadDistributor, Read, Punch}
+use Rattle.drum_core.specs.declared.op.Op.TheVariants.{BranchOnDigit}
+use Rattle.drum_core.specs.declared.op.amount.Amount.TheVariants.{Upper, MinusUpper, Lower, MinusLower, AbsoluteLower}
+use Rattle.drum_core.specs.declared.op.amount.Amount.TheVariants.{MinusAbsoluteLower}
 use Rattle.drum_core.specs.declared.op.branch.Branch.TheVariants.{UpperNonZero, NonZero, Minus, Overflow}
-use Rattle.drum_core.specs.declared.op.position.Position.TheVariants.{First, Second, Third, Fourth, Fifth, Sixth, Seventh, Eighth, Ninth, Tenth}
+use Rattle.drum_core.specs.declared.op.position.Position.TheVariants.{First, Second, Third, Fourth, Fifth, Sixth}
+use Rattle.drum_core.specs.declared.op.position.Position.TheVariants.{Seventh, Eighth, Ninth, Tenth}
 use Rattle.drum_core.specs.declared.op.shift.Shift.TheVariants.{Right, Round, Left}
 use Rattle.drum_core.specs.declared.op.store.Store.TheVariants as stored
 use Rattle.drum_core.specs.declared.op.store.Store.TheVariants.{DataAddress, InstructionAddress, Distributor}
@@ -106,7 +110,8 @@ not_among n [] other = refl
 not_among n (op ∷ listed) other = rw (ne_eqb (number_of op) n (other op)) (not_among n listed other)
 
 -- what is found by a number is what the list has
-pub found_in_list : (found : Option Op) (n : ℕ) → IfSome found (λ op. number_of op ≡ n) → IfNone found ((op : Op) → number_of op ≢ n) → found ≡ op_of n
+pub found_in_list : (found : Option Op) (n : ℕ) → IfSome found (λ op. number_of op ≡ n)
+    → IfNone found ((op : Op) → number_of op ≢ n) → found ≡ op_of n
 found_in_list None n is_found is_none = sym (not_among n ops is_none)
 found_in_list (Some op) n is_found is_none = sym (op_of_number op) ∙ ap op_of is_found
 

@@ -30,7 +30,13 @@ same_instruction a b op d i =
     let two : IsProp (a.op < 100) = hlevel props in
     let four : IsProp (a.d < 10 ^ 4) = hlevel props in
     let next_four : IsProp (a.i < 10 ^ 4) = hlevel props in
-    let made : (op d i : ℕ) → op < 100 → d < 10 ^ 4 → i < 10 ^ 4 → Instruction = λ op d i two four next_four. record { op = op; d = d; i = i; two = two; four = four; next_four = next_four } in
-    let Same : ℕ → ℕ → ℕ → Type 0 = λ op d i. (t : op < 100) (f : d < 10 ^ 4) (n : i < 10 ^ 4) → a ≡ made op d i t f n in
-    let here : Same a.op a.d a.i = λ t f n. ap (λ (t : a.op < 100). made a.op a.d a.i t a.four a.next_four) (two a.two t) ∙ ap (λ (f : a.d < 10 ^ 4). made a.op a.d a.i t f a.next_four) (four a.four f) ∙ ap (made a.op a.d a.i t f) (next_four a.next_four n) in
-    subst (λ (i : ℕ). Same b.op b.d i) i (subst (λ (d : ℕ). Same b.op d a.i) d (subst (λ (op : ℕ). Same op a.d a.i) op here)) b.two b.four b.next_four
+    let made : (op d i : ℕ) → op < 100 → d < 10 ^ 4 → i < 10 ^ 4 → Instruction =
+    λ op d i two four next_four. record { op = op; d = d; i = i; two = two; four = four; next_four = next_four } in
+    let Same : ℕ → ℕ → ℕ → Type 0 =
+    λ op d i. (t : op < 100) (f : d < 10 ^ 4) (n : i < 10 ^ 4) → a ≡ made op d i t f n in
+    let here : Same a.op a.d a.i =
+    λ t f n. ap (λ (t : a.op < 100). made a.op a.d a.i t a.four a.next_four) (two a.two t)
+    ∙ ap (λ (f : a.d < 10 ^ 4). made a.op a.d a.i t f a.next_four) (four a.four f)
+    ∙ ap (made a.op a.d a.i t f) (next_four a.next_four n) in
+    subst (λ (i : ℕ). Same b.op b.d i) i
+    (subst (λ (d : ℕ). Same b.op d a.i) d (subst (λ (op : ℕ). Same op a.d a.i) op here)) b.two b.four b.next_four

@@ -1,5 +1,6 @@
 -- Why a deck with its notes is accepted, or not.
-use Rattle.std.proofs.Common.{◌≡◌, ◌≢◌, ℕ, zero, suc, ◌*◌, ◌<◌, ◌≤◌, Bool, true, false, eqb, List, [], ◌∷◌, length, Option, None, ap, sym, ◌∙◌, subst, inl, inr, arith}
+use Rattle.std.proofs.Common.{◌≡◌, ◌≢◌, ℕ, zero, suc, ◌*◌, ◌<◌, ◌≤◌, Bool, true, false, eqb, List, [], ◌∷◌, length}
+use Rattle.std.proofs.Common.{Option, None, ap, sym, ◌∙◌, subst, inl, inr, arith}
 use Rattle.std.specs.Prelude.{slice_get, Contains}
 use Rattle.std.proofs.lemmas.Bool.{cases_lt, eq-eqb}
 use Rattle.std.proofs.lemmas.Bool.Decides.{eqb_tells}
@@ -8,7 +9,8 @@ use Rattle.drum_core.specs.declared.word.Word.{Word}
 use Rattle.drum_times.specs.Allowed.{Notes}
 use Rattle.drum_flow.specs.declared.fixed.Fixed.{Fixed}
 use Rattle.drum_flow.specs.declared.refusal.Refusal.{Refusal}
-use Rattle.drum_flow.specs.declared.refusal.Refusal.TheVariants.{Memory, NotLoaded, NotInProfile, Alters, Unbounded, TooLarge}
+use Rattle.drum_flow.specs.declared.refusal.Refusal.TheVariants.{Memory, NotLoaded, NotInProfile, Alters, Unbounded}
+use Rattle.drum_flow.specs.declared.refusal.Refusal.TheVariants.{TooLarge}
 use Rattle.drum_flow.specs.Acceptance.{IsRefusal}
 use Rattle.drum_flow.specs.Accepted.{counts_of, IsFree, LeadRound, IsClosed, IsAccepted, IsSound}
 use Rattle.drum_flow.specs.Altering.{FlagsFixed, AltersNone}
@@ -47,7 +49,8 @@ height_low (a ∷ xs) x = elim (eqb_tells a x) [
 
 module _ (loads : ℕ → Option Word) (notes : Notes) where
   -- an edge free of marks leads to a later member
-  lower : (xs : List ℕ) (u v : ℕ) → AreDifferent xs → GoOn (IsFree loads notes) xs → Contains xs u → IsFree loads notes u v → Contains xs v × (height xs v < height xs u)
+  lower : (xs : List ℕ) (u v : ℕ) → AreDifferent xs → GoOn (IsFree loads notes) xs → Contains xs u
+      → IsFree loads notes u v → Contains xs v × (height xs v < height xs u)
   lower [] u v d onward there free = absurd (contains_none u there)
   lower (a ∷ xs) u v d onward there free = elim (eqb_tells a u) [
     | inl same ↦ (
@@ -55,13 +58,15 @@ module _ (loads : ℕ → Option Word) (notes : Notes) where
         let ne : a ≢ v = λ e. d.0 (subst (λ (n : ℕ). Contains xs n) (sym e) next) in
         (contains_there a v xs next, omega (arith, height_here a u xs same.1, height_there a v xs ne, height_low xs v)))
     | inr other ↦ (
-        let behind : Contains xs u = elim (contains_cases a u xs there) [ inl same ↦ absurd (other.1 same) | inr later ↦ later ] in
+        let behind : Contains xs u =
+        elim (contains_cases a u xs there) [ inl same ↦ absurd (other.1 same) | inr later ↦ later ] in
         let less = lower xs u v d.1 onward.1 behind free in
         let ne : a ≢ v = λ e. d.0 (subst (λ (n : ℕ). Contains xs n) (sym e) less.0) in
         (contains_there a v xs less.0, omega (arith, height_there a u xs other.1, height_there a v xs ne, less.1)))
   ]
 
-  round_lower : (order : List ℕ) (first node : ℕ) (xs : List ℕ) → AreDifferent order → GoOn (IsFree loads notes) order → Contains order node → LeadRound loads notes first node xs
+  round_lower : (order : List ℕ) (first node : ℕ) (xs : List ℕ) → AreDifferent order → GoOn (IsFree loads notes) order
+      → Contains order node → LeadRound loads notes first node xs
       → height order first < height order node
   round_lower order first node [] d onward there round = (lower order node first d onward there round).1
   round_lower order first node (next ∷ xs) d onward there round =
@@ -69,23 +74,27 @@ module _ (loads : ℕ → Option Word) (notes : Notes) where
       omega (arith, less.1, round_lower order first next xs d onward less.0 round.1)
 
   -- where every free edge goes on, none lead round
-  no_round : (order : List ℕ) (first : ℕ) (xs : List ℕ) → AreDifferent order → GoOn (IsFree loads notes) order → Contains order first → ¬ IsClosed loads notes (first ∷ xs)
+  no_round : (order : List ℕ) (first : ℕ) (xs : List ℕ) → AreDifferent order → GoOn (IsFree loads notes) order
+      → Contains order first → ¬ IsClosed loads notes (first ∷ xs)
   no_round order first xs d onward there closed =
       let less : height order first < height order first = round_lower order first first xs d onward there closed in
       omega (arith, less)
 
   module _ (start : ℕ) where
     -- once each member has added its successors, the list stays
-    stays : (before after : ℕ) → length (found_after loads notes start before) ≤ before → before ≤ after → found_after loads notes start after ≡ found_after loads notes start before
+    stays : (before after : ℕ) → length (found_after loads notes start before) ≤ before → before ≤ after
+        → found_after loads notes start after ≡ found_after loads notes start before
     stays before zero all le =
         let same : zero ≡ before = omega (arith, le) in
         ap (found_after loads notes start) same
     stays before (suc after) all le = elim (cases_lt after before) [
       | inl last ↦ (let same : suc after ≡ before = omega (arith, le, last) in ap (found_after loads notes start) same)
       | inr earlier ↦ (
-          let was : found_after loads notes start after ≡ found_after loads notes start before = stays before after all earlier in
+          let was : found_after loads notes start after ≡ found_after loads notes start before =
+          stays before after all earlier in
           let none : slice_get (found_after loads notes start after) after ≡ None =
-          slice_get_past (found_after loads notes start after) after (omega (arith, ap (λ (xs : List ℕ). length xs) was, all, earlier)) in
+          slice_get_past (found_after loads notes start after) after
+          (omega (arith, ap (λ (xs : List ℕ). length xs) was, all, earlier)) in
           ap (λ (o : Option ℕ). with_new (found_after loads notes start after) (added_by loads notes o)) none ∙ was)
     ]
 
@@ -100,7 +109,8 @@ module _ (loads : ℕ → Option Word) (notes : Notes) where
           sym p.after ∙ same ∙ q.after)
     ]
 
-    pub flags_fixed : (executed : List ℕ) (fixed : Fixed) → AreExecuted loads notes start executed → AreFlagged executed notes fixed.flags.items → FlagsFixed loads notes start fixed
+    pub flags_fixed : (executed : List ℕ) (fixed : Fixed) → AreExecuted loads notes start executed
+        → AreFlagged executed notes fixed.flags.items → FlagsFixed loads notes start fixed
     flags_fixed executed fixed e flags = record {
       only = λ place flagged. (e.only place (flags.fixed place flagged).0, (flags.fixed place flagged).1);
       all = λ place is_fixed. flags.flagged place (e.all place is_fixed.0) is_fixed.1;
@@ -114,8 +124,10 @@ module _ (loads : ℕ → Option Word) (notes : Notes) where
           unaltered = λ place ins is_executed allowed. none place (e.all place is_executed) ins allowed;
         }
 
-        pub too_much : (refusal : Refusal) → IsTooMuch (product_of executed notes.marks) refusal → IsRefusal loads notes start refusal
-        too_much (TooLarge product) wrong = (sound, subst (λ (n : ℕ). 4000000 < n) (sym wrong.0) wrong.1, (executed, e.order, wrong.0))
+        pub too_much : (refusal : Refusal) → IsTooMuch (product_of executed notes.marks) refusal
+            → IsRefusal loads notes start refusal
+        too_much (TooLarge product) wrong =
+            (sound, subst (λ (n : ℕ). 4000000 < n) (sym wrong.0) wrong.1, (executed, e.order, wrong.0))
         too_much Memory wrong = absurd wrong
         too_much (NotLoaded location) wrong = absurd wrong
         too_much (NotInProfile location op) wrong = absurd wrong
@@ -123,10 +135,13 @@ module _ (loads : ℕ → Option Word) (notes : Notes) where
         too_much (Unbounded cycle) wrong = absurd wrong
 
         module _ (small : product_of executed notes.marks ≤ 4000000) where
-          pub unbounded : (refusal : Refusal) → IsCycleRefusal loads notes executed refusal → IsRefusal loads notes start refusal
+          pub unbounded : (refusal : Refusal) → IsCycleRefusal loads notes executed refusal
+              → IsRefusal loads notes start refusal
           unbounded (Unbounded cycle) wrong = record {
             sound = sound;
-            small = λ other order. subst (λ (places : List ℕ). length places * counts_of notes.marks ≤ 4000000) (one_order executed other e.order order) small;
+            small =
+                λ other order. subst (λ (places : List ℕ). length places * counts_of notes.marks ≤ 4000000)
+                (one_order executed other e.order order) small;
             executed = λ place there. e.only place (wrong.within place there);
             closed = wrong.closed;
             different = wrong.different;
@@ -138,12 +153,17 @@ module _ (loads : ℕ → Option Word) (notes : Notes) where
           unbounded (Alters writer word) wrong = absurd wrong
           unbounded (TooLarge product) wrong = absurd wrong
 
-          pub is_accepted : (order : List ℕ) → IsFreeOrder loads notes executed order → IsAccepted loads notes start executed
+          pub is_accepted : (order : List ℕ) → IsFreeOrder loads notes executed order
+              → IsAccepted loads notes start executed
           is_accepted order free = record {
             order = e.order;
             there = λ place is_executed. (e.good place (e.all place is_executed)).0;
             profile = λ place is_executed. (e.good place (e.all place is_executed)).1;
-            unaltered = λ place ins at is_executed allowed written is_fixed. none place (e.all place is_executed) ins allowed (at, written, is_fixed);
-            bounded = λ first others is_executed. no_round order first others free.different free.onward (free.all first (e.all first is_executed));
+            unaltered =
+                λ place ins at is_executed allowed written is_fixed. none place (e.all place is_executed) ins allowed
+                (at, written, is_fixed);
+            bounded =
+                λ first others is_executed. no_round order first others free.different free.onward
+                (free.all first (e.all first is_executed));
             small = small;
           }

@@ -1,12 +1,15 @@
 -- That instructions which are alike but for their data address write the same words, and have the
 -- same ways.
-use Rattle.std.proofs.Common.{◌≡◌, ℕ, ◌%◌, ◌^◌, ◌<◌, ◌≤◌, Bool, true, false, not, List, [], ◌∷◌, ◌++◌, map, Option, Some, None, refl, ap, sym, ◌∙◌, inl, inr, ◌⊎◌, arith}
+use Rattle.std.proofs.Common.{◌≡◌, ℕ, ◌%◌, ◌^◌, ◌<◌, ◌≤◌, Bool, true, false, not, List, [], ◌∷◌, ◌++◌, map, Option}
+use Rattle.std.proofs.Common.{Some, None, refl, ap, sym, ◌∙◌, inl, inr, ◌⊎◌, arith}
 use Rattle.std.specs.Prelude.{if◌then◌else◌, ◌||◌, ◌&&◌, nat_lt, filter}
 use Rattle.std.specs.List.{list_any}
 use Rattle.std.proofs.lemmas.Bool.{le-ltb}
 use Rattle.drum_core.specs.declared.instruction.Instruction.{Instruction}
 use Rattle.drum_core.specs.declared.op.Op.{Op}
-use Rattle.drum_core.specs.declared.op.Op.TheVariants.{NoOperation, Stop, Add, ResetAdd, Divide, DivideReset, Multiply, Store, Shift, Branch, LoadDistributor, Read, Punch, BranchOnDigit}
+use Rattle.drum_core.specs.declared.op.Op.TheVariants.{NoOperation, Stop, Add, ResetAdd, Divide, DivideReset, Multiply}
+use Rattle.drum_core.specs.declared.op.Op.TheVariants.{Store, Shift, Branch, LoadDistributor, Read, Punch}
+use Rattle.drum_core.specs.declared.op.Op.TheVariants.{BranchOnDigit}
 use Rattle.drum_core.specs.declared.op.store.Store as stores
 use Rattle.drum_core.specs.declared.op.Operand.{Operand}
 use Rattle.drum_core.specs.declared.op.Operand.TheVariants.{Any, Drum, Unused}
@@ -19,18 +22,21 @@ use Rattle.drum_machine.specs.Writes.{written_by, writes_with, writes}
 use Rattle.drum_flow.specs.Alike.{with_d, branches, branches_with}
 
 -- what is so of two digits and four is so of an instruction's parts
-at_digits : {X : Type 0} (f : ℕ → ℕ → ℕ → X) (ins : Instruction) (d : ℕ) → d < 10 ^ 4 → f (ins.op % 100) (d % 10 ^ 4) (ins.i % 10 ^ 4) ≡ f ins.op d ins.i
+at_digits : {X : Type 0} (f : ℕ → ℕ → ℕ → X) (ins : Instruction) (d : ℕ) → d < 10 ^ 4
+    → f (ins.op % 100) (d % 10 ^ 4) (ins.i % 10 ^ 4) ≡ f ins.op d ins.i
 at_digits f ins d four =
     let op : ins.op % 100 ≡ ins.op = omega (arith, ins.two) in
     let at : d % 10 ^ 4 ≡ d = omega (arith, four) in
     let next : ins.i % 10 ^ 4 ≡ ins.i = omega (arith, ins.next_four) in
-    ap (λ (n : ℕ). f n (d % 10 ^ 4) (ins.i % 10 ^ 4)) op ∙ ap (λ (n : ℕ). f ins.op n (ins.i % 10 ^ 4)) at ∙ ap (λ (n : ℕ). f ins.op d n) next
+    ap (λ (n : ℕ). f n (d % 10 ^ 4) (ins.i % 10 ^ 4)) op ∙ ap (λ (n : ℕ). f ins.op n (ins.i % 10 ^ 4)) at
+    ∙ ap (λ (n : ℕ). f ins.op d n) next
 
 -- the words that it writes, and the ways that it has, with another data address
 pub writes_at : (ins : Instruction) (d : ℕ) → d < 10 ^ 4 → writes (with_d ins d) ≡ writes_with (op_of ins.op) d
 writes_at ins d four = at_digits (λ op d i. writes_with (op_of op) d) ins d four
 
-pub ways_at : (notes : Notes) (ins : Instruction) (d : ℕ) → d < 10 ^ 4 → ways notes (with_d ins d) ≡ ways_with notes (op_of ins.op) d ins.i
+pub ways_at : (notes : Notes) (ins : Instruction) (d : ℕ) → d < 10 ^ 4
+    → ways notes (with_d ins d) ≡ ways_with notes (op_of ins.op) d ins.i
 ways_at notes ins d four = at_digits (λ op d i. ways_with notes (op_of op) d i) ins d four
 
 -- past the drum nothing is written
@@ -39,7 +45,8 @@ none_written None d past = refl
 none_written (Some op) d past = ap (λ (b : Bool). if b then written_by op d else []) (le-ltb d 2000 past)
 
 -- nor is anything by an operation that neither stores nor reads a card
-pub none_other : (op : Op) (d : ℕ) → ((store : stores.Store) → op ≡ Store store → ⊥) → (op ≡ Read → ⊥) → writes_with (Some op) d ≡ []
+pub none_other : (op : Op) (d : ℕ) → ((store : stores.Store) → op ≡ Store store → ⊥) → (op ≡ Read → ⊥)
+    → writes_with (Some op) d ≡ []
 none_other op d no_store no_read = either (nat_lt d 2000) (written_by op d) (go op no_store no_read)
   where
     either : (b : Bool) (words : List ℕ) → words ≡ [] → (if b then words else []) ≡ []
@@ -68,7 +75,8 @@ one_false true b e = inr e
 one_false false b e = inl refl
 
 -- D's that are both operands, or neither
-same_operand : (operand : Operand) (a b : ℕ) → is_location a ≡ is_location b → nat_lt a 2000 ≡ nat_lt b 2000 → is_operand operand a ≡ is_operand operand b
+same_operand : (operand : Operand) (a b : ℕ) → is_location a ≡ is_location b → nat_lt a 2000 ≡ nat_lt b 2000
+    → is_operand operand a ≡ is_operand operand b
 same_operand Any a b location drum = location
 same_operand Drum a b location drum = drum
 same_operand Unused a b location drum = refl
@@ -76,13 +84,16 @@ same_operand Unused a b location drum = refl
 -- the ways of two addresses, of which the first is no location
 none_first : (stops_early stops_late : Bool) (a i : ℕ) → is_location a ≡ false
     → in_order stops_early (a ∷ i ∷ []) stops_late
-    ≡ (if stops_early then early ∷ [] else []) ++ map to (filter is_location (i ∷ [])) ++ (if stops_late || true then late ∷ [] else [])
+    ≡ (if stops_early then early ∷ [] else []) ++ map to (filter is_location (i ∷ []))
+    ++ (if stops_late || true then late ∷ [] else [])
 none_first stops_early stops_late a i off =
-    ap (λ (b : Bool). (if stops_early then early ∷ [] else []) ++ map to (if b then a ∷ filter is_location (i ∷ []) else filter is_location (i ∷ []))
+    ap (λ (b : Bool). (if stops_early then early ∷ [] else [])
+    ++ map to (if b then a ∷ filter is_location (i ∷ []) else filter is_location (i ∷ []))
     ++ (if stops_late || (not b || list_any (λ next. not (is_location next)) (i ∷ [])) then late ∷ [] else [])) off
 
 -- an operation that doesn't go on at D has the same ways with each
-same_onward : (notes : Notes) (op : Op) (a b i : ℕ) → branches notes op ≡ false → ways_of notes op a i ≡ ways_of notes op b i
+same_onward : (notes : Notes) (op : Op) (a b i : ℕ) → branches notes op ≡ false
+    → ways_of notes op a i ≡ ways_of notes op b i
 same_onward notes NoOperation a b i alone = refl
 same_onward notes Stop a b i alone = refl
 same_onward notes (Add x) a b i alone = refl
@@ -101,7 +112,8 @@ same_onward notes Punch a b i alone = refl
 same_onward notes (BranchOnDigit x) a b i alone = cc
 
 -- so has one that does with each that is no location
-same_off : (notes : Notes) (op : Op) (a b i : ℕ) → is_location a ≡ false → is_location b ≡ false → ways_of notes op a i ≡ ways_of notes op b i
+same_off : (notes : Notes) (op : Op) (a b i : ℕ) → is_location a ≡ false → is_location b ≡ false
+    → ways_of notes op a i ≡ ways_of notes op b i
 same_off notes NoOperation a b i off other = refl
 same_off notes Stop a b i off other = refl
 same_off notes (Add x) a b i off other = refl
@@ -115,14 +127,16 @@ same_off notes (Branch x) a b i off other = none_first false false a i off ∙ s
 same_off notes LoadDistributor a b i off other = refl
 same_off notes Read a b i off other = go notes.load_cards
   where
-    go : (cards : Bool) → in_order true ((if cards then a ∷ [] else []) ++ i ∷ []) false ≡ in_order true ((if cards then b ∷ [] else []) ++ i ∷ []) false
+    go : (cards : Bool) → in_order true ((if cards then a ∷ [] else []) ++ i ∷ []) false
+        ≡ in_order true ((if cards then b ∷ [] else []) ++ i ∷ []) false
     go true = none_first true false a i off ∙ sym (none_first true false b i other)
     go false = refl
 same_off notes Punch a b i off other = refl
 same_off notes (BranchOnDigit x) a b i off other = none_first false true a i off ∙ sym (none_first false true b i other)
 
 -- two D's of one part of the addresses
-pub same_part : (notes : Notes) (op : Option Op) (a b i : ℕ) → is_location a ≡ is_location b → nat_lt a 2000 ≡ nat_lt b 2000
+pub same_part : (notes : Notes) (op : Option Op) (a b i : ℕ) → is_location a ≡ is_location b
+    → nat_lt a 2000 ≡ nat_lt b 2000
     → (branches_with notes op ≡ false) ⊎ (is_location b ≡ false) → ways_with notes op a i ≡ ways_with notes op b i
 same_part notes None a b i location drum apart = refl
 same_part notes (Some op) a b i location drum apart =

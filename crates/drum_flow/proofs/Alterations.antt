@@ -1,5 +1,6 @@
 -- Which words instructions alter.
-use Rattle.std.proofs.Common.{◌≡◌, ℕ, ◌+◌, ◌-◌, ◌<◌, ◌≤◌, List, [], ◌∷◌, ◌++◌, length, take, drop, get_or, Option, Some, ap, sym, ◌∙◌, subst, inl, inr, ◌⊎◌, arith}
+use Rattle.std.proofs.Common.{◌≡◌, ℕ, ◌+◌, ◌-◌, ◌<◌, ◌≤◌, List, [], ◌∷◌, ◌++◌, length, take, drop, get_or, Option, Some}
+use Rattle.std.proofs.Common.{ap, sym, ◌∙◌, subst, inl, inr, ◌⊎◌, arith}
 use Rattle.std.specs.Prelude.{Contains, slice_get, option_map}
 use Rattle.std.specs.List.{range_with_len}
 use Rattle.std.proofs.lemmas.Bool.{cases_lt}
@@ -18,8 +19,12 @@ use Rattle.drum_flow.specs.Flow.{AreExecuted}
 use Rattle.drum_flow.proofs.Founds.{numbers}
 
 range_has : (a n x : ℕ) → a ≤ x → x < a + n → Contains (range_with_len a n) x
-range_has a n x low high =
-    (x - a, omega (arith, length-range_with_len a n, low, high), omega (arith, low, high, get_or-range_with_len a n (x - a) x (omega (arith, low, high))))
+range_has a n x low high = (
+  x - a,
+  omega (arith, length-range_with_len a n, low, high),
+  omega
+      (arith, low, high, get_or-range_with_len a n (x - a) x (omega (arith, low, high))),
+)
 
 range_within : (a n x : ℕ) → Contains (range_with_len a n) x → (a ≤ x) × (x < a + n)
 range_within a n x there =
@@ -27,17 +32,22 @@ range_within a n x there =
     let here : a + there.0 ≡ x = sym (get_or-range_with_len a n there.0 x inside) ∙ there.2 in
     (omega (arith, here), omega (arith, here, inside))
 
-module _ (loads : ℕ → Option Word) (notes : Notes) (start : ℕ) (ins : Instruction) (low high : ℕ) (all : range_with_len low (high - low) ≡ writes ins) where
+module _ (loads : ℕ → Option Word) (notes : Notes) (start : ℕ) (ins : Instruction) (low high : ℕ)
+    (all : range_with_len low (high - low) ≡ writes ins) where
   written_within : (word : ℕ) → Contains (writes ins) word → (low ≤ word) × (word < high)
   written_within word there =
-      let inside = range_within low (high - low) word (subst (λ (words : List ℕ). Contains words word) (sym all) there) in
+      let inside =
+      range_within low (high - low) word (subst (λ (words : List ℕ). Contains words word) (sym all) there) in
       (inside.0, omega (arith, inside.0, inside.1))
 
   -- the first of the words that is fixed is the lowest that is altered
-  pub lowest_first : (word : ℕ) → low ≤ word → word < high → IsFixed loads notes start word → ((k : ℕ) → low ≤ k → k < word → ¬ IsFixed loads notes start k)
+  pub lowest_first : (word : ℕ) → low ≤ word → word < high → IsFixed loads notes start word
+      → ((k : ℕ) → low ≤ k → k < word → ¬ IsFixed loads notes start k)
       → IsLowestAltered loads notes start ins word
   lowest_first word from to fixed before = record {
-    written = subst (λ (words : List ℕ). Contains words word) all (range_has low (high - low) word from (omega (arith, from, to)));
+    written =
+        subst (λ (words : List ℕ). Contains words word) all
+        (range_has low (high - low) word from (omega (arith, from, to)));
     fixed = fixed;
     lowest = λ other there is_fixed. elim (cases_lt other word) [
       | inl below ↦ absurd (before other (written_within other there).0 below is_fixed)
@@ -55,18 +65,25 @@ module _ (loads : ℕ → Option Word) (notes : Notes) (start : ℕ) (ins : Inst
 pub split_at : (xs : List ℕ) (k x : ℕ) → slice_get xs k ≡ Some x → xs ≡ take k xs ++ x ∷ drop (k + 1) xs
 split_at xs k x here =
     let inside : k < length xs = slice_get_within xs k x here in
-    sym (take-append-drop k xs) ∙ ap (λ (ys : List ℕ). take k xs ++ ys) (drop_more xs k x inside ∙ ap (λ (y : ℕ). y ∷ drop (k + 1) xs) (get_or_from_slice_get xs k x x here))
+    sym (take-append-drop k xs)
+    ∙ ap (λ (ys : List ℕ). take k xs ++ ys)
+    (drop_more xs k x inside ∙ ap (λ (y : ℕ). y ∷ drop (k + 1) xs) (get_or_from_slice_get xs k x x here))
 
 -- a member of one more is one of those before, or it
-pub taken_cases : (xs : List ℕ) (k x y : ℕ) → slice_get xs k ≡ Some x → Contains (take (k + 1) xs) y → Contains (take k xs) y ⊎ (x ≡ y)
+pub taken_cases : (xs : List ℕ) (k x y : ℕ) → slice_get xs k ≡ Some x → Contains (take (k + 1) xs) y
+    → Contains (take k xs) y ⊎ (x ≡ y)
 taken_cases xs k x y here there =
     let inside : k < length xs = slice_get_within xs k x here in
-    let more : take (k + 1) xs ≡ take k xs ++ x ∷ [] = take_more xs k x inside ∙ ap (λ (z : ℕ). take k xs ++ z ∷ []) (get_or_from_slice_get xs k x x here) in
+    let more : take (k + 1) xs ≡ take k xs ++ x ∷ [] =
+    take_more xs k x inside ∙ ap (λ (z : ℕ). take k xs ++ z ∷ []) (get_or_from_slice_get xs k x x here) in
     Contains-push_cases (take k xs) x y (subst (λ (ys : List ℕ). Contains ys y) more there)
 
 -- the first location that alters, where those before it alter nothing
-pub altered_first : (loads : ℕ → Option Word) (notes : Notes) (start : ℕ) (places : List ℕ) (k writer word : ℕ) → AreExecuted loads notes start places
-    → slice_get places k ≡ Some writer → ((place : ℕ) → Contains (take k places) place → AltersNone loads notes start place) → IsFirstAltered loads notes start (allowed loads notes writer) word
+pub altered_first : (loads : ℕ → Option Word) (notes : Notes) (start : ℕ) (places : List ℕ) (k writer word : ℕ)
+    → AreExecuted loads notes start places
+    → slice_get places k ≡ Some writer
+    → ((place : ℕ) → Contains (take k places) place → AltersNone loads notes start place)
+    → IsFirstAltered loads notes start (allowed loads notes writer) word
     → IsAltered loads notes start writer word
 altered_first loads notes start places k writer word executed here before altered = record {
   executed = places;
@@ -84,12 +101,17 @@ altered_first loads notes start places k writer word executed here before altere
 }
 
 -- the member of a list of locations at a place, by its number
-pub number_at : (locations : List Location) (places : List ℕ) (k : ℕ) (location : Location) → numbers locations ≡ places → k < length locations
+pub number_at : (locations : List Location) (places : List ℕ) (k : ℕ) (location : Location) → numbers locations ≡ places
+    → k < length locations
     → location ≡ get_or locations k location → slice_get places k ≡ Some location.number
 number_at locations places k location same inside here =
     sym (ap (λ (ns : List ℕ). slice_get ns k) same) ∙ slice_get-map (λ (one : Location). one.number) locations k
-    ∙ ap (option_map (λ (one : Location). one.number)) (slice_get-get_or locations k location inside) ∙ ap (λ (one : Location). Some one.number) (sym here)
+    ∙ ap (option_map (λ (one : Location). one.number)) (slice_get-get_or locations k location inside)
+    ∙ ap (λ (one : Location). Some one.number) (sym here)
 
 -- all places stand before the end of the locations
-pub all_taken : (locations : List Location) (places : List ℕ) (k : ℕ) → numbers locations ≡ places → length locations ≤ k → take k places ≡ places
-all_taken locations places k same past = take_all k places (omega (arith, past, ap (λ (ns : List ℕ). length ns) same, length-map locations (λ (one : Location). one.number)))
+pub all_taken : (locations : List Location) (places : List ℕ) (k : ℕ) → numbers locations ≡ places
+    → length locations ≤ k → take k places ≡ places
+all_taken locations places k same past =
+    take_all k places (omega
+    (arith, past, ap (λ (ns : List ℕ). length ns) same, length-map locations (λ (one : Location). one.number)))

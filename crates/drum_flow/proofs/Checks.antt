@@ -70,7 +70,8 @@ times op = elim op [ Rattle.drum_core.specs.declared.op.Op.TheVariants.LoadDistr
 abbrev setting : Setting
 setting = record { loads = loads; notes = notes; times = times; start = 100 }
 
-the_hops : (hops loads notes 100 ≡ record { ins = instruction_of (word false 6901030106); way = to 106 } ∷ []) × (hops loads notes 106 ≡ record { ins = instruction_of (word false 100000106); way = late } ∷ [])
+the_hops : (hops loads notes 100 ≡ record { ins = instruction_of (word false 6901030106); way = to 106 } ∷ [])
+    × (hops loads notes 106 ≡ record { ins = instruction_of (word false 100000106); way = late } ∷ [])
 the_hops = (refl, refl)
 
 the_order : IsOrder loads notes 100 (100 ∷ 106 ∷ [])
@@ -78,8 +79,24 @@ the_order = record { turns = 2; after = refl; all = omega arith }
 
 abbrev worst_walk : List Taken
 worst_walk =
-    record { place = 100; ins = instruction_of (word false 6901030106); way = to 106; units = 0; wait = 0; begun = 0; ended = 55 }
-    ∷ record { place = 106; ins = instruction_of (word false 100000106); way = late; units = 0; wait = 0; begun = 55; ended = 56 }
+    record {
+      place = 100;
+      ins = instruction_of (word false 6901030106);
+      way = to 106;
+      units = 0;
+      wait = 0;
+      begun = 0;
+      ended = 55;
+    }
+    ∷ record {
+      place = 106;
+      ins = instruction_of (word false 100000106);
+      way = late;
+      units = 0;
+      wait = 0;
+      begun = 55;
+      ended = 56;
+    }
     ∷ []
 
 takes_56 : time_of worst_walk ≡ 56

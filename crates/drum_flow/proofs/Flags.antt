@@ -1,5 +1,6 @@
 -- The flags of the executed locations without a list.
-use Rattle.std.proofs.Common.{◌≡◌, ℕ, ◌<◌, Bool, true, false, List, [], ◌∷◌, ◌++◌, length, set, replicate, Some, ap, sym, ◌∙◌, subst, inl, inr}
+use Rattle.std.proofs.Common.{◌≡◌, ℕ, ◌<◌, Bool, true, false, List, [], ◌∷◌, ◌++◌, length, set, replicate, Some, ap}
+use Rattle.std.proofs.Common.{sym, ◌∙◌, subst, inl, inr}
 use Rattle.std.specs.Prelude.{slice_get, Contains, IsTrue}
 use Rattle.std.proofs.lemmas.Bool.{cases_eq}
 use Rattle.std.proofs.lemmas.List.Elements.{Contains-append_left, Contains-push, Contains-push_cases}
@@ -20,12 +21,19 @@ none_flagged notes size = record {
         cc
 
 -- one more location without a list
-pub flag_more : (places : List ℕ) (notes : Notes) (flags : List Bool) (place : ℕ) → AreFlagged places notes flags → place < length flags → ¬ IsTrue (is_listed notes place)
+pub flag_more : (places : List ℕ) (notes : Notes) (flags : List Bool) (place : ℕ) → AreFlagged places notes flags
+    → place < length flags → ¬ IsTrue (is_listed notes place)
     → AreFlagged (places ++ place ∷ []) notes (set flags place true)
 flag_more places notes flags place before inside not_listed = record {
   fixed = λ other e. elim (cases_eq other place) [
-    | inl same ↦ (subst (λ (p : ℕ). Contains (places ++ place ∷ []) p) (sym same) (Contains-push places place), subst (λ (p : ℕ). ¬ IsTrue (is_listed notes p)) (sym same) not_listed)
-    | inr ne ↦ (let was = before.fixed other (sym (get_other flags place other true ne) ∙ e) in (Contains-append_left places (place ∷ []) other was.0, was.1))
+    | inl same ↦ (
+      subst (λ (p : ℕ). Contains (places ++ place ∷ []) p) (sym same) (Contains-push places place),
+      subst
+          (λ (p : ℕ). ¬ IsTrue (is_listed notes p)) (sym same) not_listed,
+    )
+    | inr ne ↦ (let was =
+        before.fixed other (sym (get_other flags place other true ne)
+        ∙ e) in (Contains-append_left places (place ∷ []) other was.0, was.1))
   ];
   flagged = λ other there free. elim (cases_eq other place) [
     | inl same ↦ ap (slice_get (set flags place true)) same ∙ get_written flags place true inside
@@ -37,10 +45,12 @@ flag_more places notes flags place before inside not_listed = record {
 }
 
 -- one more location with a list
-pub flag_same : (places : List ℕ) (notes : Notes) (flags : List Bool) (place : ℕ) → AreFlagged places notes flags → IsTrue (is_listed notes place)
+pub flag_same : (places : List ℕ) (notes : Notes) (flags : List Bool) (place : ℕ) → AreFlagged places notes flags
+    → IsTrue (is_listed notes place)
     → AreFlagged (places ++ place ∷ []) notes flags
 flag_same places notes flags place before listed = record {
-  fixed = λ other e. (Contains-append_left places (place ∷ []) other (before.fixed other e).0, (before.fixed other e).1);
+  fixed =
+      λ other e. (Contains-append_left places (place ∷ []) other (before.fixed other e).0, (before.fixed other e).1);
   flagged = λ other there free. elim (Contains-push_cases places place other there) [
     | inl earlier ↦ before.flagged other earlier free
     | inr same ↦ absurd (free (subst (λ (p : ℕ). IsTrue (is_listed notes p)) same listed))

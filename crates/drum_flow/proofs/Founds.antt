@@ -1,5 +1,6 @@
 -- The executed locations, held as a set, are the definitions' list of numbers.
-use Rattle.std.proofs.Common.{◌≡◌, ℕ, ◌+◌, ◌-◌, ◌<◌, ◌≤◌, Bool, true, false, eqb, List, [], ◌∷◌, ◌++◌, length, get_or, take, map, Some, refl, ap, sym, ◌∙◌, subst, inl, inr, ◌⊎◌, arith}
+use Rattle.std.proofs.Common.{◌≡◌, ℕ, ◌+◌, ◌-◌, ◌<◌, ◌≤◌, Bool, true, false, eqb, List, [], ◌∷◌, ◌++◌, length, get_or}
+use Rattle.std.proofs.Common.{take, map, Some, refl, ap, sym, ◌∙◌, subst, inl, inr, ◌⊎◌, arith}
 use Rattle.std.specs.Prelude.{slice_get, Contains, if◌then◌else◌, ◌||◌, nat_lt, position, option_map}
 use Rattle.std.specs.List.{list_any, AllByRecursion, IsDistinct}
 use Rattle.std.proofs.lemmas.Bool.{eqb-true, eq-eqb}
@@ -30,7 +31,8 @@ both_ways : (a b c : Bool) → a ≡ b → (a || c) ≡ (b || c)
 both_ways a b c e = ap (λ (x : Bool). x || c) e
 
 module _ (eq : Location → Location → Bool) (law : (a b : Location) → eq a b ≡ eqb a.number b.number) where
-  any_same : (k : Location) (ks : List Location) → list_any (eq k) ks ≡ list_any (λ place. eqb place k.number) (numbers ks)
+  any_same : (k : Location) (ks : List Location)
+      → list_any (eq k) ks ≡ list_any (λ place. eqb place k.number) (numbers ks)
   any_same k [] = refl
   any_same k (x ∷ ks) =
       both_ways (eq k x) (eqb x.number k.number) (list_any (eq k) ks) (law k x ∙ eqb_turned k.number x.number)
@@ -41,16 +43,19 @@ module _ (eq : Location → Location → Bool) (law : (a b : Location) → eq a 
   numbers_push (x ∷ ks) k = ap (λ (ns : List ℕ). x.number ∷ ns) (numbers_push ks k)
 
   -- the numbers after a location is added
-  pub numbers_added : (ks : List Location) (k : Location) → numbers (if list_any (eq k) ks then ks else ks ++ k ∷ []) ≡ with_new (numbers ks) (k.number ∷ [])
+  pub numbers_added : (ks : List Location) (k : Location)
+      → numbers (if list_any (eq k) ks then ks else ks ++ k ∷ []) ≡ with_new (numbers ks) (k.number ∷ [])
   numbers_added ks k = go (list_any (eq k) ks) (list_any (λ place. eqb place k.number) (numbers ks)) (any_same k ks)
     where
-      go : (a b : Bool) → a ≡ b → numbers (if a then ks else ks ++ k ∷ []) ≡ (if b then numbers ks else numbers ks ++ k.number ∷ [])
+      go : (a b : Bool) → a ≡ b
+          → numbers (if a then ks else ks ++ k ∷ []) ≡ (if b then numbers ks else numbers ks ++ k.number ∷ [])
       go true true e = refl
       go true false e = cc
       go false true e = cc
       go false false e = numbers_push ks k
 
-  none_equal : (k : Location) (ks : List Location) → AllByRecursion (λ y. eq k y ≡ false) ks → ¬ Contains (numbers ks) k.number
+  none_equal : (k : Location) (ks : List Location) → AllByRecursion (λ y. eq k y ≡ false) ks
+      → ¬ Contains (numbers ks) k.number
   none_equal k [] apart there = contains_none k.number there
   none_equal k (x ∷ ks) apart there = elim (contains_cases x.number k.number (numbers ks) there) [
     | inl same ↦ clash (sym apart.0 ∙ law k x ∙ eq-eqb k.number x.number (sym same))
@@ -63,14 +68,16 @@ module _ (eq : Location → Location → Bool) (law : (a b : Location) → eq a 
   -- no number stands twice
   pub numbers_different : (ks : List Location) → IsDistinct eq ks → AreDifferent (numbers ks)
   numbers_different [] d = tt
-  numbers_different (k ∷ ks) d = (none_equal k ks (IsDistinct-head eq k ks d), numbers_different ks (IsDistinct-tail eq k ks d))
+  numbers_different (k ∷ ks) d =
+      (none_equal k ks (IsDistinct-head eq k ks d), numbers_different ks (IsDistinct-tail eq k ks d))
 
   -- a location that isn't found has no place
   pub none_found : (ks : List Location) (k : Location) → list_any (eq k) ks ≡ false → ¬ Contains (numbers ks) k.number
   none_found [] k none there = contains_none k.number there
   none_found (x ∷ ks) k none there = go (eq k x) refl none (λ more. none_found ks k more)
     where
-      go : (b : Bool) → eq k x ≡ b → (b || list_any (eq k) ks) ≡ false → (list_any (eq k) ks ≡ false → ¬ Contains (numbers ks) k.number) → ⊥
+      go : (b : Bool) → eq k x ≡ b → (b || list_any (eq k) ks) ≡ false
+          → (list_any (eq k) ks ≡ false → ¬ Contains (numbers ks) k.number) → ⊥
       go true e none others = cc
       go false e none others = elim (contains_cases x.number k.number (numbers ks) there) [
         | inl same ↦ clash (sym e ∙ law k x ∙ eq-eqb k.number x.number (sym same))
@@ -81,11 +88,15 @@ module _ (eq : Location → Location → Bool) (law : (a b : Location) → eq a 
           clash h = cc
 
   -- one that is found has its place
-  pub one_found : (ks : List Location) (k : Location) (place : ℕ) → position (eq k) ks ≡ Some place → slice_get (numbers ks) place ≡ Some k.number
+  pub one_found : (ks : List Location) (k : Location) (place : ℕ) → position (eq k) ks ≡ Some place
+      → slice_get (numbers ks) place ≡ Some k.number
   one_found ks k place e =
       let found = position-Some (eq k) ks place k e in
-      let same : k.number ≡ (get_or ks place k).number = eqb-true k.number (get_or ks place k).number (sym (law k (get_or ks place k)) ∙ found.1) in
-      slice_get-map (λ (location : Location). location.number) ks place ∙ ap (option_map (λ (location : Location). location.number)) (slice_get-get_or ks place k found.0) ∙ ap Some (sym same)
+      let same : k.number ≡ (get_or ks place k).number =
+      eqb-true k.number (get_or ks place k).number (sym (law k (get_or ks place k)) ∙ found.1) in
+      slice_get-map (λ (location : Location). location.number) ks place
+      ∙ ap (option_map (λ (location : Location). location.number)) (slice_get-get_or ks place k found.0)
+      ∙ ap Some (sym same)
 
 -- the locations in one row: the drum, and then 8000 to 8003
 abbrev slot_by : Bool → ℕ → ℕ
@@ -106,7 +117,9 @@ slot_cases n = go (nat_lt n 2000) refl
     go false e = inr (ltb-false n 2000 e, ap (λ (b : Bool). slot_by b n) e)
 
 slot_below : (k : Location) → slot k.number < 2004
-slot_below k = elim (slot_cases k.number) [ inl low ↦ omega (arith, low.0, low.1) | inr high ↦ omega (arith, high.0, high.1, k.exists.0, k.exists.1 high.0) ]
+slot_below k =
+    elim (slot_cases k.number)
+    [ inl low ↦ omega (arith, low.0, low.1) | inr high ↦ omega (arith, high.0, high.1, k.exists.0, k.exists.1 high.0) ]
 
 same_slot : (a b : Location) → slot a.number ≡ slot b.number → a.number ≡ b.number
 same_slot a b e = elim (slot_cases a.number) [
@@ -120,11 +133,14 @@ same_slot a b e = elim (slot_cases a.number) [
   ])
 ]
 
-slots_apart : (k : Location) (ks : List Location) → ¬ Contains (numbers ks) k.number → AllByRecursion (λ s. eqb (slot k.number) s ≡ false) (slots ks)
+slots_apart : (k : Location) (ks : List Location) → ¬ Contains (numbers ks) k.number
+    → AllByRecursion (λ s. eqb (slot k.number) s ≡ false) (slots ks)
 slots_apart k [] apart = tt
 slots_apart k (x ∷ ks) apart = (
   elim (eqb_tells (slot k.number) (slot x.number)) [
-    | inl same ↦ absurd (apart (subst (λ (n : ℕ). Contains (x.number ∷ numbers ks) n) (sym (same_slot k x same.1)) (contains_here x.number (numbers ks))))
+    | inl same ↦ absurd (apart
+        (subst (λ (n : ℕ). Contains (x.number ∷ numbers ks) n) (sym (same_slot k x same.1))
+        (contains_here x.number (numbers ks))))
     | inr ne ↦ ne.0
   ],
   slots_apart k ks (λ there. apart (contains_there x.number k.number (numbers ks) there)),
@@ -133,13 +149,15 @@ slots_apart k (x ∷ ks) apart = (
 slots_distinct : (ks : List Location) → AreDifferent (numbers ks) → IsDistinct eqb (slots ks)
 unfolding IsDistinct
 slots_distinct [] d = tt
-slots_distinct (k ∷ ks) d = IsDistinct-cons eqb (slot k.number) (slots ks) (slots_apart k ks d.0) (slots_distinct ks d.1)
+slots_distinct (k ∷ ks) d =
+    IsDistinct-cons eqb (slot k.number) (slots ks) (slots_apart k ks d.0) (slots_distinct ks d.1)
 
 slots_below : (ks : List Location) (q : ℕ) → list_any (eqb q) (slots ks) ≡ true → q < 2004
 slots_below [] q e = cc
 slots_below (k ∷ ks) q e = go (eqb q (slot k.number)) refl e (slots_below ks q)
   where
-    go : (b : Bool) → eqb q (slot k.number) ≡ b → (b || list_any (eqb q) (slots ks)) ≡ true → (list_any (eqb q) (slots ks) ≡ true → q < 2004) → q < 2004
+    go : (b : Bool) → eqb q (slot k.number) ≡ b → (b || list_any (eqb q) (slots ks)) ≡ true
+        → (list_any (eqb q) (slots ks) ≡ true → q < 2004) → q < 2004
     go true same h others = omega (arith, slot_below k, eqb-true q (slot k.number) same)
     go false ne h others = others h
 
@@ -154,7 +172,9 @@ few_locations ks d =
     )
 
 -- the numbers so far and this one
-pub numbers_more : (locations : List Location) (place : ℕ) (location : Location) → place < length locations → location ≡ get_or locations place location
+pub numbers_more : (locations : List Location) (place : ℕ) (location : Location) → place < length locations
+    → location ≡ get_or locations place location
     → numbers (take (place + 1) locations) ≡ numbers (take place locations) ++ location.number ∷ []
 numbers_more locations place location inside here =
-    map_more (λ (one : Location). one.number) locations place location inside ∙ ap (λ (one : Location). numbers (take place locations) ++ one.number ∷ []) (sym here)
+    map_more (λ (one : Location). one.number) locations place location inside
+    ∙ ap (λ (one : Location). numbers (take place locations) ++ one.number ∷ []) (sym here)

@@ -1,12 +1,16 @@
 -- Why a kept run is a walk of the same time.
-use Rattle.std.specs.Prelude.{◌≡◌, ℕ, zero, suc, ◌+◌, ◌*◌, ◌/◌, ◌<◌, ◌≤◌, if◌then◌else◌, Bool, true, false, IsSome, IsTrue, List, [], ◌∷◌, ◌++◌, map, flat_map, slice_get, unwrap_or, Option, Some, None, Contains}
+use Rattle.std.specs.Prelude.{◌≡◌, ℕ, zero, suc, ◌+◌, ◌*◌, ◌/◌, ◌<◌, ◌≤◌, if◌then◌else◌, Bool, true, false, IsSome}
+use Rattle.std.specs.Prelude.{IsTrue, List, [], ◌∷◌, ◌++◌, map, flat_map, slice_get, unwrap_or, Option, Some, None}
+use Rattle.std.specs.Prelude.{Contains}
 use Rattle.std.proofs.Common.{refl, ap, sym, ◌∙◌, subst, inl, inr, arith}
 use Rattle.std.proofs.lemmas.Bool.{false≢true, lt-ltb}
 use Rattle.std.proofs.lemmas.List.Elements.{Contains-append_left, Contains-append_right}
 use Rattle.std.proofs.lemmas.Option.{unwrap_or-slice_get}
 use Rattle.drum_core.specs.declared.instruction.Instruction.{Instruction}
 use Rattle.drum_core.specs.declared.op.Op.{Op}
-use Rattle.drum_core.specs.declared.op.Op.TheVariants.{NoOperation, Stop, Add, ResetAdd, Divide, DivideReset, Multiply, Store, Shift, Branch, LoadDistributor, Read, Punch, BranchOnDigit}
+use Rattle.drum_core.specs.declared.op.Op.TheVariants.{NoOperation, Stop, Add, ResetAdd, Divide, DivideReset, Multiply}
+use Rattle.drum_core.specs.declared.op.Op.TheVariants.{Store, Shift, Branch, LoadDistributor, Read, Punch}
+use Rattle.drum_core.specs.declared.op.Op.TheVariants.{BranchOnDigit}
 use Rattle.drum_core.specs.declared.word.Word.{Word}
 use Rattle.drum_core.specs.Instruction.{instruction_of}
 use Rattle.drum_core.specs.Op.{op_of}
@@ -22,7 +26,8 @@ use Rattle.drum_machine.proofs.Ends.{Ends, KeepsStart, step_ends}
 use Rattle.drum_machine.specs.Keeps.{IsAsDeclared, IsAllowed, counts_after, counts_by, IsKeptTurn, AreKept, IsKept}
 use Rattle.drum_machine.specs.Run as run
 use Rattle.drum_machine.specs.Run.{Turn, IsTurn, IsRun, IsFirstState, used_from}
-use Rattle.drum_machine.specs.Step.{State, Stepped, on, stopped, contents_after, step, instruction_in, clock_of, MayWait}
+use Rattle.drum_machine.specs.Step.{State, Stepped, on, stopped, contents_after, step, instruction_in, clock_of}
+use Rattle.drum_machine.specs.Step.{MayWait}
 use Rattle.drum_machine.specs.Timing.{ready, ended, units_of, digit_sum, IsWait}
 use Rattle.drum_machine.specs.Ways.{Way, early, to, late, ways}
 use Rattle.drum_machine.specs.declared.why.Why as whys
@@ -32,7 +37,8 @@ use Rattle.drum_flow.specs.Accepted.{IsAccepted, IsFixed, IsThere}
 use Rattle.drum_flow.specs.Hops.{Hop, hops_of, hops, IsEdge, Lead, IsExecuted}
 use Rattle.drum_flow.proofs.Lists.{contains_here, contains_there, contains_cases}
 use Rattle.drum_flow.specs.RunHops.{units_with, hop_of, hops_taken}
-use Rattle.drum_flow.specs.Walk.{Setting, IsProper, Taken, MayHaveUnits, end_by, IsTimed, IsHopAt, Follow, IsWalkFrom, IsWalk, time_from, time_of}
+use Rattle.drum_flow.specs.Walk.{Setting, IsProper, Taken, MayHaveUnits, end_by, IsTimed, IsHopAt, Follow, IsWalkFrom}
+use Rattle.drum_flow.specs.Walk.{IsWalk, time_from, time_of}
 
 -- their time is what the run uses
 pub same_time : (time : ℕ) (turns : List Turn) → time_from time (hops_taken turns) ≡ used_from time turns
@@ -54,8 +60,12 @@ units_right NoOperation d c = refl
 units_right Stop d c = refl
 units_right (Add a) d c = refl
 units_right (ResetAdd a) d c = refl
-units_right Divide d c = quotient_below (is_too_large c.accumulator (number_in (word_at c d))) (quotient c.accumulator (number_in (word_at c d)))
-units_right DivideReset d c = quotient_below (is_too_large c.accumulator (number_in (word_at c d))) (quotient c.accumulator (number_in (word_at c d)))
+units_right Divide d c =
+    quotient_below (is_too_large c.accumulator (number_in (word_at c d)))
+    (quotient c.accumulator (number_in (word_at c d)))
+units_right DivideReset d c =
+    quotient_below (is_too_large c.accumulator (number_in (word_at c d)))
+    (quotient c.accumulator (number_in (word_at c d)))
 units_right Multiply d c = omega (arith, digits_below 10 (upper c.accumulator))
 units_right (Store s) d c = refl
 units_right (Shift s) d c = refl
@@ -67,7 +77,8 @@ units_right (BranchOnDigit p) d c = refl
 
 -- the clock at which a way ends, in the words of walks
 same_end : (way : Way) (entry : Entry) (op : Op) (d place units wait clock : ℕ)
-    → end_by way entry op d place units wait clock ≡ clock_by way (ready entry place clock) (ended entry op d place units wait clock)
+    → end_by way entry op d place units wait clock
+    ≡ clock_by way (ready entry place clock) (ended entry op d place units wait clock)
 same_end early entry op d place units wait clock = refl
 same_end (to next) entry op d place units wait clock = refl
 same_end late entry op d place units wait clock = refl
@@ -76,34 +87,44 @@ same_end late entry op d place units wait clock = refl
 abbrev one_hop : Instruction → Way → Hop
 one_hop ins way = record { ins = ins; way = way }
 
-hop_in : (ins : Instruction) (all : List Way) (way : Way) → Contains all way → Contains (map (one_hop ins) all) (one_hop ins way)
+hop_in : (ins : Instruction) (all : List Way) (way : Way) → Contains all way
+    → Contains (map (one_hop ins) all) (one_hop ins way)
 hop_in ins [] way h = absurd (omega (arith, h.1))
 hop_in ins (w ∷ all) way h = elim (contains_cases w way all h) [
-  | inl same ↦ subst (λ (v : Way). Contains (map (one_hop ins) (w ∷ all)) (one_hop ins v)) same (contains_here (one_hop ins w) (map (one_hop ins) all))
+  | inl same ↦ subst (λ (v : Way). Contains (map (one_hop ins) (w ∷ all)) (one_hop ins v)) same
+      (contains_here (one_hop ins w) (map (one_hop ins) all))
   | inr behind ↦ contains_there (one_hop ins w) (one_hop ins way) (map (one_hop ins) all) (hop_in ins all way behind)
 ]
 
-hops_in : (notes : Notes) (all : List Instruction) (ins : Instruction) (way : Way) → Contains all ins → Contains (ways notes ins) way
+hops_in : (notes : Notes) (all : List Instruction) (ins : Instruction) (way : Way) → Contains all ins
+    → Contains (ways notes ins) way
     → Contains (flat_map (hops_of notes) all) (one_hop ins way)
 hops_in notes [] ins way h w = absurd (omega (arith, h.1))
 hops_in notes (one ∷ all) ins way h w = elim (contains_cases one ins all h) [
   | inl same ↦ Contains-append_left (hops_of notes one) (flat_map (hops_of notes) all) (one_hop ins way)
-      (subst (λ (i : Instruction). Contains (hops_of notes i) (one_hop ins way)) (sym same) (hop_in ins (ways notes ins) way w))
-  | inr behind ↦ Contains-append_right (hops_of notes one) (flat_map (hops_of notes) all) (one_hop ins way) (hops_in notes all ins way behind w)
+      (subst (λ (i : Instruction). Contains (hops_of notes i) (one_hop ins way)) (sym same)
+      (hop_in ins (ways notes ins) way w))
+  | inr behind ↦ Contains-append_right (hops_of notes one) (flat_map (hops_of notes) all) (one_hop ins way)
+      (hops_in notes all ins way behind w)
 ]
 
 -- where an edge leads from an executed location is executed
-lead_on : (loads : ℕ → Option Word) (notes : Notes) (from : ℕ) (through : List ℕ) (place next : ℕ) → Lead loads notes from through place → IsEdge loads notes place next
+lead_on : (loads : ℕ → Option Word) (notes : Notes) (from : ℕ) (through : List ℕ) (place next : ℕ)
+    → Lead loads notes from through place → IsEdge loads notes place next
     → Lead loads notes from (through ++ next ∷ []) next
-lead_on loads notes from [] place next leads edge = (subst (λ (p : ℕ). IsEdge loads notes p next) (sym leads) edge, refl)
-lead_on loads notes from (one ∷ through) place next leads edge = (leads.0, lead_on loads notes one through place next leads.1 edge)
+lead_on loads notes from [] place next leads edge =
+    (subst (λ (p : ℕ). IsEdge loads notes p next) (sym leads) edge, refl)
+lead_on loads notes from (one ∷ through) place next leads edge =
+    (leads.0, lead_on loads notes one through place next leads.1 edge)
 
 -- a drum word is what the drum has at its place
-drum_word : (c : Contents) (place : ℕ) → place < 2000 → word_at c place ≡ unwrap_or (slice_get c.drum place) (word false 0)
+drum_word : (c : Contents) (place : ℕ) → place < 2000
+    → word_at c place ≡ unwrap_or (slice_get c.drum place) (word false 0)
 drum_word c place below = rw (lt-ltb place 2000 below) (sym (unwrap_or-slice_get c.drum place (word false 0)))
 
 -- what a stop leaves to follow
-nothing_follows : (because : whys.Why) (Right : ℕ → Type 0) (hops : List Taken) → hops ≡ [] → Follow (stops_by because) Right hops
+nothing_follows : (because : whys.Why) (Right : ℕ → Type 0) (hops : List Taken) → hops ≡ []
+    → Follow (stops_by because) Right hops
 nothing_follows why.Operation Right hops none = none
 nothing_follows why.Operand Right hops none = none
 nothing_follows why.Card Right hops none = none
@@ -119,75 +140,106 @@ record Stays (g : Setting) (angle : ℕ) (s : State) : Type 0 where
   start : s.start ≡ angle
   executed : IsExecuted g.loads g.notes g.start s.sought
   as_declared : IsAsDeclared g.notes.programmed s.contents.programmed_stops
-  agrees : (place : ℕ) (w : Word) → IsFixed g.loads g.notes g.start place → g.loads place ≡ Some w → word_at s.contents place ≡ w
+  agrees : (place : ℕ) (w : Word) → IsFixed g.loads g.notes g.start place → g.loads place ≡ Some w
+      → word_at s.contents place ≡ w
 
-module _ (g : Setting) (executed : List ℕ) (angle : ℕ) (proper : IsProper g) (accepted : IsAccepted g.loads g.notes g.start executed) where
+module _ (g : Setting) (executed : List ℕ) (angle : ℕ) (proper : IsProper g)
+    (accepted : IsAccepted g.loads g.notes g.start executed) where
   -- a deck's instruction is allowed where the deck loads it
-  deck_allowed : (place : ℕ) (w : Word) → g.loads place ≡ Some w → Contains (allowed g.loads g.notes place) (instruction_of w)
+  deck_allowed : (place : ℕ) (w : Word) → g.loads place ≡ Some w
+      → Contains (allowed g.loads g.notes place) (instruction_of w)
   deck_allowed place w loads =
-      subst (λ (found : Option Word). Contains (loaded found ++ listed (patterns_of g.notes place)) (instruction_of w)) (sym loads)
+      subst (λ (found : Option Word). Contains (loaded found ++ listed (patterns_of g.notes place)) (instruction_of w))
+      (sym loads)
       (contains_here (instruction_of w) (listed (patterns_of g.notes place)))
 
   -- the fetched instruction is allowed
-  fetched_allowed : (s : State) → Stays g angle s → IsAllowed g.loads g.notes s → Contains (allowed g.loads g.notes s.sought) (instruction_in s)
+  fetched_allowed : (s : State) → Stays g angle s → IsAllowed g.loads g.notes s
+      → Contains (allowed g.loads g.notes s.sought) (instruction_in s)
   fetched_allowed s stays may_be = go (is_listed g.notes s.sought) refl (accepted.there s.sought stays.executed)
     where
-      from_deck : ¬ IsTrue (is_listed g.notes s.sought) → (found : Option Word) → g.loads s.sought ≡ found → IsSome found → Contains (allowed g.loads g.notes s.sought) (instruction_in s)
+      from_deck : ¬ IsTrue (is_listed g.notes s.sought) → (found : Option Word) → g.loads s.sought ≡ found
+          → IsSome found → Contains (allowed g.loads g.notes s.sought) (instruction_in s)
       from_deck free None loads some = absurd (cc)
       from_deck free (Some w) loads some =
-          subst (λ (v : Word). Contains (allowed g.loads g.notes s.sought) (instruction_of v)) (sym (stays.agrees s.sought w (stays.executed, free) loads))
+          subst (λ (v : Word). Contains (allowed g.loads g.notes s.sought) (instruction_of v))
+          (sym (stays.agrees s.sought w (stays.executed, free) loads))
           (deck_allowed s.sought w loads)
 
-      go : (b : Bool) → is_listed g.notes s.sought ≡ b → IsThere g.loads g.notes s.sought → Contains (allowed g.loads g.notes s.sought) (instruction_in s)
+      go : (b : Bool) → is_listed g.notes s.sought ≡ b → IsThere g.loads g.notes s.sought
+          → Contains (allowed g.loads g.notes s.sought) (instruction_in s)
       go true is there = may_be is
       go false is (inl some) = from_deck (λ listed_here. false≢true (sym is ∙ listed_here)) (g.loads s.sought) refl some
       go false is (inr listed_here) = absurd (false≢true (sym is ∙ listed_here))
 
   -- a step that keeps to the notes leaves what stays so
-  next_stays : (s next : State) (wait : ℕ) → Stays g angle s → Contains (allowed g.loads g.notes s.sought) (instruction_in s)
-      → step g.times s wait ≡ on next → Contains (ways g.notes (instruction_in s)) (to next.sought) → next.start ≡ s.start → Stays g angle next
+  next_stays : (s next : State) (wait : ℕ) → Stays g angle s
+      → Contains (allowed g.loads g.notes s.sought) (instruction_in s)
+      → step g.times s wait ≡ on next → Contains (ways g.notes (instruction_in s)) (to next.sought)
+      → next.start ≡ s.start → Stays g angle next
   next_stays s next wait stays may_be goes_on by same_start = record {
     start = same_start ∙ stays.start;
     executed =
-        let edge : IsEdge g.loads g.notes s.sought next.sought =
-        (instruction_in s, hops_in g.notes (allowed g.loads g.notes s.sought) (instruction_in s) (to next.sought) may_be by) in
-        (stays.executed.0 ++ next.sought ∷ [], lead_on g.loads g.notes g.start stays.executed.0 s.sought next.sought stays.executed.1 edge);
+        let edge : IsEdge g.loads g.notes s.sought next.sought = (
+          instruction_in s,
+          hops_in g.notes (allowed g.loads g.notes s.sought) (instruction_in s) (to next.sought) may_be
+              by,
+        ) in (
+          stays.executed.0 ++ next.sought
+              ∷ [],
+          lead_on g.loads g.notes g.start stays.executed.0 s.sought next.sought stays.executed.1 edge,
+        );
     as_declared =
         subst (λ (t : Stepped). IsAsDeclared g.notes.programmed (contents_after t).programmed_stops) goes_on
         (subst (IsAsDeclared g.notes.programmed) (sym (leaves_switch g.times s wait)) stays.as_declared);
     agrees = λ place w fixed loads.
         let below : place < 2000 = proper.on_drum place w loads in
-        let free : ¬ Contains (writes (instruction_in s)) place = λ written. accepted.unaltered s.sought (instruction_in s) place stays.executed may_be written fixed in
-        drum_word next.contents place below ∙ ap (λ (found : Option Word). unwrap_or found (word false 0)) (subst (λ (t : Stepped). slice_get (contents_after t).drum place ≡ slice_get s.contents.drum place) goes_on (writes_no_other g.times s wait place free))
+        let free : ¬ Contains (writes (instruction_in s)) place =
+        λ written. accepted.unaltered s.sought (instruction_in s) place stays.executed may_be written fixed in
+        drum_word next.contents place below
+        ∙ ap (λ (found : Option Word). unwrap_or found (word false 0))
+        (subst (λ (t : Stepped). slice_get (contents_after t).drum place ≡ slice_get s.contents.drum place) goes_on
+        (writes_no_other g.times s wait place free))
         ∙ sym (drum_word s.contents place below) ∙ stays.agrees place w fixed loads;
   }
 
   -- a turn from such a state, by an operation of the profile
-  module _ (turn : Turn) (op : Op) (stays : Stays g angle turn.origin) (is : op_of (instruction_in turn.origin).op ≡ Some op)
+  module _ (turn : Turn) (op : Op) (stays : Stays g angle turn.origin)
+      (is : op_of (instruction_in turn.origin).op ≡ Some op)
       (may_be : Contains (allowed g.loads g.notes turn.origin.sought) (instruction_in turn.origin))
       (may_wait : MayWait g.times (op_of (instruction_in turn.origin).op) turn.wait)
-      (ends : Ends (ways g.notes (instruction_in turn.origin)) turn.origin.start (ready (g.times op) turn.origin.sought (clock_of turn.origin))
-      (ended (g.times op) op (instruction_in turn.origin).d turn.origin.sought (units_of op (instruction_in turn.origin).d turn.origin.contents) turn.wait (clock_of turn.origin)) turn.outcome) where
+      (ends : Ends (ways g.notes (instruction_in turn.origin)) turn.origin.start
+      (ready (g.times op) turn.origin.sought (clock_of turn.origin))
+      (ended (g.times op) op (instruction_in turn.origin).d turn.origin.sought
+      (units_of op (instruction_in turn.origin).d turn.origin.contents) turn.wait (clock_of turn.origin))
+      turn.outcome) where
     hop_timed : IsTimed g.times angle (hop_of turn) (op_of (instruction_in turn.origin).op)
     hop_timed =
         let ins : Instruction = instruction_in turn.origin in
         let way : Way = ended_by turn.outcome in
-        let waits : IsWait op (g.times op) turn.wait = subst (λ (found : Option Op). MayWait g.times found turn.wait) is may_wait in
+        let waits : IsWait op (g.times op) turn.wait =
+        subst (λ (found : Option Op). MayWait g.times found turn.wait) is may_wait in
         let Right : ℕ → ℕ → Type 0 = λ begin units. MayHaveUnits op ins.d units × IsWait op (g.times op) turn.wait
-        × (begin + run.time_of turn.outcome ≡ end_by way (g.times op) op ins.d turn.origin.sought units turn.wait (begin + turn.origin.time)) in
+        × (begin + run.time_of turn.outcome
+        ≡ end_by way (g.times op) op ins.d turn.origin.sought units turn.wait (begin + turn.origin.time)) in
         let at : Right turn.origin.start (units_of op ins.d turn.origin.contents) = (
           units_right op ins.d turn.origin.contents,
           waits,
-          ends.at ∙ sym (same_end way (g.times op) op ins.d turn.origin.sought (units_of op ins.d turn.origin.contents) turn.wait (clock_of turn.origin)),
+          ends.at ∙ sym (same_end way (g.times op) op ins.d turn.origin.sought (units_of op ins.d turn.origin.contents)
+              turn.wait (clock_of turn.origin)),
         ) in
-        let from : Right angle (units_of op ins.d turn.origin.contents) = subst (λ (begin : ℕ). Right begin (units_of op ins.d turn.origin.contents)) stays.start at in
-        let units : units_with (op_of ins.op) ins.d turn.origin.contents ≡ units_of op ins.d turn.origin.contents = ap (λ (found : Option Op). units_with found ins.d turn.origin.contents) is in
+        let from : Right angle (units_of op ins.d turn.origin.contents) =
+        subst (λ (begin : ℕ). Right begin (units_of op ins.d turn.origin.contents)) stays.start at in
+        let units : units_with (op_of ins.op) ins.d turn.origin.contents ≡ units_of op ins.d turn.origin.contents =
+        ap (λ (found : Option Op). units_with found ins.d turn.origin.contents) is in
         subst (IsTimed g.times angle (hop_of turn)) (sym is) (subst (Right angle) (sym units) from)
 
     hop_right : IsHopAt g angle turn.origin.sought turn.origin.time (hop_of turn)
     hop_right = record {
       here = refl;
-      allowed = hops_in g.notes (allowed g.loads g.notes turn.origin.sought) (instruction_in turn.origin) (ended_by turn.outcome) may_be ends.by;
+      allowed =
+          hops_in g.notes (allowed g.loads g.notes turn.origin.sought) (instruction_in turn.origin)
+          (ended_by turn.outcome) may_be ends.by;
       begins = refl;
       timed = hop_timed;
     }
@@ -196,45 +248,62 @@ module _ (g : Setting) (executed : List ℕ) (angle : ℕ) (proper : IsProper g)
   follows : (s : State) (wait : ℕ) (counts : List ℕ) (turns : List Turn) (outcome : Stepped) → Stays g angle s
       → Contains (allowed g.loads g.notes s.sought) (instruction_in s) → outcome ≡ step g.times s wait
       → Contains (ways g.notes (instruction_in s)) (ended_by outcome) → KeepsStart s.start outcome
-      → run.Follow outcome (λ next. IsRun g.times next turns) turns → AreWithin g.notes.marks (counts_by g.notes counts s.sought outcome)
-      → ((next : State) → Stays g angle next → IsRun g.times next turns → counts_by g.notes counts s.sought outcome ≡ after_pass g.notes.marks s.sought next.sought counts
-      → IsWalkFrom g angle next.sought next.time (after_pass g.notes.marks s.sought next.sought counts) (hops_taken turns))
+      → run.Follow outcome (λ next. IsRun g.times next turns) turns
+      → AreWithin g.notes.marks (counts_by g.notes counts s.sought outcome)
+      → ((next : State) → Stays g angle next → IsRun g.times next turns
+      → counts_by g.notes counts s.sought outcome ≡ after_pass g.notes.marks s.sought next.sought counts
+      → IsWalkFrom g angle next.sought next.time (after_pass g.notes.marks s.sought next.sought counts)
+      (hops_taken turns))
       → Follow (ended_by outcome) (λ next.
       AreWithin g.notes.marks (after_pass g.notes.marks s.sought next counts)
-      × IsWalkFrom g angle next (run.time_of outcome) (after_pass g.notes.marks s.sought next counts) (hops_taken turns)) (hops_taken turns)
+      × IsWalkFrom g angle next (run.time_of outcome) (after_pass g.notes.marks s.sought next counts)
+      (hops_taken turns)) (hops_taken turns)
   follows s wait counts turns (on next) stays may_be stepped by from run within rest =
       (within, rest next (next_stays s next wait stays may_be (sym stepped) by from) run refl)
   follows s wait counts turns (stopped held because moment) stays may_be stepped by from run within rest =
       nothing_follows because _ (hops_taken turns) (ap hops_taken run)
 
   -- a turn and what follows it
-  turn_walks : (turn : Turn) (turns : List Turn) (counts : List ℕ) → Stays g angle turn.origin → IsTurn g.times turn.origin turn
+  turn_walks : (turn : Turn) (turns : List Turn) (counts : List ℕ) → Stays g angle turn.origin
+      → IsTurn g.times turn.origin turn
       → run.Follow turn.outcome (λ next. IsRun g.times next turns) turns → IsKeptTurn g.loads g.notes counts turn
-      → ((next : State) → Stays g angle next → IsRun g.times next turns → counts_after g.notes counts turn ≡ after_pass g.notes.marks turn.origin.sought next.sought counts
-      → IsWalkFrom g angle next.sought next.time (after_pass g.notes.marks turn.origin.sought next.sought counts) (hops_taken turns))
+      → ((next : State) → Stays g angle next → IsRun g.times next turns
+      → counts_after g.notes counts turn ≡ after_pass g.notes.marks turn.origin.sought next.sought counts
+      → IsWalkFrom g angle next.sought next.time (after_pass g.notes.marks turn.origin.sought next.sought counts)
+      (hops_taken turns))
       → IsWalkFrom g angle turn.origin.sought turn.origin.time counts (hops_taken (turn ∷ turns))
   turn_walks turn turns counts stays turned is_run kept rest =
-      let may_be : Contains (allowed g.loads g.notes turn.origin.sought) (instruction_in turn.origin) = fetched_allowed turn.origin stays kept.listed in
-      go may_be (op_of (instruction_in turn.origin).op) refl (accepted.profile turn.origin.sought stays.executed (instruction_in turn.origin) may_be)
+      let may_be : Contains (allowed g.loads g.notes turn.origin.sought) (instruction_in turn.origin) =
+      fetched_allowed turn.origin stays kept.listed in
+      go may_be (op_of (instruction_in turn.origin).op) refl
+      (accepted.profile turn.origin.sought stays.executed (instruction_in turn.origin) may_be)
     where
-      go : Contains (allowed g.loads g.notes turn.origin.sought) (instruction_in turn.origin) → (found : Option Op) → op_of (instruction_in turn.origin).op ≡ found → IsSome found
+      go : Contains (allowed g.loads g.notes turn.origin.sought) (instruction_in turn.origin) → (found : Option Op)
+          → op_of (instruction_in turn.origin).op ≡ found → IsSome found
           → IsWalkFrom g angle turn.origin.sought turn.origin.time counts (hops_taken (turn ∷ turns))
       go may_be None is some = absurd (cc)
       go may_be (Some op) is some =
-          let ends = subst (Ends (ways g.notes (instruction_in turn.origin)) turn.origin.start (ready (g.times op) turn.origin.sought (clock_of turn.origin))
-          (ended (g.times op) op (instruction_in turn.origin).d turn.origin.sought (units_of op (instruction_in turn.origin).d turn.origin.contents) turn.wait (clock_of turn.origin)))
+          let ends =
+          subst (Ends (ways g.notes (instruction_in turn.origin)) turn.origin.start
+          (ready (g.times op) turn.origin.sought (clock_of turn.origin))
+          (ended (g.times op) op (instruction_in turn.origin).d turn.origin.sought
+          (units_of op (instruction_in turn.origin).d turn.origin.contents) turn.wait (clock_of turn.origin)))
           (sym turned.stepped) (step_ends g.times turn.origin turn.wait op g.notes is stays.as_declared kept.cards) in (
             hop_right turn op stays is may_be turned.may_wait ends,
-            follows turn.origin turn.wait counts turns turn.outcome stays may_be turned.stepped ends.by ends.from is_run kept.marks rest,
+            follows turn.origin turn.wait counts turns turn.outcome stays may_be turned.stepped ends.by ends.from is_run
+                kept.marks rest,
           )
 
-  walk_from : (turns : List Turn) (s : State) (counts : List ℕ) → Stays g angle s → IsRun g.times s turns → AreKept g.loads g.notes counts turns
+  walk_from : (turns : List Turn) (s : State) (counts : List ℕ) → Stays g angle s → IsRun g.times s turns
+      → AreKept g.loads g.notes counts turns
       → IsWalkFrom g angle s.sought s.time counts (hops_taken turns)
   walk_from [] s counts stays is_run kept = tt
   walk_from (turn ∷ turns) s counts stays is_run kept =
-      let Walks : State → Type 0 = λ state. IsWalkFrom g angle state.sought state.time counts (hops_taken (turn ∷ turns)) in
+      let Walks : State → Type 0 =
+      λ state. IsWalkFrom g angle state.sought state.time counts (hops_taken (turn ∷ turns)) in
       let from : Stays g angle turn.origin = subst (Stays g angle) (sym is_run.0.from_here) stays in
-      let turned : IsTurn g.times turn.origin turn = subst (λ (state : State). IsTurn g.times state turn) (sym is_run.0.from_here) is_run.0 in
+      let turned : IsTurn g.times turn.origin turn =
+      subst (λ (state : State). IsTurn g.times state turn) (sym is_run.0.from_here) is_run.0 in
       subst Walks is_run.0.from_here
       (turn_walks turn turns counts from turned is_run.1 kept.0
       (λ next next_stays_so runs same.
@@ -242,8 +311,10 @@ module _ (g : Setting) (executed : List ℕ) (angle : ℕ) (proper : IsProper g)
       (subst (λ (after : List ℕ). AreKept g.loads g.notes after turns) same kept.1)))
 
 -- A kept run of an accepted deck is a walk, from the same angle and of the same time.
-pub kept_walk : (g : Setting) (executed : List ℕ) (s : State) (turns : List Turn) → IsProper g → IsAccepted g.loads g.notes g.start executed
-    → IsFirstState g.loads (IsFixed g.loads g.notes g.start) g.start s → IsRun g.times s turns → IsKept g.loads g.notes s turns
+pub kept_walk : (g : Setting) (executed : List ℕ) (s : State) (turns : List Turn) → IsProper g
+    → IsAccepted g.loads g.notes g.start executed
+    → IsFirstState g.loads (IsFixed g.loads g.notes g.start) g.start s → IsRun g.times s turns
+    → IsKept g.loads g.notes s turns
     → IsWalk g s.start (hops_taken turns) × (time_of (hops_taken turns) ≡ used_from 0 turns)
 kept_walk g executed s turns proper accepted first is_run kept =
     let stays : Stays g s.start s =
@@ -251,7 +322,9 @@ kept_walk g executed s turns proper accepted first is_run kept =
     let walks : IsWalkFrom g s.start s.sought s.time (no_counts g.notes.marks) (hops_taken turns) =
     walk_from g executed s.start proper accepted turns s (no_counts g.notes.marks) stays is_run kept.kept in
     let seeking : IsWalkFrom g s.start g.start s.time (no_counts g.notes.marks) (hops_taken turns) =
-    subst (λ (place : ℕ). IsWalkFrom g s.start place s.time (no_counts g.notes.marks) (hops_taken turns)) first.seeks walks in
+    subst (λ (place : ℕ). IsWalkFrom g s.start place s.time (no_counts g.notes.marks) (hops_taken turns)) first.seeks
+    walks in
     let at_once : IsWalkFrom g s.start g.start 0 (no_counts g.notes.marks) (hops_taken turns) =
-    subst (λ (time : ℕ). IsWalkFrom g s.start g.start time (no_counts g.notes.marks) (hops_taken turns)) first.at_once seeking in
+    subst (λ (time : ℕ). IsWalkFrom g s.start g.start time (no_counts g.notes.marks) (hops_taken turns)) first.at_once
+    seeking in
     (record { on_drum = first.angle; from_start = at_once }, same_time 0 turns)

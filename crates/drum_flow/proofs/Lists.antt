@@ -1,5 +1,6 @@
 -- Lemmas on lists of numbers: members, lists without repeats, and a member that is written.
-use Rattle.std.proofs.Common.{◌≡◌, ◌≢◌, ℕ, zero, suc, ◌<◌, List, [], ◌∷◌, ◌++◌, length, get_or, set, drop, reverse, replicate, Some, refl, ap, sym, subst, inl, inr, ◌⊎◌, arith}
+use Rattle.std.proofs.Common.{◌≡◌, ◌≢◌, ℕ, zero, suc, ◌<◌, List, [], ◌∷◌, ◌++◌, length, get_or, set, drop, reverse}
+use Rattle.std.proofs.Common.{replicate, Some, refl, ap, sym, subst, inl, inr, ◌⊎◌, arith}
 use Rattle.std.specs.Prelude.{slice_get, Contains}
 use Rattle.std.proofs.lemmas.List.{reverse-append}
 use Rattle.std.proofs.lemmas.List.Elements.{Contains-append_left, Contains-append_right, Contains-append_cases}
@@ -24,7 +25,12 @@ contains_none y h = omega (arith, h.1)
 -- a member stands somewhere
 pub contains_at : {X : Type 0} (xs : List X) (y : X) → Contains xs y → (k : ℕ) × (slice_get xs k ≡ Some y)
 contains_at [] y h = absurd (contains_none y h)
-contains_at (x ∷ xs) y h = elim (contains_cases x y xs h) [ inl e ↦ (0, ap Some e) | inr there ↦ (let found : (k : ℕ) × (slice_get xs k ≡ Some y) = contains_at xs y there in (suc found.0, found.1)) ]
+contains_at (x ∷ xs) y h =
+    elim (contains_cases x y xs h) [
+      | inl e ↦ (0, ap Some e)
+      | inr
+          there ↦ (let found : (k : ℕ) × (slice_get xs k ≡ Some y) = contains_at xs y there in (suc found.0, found.1))
+    ]
 
 pub contains_from_get : {X : Type 0} (xs : List X) (k : ℕ) (y : X) → slice_get xs k ≡ Some y → Contains xs y
 contains_from_get [] k y e = cc
@@ -39,7 +45,8 @@ contains_reverse (x ∷ xs) y h =
     let split : reverse (x ∷ xs) ≡ reverse xs ++ x ∷ [] = reverse-append (x ∷ []) xs in
     subst (λ (ys : List ℕ). Contains ys y) (sym split)
     (elim (contains_cases x y xs h) [
-      | inl e ↦ Contains-append_right (reverse xs) (x ∷ []) y (subst (λ (z : ℕ). Contains (x ∷ []) z) e (contains_here x []))
+      | inl e ↦ Contains-append_right (reverse xs) (x ∷ []) y
+          (subst (λ (z : ℕ). Contains (x ∷ []) z) e (contains_here x []))
       | inr there ↦ Contains-append_left (reverse xs) (x ∷ []) y (contains_reverse xs y there)
     ])
 
@@ -49,7 +56,11 @@ contains_reversed (x ∷ xs) y h =
     let split : reverse (x ∷ xs) ≡ reverse xs ++ x ∷ [] = reverse-append (x ∷ []) xs in
     elim (Contains-append_cases (reverse xs) (x ∷ []) y (subst (λ (ys : List ℕ). Contains ys y) split h)) [
       | inl left ↦ contains_there x y xs (contains_reversed xs y left)
-      | inr last ↦ (elim (contains_cases x y [] last) [ inl e ↦ subst (λ (z : ℕ). Contains (x ∷ xs) z) e (contains_here x xs) | inr none ↦ absurd (contains_none y none) ])
+      | inr last ↦ (elim (contains_cases x y [] last) [
+        | inl e ↦ subst (λ (z : ℕ). Contains (x ∷ xs) z) e (contains_here x xs)
+        | inr none ↦ absurd
+            (contains_none y none)
+      ])
     ]
 
 pub contains_dropped : (xs : List ℕ) (k y : ℕ) → Contains (drop k xs) y → Contains xs y
@@ -63,7 +74,11 @@ distinct_push [] y d new = (contains_none y, tt)
 distinct_push (x ∷ xs) y d new = (
   λ there. elim (Contains-append_cases xs (y ∷ []) x there) [
     | inl in_xs ↦ d.0 in_xs
-    | inr last ↦ (elim (contains_cases y x [] last) [ inl e ↦ new (subst (λ (z : ℕ). Contains (x ∷ xs) z) (sym e) (contains_here x xs)) | inr none ↦ contains_none x none ])
+    | inr last ↦ (elim (contains_cases y x [] last) [
+      | inl e ↦ new (subst (λ (z : ℕ). Contains (x ∷ xs) z) (sym e) (contains_here x xs))
+      | inr none ↦ contains_none x
+          none
+    ])
   ],
   distinct_push xs y d.1 (λ there. new (contains_there x y xs there)),
 )
@@ -76,7 +91,8 @@ distinct_front (x ∷ xs) y d = (λ there. d.0 (Contains-append_left xs (y ∷ [
 pub distinct_last : (xs : List ℕ) (y : ℕ) → AreDifferent (xs ++ y ∷ []) → ¬ Contains xs y
 distinct_last [] y d h = contains_none y h
 distinct_last (x ∷ xs) y d h = elim (contains_cases x y xs h) [
-  | inl e ↦ d.0 (subst (λ (z : ℕ). Contains (xs ++ y ∷ []) z) (sym e) (Contains-append_right xs (y ∷ []) y (contains_here y [])))
+  | inl e ↦ d.0 (subst (λ (z : ℕ). Contains (xs ++ y ∷ []) z) (sym e)
+      (Contains-append_right xs (y ∷ []) y (contains_here y [])))
   | inr there ↦ distinct_last xs y d.1 there
 ]
 
@@ -89,7 +105,8 @@ pub distinct_reversed : (xs : List ℕ) → AreDifferent xs → AreDifferent (re
 distinct_reversed [] d = tt
 distinct_reversed (x ∷ xs) d =
     let split : reverse (x ∷ xs) ≡ reverse xs ++ x ∷ [] = reverse-append (x ∷ []) xs in
-    subst AreDifferent (sym split) (distinct_push (reverse xs) x (distinct_reversed xs d.1) (λ there. d.0 (contains_reversed xs x there)))
+    subst AreDifferent (sym split)
+    (distinct_push (reverse xs) x (distinct_reversed xs d.1) (λ there. d.0 (contains_reversed xs x there)))
 
 -- a member that is written
 pub get_written : {X : Type 0} (xs : List X) (k : ℕ) (y : X) → k < length xs → slice_get (set xs k y) k ≡ Some y

@@ -1,5 +1,6 @@
 -- The order of discovery: its members are the executed locations.
-use Rattle.std.proofs.Common.{◌≡◌, ℕ, zero, suc, ◌+◌, ◌<◌, ◌≤◌, Bool, true, false, eqb, List, [], ◌∷◌, ◌++◌, length, get_or, Option, Some, None, refl, ap, sym, ◌∙◌, subst, inl, inr, ◌⊎◌, arith}
+use Rattle.std.proofs.Common.{◌≡◌, ℕ, zero, suc, ◌+◌, ◌<◌, ◌≤◌, Bool, true, false, eqb, List, [], ◌∷◌, ◌++◌, length}
+use Rattle.std.proofs.Common.{get_or, Option, Some, None, refl, ap, sym, ◌∙◌, subst, inl, inr, ◌⊎◌, arith}
 use Rattle.std.specs.Prelude.{slice_get, Contains, if◌then◌else◌, ◌||◌, filter_map}
 use Rattle.std.specs.List.{list_any}
 use Rattle.std.proofs.lemmas.Bool.{cases_lt, eqb-true}
@@ -10,13 +11,15 @@ use Rattle.drum_core.specs.declared.word.Word.{Word}
 use Rattle.drum_times.specs.Allowed.{Notes}
 use Rattle.drum_machine.specs.Ways.{Way, early, to, late}
 use Rattle.drum_flow.specs.declared.refusal.Refusal.{Refusal}
-use Rattle.drum_flow.specs.declared.refusal.Refusal.TheVariants.{Memory, NotLoaded, NotInProfile, Alters, Unbounded, TooLarge}
+use Rattle.drum_flow.specs.declared.refusal.Refusal.TheVariants.{Memory, NotLoaded, NotInProfile, Alters, Unbounded}
+use Rattle.drum_flow.specs.declared.refusal.Refusal.TheVariants.{TooLarge}
 use Rattle.drum_flow.specs.Accepted.{IsGood, IsMet, IsNotLoaded, IsNotInProfile}
 use Rattle.drum_flow.specs.Refused.{IsWrong, IsFlowRefusal}
 use Rattle.drum_flow.specs.Executed.{target_of, successors, with_new, added_by, found_after}
 use Rattle.drum_flow.specs.Flow.{AreExecuted}
 use Rattle.drum_flow.specs.Hops.{Hop, hops, IsEdge, Lead, IsExecuted}
-use Rattle.drum_flow.proofs.Lists.{contains_here, contains_there, contains_cases, contains_none, contains_at, contains_from_get}
+use Rattle.drum_flow.proofs.Lists.{contains_here, contains_there, contains_cases, contains_none, contains_at}
+use Rattle.drum_flow.proofs.Lists.{contains_from_get}
 
 get_push : (xs : List ℕ) (y k x : ℕ) → slice_get xs k ≡ Some x → slice_get (xs ++ y ∷ []) k ≡ Some x
 get_push [] y k x e = cc
@@ -27,14 +30,18 @@ any_contains : (xs : List ℕ) (y : ℕ) → list_any (λ x. eqb x y) xs ≡ tru
 any_contains [] y e = cc
 any_contains (x ∷ xs) y e = go (eqb x y) refl e (any_contains xs y)
   where
-    go : (b : Bool) → eqb x y ≡ b → (b || list_any (λ z. eqb z y) xs) ≡ true → (list_any (λ z. eqb z y) xs ≡ true → Contains xs y) → Contains (x ∷ xs) y
+    go : (b : Bool) → eqb x y ≡ b → (b || list_any (λ z. eqb z y) xs) ≡ true
+        → (list_any (λ z. eqb z y) xs ≡ true → Contains xs y) → Contains (x ∷ xs) y
     go true same h others = subst (λ (z : ℕ). Contains (x ∷ xs) z) (eqb-true x y same) (contains_here x xs)
     go false ne h others = contains_there x y xs (others h)
 
 -- what was there stays where it was
-pub with_new_keeps : (places xs : List ℕ) (k x : ℕ) → slice_get places k ≡ Some x → slice_get (with_new places xs) k ≡ Some x
+pub with_new_keeps : (places xs : List ℕ) (k x : ℕ) → slice_get places k ≡ Some x
+    → slice_get (with_new places xs) k ≡ Some x
 with_new_keeps places [] k x e = e
-with_new_keeps places (y ∷ xs) k x e = go (list_any (λ place. eqb place y) places) (with_new_keeps places xs k x e) (with_new_keeps (places ++ y ∷ []) xs k x (get_push places y k x e))
+with_new_keeps places (y ∷ xs) k x e =
+    go (list_any (λ place. eqb place y) places) (with_new_keeps places xs k x e)
+    (with_new_keeps (places ++ y ∷ []) xs k x (get_push places y k x e))
   where
     go : (b : Bool) → slice_get (with_new places xs) k ≡ Some x → slice_get (with_new (places ++ y ∷ []) xs) k ≡ Some x
         → slice_get (if b then with_new places xs else with_new (places ++ y ∷ []) xs) k ≡ Some x
@@ -49,27 +56,35 @@ kept places xs x there =
 -- all that is to be added is there
 pub with_new_has : (places xs : List ℕ) (x : ℕ) → Contains xs x → Contains (with_new places xs) x
 with_new_has places [] x there = absurd (contains_none x there)
-with_new_has places (y ∷ xs) x there = go (list_any (λ place. eqb place y) places) refl (with_new_has places xs x) (with_new_has (places ++ y ∷ []) xs x)
+with_new_has places (y ∷ xs) x there =
+    go (list_any (λ place. eqb place y) places) refl (with_new_has places xs x) (with_new_has (places ++ y ∷ []) xs x)
   where
-    go : (b : Bool) → list_any (λ place. eqb place y) places ≡ b → (Contains xs x → Contains (with_new places xs) x) → (Contains xs x → Contains (with_new (places ++ y ∷ []) xs) x)
+    go : (b : Bool) → list_any (λ place. eqb place y) places ≡ b → (Contains xs x → Contains (with_new places xs) x)
+        → (Contains xs x → Contains (with_new (places ++ y ∷ []) xs) x)
         → Contains (if b then with_new places xs else with_new (places ++ y ∷ []) xs) x
     go true found others more = elim (contains_cases y x xs there) [
       | inl same ↦ kept places xs x (subst (λ (z : ℕ). Contains places z) same (any_contains places y found))
       | inr behind ↦ others behind
     ]
     go false new others more = elim (contains_cases y x xs there) [
-      | inl same ↦ kept (places ++ y ∷ []) xs x (subst (λ (z : ℕ). Contains (places ++ y ∷ []) z) same (Contains-push places y))
+      | inl same ↦ kept (places ++ y ∷ []) xs x
+          (subst (λ (z : ℕ). Contains (places ++ y ∷ []) z) same (Contains-push places y))
       | inr behind ↦ more behind
     ]
 
 -- and nothing else
 pub with_new_only : (places xs : List ℕ) (x : ℕ) → Contains (with_new places xs) x → Contains places x ⊎ Contains xs x
 with_new_only places [] x there = inl there
-with_new_only places (y ∷ xs) x there = go (list_any (λ place. eqb place y) places) there (with_new_only places xs x) (with_new_only (places ++ y ∷ []) xs x)
+with_new_only places (y ∷ xs) x there =
+    go (list_any (λ place. eqb place y) places) there (with_new_only places xs x)
+    (with_new_only (places ++ y ∷ []) xs x)
   where
-    go : (b : Bool) → Contains (if b then with_new places xs else with_new (places ++ y ∷ []) xs) x → (Contains (with_new places xs) x → Contains places x ⊎ Contains xs x)
-        → (Contains (with_new (places ++ y ∷ []) xs) x → Contains (places ++ y ∷ []) x ⊎ Contains xs x) → Contains places x ⊎ Contains (y ∷ xs) x
-    go true here others more = elim (others here) [ inl left ↦ inl left | inr right ↦ inr (contains_there y x xs right) ]
+    go : (b : Bool) → Contains (if b then with_new places xs else with_new (places ++ y ∷ []) xs) x
+        → (Contains (with_new places xs) x → Contains places x ⊎ Contains xs x)
+        → (Contains (with_new (places ++ y ∷ []) xs) x → Contains (places ++ y ∷ []) x ⊎ Contains xs x)
+        → Contains places x ⊎ Contains (y ∷ xs) x
+    go true here others more =
+        elim (others here) [ inl left ↦ inl left | inr right ↦ inr (contains_there y x xs right) ]
     go false here others more = elim (more here) [
       | inl left ↦ (elim (Contains-append_cases places (y ∷ []) x left) [
         | inl before ↦ inl before
@@ -82,7 +97,8 @@ with_new_only places (y ∷ xs) x there = go (list_any (λ place. eqb place y) p
     ]
 
 -- what stands where something was is what was there
-pub with_new_before : (places xs : List ℕ) (k x : ℕ) → k < length places → slice_get (with_new places xs) k ≡ Some x → slice_get places k ≡ Some x
+pub with_new_before : (places xs : List ℕ) (k x : ℕ) → k < length places → slice_get (with_new places xs) k ≡ Some x
+    → slice_get places k ≡ Some x
 with_new_before places xs k x inside e =
     let here : slice_get places k ≡ Some (get_or places k x) = slice_get-get_or places k x inside in
     here ∙ sym (with_new_keeps places xs k (get_or places k x) here) ∙ e
@@ -91,12 +107,14 @@ with_new_before places xs k x inside e =
 abbrev targets : List Hop → List ℕ
 targets all = filter_map (λ hop. target_of hop.way) all
 
-pub target_there : (all : List Hop) (ins : Instruction) (next : ℕ) → Contains all (record { ins = ins; way = to next }) → Contains (targets all) next
+pub target_there : (all : List Hop) (ins : Instruction) (next : ℕ) → Contains all (record { ins = ins; way = to next })
+    → Contains (targets all) next
 target_there [] ins next there = absurd (contains_none _ there)
-target_there (hop ∷ others) ins next there = elim (contains_cases hop (record { ins = ins; way = to next }) others there) [
-  | inl same ↦ here hop.way (ap (λ (h : Hop). h.way) same)
-  | inr behind ↦ later hop.way (target_there others ins next behind)
-]
+target_there (hop ∷ others) ins next there =
+    elim (contains_cases hop (record { ins = ins; way = to next }) others there) [
+      | inl same ↦ here hop.way (ap (λ (h : Hop). h.way) same)
+      | inr behind ↦ later hop.way (target_there others ins next behind)
+    ]
   where
     here : (way : Way) → way ≡ to next → Contains (targets (record { ins = hop.ins; way = way } ∷ others)) next
     here early e = cc
@@ -105,24 +123,33 @@ target_there (hop ∷ others) ins next there = elim (contains_cases hop (record 
         subst (λ (z : ℕ). Contains (one ∷ targets others) z) same (contains_here one (targets others))
     here late e = cc
 
-    later : (way : Way) → Contains (targets others) next → Contains (targets (record { ins = hop.ins; way = way } ∷ others)) next
+    later : (way : Way) → Contains (targets others) next
+        → Contains (targets (record { ins = hop.ins; way = way } ∷ others)) next
     later early there = there
     later (to one) there = contains_there one next (targets others) there
     later late there = there
 
-pub hop_there : (all : List Hop) (next : ℕ) → Contains (targets all) next → (ins : Instruction) × Contains all (record { ins = ins; way = to next })
+pub hop_there : (all : List Hop) (next : ℕ) → Contains (targets all) next → (ins : Instruction)
+    × Contains all (record { ins = ins; way = to next })
 hop_there [] next there = absurd (contains_none next there)
 hop_there (hop ∷ others) next there = go hop.way there (hop_there others next)
   where
     go : (way : Way) → Contains (targets (record { ins = hop.ins; way = way } ∷ others)) next
         → (Contains (targets others) next → (ins : Instruction) × Contains others (record { ins = ins; way = to next }))
-        → (ins : Instruction) × Contains (record { ins = hop.ins; way = way } ∷ others) (record { ins = ins; way = to next })
+        → (ins : Instruction) × Contains (record { ins = hop.ins; way = way } ∷ others)
+        (record { ins = ins; way = to next })
     go early here more =
         let found : (ins : Instruction) × Contains others (record { ins = ins; way = to next }) = more here in
         (found.0, contains_there _ _ others found.1)
     go (to one) here more = elim (contains_cases one next (targets others) here) [
-      | inl same ↦ (hop.ins, subst (λ (z : ℕ). Contains {X = Hop} (record { ins = hop.ins; way = to one } ∷ others) (record { ins = hop.ins; way = to z })) same (contains_here _ others))
-      | inr behind ↦ (let found : (ins : Instruction) × Contains others (record { ins = ins; way = to next }) = more behind in
+      | inl same ↦ (
+        hop.ins,
+        subst
+            (λ (z : ℕ). Contains {X = Hop} (record { ins = hop.ins; way = to one } ∷ others)
+            (record { ins = hop.ins; way = to z })) same (contains_here _ others),
+      )
+      | inr behind ↦ (let found : (ins : Instruction)
+          × Contains others (record { ins = ins; way = to next }) = more behind in
           (found.0, contains_there _ _ others found.1))
     ]
     go late here more =
@@ -131,19 +158,22 @@ hop_there (hop ∷ others) next there = go hop.way there (hop_there others next)
 
 module _ (loads : ℕ → Option Word) (notes : Notes) (start : ℕ) where
   -- what was found stays where it was
-  found_later : (before after k x : ℕ) → before ≤ after → slice_get (found_after loads notes start before) k ≡ Some x → slice_get (found_after loads notes start after) k ≡ Some x
+  found_later : (before after k x : ℕ) → before ≤ after → slice_get (found_after loads notes start before) k ≡ Some x
+      → slice_get (found_after loads notes start after) k ≡ Some x
   found_later before zero k x le e =
       let same : before ≡ 0 = omega (arith, le) in
       sym (ap (λ (t : ℕ). slice_get (found_after loads notes start t) k) same) ∙ e
   found_later before (suc after) k x le e = elim (cases_lt after before) [
     | inl last ↦ (let same : before ≡ suc after = omega (arith, le, last) in
         sym (ap (λ (t : ℕ). slice_get (found_after loads notes start t) k) same) ∙ e)
-    | inr earlier ↦ with_new_keeps (found_after loads notes start after) (added_by loads notes (slice_get (found_after loads notes start after) after)) k x
+    | inr earlier ↦ with_new_keeps (found_after loads notes start after)
+        (added_by loads notes (slice_get (found_after loads notes start after) after)) k x
         (found_later before after k x earlier e)
   ]
 
   -- a member was there at its turn
-  member_at : (turns k x : ℕ) → k < turns → slice_get (found_after loads notes start turns) k ≡ Some x → slice_get (found_after loads notes start k) k ≡ Some x
+  member_at : (turns k x : ℕ) → k < turns → slice_get (found_after loads notes start turns) k ≡ Some x
+      → slice_get (found_after loads notes start k) k ≡ Some x
   member_at zero k x lt e = absurd (omega (arith, lt))
   member_at (suc turns) k x lt e =
       let there : slice_get (found_after loads notes start turns) k ≡ Some x = before in
@@ -155,51 +185,74 @@ module _ (loads : ℕ → Option Word) (notes : Notes) (start : ℕ) where
     where
       before : slice_get (found_after loads notes start turns) k ≡ Some x
       before = elim (cases_lt k (length (found_after loads notes start turns))) [
-        | inl inside ↦ with_new_before (found_after loads notes start turns) (added_by loads notes (slice_get (found_after loads notes start turns) turns)) k x inside e
-        | inr past ↦ (let none : slice_get (found_after loads notes start turns) turns ≡ None = slice_get_past (found_after loads notes start turns) turns (omega (arith, past, lt)) in
-            sym (ap (λ (o : Option ℕ). slice_get (with_new (found_after loads notes start turns) (added_by loads notes o)) k) none) ∙ e)
+        | inl inside ↦ with_new_before (found_after loads notes start turns)
+            (added_by loads notes (slice_get (found_after loads notes start turns) turns)) k x inside e
+        | inr past ↦ (let none : slice_get (found_after loads notes start turns) turns ≡ None =
+            slice_get_past (found_after loads notes start turns) turns (omega (arith, past, lt)) in
+            sym (ap (λ (o : Option ℕ). slice_get
+            (with_new (found_after loads notes start turns) (added_by loads notes o)) k) none) ∙ e)
       ]
 
-  pub lead_push : (node mid next : ℕ) (through : List ℕ) → Lead loads notes node through mid → IsEdge loads notes mid next → Lead loads notes node (through ++ next ∷ []) next
+  pub lead_push : (node mid next : ℕ) (through : List ℕ) → Lead loads notes node through mid
+      → IsEdge loads notes mid next → Lead loads notes node (through ++ next ∷ []) next
   lead_push node mid next [] lead edge = (subst (λ (n : ℕ). IsEdge loads notes n next) (sym lead) edge, refl)
   lead_push node mid next (one ∷ through) lead edge = (lead.0, lead_push one mid next through lead.1 edge)
 
   -- all that is found is executed
-  pub only_executed : (turns place : ℕ) → Contains (found_after loads notes start turns) place → IsExecuted loads notes start place
-  only_executed zero place there = elim (contains_cases start place [] there) [ inl same ↦ ([], same) | inr none ↦ absurd (contains_none place none) ]
+  pub only_executed : (turns place : ℕ) → Contains (found_after loads notes start turns) place
+      → IsExecuted loads notes start place
+  only_executed zero place there =
+      elim (contains_cases start place [] there)
+      [ inl same ↦ ([], same) | inr none ↦ absurd (contains_none place none) ]
   only_executed (suc turns) place there =
-      elim (with_new_only (found_after loads notes start turns) (added_by loads notes (slice_get (found_after loads notes start turns) turns)) place there) [
+      elim (with_new_only (found_after loads notes start turns)
+      (added_by loads notes (slice_get (found_after loads notes start turns) turns)) place there) [
         | inl before ↦ only_executed turns place before
         | inr added ↦ by_member (slice_get (found_after loads notes start turns) turns) refl added (only_executed turns)
       ]
     where
-      by_member : (member : Option ℕ) → slice_get (found_after loads notes start turns) turns ≡ member → Contains (added_by loads notes member) place
-          → ((node : ℕ) → Contains (found_after loads notes start turns) node → IsExecuted loads notes start node) → IsExecuted loads notes start place
+      by_member : (member : Option ℕ) → slice_get (found_after loads notes start turns) turns ≡ member
+          → Contains (added_by loads notes member) place
+          → ((node : ℕ) → Contains (found_after loads notes start turns) node → IsExecuted loads notes start node)
+          → IsExecuted loads notes start place
       by_member None e added executed = absurd (contains_none place added)
       by_member (Some node) e added executed =
-          let lead : IsExecuted loads notes start node = executed node (contains_from_get (found_after loads notes start turns) turns node e) in
-          (lead.0 ++ place ∷ [], lead_push start node place lead.0 lead.1 (hop_there (hops loads notes node) place added))
+          let lead : IsExecuted loads notes start node =
+          executed node (contains_from_get (found_after loads notes start turns) turns node e) in (
+            lead.0 ++ place ∷ [],
+            lead_push start node place lead.0 lead.1
+                (hop_there (hops loads notes node) place added),
+          )
 
-  module _ (turns : ℕ) (places : List ℕ) (after : found_after loads notes start turns ≡ places) (all : length places ≤ turns) where
+  module _ (turns : ℕ) (places : List ℕ) (after : found_after loads notes start turns ≡ places)
+      (all : length places ≤ turns) where
     -- the successors of a member are members
     closed : (node next : ℕ) → Contains places node → IsEdge loads notes node next → Contains places next
     closed node next there edge =
         let at : (k : ℕ) × (slice_get places k ≡ Some node) = contains_at places node there in
         let early : at.0 < turns = omega (arith, slice_get_within places at.0 node at.1, all) in
-        let here : slice_get (found_after loads notes start at.0) at.0 ≡ Some node = member_at turns at.0 node early (ap (λ (xs : List ℕ). slice_get xs at.0) after ∙ at.1) in
-        let successor : Contains (added_by loads notes (Some node)) next = target_there (hops loads notes node) edge.0 next edge.1 in
+        let here : slice_get (found_after loads notes start at.0) at.0 ≡ Some node =
+        member_at turns at.0 node early (ap (λ (xs : List ℕ). slice_get xs at.0) after ∙ at.1) in
+        let successor : Contains (added_by loads notes (Some node)) next =
+        target_there (hops loads notes node) edge.0 next edge.1 in
         let added : Contains (found_after loads notes start (suc at.0)) next =
-        with_new_has (found_after loads notes start at.0) (added_by loads notes (slice_get (found_after loads notes start at.0) at.0)) next
+        with_new_has (found_after loads notes start at.0)
+        (added_by loads notes (slice_get (found_after loads notes start at.0) at.0)) next
         (subst (λ (o : Option ℕ). Contains (added_by loads notes o) next) (sym here) successor) in
-        let place : (k : ℕ) × (slice_get (found_after loads notes start (suc at.0)) k ≡ Some next) = contains_at (found_after loads notes start (suc at.0)) next added in
-        contains_from_get places place.0 next (sym (ap (λ (xs : List ℕ). slice_get xs place.0) after) ∙ found_later (suc at.0) turns place.0 next (omega (arith, early)) place.1)
+        let place : (k : ℕ) × (slice_get (found_after loads notes start (suc at.0)) k ≡ Some next) =
+        contains_at (found_after loads notes start (suc at.0)) next added in
+        contains_from_get places place.0 next
+        (sym (ap (λ (xs : List ℕ). slice_get xs place.0) after)
+        ∙ found_later (suc at.0) turns place.0 next (omega (arith, early)) place.1)
 
-    along : (node place : ℕ) (through : List ℕ) → Contains places node → Lead loads notes node through place → Contains places place
+    along : (node place : ℕ) (through : List ℕ) → Contains places node → Lead loads notes node through place
+        → Contains places place
     along node place [] there lead = subst (λ (n : ℕ). Contains places n) lead there
     along node place (next ∷ through) there lead = along next place through (closed node next there lead.0) lead.1
 
     -- the members are the executed locations
-    pub all_executed : ((k place : ℕ) → k < turns → slice_get places k ≡ Some place → IsGood loads notes place) → AreExecuted loads notes start places
+    pub all_executed : ((k place : ℕ) → k < turns → slice_get places k ≡ Some place → IsGood loads notes place)
+        → AreExecuted loads notes start places
     all_executed good = record {
       order = record { turns = turns; after = after; all = all };
       all = λ place executed. along start place executed.0 begun executed.1;
@@ -210,11 +263,14 @@ module _ (loads : ℕ → Option Word) (notes : Notes) (start : ℕ) where
     }
       where
         begun : Contains places start
-        begun = contains_from_get places 0 start (sym (ap (λ (xs : List ℕ). slice_get xs 0) after) ∙ found_later 0 turns 0 start (omega arith) refl)
+        begun =
+            contains_from_get places 0 start
+            (sym (ap (λ (xs : List ℕ). slice_get xs 0) after) ∙ found_later 0 turns 0 start (omega arith) refl)
 
 -- what is good stays so where more is added
 pub good_more : (loads : ℕ → Option Word) (notes : Notes) (places xs : List ℕ) (turn place : ℕ)
-    → ((k other : ℕ) → k < turn → slice_get places k ≡ Some other → IsGood loads notes other) → slice_get places turn ≡ Some place → IsGood loads notes place
+    → ((k other : ℕ) → k < turn → slice_get places k ≡ Some other → IsGood loads notes other)
+    → slice_get places turn ≡ Some place → IsGood loads notes place
     → (k other : ℕ) → k < turn + 1 → slice_get (with_new places xs) k ≡ Some other → IsGood loads notes other
 good_more loads notes places xs turn place before here good k other lt at =
     let inside : k < length places = omega (arith, lt, slice_get_within places turn place here) in
@@ -222,14 +278,17 @@ good_more loads notes places xs turn place before here good k other lt at =
     elim (cases_lt k turn) [
       | inl earlier ↦ before k other earlier was
       | inr last ↦ (let same : k ≡ turn = omega (arith, lt, last) in
-          let equal : ◌≡◌ {A = Option ℕ} (Some place) (Some other) = sym here ∙ sym (ap (slice_get places) same) ∙ was in
+          let equal : ◌≡◌ {A = Option ℕ} (Some place) (Some other) =
+          sym here ∙ sym (ap (slice_get places) same) ∙ was in
           let one : place ≡ other = cc in
           subst (IsGood loads notes) one good)
     ]
 
 -- what is wrong with the location that a turn meets refuses the flow
-pub wrong_met : (loads : ℕ → Option Word) (notes : Notes) (start turn place : ℕ) (places : List ℕ) (refusal : Refusal) → found_after loads notes start turn ≡ places
-    → ((k other : ℕ) → k < turn → slice_get places k ≡ Some other → IsGood loads notes other) → slice_get places turn ≡ Some place → IsWrong loads notes place refusal
+pub wrong_met : (loads : ℕ → Option Word) (notes : Notes) (start turn place : ℕ) (places : List ℕ) (refusal : Refusal)
+    → found_after loads notes start turn ≡ places
+    → ((k other : ℕ) → k < turn → slice_get places k ≡ Some other → IsGood loads notes other)
+    → slice_get places turn ≡ Some place → IsWrong loads notes place refusal
     → IsFlowRefusal loads notes start refusal
 wrong_met loads notes start turn place places refusal after good here wrong = go refusal wrong
   where
@@ -249,10 +308,14 @@ wrong_met loads notes start turn place places refusal after good here wrong = go
     go (TooLarge product) w = w
 
 -- the next turn
-pub found_next : (loads : ℕ → Option Word) (notes : Notes) (start turn place : ℕ) (places more : List ℕ) → found_after loads notes start turn ≡ places
-    → slice_get places turn ≡ Some place → more ≡ with_new places (successors loads notes place) → found_after loads notes start (turn + 1) ≡ more
+pub found_next : (loads : ℕ → Option Word) (notes : Notes) (start turn place : ℕ) (places more : List ℕ)
+    → found_after loads notes start turn ≡ places
+    → slice_get places turn ≡ Some place → more ≡ with_new places (successors loads notes place)
+    → found_after loads notes start (turn + 1) ≡ more
 found_next loads notes start turn place places more after here added =
     let next : turn + 1 ≡ suc turn = omega arith in
-    let grown : found_after loads notes start (suc turn) ≡ with_new places (added_by loads notes (slice_get places turn)) =
+    let grown : found_after loads notes start (suc turn)
+    ≡ with_new places (added_by loads notes (slice_get places turn)) =
     ap (λ (xs : List ℕ). with_new xs (added_by loads notes (slice_get xs turn))) after in
-    ap (found_after loads notes start) next ∙ grown ∙ ap (λ (o : Option ℕ). with_new places (added_by loads notes o)) here ∙ sym added
+    ap (found_after loads notes start) next ∙ grown
+    ∙ ap (λ (o : Option ℕ). with_new places (added_by loads notes o)) here ∙ sym added

@@ -6,7 +6,8 @@ use Rattle.drum_core.specs.declared.word.Word.{Word}
 use Rattle.drum_core.specs.Op.{op_of}
 use Rattle.drum_times.specs.Allowed.{Notes, allowed}
 use Rattle.drum_flow.specs.declared.refusal.Refusal.{Refusal}
-use Rattle.drum_flow.specs.declared.refusal.Refusal.TheVariants.{Memory, NotLoaded, NotInProfile, Alters, Unbounded, TooLarge}
+use Rattle.drum_flow.specs.declared.refusal.Refusal.TheVariants.{Memory, NotLoaded, NotInProfile, Alters, Unbounded}
+use Rattle.drum_flow.specs.declared.refusal.Refusal.TheVariants.{TooLarge}
 use Rattle.drum_flow.specs.Acceptance.{IsRefusal}
 use Rattle.drum_flow.specs.Accepted.{IsAccepted, IsMet, IsFirstIn, IsClosed, counts_of, Alters as AltersOne}
 use Rattle.drum_flow.specs.Executed.{found_after, IsOrder}
@@ -19,35 +20,51 @@ within : {X : Type 0} (before : List X) (one : X) (behind : List X) → Contains
 within [] one behind = contains_here one behind
 within (first ∷ before) one behind = contains_there first one (before ++ one ∷ behind) (within before one behind)
 
-first_is_there : (list : List Instruction) (Property : Instruction → Type 0) (ins : Instruction) → IsFirstIn list Property ins → Contains list ins
-first_is_there list Property ins (before, after, split, has, none) = subst (λ (xs : List Instruction). Contains xs ins) (sym split) (within before ins after)
+first_is_there : (list : List Instruction) (Property : Instruction → Type 0) (ins : Instruction)
+    → IsFirstIn list Property ins → Contains list ins
+first_is_there list Property ins (before, after, split, has, none) =
+    subst (λ (xs : List Instruction). Contains xs ins) (sym split) (within before ins after)
 
 module _ (loads : ℕ → Option Word) (notes : Notes) (start : ℕ) where
   met_is_executed : (place : ℕ) → IsMet loads notes start place → IsExecuted loads notes start place
-  met_is_executed place met = only_executed loads notes start met.turns place (contains_from_get (found_after loads notes start met.turns) met.turns place met.member)
+  met_is_executed place met =
+      only_executed loads notes start met.turns place
+      (contains_from_get (found_after loads notes start met.turns) met.turns place met.member)
 
-  in_order_is_executed : (order : List ℕ) (place : ℕ) → IsOrder loads notes start order → Contains order place → IsExecuted loads notes start place
-  in_order_is_executed order place is there = only_executed loads notes start is.turns place (subst (λ (xs : List ℕ). Contains xs place) (sym is.after) there)
+  in_order_is_executed : (order : List ℕ) (place : ℕ) → IsOrder loads notes start order → Contains order place
+      → IsExecuted loads notes start place
+  in_order_is_executed order place is there =
+      only_executed loads notes start is.turns place (subst (λ (xs : List ℕ). Contains xs place) (sym is.after) there)
 
-  not_closed : (executed cycle : List ℕ) → IsAccepted loads notes start executed → ((place : ℕ) → Contains cycle place → IsExecuted loads notes start place) → IsClosed loads notes cycle → ⊥
+  not_closed : (executed cycle : List ℕ) → IsAccepted loads notes start executed
+      → ((place : ℕ) → Contains cycle place → IsExecuted loads notes start place) → IsClosed loads notes cycle → ⊥
   not_closed executed [] accepted there closed = closed
-  not_closed executed (first ∷ others) accepted there closed = accepted.bounded first others (there first (contains_here first others)) closed
+  not_closed executed (first ∷ others) accepted there closed =
+      accepted.bounded first others (there first (contains_here first others)) closed
 
-  pub only_memory : (executed : List ℕ) (refusal : Refusal) → IsAccepted loads notes start executed → IsRefusal loads notes start refusal → refusal ≡ Memory
-  only_memory executed (NotLoaded location) accepted is = absurd (is.1 (accepted.there location.number (met_is_executed location.number is.0)))
+  pub only_memory : (executed : List ℕ) (refusal : Refusal) → IsAccepted loads notes start executed
+      → IsRefusal loads notes start refusal → refusal ≡ Memory
+  only_memory executed (NotLoaded location) accepted is =
+      absurd (is.1 (accepted.there location.number (met_is_executed location.number is.0)))
   only_memory executed (NotInProfile location op) accepted (met, there, (ins, first, number)) =
       let outside : IsNone (op_of ins.op) = first.3 in
-      let inside : IsSome (op_of ins.op) = accepted.profile location.number (met_is_executed location.number met) ins (first_is_there (allowed loads notes location.number) _ ins first) in
+      let inside : IsSome (op_of ins.op) =
+      accepted.profile location.number (met_is_executed location.number met) ins
+      (first_is_there (allowed loads notes location.number) _ ins first) in
       cc
   only_memory executed (Alters writer word) accepted is =
-      let there : Contains (allowed loads notes writer.number) is.ins = first_is_there (allowed loads notes writer.number) (AltersOne loads notes start) is.ins is.first in
+      let there : Contains (allowed loads notes writer.number) is.ins =
+      first_is_there (allowed loads notes writer.number) (AltersOne loads notes start) is.ins is.first in
       let written : AltersOne loads notes start is.ins = is.first.3 in
       let writes : IsExecuted loads notes start writer.number =
-      in_order_is_executed is.executed writer.number is.order (subst (λ (xs : List ℕ). Contains xs writer.number) (sym is.split) (within is.before writer.number is.behind)) in
+      in_order_is_executed is.executed writer.number is.order
+      (subst (λ (xs : List ℕ). Contains xs writer.number) (sym is.split)
+      (within is.before writer.number is.behind)) in
       absurd (accepted.unaltered writer.number is.ins written.0 writes there written.1 written.2)
   only_memory executed (TooLarge product) accepted (sound, large, (other, order, number)) =
       let same : other ≡ executed = one_order loads notes start other executed order accepted.order in
-      let small : length other * counts_of notes.marks ≤ 4000000 = subst (λ (xs : List ℕ). length xs * counts_of notes.marks ≤ 4000000) (sym same) accepted.small in
+      let small : length other * counts_of notes.marks ≤ 4000000 =
+      subst (λ (xs : List ℕ). length xs * counts_of notes.marks ≤ 4000000) (sym same) accepted.small in
       absurd (omega (arith, large, number, small))
   only_memory executed (Unbounded cycle) accepted is = absurd (not_closed executed _ accepted is.executed is.closed)
   only_memory executed Memory accepted is = refl

@@ -1,5 +1,6 @@
 -- Numbers that are read in two halves, and numbers of one text.
-use Rattle.std.proofs.Common.{◌≡◌, ℕ, zero, suc, ◌+◌, ◌*◌, ◌^◌, ◌/◌, ◌%◌, ◌<◌, List, [], ◌∷◌, ◌++◌, length, take, drop, ap, sym, ◌∙◌, subst, arith, append_assoc}
+use Rattle.std.proofs.Common.{◌≡◌, ℕ, zero, suc, ◌+◌, ◌*◌, ◌^◌, ◌/◌, ◌%◌, ◌<◌, List, [], ◌∷◌, ◌++◌, length, take, drop}
+use Rattle.std.proofs.Common.{ap, sym, ◌∙◌, subst, arith, append_assoc}
 use Rattle.std.proofs.Math.Nat.{mul_assoc}
 use Rattle.std.proofs.Math.Seq.{take-append_seam, drop-append_seam}
 use Rattle.std.proofs.lemmas.Grind.{pow_more}
@@ -33,7 +34,8 @@ digits_join k (suc j) a b small =
         omega (arith, inner)
 
 -- a text writes one number
-pub same_number : (text : List ℕ) (k n m : ℕ) → text ≡ digits_of k n → n < 10 ^ k → text ≡ digits_of (length text) m → m < 10 ^ length text → n ≡ m
+pub same_number : (text : List ℕ) (k n m : ℕ) → text ≡ digits_of k n → n < 10 ^ k → text ≡ digits_of (length text) m
+    → m < 10 ^ length text → n ≡ m
 same_number text k n m e small e' small' =
     let long : length text ≡ k = ap length e ∙ length-digits_of k n in
     let other : text ≡ digits_of k m = subst (λ (i : ℕ). text ≡ digits_of i m) long e' in
@@ -44,20 +46,25 @@ pub at_length : (text : List ℕ) (k n : ℕ) → text ≡ digits_of k n → tex
 at_length text k n e = e ∙ ap (λ (i : ℕ). digits_of i n) (sym (ap length e ∙ length-digits_of k n))
 
 -- the halves of twenty digits
-pub halves : (text : List ℕ) (n : ℕ) → text ≡ digits_of 20 n → (take 10 text ≡ digits_of 10 (n / 10 ^ 10)) × (drop 10 text ≡ digits_of 10 (n % 10 ^ 10))
+pub halves : (text : List ℕ) (n : ℕ) → text ≡ digits_of 20 n → (take 10 text ≡ digits_of 10 (n / 10 ^ 10))
+    × (drop 10 text ≡ digits_of 10 (n % 10 ^ 10))
 halves text n written =
     let upper : ℕ = n / 10 ^ 10 in
     let lower : ℕ = n % 10 ^ 10 in
     let small : lower < 10 ^ 10 = omega arith in
     let all : n ≡ upper * 10 ^ 10 + lower = omega arith in
-    let split : text ≡ digits_of 10 upper ++ digits_of 10 lower = written ∙ ap (digits_of 20) all ∙ digits_join 10 10 upper lower small in
+    let split : text ≡ digits_of 10 upper ++ digits_of 10 lower =
+    written ∙ ap (digits_of 20) all ∙ digits_join 10 10 upper lower small in
     let ten : length (digits_of 10 upper) ≡ 10 = length-digits_of 10 upper in (
-      ap (take 10) split ∙ sym (ap (λ (i : ℕ). take i (digits_of 10 upper ++ digits_of 10 lower)) ten) ∙ take-append_seam (digits_of 10 upper) (digits_of 10 lower),
-      ap (drop 10) split ∙ sym (ap (λ (i : ℕ). drop i (digits_of 10 upper ++ digits_of 10 lower)) ten) ∙ drop-append_seam (digits_of 10 upper) (digits_of 10 lower),
+      ap (take 10) split ∙ sym (ap (λ (i : ℕ). take i (digits_of 10 upper ++ digits_of 10 lower)) ten)
+          ∙ take-append_seam (digits_of 10 upper) (digits_of 10 lower),
+      ap (drop 10) split ∙ sym (ap (λ (i : ℕ). drop i (digits_of 10 upper ++ digits_of 10 lower)) ten)
+          ∙ drop-append_seam (digits_of 10 upper) (digits_of 10 lower),
     )
 
 -- the number of two halves
-pub whole : (text behind : List ℕ) (a b : ℕ) → length text ≡ 20 → behind ≡ drop 10 text → take 10 text ≡ digits_of (length (take 10 text)) a
+pub whole : (text behind : List ℕ) (a b : ℕ) → length text ≡ 20 → behind ≡ drop 10 text
+    → take 10 text ≡ digits_of (length (take 10 text)) a
     → behind ≡ digits_of (length behind) b → b < 10 ^ length behind → text ≡ digits_of 20 (a * 10 ^ 10 + b)
 whole text behind a b long is_behind upper lower small =
     let ten : length (take 10 text) ≡ 10 = length-take-le 10 text (omega (arith, long)) in
@@ -65,4 +72,5 @@ whole text behind a b long is_behind upper lower small =
     let front : take 10 text ≡ digits_of 10 a = upper ∙ ap (λ (i : ℕ). digits_of i a) ten in
     let back : drop 10 text ≡ digits_of 10 b = sym is_behind ∙ lower ∙ ap (λ (i : ℕ). digits_of i b) ten' in
     let few : b < 10 ^ 10 = subst (λ (i : ℕ). b < 10 ^ i) ten' small in
-    sym (take-append-drop 10 text) ∙ ap (λ (xs : List ℕ). xs ++ drop 10 text) front ∙ ap (λ (xs : List ℕ). digits_of 10 a ++ xs) back ∙ sym (digits_join 10 10 a b few)
+    sym (take-append-drop 10 text) ∙ ap (λ (xs : List ℕ). xs ++ drop 10 text) front
+    ∙ ap (λ (xs : List ℕ). digits_of 10 a ++ xs) back ∙ sym (digits_join 10 10 a b few)

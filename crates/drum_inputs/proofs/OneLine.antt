@@ -1,5 +1,6 @@
 -- A line says one thing.
-use Rattle.std.proofs.Common.{◌≡◌, ℕ, ◌+◌, ◌/◌, ◌%◌, ◌^◌, ◌<◌, ltb, Bool, true, false, cond, List, length, get_or, drop, refl, ap, sym, ◌∙◌, subst, arith, ℤ}
+use Rattle.std.proofs.Common.{◌≡◌, ℕ, ◌+◌, ◌/◌, ◌%◌, ◌^◌, ◌<◌, ltb, Bool, true, false, cond, List, length, get_or, drop}
+use Rattle.std.proofs.Common.{refl, ap, sym, ◌∙◌, subst, arith, ℤ}
 use Rattle.std.proofs.lemmas.Bool.{lt-ltb}
 use Rattle.std.specs.Prelude.{◌==◌}
 use Rattle.drum_core.specs.DeckText as deck
@@ -7,7 +8,8 @@ use Rattle.drum_core.specs.Numeral.{digits_of}
 use Rattle.drum_core.specs.Word.{signed}
 use Rattle.drum_core.proofs.DeckLaws as decks
 use Rattle.drum_core.proofs.Numerals.{length-digits_of}
-use Rattle.drum_inputs.specs.InputsText.{Line, comment, angle, switches, distributor, accumulator, latch, programmed, on_overflow, words, card, wait, IsLine}
+use Rattle.drum_inputs.specs.InputsText.{Line, comment, angle, switches, distributor, accumulator, latch, programmed}
+use Rattle.drum_inputs.specs.InputsText.{on_overflow, words, card, wait, IsLine}
 use Rattle.drum_inputs.proofs.Halves.{same_number, at_length}
 
 -- a number for each kind of line, and for each first letters of a line
@@ -27,7 +29,9 @@ kind (wait n) = 11
 
 abbrev kind_by : ℕ → ℕ → ℕ
 kind_by first second =
-    cond (ltb 47 first) (cond (ltb first 58) 1 (cond (first == 65) (cond (second == 78) 2 3) (cond (first == 83) 4 (cond (first == 68) 5 (cond (first == 76) (cond (second == 65) 6 7)
+    cond (ltb 47 first) (cond (ltb first 58) 1
+    (cond (first == 65) (cond (second == 78) 2 3)
+    (cond (first == 83) 4 (cond (first == 68) 5 (cond (first == 76) (cond (second == 65) 6 7)
     (cond (first == 80) 8 (cond (first == 79) 9 (cond (first == 67) 10 11)))))))) 0
 
 abbrev kind_at : List ℕ → ℕ
@@ -80,8 +84,10 @@ one_accumulator text a b (minus, n, small, is_a, p) (minus', m, small', is_b, q)
 one_wait : (text : List ℕ) (n m : ℕ) → IsLine text (wait n) → IsLine text (wait m) → n ≡ m
 one_wait text n m (count, some, seven, small, million, p) (count', some', seven', small', million', q) =
     let digits : digits_of count n ≡ digits_of count' m = ap (drop 5) (sym p ∙ q) in
-    let long : length (digits_of count n) ≡ count' = ap (λ (xs : List ℕ). length xs) digits ∙ length-digits_of count' m in
-    same_number (digits_of count n) count n m refl small (at_length (digits_of count n) count' m digits) (subst (λ (k : ℕ). m < 10 ^ k) (sym long) small')
+    let long : length (digits_of count n) ≡ count' =
+    ap (λ (xs : List ℕ). length xs) digits ∙ length-digits_of count' m in
+    same_number (digits_of count n) count n m refl small (at_length (digits_of count n) count' m digits)
+    (subst (λ (k : ℕ). m < 10 ^ k) (sym long) small')
 
 -- a line says one thing
 pub line_one : (text : List ℕ) (a b : Line) → IsLine text a → IsLine text b → a ≡ b
@@ -108,7 +114,8 @@ line_one text (words n vs) (words m ws) p q =
     let same : deck.card n vs ≡ deck.card m ws = decks.line_one text (deck.card n vs) (deck.card m ws) p q in
     cc
 line_one text (card true vs) (card true ws) p q = ap (card true) (decks.spaced-one vs ws (ap (drop 4) (sym p.1 ∙ q.1)))
-line_one text (card false vs) (card false ws) p q = ap (card false) (decks.spaced-one vs ws (ap (drop 4) (sym p.1 ∙ q.1)))
+line_one text (card false vs) (card false ws) p q =
+    ap (card false) (decks.spaced-one vs ws (ap (drop 4) (sym p.1 ∙ q.1)))
 line_one text (wait n) (wait m) p q = ap wait (one_wait text n m p q)
 -- lines of two kinds have other first letters
 line_one text comment (words m ws) p q = absurd (omega (arith, kinds text comment (words m ws) p q))
@@ -148,12 +155,16 @@ line_one text (accumulator a) comment p q = absurd (omega (arith, kinds text (ac
 line_one text (accumulator a) (words m ws) p q = absurd (omega (arith, kinds text (accumulator a) (words m ws) p q))
 line_one text (accumulator a) (angle m) p q = absurd (omega (arith, kinds text (accumulator a) (angle m) p q))
 line_one text (accumulator a) (switches w) p q = absurd (omega (arith, kinds text (accumulator a) (switches w) p q))
-line_one text (accumulator a) (distributor w) p q = absurd (omega (arith, kinds text (accumulator a) (distributor w) p q))
+line_one text (accumulator a) (distributor w) p q =
+    absurd (omega (arith, kinds text (accumulator a) (distributor w) p q))
 line_one text (accumulator a) (latch b') p q = absurd (omega (arith, kinds text (accumulator a) (latch b') p q))
 line_one text (accumulator a) (card true ws) p q = absurd (omega (arith, kinds text (accumulator a) (card true ws) p q))
-line_one text (accumulator a) (programmed b') p q = absurd (omega (arith, kinds text (accumulator a) (programmed b') p q))
-line_one text (accumulator a) (on_overflow b') p q = absurd (omega (arith, kinds text (accumulator a) (on_overflow b') p q))
-line_one text (accumulator a) (card false ws) p q = absurd (omega (arith, kinds text (accumulator a) (card false ws) p q))
+line_one text (accumulator a) (programmed b') p q =
+    absurd (omega (arith, kinds text (accumulator a) (programmed b') p q))
+line_one text (accumulator a) (on_overflow b') p q =
+    absurd (omega (arith, kinds text (accumulator a) (on_overflow b') p q))
+line_one text (accumulator a) (card false ws) p q =
+    absurd (omega (arith, kinds text (accumulator a) (card false ws) p q))
 line_one text (accumulator a) (wait m) p q = absurd (omega (arith, kinds text (accumulator a) (wait m) p q))
 line_one text (switches v) comment p q = absurd (omega (arith, kinds text (switches v) comment p q))
 line_one text (switches v) (words m ws) p q = absurd (omega (arith, kinds text (switches v) (words m ws) p q))
@@ -169,13 +180,17 @@ line_one text (switches v) (wait m) p q = absurd (omega (arith, kinds text (swit
 line_one text (distributor v) comment p q = absurd (omega (arith, kinds text (distributor v) comment p q))
 line_one text (distributor v) (words m ws) p q = absurd (omega (arith, kinds text (distributor v) (words m ws) p q))
 line_one text (distributor v) (angle m) p q = absurd (omega (arith, kinds text (distributor v) (angle m) p q))
-line_one text (distributor v) (accumulator a') p q = absurd (omega (arith, kinds text (distributor v) (accumulator a') p q))
+line_one text (distributor v) (accumulator a') p q =
+    absurd (omega (arith, kinds text (distributor v) (accumulator a') p q))
 line_one text (distributor v) (switches w) p q = absurd (omega (arith, kinds text (distributor v) (switches w) p q))
 line_one text (distributor v) (latch b') p q = absurd (omega (arith, kinds text (distributor v) (latch b') p q))
 line_one text (distributor v) (card true ws) p q = absurd (omega (arith, kinds text (distributor v) (card true ws) p q))
-line_one text (distributor v) (programmed b') p q = absurd (omega (arith, kinds text (distributor v) (programmed b') p q))
-line_one text (distributor v) (on_overflow b') p q = absurd (omega (arith, kinds text (distributor v) (on_overflow b') p q))
-line_one text (distributor v) (card false ws) p q = absurd (omega (arith, kinds text (distributor v) (card false ws) p q))
+line_one text (distributor v) (programmed b') p q =
+    absurd (omega (arith, kinds text (distributor v) (programmed b') p q))
+line_one text (distributor v) (on_overflow b') p q =
+    absurd (omega (arith, kinds text (distributor v) (on_overflow b') p q))
+line_one text (distributor v) (card false ws) p q =
+    absurd (omega (arith, kinds text (distributor v) (card false ws) p q))
 line_one text (distributor v) (wait m) p q = absurd (omega (arith, kinds text (distributor v) (wait m) p q))
 line_one text (latch b) comment p q = absurd (omega (arith, kinds text (latch b) comment p q))
 line_one text (latch b) (words m ws) p q = absurd (omega (arith, kinds text (latch b) (words m ws) p q))
@@ -191,46 +206,58 @@ line_one text (latch b) (wait m) p q = absurd (omega (arith, kinds text (latch b
 line_one text (card true vs) comment p q = absurd (omega (arith, kinds text (card true vs) comment p q))
 line_one text (card true vs) (words m ws) p q = absurd (omega (arith, kinds text (card true vs) (words m ws) p q))
 line_one text (card true vs) (angle m) p q = absurd (omega (arith, kinds text (card true vs) (angle m) p q))
-line_one text (card true vs) (accumulator a') p q = absurd (omega (arith, kinds text (card true vs) (accumulator a') p q))
+line_one text (card true vs) (accumulator a') p q =
+    absurd (omega (arith, kinds text (card true vs) (accumulator a') p q))
 line_one text (card true vs) (switches w) p q = absurd (omega (arith, kinds text (card true vs) (switches w) p q))
 line_one text (card true vs) (distributor w) p q = absurd (omega (arith, kinds text (card true vs) (distributor w) p q))
 line_one text (card true vs) (latch b') p q = absurd (omega (arith, kinds text (card true vs) (latch b') p q))
 line_one text (card true vs) (programmed b') p q = absurd (omega (arith, kinds text (card true vs) (programmed b') p q))
-line_one text (card true vs) (on_overflow b') p q = absurd (omega (arith, kinds text (card true vs) (on_overflow b') p q))
+line_one text (card true vs) (on_overflow b') p q =
+    absurd (omega (arith, kinds text (card true vs) (on_overflow b') p q))
 line_one text (card true vs) (card false ws) p q = absurd (omega (arith, kinds text (card true vs) (card false ws) p q))
 line_one text (card true vs) (wait m) p q = absurd (omega (arith, kinds text (card true vs) (wait m) p q))
 line_one text (programmed b) comment p q = absurd (omega (arith, kinds text (programmed b) comment p q))
 line_one text (programmed b) (words m ws) p q = absurd (omega (arith, kinds text (programmed b) (words m ws) p q))
 line_one text (programmed b) (angle m) p q = absurd (omega (arith, kinds text (programmed b) (angle m) p q))
-line_one text (programmed b) (accumulator a') p q = absurd (omega (arith, kinds text (programmed b) (accumulator a') p q))
+line_one text (programmed b) (accumulator a') p q =
+    absurd (omega (arith, kinds text (programmed b) (accumulator a') p q))
 line_one text (programmed b) (switches w) p q = absurd (omega (arith, kinds text (programmed b) (switches w) p q))
 line_one text (programmed b) (distributor w) p q = absurd (omega (arith, kinds text (programmed b) (distributor w) p q))
 line_one text (programmed b) (latch b') p q = absurd (omega (arith, kinds text (programmed b) (latch b') p q))
 line_one text (programmed b) (card true ws) p q = absurd (omega (arith, kinds text (programmed b) (card true ws) p q))
-line_one text (programmed b) (on_overflow b') p q = absurd (omega (arith, kinds text (programmed b) (on_overflow b') p q))
+line_one text (programmed b) (on_overflow b') p q =
+    absurd (omega (arith, kinds text (programmed b) (on_overflow b') p q))
 line_one text (programmed b) (card false ws) p q = absurd (omega (arith, kinds text (programmed b) (card false ws) p q))
 line_one text (programmed b) (wait m) p q = absurd (omega (arith, kinds text (programmed b) (wait m) p q))
 line_one text (on_overflow b) comment p q = absurd (omega (arith, kinds text (on_overflow b) comment p q))
 line_one text (on_overflow b) (words m ws) p q = absurd (omega (arith, kinds text (on_overflow b) (words m ws) p q))
 line_one text (on_overflow b) (angle m) p q = absurd (omega (arith, kinds text (on_overflow b) (angle m) p q))
-line_one text (on_overflow b) (accumulator a') p q = absurd (omega (arith, kinds text (on_overflow b) (accumulator a') p q))
+line_one text (on_overflow b) (accumulator a') p q =
+    absurd (omega (arith, kinds text (on_overflow b) (accumulator a') p q))
 line_one text (on_overflow b) (switches w) p q = absurd (omega (arith, kinds text (on_overflow b) (switches w) p q))
-line_one text (on_overflow b) (distributor w) p q = absurd (omega (arith, kinds text (on_overflow b) (distributor w) p q))
+line_one text (on_overflow b) (distributor w) p q =
+    absurd (omega (arith, kinds text (on_overflow b) (distributor w) p q))
 line_one text (on_overflow b) (latch b') p q = absurd (omega (arith, kinds text (on_overflow b) (latch b') p q))
 line_one text (on_overflow b) (card true ws) p q = absurd (omega (arith, kinds text (on_overflow b) (card true ws) p q))
-line_one text (on_overflow b) (programmed b') p q = absurd (omega (arith, kinds text (on_overflow b) (programmed b') p q))
-line_one text (on_overflow b) (card false ws) p q = absurd (omega (arith, kinds text (on_overflow b) (card false ws) p q))
+line_one text (on_overflow b) (programmed b') p q =
+    absurd (omega (arith, kinds text (on_overflow b) (programmed b') p q))
+line_one text (on_overflow b) (card false ws) p q =
+    absurd (omega (arith, kinds text (on_overflow b) (card false ws) p q))
 line_one text (on_overflow b) (wait m) p q = absurd (omega (arith, kinds text (on_overflow b) (wait m) p q))
 line_one text (card false vs) comment p q = absurd (omega (arith, kinds text (card false vs) comment p q))
 line_one text (card false vs) (words m ws) p q = absurd (omega (arith, kinds text (card false vs) (words m ws) p q))
 line_one text (card false vs) (angle m) p q = absurd (omega (arith, kinds text (card false vs) (angle m) p q))
-line_one text (card false vs) (accumulator a') p q = absurd (omega (arith, kinds text (card false vs) (accumulator a') p q))
+line_one text (card false vs) (accumulator a') p q =
+    absurd (omega (arith, kinds text (card false vs) (accumulator a') p q))
 line_one text (card false vs) (switches w) p q = absurd (omega (arith, kinds text (card false vs) (switches w) p q))
-line_one text (card false vs) (distributor w) p q = absurd (omega (arith, kinds text (card false vs) (distributor w) p q))
+line_one text (card false vs) (distributor w) p q =
+    absurd (omega (arith, kinds text (card false vs) (distributor w) p q))
 line_one text (card false vs) (latch b') p q = absurd (omega (arith, kinds text (card false vs) (latch b') p q))
 line_one text (card false vs) (card true ws) p q = absurd (omega (arith, kinds text (card false vs) (card true ws) p q))
-line_one text (card false vs) (programmed b') p q = absurd (omega (arith, kinds text (card false vs) (programmed b') p q))
-line_one text (card false vs) (on_overflow b') p q = absurd (omega (arith, kinds text (card false vs) (on_overflow b') p q))
+line_one text (card false vs) (programmed b') p q =
+    absurd (omega (arith, kinds text (card false vs) (programmed b') p q))
+line_one text (card false vs) (on_overflow b') p q =
+    absurd (omega (arith, kinds text (card false vs) (on_overflow b') p q))
 line_one text (card false vs) (wait m) p q = absurd (omega (arith, kinds text (card false vs) (wait m) p q))
 line_one text (wait n) comment p q = absurd (omega (arith, kinds text (wait n) comment p q))
 line_one text (wait n) (words m ws) p q = absurd (omega (arith, kinds text (wait n) (words m ws) p q))

@@ -1,5 +1,6 @@
 -- How the lines of inputs are read, one by one.
-use Rattle.std.proofs.Common.{◌≡◌, ℕ, ◌+◌, ◌<◌, ◌≤◌, List, [], ◌∷◌, ◌++◌, length, ap, sym, ◌∙◌, subst, arith, inl, inr, length-append, append_assoc}
+use Rattle.std.proofs.Common.{◌≡◌, ℕ, ◌+◌, ◌<◌, ◌≤◌, List, [], ◌∷◌, ◌++◌, length, ap, sym, ◌∙◌, subst, arith, inl, inr}
+use Rattle.std.proofs.Common.{length-append, append_assoc}
 use Rattle.std.proofs.lemmas.Bool.{cases_lt}
 use Rattle.std.proofs.lemmas.List.{append-nil}
 use Rattle.std.specs.Prelude.{Option, Some, None, IfSome, Result, Ok, Err, IfOk, IfErr}
@@ -11,7 +12,8 @@ use Rattle.drum_inputs.specs.declared.inputs.Inputs.{Inputs}
 use Rattle.drum_inputs.specs.declared.stating.Stating.{Stating}
 use Rattle.drum_inputs.specs.Holds.{HoldsLines}
 use Rattle.drum_inputs.specs.Inputs.{AreInputsOf}
-use Rattle.drum_inputs.specs.InputsText.{Line, IsLine, Say, IsTooLong, AreInputs, IsFaultOfLine, IsFirstFault, IsRefused}
+use Rattle.drum_inputs.specs.InputsText.{Line, IsLine, Say, IsTooLong, AreInputs, IsFaultOfLine, IsFirstFault}
+use Rattle.drum_inputs.specs.InputsText.{IsRefused}
 
 -- Of a text some lines have been read, and this is left.
 pub record Progress (text rest : List ℕ) (stating : Stating) (number : ℕ) : Type 0 where
@@ -22,29 +24,38 @@ pub record Progress (text rest : List ℕ) (stating : Stating) (number : ℕ) : 
   pub holds : HoldsLines stating lines
   pub counted : number ≡ length texts
 
-say_append : (texts : List (List ℕ)) (lines : List Line) (text : List ℕ) (line : Line) → Say texts lines → IsLine text line → Say (texts ++ text ∷ []) (lines ++ line ∷ [])
+say_append : (texts : List (List ℕ)) (lines : List Line) (text : List ℕ) (line : Line) → Say texts lines
+    → IsLine text line → Say (texts ++ text ∷ []) (lines ++ line ∷ [])
 say_append [] [] text line p is_line = (is_line, tt)
 say_append [] (one ∷ lines) text line p is_line = absurd p
 say_append (one ∷ texts) [] text line p is_line = absurd p
 say_append (one ∷ texts) (other ∷ lines) text line p is_line = (p.0, say_append texts lines text line p.1 is_line)
 
-pub few_left : (text rest : List ℕ) (stating : Stating) (number : ℕ) → (IsTooLong text → ⊥) → Progress text rest stating number → number + length (lines_of rest) ≤ 4000
+pub few_left : (text rest : List ℕ) (stating : Stating) (number : ℕ) → (IsTooLong text → ⊥)
+    → Progress text rest stating number → number + length (lines_of rest) ≤ 4000
 few_left text rest stating number short p =
-    let long : length (lines_of text) ≡ length p.texts + length (lines_of rest) = ap (λ (xs : List (List ℕ)). length xs) p.split ∙ length-append p.texts (lines_of rest) in
-    elim (cases_lt 4000 (length (lines_of text))) [ inl more ↦ absurd (short (inl more)) | inr few ↦ omega (arith, few, long, p.counted) ]
+    let long : length (lines_of text) ≡ length p.texts + length (lines_of rest) =
+    ap (λ (xs : List (List ℕ)). length xs) p.split ∙ length-append p.texts (lines_of rest) in
+    elim (cases_lt 4000 (length (lines_of text)))
+    [ inl more ↦ absurd (short (inl more)) | inr few ↦ omega (arith, few, long, p.counted) ]
 
-pub one_more : (text rest rest' : List ℕ) (stating stating' : Stating) (number : ℕ) (line : List ℕ) (says : Line) → (p : Progress text rest stating number)
-    → lines_of rest ≡ line ∷ lines_of rest' → IsLine line says → HoldsLines stating' (p.lines ++ says ∷ []) → Progress text rest' stating' (number + 1)
+pub one_more : (text rest rest' : List ℕ) (stating stating' : Stating) (number : ℕ) (line : List ℕ) (says : Line)
+    → (p : Progress text rest stating number)
+    → lines_of rest ≡ line ∷ lines_of rest' → IsLine line says → HoldsLines stating' (p.lines ++ says ∷ [])
+    → Progress text rest' stating' (number + 1)
 one_more text rest rest' stating stating' number line says p steps is_line holds = record {
   texts = p.texts ++ line ∷ [];
   lines = p.lines ++ says ∷ [];
-  split = p.split ∙ ap (λ (xs : List (List ℕ)). p.texts ++ xs) steps ∙ sym (append_assoc p.texts (line ∷ []) (lines_of rest'));
+  split =
+      p.split ∙ ap (λ (xs : List (List ℕ)). p.texts ++ xs) steps
+      ∙ sym (append_assoc p.texts (line ∷ []) (lines_of rest'));
   said = say_append p.texts p.lines line says p.said is_line;
   holds = holds;
   counted = omega (arith, p.counted, length-append p.texts (line ∷ []));
 }
 
-first_refused : (text : List ℕ) (fault : InputFault) → (IsTooLong text → ⊥) → IsFirstFault text fault → IsRefused text fault
+first_refused : (text : List ℕ) (fault : InputFault) → (IsTooLong text → ⊥) → IsFirstFault text fault
+    → IsRefused text fault
 first_refused text faults.Read short p = absurd p.first
 first_refused text faults.Memory short p = absurd p.first
 first_refused text faults.TooLong short p = absurd p.first
@@ -52,7 +63,8 @@ first_refused text (faults.Line n) short p = (short, p)
 first_refused text (faults.PastDrum n) short p = (short, p)
 first_refused text (faults.Repeated n) short p = (short, p)
 
-pub refused_here : (text rest rest' : List ℕ) (stating : Stating) (number : ℕ) (line : List ℕ) (fault : InputFault) → (IsTooLong text → ⊥) → (p : Progress text rest stating number)
+pub refused_here : (text rest rest' : List ℕ) (stating : Stating) (number : ℕ) (line : List ℕ) (fault : InputFault)
+    → (IsTooLong text → ⊥) → (p : Progress text rest stating number)
     → lines_of rest ≡ line ∷ lines_of rest' → IsFaultOfLine p.lines (number + 1) line fault → IsRefused text fault
 refused_here text rest rest' stating number line fault short p steps first = first_refused text fault short (record {
   texts = p.texts;
@@ -65,27 +77,35 @@ refused_here text rest rest' stating number line fault short p steps first = fir
   first = subst (λ (n : ℕ). IsFaultOfLine p.lines (n + 1) line fault) p.counted first;
 })
 
-all_said : (text rest : List ℕ) (stating : Stating) (number : ℕ) → (p : Progress text rest stating number) → lines_of rest ≡ [] → Say (lines_of text) p.lines
+all_said : (text rest : List ℕ) (stating : Stating) (number : ℕ) → (p : Progress text rest stating number)
+    → lines_of rest ≡ [] → Say (lines_of text) p.lines
 all_said text rest stating number p nothing =
-    let all : lines_of text ≡ p.texts = p.split ∙ ap (λ (xs : List (List ℕ)). p.texts ++ xs) nothing ∙ append-nil p.texts in
+    let all : lines_of text ≡ p.texts =
+    p.split ∙ ap (λ (xs : List (List ℕ)). p.texts ++ xs) nothing ∙ append-nil p.texts in
     subst (λ (texts : List (List ℕ)). Say texts p.lines) (sym all) p.said
 
 pub left_too_long : (left : Option (List ℕ)) → IfSome left (λ bytes. 804000 < length bytes) → IfSome left IsTooLong
 left_too_long None more = tt
 left_too_long (Some bytes) more = longer_by_bytes 4000 200 bytes more
 
-pub inputs_of_left : (left : Option (List ℕ)) (whole text : List ℕ) (result : Result Inputs InputFault) → text ≡ whole → IfSome left (λ bytes. whole ≡ bytes)
+pub inputs_of_left : (left : Option (List ℕ)) (whole text : List ℕ) (result : Result Inputs InputFault) → text ≡ whole
+    → IfSome left (λ bytes. whole ≡ bytes)
     → IfOk result (λ inputs. (lines : List Line) × AreInputs text lines × AreInputsOf inputs lines)
-    → IfOk result (λ inputs. IfSome left (λ bytes. (lines : List Line) × AreInputs bytes lines × AreInputsOf inputs lines))
+    → IfOk result (λ inputs. IfSome left
+    (λ bytes. (lines : List Line) × AreInputs bytes lines × AreInputsOf inputs lines))
 inputs_of_left None whole text (Ok inputs) same all held = tt
 inputs_of_left None whole text (Err fault) same all held = tt
-inputs_of_left (Some bytes) whole text (Ok inputs) same all held = (held.0, subst (λ (bytes : List ℕ). AreInputs bytes held.0) (same ∙ all) held.1, held.2)
+inputs_of_left (Some bytes) whole text (Ok inputs) same all held =
+    (held.0, subst (λ (bytes : List ℕ). AreInputs bytes held.0) (same ∙ all) held.1, held.2)
 inputs_of_left (Some bytes) whole text (Err fault) same all held = tt
 
-pub refused_of_left : (left : Option (List ℕ)) (whole text : List ℕ) (result : Result Inputs InputFault) → text ≡ whole → IfSome left (λ bytes. whole ≡ bytes)
+pub refused_of_left : (left : Option (List ℕ)) (whole text : List ℕ) (result : Result Inputs InputFault) → text ≡ whole
+    → IfSome left (λ bytes. whole ≡ bytes)
     → IfErr result (λ fault. (fault ≡ faults.Memory → ⊥) → IsRefused text fault)
-    → IfErr result (λ fault. (fault ≡ faults.Read → ⊥) → (fault ≡ faults.Memory → ⊥) → IfSome left (λ bytes. IsRefused bytes fault))
+    → IfErr result (λ fault. (fault ≡ faults.Read → ⊥) → (fault ≡ faults.Memory → ⊥)
+    → IfSome left (λ bytes. IsRefused bytes fault))
 refused_of_left None whole text (Ok inputs) same all held = tt
 refused_of_left None whole text (Err fault) same all held = λ not_read not_memory. tt
 refused_of_left (Some bytes) whole text (Ok inputs) same all held = tt
-refused_of_left (Some bytes) whole text (Err fault) same all held = λ not_read not_memory. subst (λ (bytes : List ℕ). IsRefused bytes fault) (same ∙ all) (held not_memory)
+refused_of_left (Some bytes) whole text (Err fault) same all held =
+    λ not_read not_memory. subst (λ (bytes : List ℕ). IsRefused bytes fault) (same ∙ all) (held not_memory)

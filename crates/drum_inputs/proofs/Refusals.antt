@@ -1,12 +1,14 @@
 -- Laws of inputs: a text says one list of lines, and has one fault.
-use Rattle.std.proofs.Common.{◌≡◌, ℕ, ◌+◌, ◌<◌, List, [], ◌∷◌, ◌++◌, length, take, drop, refl, ap, sym, ◌∙◌, subst, arith, append_assoc, inl, inr}
+use Rattle.std.proofs.Common.{◌≡◌, ℕ, ◌+◌, ◌<◌, List, [], ◌∷◌, ◌++◌, length, take, drop, refl, ap, sym, ◌∙◌, subst}
+use Rattle.std.proofs.Common.{arith, append_assoc, inl, inr}
 use Rattle.std.proofs.Math.Seq.{take-append_seam, drop-append_seam}
 use Rattle.std.proofs.lemmas.Bool.{cases_lt}
 use Rattle.std.proofs.lemmas.List.{append-nil}
 use Rattle.drum_core.specs.Lines.{lines_of}
 use Rattle.drum_inputs.specs.declared.fault.InputFault.{InputFault}
 use Rattle.drum_inputs.specs.declared.fault.InputFault.TheVariants as faults
-use Rattle.drum_inputs.specs.InputsText.{Line, IsLine, Say, IsPastDrum, Repeats, AreSoundBehind, AreSound, AreInputs, IsFaultOfLine, IsFirstFault, IsRefused}
+use Rattle.drum_inputs.specs.InputsText.{Line, IsLine, Say, IsPastDrum, Repeats, AreSoundBehind, AreSound, AreInputs}
+use Rattle.drum_inputs.specs.InputsText.{IsFaultOfLine, IsFirstFault, IsRefused}
 use Rattle.drum_inputs.proofs.OneLine.{line_one}
 
 -- texts say one list of lines
@@ -30,23 +32,35 @@ record Parts (texts : List (List ℕ)) (text : List ℕ) (lines : List Line) : T
   said : Say texts front
   says : IsLine text line
 
-parts_of : (texts : List (List ℕ)) (text : List ℕ) (others : List (List ℕ)) (lines : List Line) → Say (texts ++ text ∷ others) lines → Parts texts text lines
+parts_of : (texts : List (List ℕ)) (text : List ℕ) (others : List (List ℕ)) (lines : List Line)
+    → Say (texts ++ text ∷ others) lines → Parts texts text lines
 parts_of [] text others [] p = absurd p
-parts_of [] text others (line ∷ lines) p = record { front = []; line = line; behind = lines; split = refl; said = tt; says = p.0 }
+parts_of [] text others (line ∷ lines) p =
+    record { front = []; line = line; behind = lines; split = refl; said = tt; says = p.0 }
 parts_of (first ∷ texts) text others [] p = absurd p
 parts_of (first ∷ texts) text others (line ∷ lines) p =
     let rest = parts_of texts text others lines p.1 in
-    record { front = line ∷ rest.front; line = rest.line; behind = rest.behind; split = ap (λ (xs : List Line). line ∷ xs) rest.split; said = (p.0, rest.said); says = rest.says }
+    record {
+      front = line ∷ rest.front;
+      line = rest.line;
+      behind = rest.behind;
+      split = ap (λ (xs : List Line). line ∷ xs) rest.split;
+      said = (p.0, rest.said);
+      says = rest.says;
+    }
 
 -- a line among sound lines
-sound_among : (before front : List Line) (line : Line) (behind : List Line) → AreSoundBehind before (front ++ line ∷ behind) → (¬ IsPastDrum line) × (¬ Repeats (before ++ front) line)
-sound_among before [] line behind sound = (sound.0, subst (λ (ls : List Line). ¬ Repeats ls line) (sym (append-nil before)) sound.1)
+sound_among : (before front : List Line) (line : Line) (behind : List Line)
+    → AreSoundBehind before (front ++ line ∷ behind) → (¬ IsPastDrum line) × (¬ Repeats (before ++ front) line)
+sound_among before [] line behind sound =
+    (sound.0, subst (λ (ls : List Line). ¬ Repeats ls line) (sym (append-nil before)) sound.1)
 sound_among before (first ∷ front) line behind sound =
     let rest = sound_among (before ++ first ∷ []) front line behind sound.2 in
     (rest.0, subst (λ (ls : List Line). ¬ Repeats ls line) (append_assoc before (first ∷ []) front) rest.1)
 
 -- a line of sound lines has no fault
-no_fault_among : (front : List Line) (line : Line) (behind : List Line) (number : ℕ) (text : List ℕ) (fault : InputFault) → AreSound (front ++ line ∷ behind) → IsLine text line
+no_fault_among : (front : List Line) (line : Line) (behind : List Line) (number : ℕ) (text : List ℕ)
+    (fault : InputFault) → AreSound (front ++ line ∷ behind) → IsLine text line
     → IsFaultOfLine front number text fault → ⊥
 no_fault_among front line behind number text (faults.Line n) sound says p = p.1 line says
 no_fault_among front line behind number text (faults.PastDrum n) sound says p =
@@ -60,7 +74,8 @@ no_fault_among front line behind number text faults.Memory sound says p = p
 no_fault_among front line behind number text faults.TooLong sound says p = p
 
 -- a line has one fault
-fault_of_line_one : (before : List Line) (number : ℕ) (text : List ℕ) (fault other : InputFault) → IsFaultOfLine before number text fault → IsFaultOfLine before number text other → fault ≡ other
+fault_of_line_one : (before : List Line) (number : ℕ) (text : List ℕ) (fault other : InputFault)
+    → IsFaultOfLine before number text fault → IsFaultOfLine before number text other → fault ≡ other
 fault_of_line_one before number text faults.Read other p q = absurd p
 fault_of_line_one before number text faults.Memory other p q = absurd p
 fault_of_line_one before number text faults.TooLong other p q = absurd p
@@ -72,14 +87,18 @@ fault_of_line_one before number text (faults.Line n) (faults.PastDrum m) p q = a
 fault_of_line_one before number text (faults.Line n) (faults.Repeated m) p q = absurd (p.1 q.1.0 q.1.1)
 fault_of_line_one before number text (faults.PastDrum n) (faults.Line m) p q = absurd (q.1 p.1.0 p.1.1)
 fault_of_line_one before number text (faults.PastDrum n) (faults.PastDrum m) p q = ap faults.PastDrum (p.0 ∙ sym q.0)
-fault_of_line_one before number text (faults.PastDrum n) (faults.Repeated m) p q = absurd (q.1.2 (subst IsPastDrum (line_one text p.1.0 q.1.0 p.1.1 q.1.1) p.1.2))
+fault_of_line_one before number text (faults.PastDrum n) (faults.Repeated m) p q =
+    absurd (q.1.2 (subst IsPastDrum (line_one text p.1.0 q.1.0 p.1.1 q.1.1) p.1.2))
 fault_of_line_one before number text (faults.Repeated n) (faults.Line m) p q = absurd (q.1 p.1.0 p.1.1)
-fault_of_line_one before number text (faults.Repeated n) (faults.PastDrum m) p q = absurd (p.1.2 (subst IsPastDrum (line_one text q.1.0 p.1.0 q.1.1 p.1.1) q.1.2))
+fault_of_line_one before number text (faults.Repeated n) (faults.PastDrum m) p q =
+    absurd (p.1.2 (subst IsPastDrum (line_one text q.1.0 p.1.0 q.1.1 p.1.1) q.1.2))
 fault_of_line_one before number text (faults.Repeated n) (faults.Repeated m) p q = ap faults.Repeated (p.0 ∙ sym q.0)
 
 -- of two fronts of one list, the longer has the shorter and what stands behind it
-longer_front : (texts others : List (List ℕ)) (text other : List ℕ) (behind behind' : List (List ℕ)) → length texts < length others
-    → texts ++ text ∷ behind ≡ others ++ other ∷ behind' → (between : List (List ℕ)) × (others ≡ texts ++ text ∷ between)
+longer_front : (texts others : List (List ℕ)) (text other : List ℕ) (behind behind' : List (List ℕ))
+    → length texts < length others
+    → texts ++ text ∷ behind ≡ others ++ other ∷ behind' → (between : List (List ℕ))
+    × (others ≡ texts ++ text ∷ between)
 longer_front [] [] text other behind behind' less e = absurd (omega arith)
 longer_front [] (first ∷ others) text other behind behind' less e =
     let head : text ≡ first = cc in
@@ -92,16 +111,20 @@ longer_front (first ∷ texts) (first' ∷ others) text other behind behind' les
     (rest.0, ap (λ (t : List ℕ). t ∷ others) (sym head) ∙ ap (λ (ts : List (List ℕ)). first ∷ ts) rest.1)
 
 -- the first fault of a text isn't behind that of an earlier line
-not_behind : (text : List ℕ) (fault other : InputFault) (p : IsFirstFault text fault) (q : IsFirstFault text other) → length p.texts < length q.texts → ⊥
+not_behind : (text : List ℕ) (fault other : InputFault) (p : IsFirstFault text fault) (q : IsFirstFault text other)
+    → length p.texts < length q.texts → ⊥
 not_behind text fault other p q less =
     let longer = longer_front p.texts q.texts p.line q.line p.others q.others less (sym p.split ∙ q.split) in
-    let said : Say (p.texts ++ p.line ∷ longer.0) q.before = subst (λ (ts : List (List ℕ)). Say ts q.before) longer.1 q.said in
+    let said : Say (p.texts ++ p.line ∷ longer.0) q.before =
+    subst (λ (ts : List (List ℕ)). Say ts q.before) longer.1 q.said in
     let parts = parts_of p.texts p.line longer.0 q.before said in
     let front : p.before ≡ parts.front = say_one p.texts p.before parts.front p.said parts.said in
-    no_fault_among parts.front parts.line parts.behind (length p.texts + 1) p.line fault (subst AreSound parts.split q.sound) parts.says
+    no_fault_among parts.front parts.line parts.behind (length p.texts + 1) p.line fault
+    (subst AreSound parts.split q.sound) parts.says
     (subst (λ (ls : List Line). IsFaultOfLine ls (length p.texts + 1) p.line fault) front p.first)
 
-pub first_fault_one : (text : List ℕ) (fault other : InputFault) → IsFirstFault text fault → IsFirstFault text other → fault ≡ other
+pub first_fault_one : (text : List ℕ) (fault other : InputFault) → IsFirstFault text fault → IsFirstFault text other
+    → fault ≡ other
 first_fault_one text fault other p q =
     elim (cases_lt (length p.texts) (length q.texts)) [
       | inl less ↦ absurd (not_behind text fault other p q less)
@@ -109,7 +132,8 @@ first_fault_one text fault other p q =
         | inl less ↦ absurd (not_behind text other fault q p less)
         | inr upto' ↦
             let long : length p.texts ≡ length q.texts = omega arith in
-            let parts = same_texts p.texts q.texts (p.line ∷ p.others) (q.line ∷ q.others) long (sym p.split ∙ q.split) in
+            let parts =
+            same_texts p.texts q.texts (p.line ∷ p.others) (q.line ∷ q.others) long (sym p.split ∙ q.split) in
             let line : p.line ≡ q.line = cc in
             let said : Say p.texts q.before = subst (λ (ts : List (List ℕ)). Say ts q.before) (sym parts.0) q.said in
             let before : p.before ≡ q.before = say_one p.texts p.before q.before p.said said in
@@ -121,29 +145,39 @@ first_fault_one text fault other p q =
       ]
     ]
   where
-    same_texts : (xs xs' ys ys' : List (List ℕ)) → length xs ≡ length xs' → xs ++ ys ≡ xs' ++ ys' → (xs ≡ xs') × (ys ≡ ys')
+    same_texts : (xs xs' ys ys' : List (List ℕ)) → length xs ≡ length xs' → xs ++ ys ≡ xs' ++ ys' → (xs ≡ xs')
+        × (ys ≡ ys')
     same_texts xs xs' ys ys' long e = (
-      sym (take-append_seam xs ys) ∙ ap (take (length xs)) e ∙ ap (λ n. take n (xs' ++ ys')) long ∙ take-append_seam xs' ys',
-      sym (drop-append_seam xs ys) ∙ ap (drop (length xs)) e ∙ ap (λ n. drop n (xs' ++ ys')) long ∙ drop-append_seam xs' ys',
+      sym (take-append_seam xs ys) ∙ ap (take (length xs)) e ∙ ap (λ n. take n (xs' ++ ys')) long
+          ∙ take-append_seam xs' ys',
+      sym (drop-append_seam xs ys) ∙ ap (drop (length xs)) e ∙ ap (λ n. drop n (xs' ++ ys')) long
+          ∙ drop-append_seam xs' ys',
     )
 
 -- a text whose lines are sound has no faulty line
-sound_not_faulty : (text : List ℕ) (lines : List Line) (fault : InputFault) → Say (lines_of text) lines → AreSound lines → IsFirstFault text fault → ⊥
+sound_not_faulty : (text : List ℕ) (lines : List Line) (fault : InputFault) → Say (lines_of text) lines → AreSound lines
+    → IsFirstFault text fault → ⊥
 sound_not_faulty text lines fault all_said sound p =
-    let said : Say (p.texts ++ p.line ∷ p.others) lines = subst (λ (ts : List (List ℕ)). Say ts lines) p.split all_said in
+    let said : Say (p.texts ++ p.line ∷ p.others) lines =
+    subst (λ (ts : List (List ℕ)). Say ts lines) p.split all_said in
     let parts = parts_of p.texts p.line p.others lines said in
     let front : p.before ≡ parts.front = say_one p.texts p.before parts.front p.said parts.said in
-    no_fault_among parts.front parts.line parts.behind (length p.texts + 1) p.line fault (subst AreSound parts.split sound) parts.says
+    no_fault_among parts.front parts.line parts.behind (length p.texts + 1) p.line fault
+    (subst AreSound parts.split sound) parts.says
     (subst (λ (ls : List Line). IsFaultOfLine ls (length p.texts + 1) p.line fault) front p.first)
 
 -- inputs aren't refused
-pub inputs_not_refused : (text : List ℕ) (lines : List Line) (fault : InputFault) → AreInputs text lines → IsRefused text fault → ⊥
+pub inputs_not_refused : (text : List ℕ) (lines : List Line) (fault : InputFault) → AreInputs text lines
+    → IsRefused text fault → ⊥
 inputs_not_refused text lines faults.Read inputs p = p
 inputs_not_refused text lines faults.Memory inputs p = p
 inputs_not_refused text lines faults.TooLong inputs p = inputs.short p
-inputs_not_refused text lines (faults.Line n) inputs p = sound_not_faulty text lines (faults.Line n) inputs.said inputs.sound p.1
-inputs_not_refused text lines (faults.PastDrum n) inputs p = sound_not_faulty text lines (faults.PastDrum n) inputs.said inputs.sound p.1
-inputs_not_refused text lines (faults.Repeated n) inputs p = sound_not_faulty text lines (faults.Repeated n) inputs.said inputs.sound p.1
+inputs_not_refused text lines (faults.Line n) inputs p =
+    sound_not_faulty text lines (faults.Line n) inputs.said inputs.sound p.1
+inputs_not_refused text lines (faults.PastDrum n) inputs p =
+    sound_not_faulty text lines (faults.PastDrum n) inputs.said inputs.sound p.1
+inputs_not_refused text lines (faults.Repeated n) inputs p =
+    sound_not_faulty text lines (faults.Repeated n) inputs.said inputs.sound p.1
 
 -- a text that is no inputs has one fault
 pub fault_one : (text : List ℕ) (fault other : InputFault) → IsRefused text fault → IsRefused text other → fault ≡ other
@@ -157,13 +191,21 @@ fault_one text faults.TooLong (faults.PastDrum n) p q = absurd (q.0 p)
 fault_one text faults.TooLong (faults.Repeated n) p q = absurd (q.0 p)
 fault_one text (faults.Line n) faults.TooLong p q = absurd (p.0 q)
 fault_one text (faults.Line n) (faults.Line m) p q = first_fault_one text (faults.Line n) (faults.Line m) p.1 q.1
-fault_one text (faults.Line n) (faults.PastDrum m) p q = first_fault_one text (faults.Line n) (faults.PastDrum m) p.1 q.1
-fault_one text (faults.Line n) (faults.Repeated m) p q = first_fault_one text (faults.Line n) (faults.Repeated m) p.1 q.1
+fault_one text (faults.Line n) (faults.PastDrum m) p q =
+    first_fault_one text (faults.Line n) (faults.PastDrum m) p.1 q.1
+fault_one text (faults.Line n) (faults.Repeated m) p q =
+    first_fault_one text (faults.Line n) (faults.Repeated m) p.1 q.1
 fault_one text (faults.PastDrum n) faults.TooLong p q = absurd (p.0 q)
-fault_one text (faults.PastDrum n) (faults.Line m) p q = first_fault_one text (faults.PastDrum n) (faults.Line m) p.1 q.1
-fault_one text (faults.PastDrum n) (faults.PastDrum m) p q = first_fault_one text (faults.PastDrum n) (faults.PastDrum m) p.1 q.1
-fault_one text (faults.PastDrum n) (faults.Repeated m) p q = first_fault_one text (faults.PastDrum n) (faults.Repeated m) p.1 q.1
+fault_one text (faults.PastDrum n) (faults.Line m) p q =
+    first_fault_one text (faults.PastDrum n) (faults.Line m) p.1 q.1
+fault_one text (faults.PastDrum n) (faults.PastDrum m) p q =
+    first_fault_one text (faults.PastDrum n) (faults.PastDrum m) p.1 q.1
+fault_one text (faults.PastDrum n) (faults.Repeated m) p q =
+    first_fault_one text (faults.PastDrum n) (faults.Repeated m) p.1 q.1
 fault_one text (faults.Repeated n) faults.TooLong p q = absurd (p.0 q)
-fault_one text (faults.Repeated n) (faults.Line m) p q = first_fault_one text (faults.Repeated n) (faults.Line m) p.1 q.1
-fault_one text (faults.Repeated n) (faults.PastDrum m) p q = first_fault_one text (faults.Repeated n) (faults.PastDrum m) p.1 q.1
-fault_one text (faults.Repeated n) (faults.Repeated m) p q = first_fault_one text (faults.Repeated n) (faults.Repeated m) p.1 q.1
+fault_one text (faults.Repeated n) (faults.Line m) p q =
+    first_fault_one text (faults.Repeated n) (faults.Line m) p.1 q.1
+fault_one text (faults.Repeated n) (faults.PastDrum m) p q =
+    first_fault_one text (faults.Repeated n) (faults.PastDrum m) p.1 q.1
+fault_one text (faults.Repeated n) (faults.Repeated m) p q =
+    first_fault_one text (faults.Repeated n) (faults.Repeated m) p.1 q.1

@@ -1,15 +1,19 @@
 -- A setting more.
-use Rattle.std.proofs.Common.{◌≡◌, ℕ, zero, suc, ◌^◌, ◌<◌, Bool, true, false, List, [], ◌∷◌, ◌++◌, refl, ap, sym, ◌∙◌, subst, ℤ, Option, Some, None, arith, to_z, of_z}
+use Rattle.std.proofs.Common.{◌≡◌, ℕ, zero, suc, ◌^◌, ◌<◌, Bool, true, false, List, [], ◌∷◌, ◌++◌, refl, ap, sym, ◌∙◌}
+use Rattle.std.proofs.Common.{subst, ℤ, Option, Some, None, arith, to_z, of_z}
 use Rattle.std.specs.Int.{w128}
 use Rattle.std.proofs.lemmas.Int.{to_z-of_z, fits_signed_from_abs}
 use Rattle.std.specs.Prelude.{Result, Ok, Err, OnOk, IsSome, unsigned_abs}
 use Rattle.drum_core.specs.declared.word.Word.{Word}
 use Rattle.drum_core.specs.Word.{signed}
 use Rattle.drum_inputs.specs.declared.setting.Setting.{Setting}
-use Rattle.drum_inputs.specs.declared.setting.Setting.TheVariants.{Angle, Switches, Distributor, Accumulator, Latch, Programmed, OnOverflow}
+use Rattle.drum_inputs.specs.declared.setting.Setting.TheVariants.{Angle, Switches, Distributor, Accumulator, Latch}
+use Rattle.drum_inputs.specs.declared.setting.Setting.TheVariants.{Programmed, OnOverflow}
 use Rattle.drum_inputs.specs.declared.settings.Settings.{Settings}
 use Rattle.drum_inputs.specs.Holds.{CanBeStated, HoldSettings}
-use Rattle.drum_inputs.specs.InputsText.{Line, IsLine, Repeats, first_said, angle, switches, distributor, accumulator, latch, programmed, on_overflow, angle_in, switches_in, distributor_in, accumulator_in, latch_in, programmed_in, on_overflow_in}
+use Rattle.drum_inputs.specs.InputsText.{Line, IsLine, Repeats, first_said, angle, switches, distributor, accumulator}
+use Rattle.drum_inputs.specs.InputsText.{latch, programmed, on_overflow, angle_in, switches_in, distributor_in}
+use Rattle.drum_inputs.specs.InputsText.{accumulator_in, latch_in, programmed_in, on_overflow_in}
 use Rattle.drum_inputs.specs.Said.{stated}
 use Rattle.drum_inputs.proofs.Firsts.{keeps, fills}
 
@@ -28,22 +32,44 @@ small_accumulator text a (minus, n, small, is_a, written) =
 pub same_signed : (a : ℤ) → unsigned_abs a < 10 ^ 20 → to_z w128 (of_z w128 a) ≡ a
 same_signed a small = to_z-of_z w128 a (fits_signed_from_abs w128 a (omega (arith, small)))
 
-not_said : {A : Type 0} {slot : Option A} (in_line : Line → Option A) (lines : List Line) → slot ≡ first_said in_line lines → slot ≡ None → ¬ IsSome (first_said in_line lines)
+not_said : {A : Type 0} {slot : Option A} (in_line : Line → Option A) (lines : List Line)
+    → slot ≡ first_said in_line lines → slot ≡ None → ¬ IsSome (first_said in_line lines)
 not_said in_line lines held empty some =
     let no : false ≡ true = subst IsSome (sym held ∙ empty) some in
     cc
 
 -- what an empty slot and its setting give
 abbrev pub Taken : Settings → Settings → Setting → List Line → Type 0
-Taken old new setting lines = HoldSettings old lines → HoldSettings new (lines ++ stated setting ∷ []) × (¬ Repeats lines (stated setting))
+Taken old new setting lines =
+    HoldSettings old lines → HoldSettings new (lines ++ stated setting ∷ []) × (¬ Repeats lines (stated setting))
 
-pub took_angle : {A E : Type 0} (result : Result A E) (old : Settings) (slot : Option ℕ) (setting : Setting) (value : ℕ) → setting ≡ Angle value → CanBeStated setting
+pub took_angle : {A E : Type 0} (result : Result A E) (old : Settings) (slot : Option ℕ) (setting : Setting) (value : ℕ)
+    → setting ≡ Angle value → CanBeStated setting
     → OnOk result (old.angle ≡ None) → OnOk result (slot ≡ Some value)
-    → OnOk result ((lines : List Line) → Taken old (record { angle = slot; switches = old.switches; distributor = old.distributor; accumulator = old.accumulator; latch = old.latch; programmed = old.programmed; on_overflow = old.on_overflow }) setting lines)
+    → OnOk result ((lines : List Line)
+    → Taken old (record {
+      angle = slot;
+      switches = old.switches;
+      distributor = old.distributor;
+      accumulator = old.accumulator;
+      latch = old.latch;
+      programmed = old.programmed;
+      on_overflow = old.on_overflow;
+    })
+    setting lines)
 took_angle (Err fault) old slot setting value is can empty filled = tt
 took_angle (Ok done) old slot setting value is can empty filled = λ lines holds.
     let small : value < 50 = (subst CanBeStated is can).1.0 in
-    let new : Settings = record { angle = slot; switches = old.switches; distributor = old.distributor; accumulator = old.accumulator; latch = old.latch; programmed = old.programmed; on_overflow = old.on_overflow } in
+    let new : Settings =
+    record {
+      angle = slot;
+      switches = old.switches;
+      distributor = old.distributor;
+      accumulator = old.accumulator;
+      latch = old.latch;
+      programmed = old.programmed;
+      on_overflow = old.on_overflow;
+    } in
     let here : HoldSettings new (lines ++ angle value ∷ []) = record {
       angle = filled ∙ fills angle_in lines (angle value) value holds.angle empty refl;
       switches = keeps switches_in lines (angle value) holds.switches refl;
@@ -59,12 +85,32 @@ took_angle (Ok done) old slot setting value is can empty filled = λ lines holds
     let both : There (Angle value) = (here, not_said angle_in lines holds.angle empty) in
     subst There (sym is) both
 
-pub took_switches : {A E : Type 0} (result : Result A E) (old : Settings) (slot : Option Word) (setting : Setting) (value : Word) → setting ≡ Switches value → CanBeStated setting
+pub took_switches : {A E : Type 0} (result : Result A E) (old : Settings) (slot : Option Word) (setting : Setting)
+    (value : Word) → setting ≡ Switches value → CanBeStated setting
     → OnOk result (old.switches ≡ None) → OnOk result (slot ≡ Some value)
-    → OnOk result ((lines : List Line) → Taken old (record { angle = old.angle; switches = slot; distributor = old.distributor; accumulator = old.accumulator; latch = old.latch; programmed = old.programmed; on_overflow = old.on_overflow }) setting lines)
+    → OnOk result ((lines : List Line)
+    → Taken old (record {
+      angle = old.angle;
+      switches = slot;
+      distributor = old.distributor;
+      accumulator = old.accumulator;
+      latch = old.latch;
+      programmed = old.programmed;
+      on_overflow = old.on_overflow;
+    })
+    setting lines)
 took_switches (Err fault) old slot setting value is can empty filled = tt
 took_switches (Ok done) old slot setting value is can empty filled = λ lines holds.
-    let new : Settings = record { angle = old.angle; switches = slot; distributor = old.distributor; accumulator = old.accumulator; latch = old.latch; programmed = old.programmed; on_overflow = old.on_overflow } in
+    let new : Settings =
+    record {
+      angle = old.angle;
+      switches = slot;
+      distributor = old.distributor;
+      accumulator = old.accumulator;
+      latch = old.latch;
+      programmed = old.programmed;
+      on_overflow = old.on_overflow;
+    } in
     let here : HoldSettings new (lines ++ switches value ∷ []) = record {
       angle = keeps angle_in lines (switches value) holds.angle refl;
       switches = filled ∙ fills switches_in lines (switches value) value holds.switches empty refl;
@@ -80,12 +126,32 @@ took_switches (Ok done) old slot setting value is can empty filled = λ lines ho
     let both : There (Switches value) = (here, not_said switches_in lines holds.switches empty) in
     subst There (sym is) both
 
-pub took_distributor : {A E : Type 0} (result : Result A E) (old : Settings) (slot : Option Word) (setting : Setting) (value : Word) → setting ≡ Distributor value → CanBeStated setting
+pub took_distributor : {A E : Type 0} (result : Result A E) (old : Settings) (slot : Option Word) (setting : Setting)
+    (value : Word) → setting ≡ Distributor value → CanBeStated setting
     → OnOk result (old.distributor ≡ None) → OnOk result (slot ≡ Some value)
-    → OnOk result ((lines : List Line) → Taken old (record { angle = old.angle; switches = old.switches; distributor = slot; accumulator = old.accumulator; latch = old.latch; programmed = old.programmed; on_overflow = old.on_overflow }) setting lines)
+    → OnOk result ((lines : List Line)
+    → Taken old (record {
+      angle = old.angle;
+      switches = old.switches;
+      distributor = slot;
+      accumulator = old.accumulator;
+      latch = old.latch;
+      programmed = old.programmed;
+      on_overflow = old.on_overflow;
+    })
+    setting lines)
 took_distributor (Err fault) old slot setting value is can empty filled = tt
 took_distributor (Ok done) old slot setting value is can empty filled = λ lines holds.
-    let new : Settings = record { angle = old.angle; switches = old.switches; distributor = slot; accumulator = old.accumulator; latch = old.latch; programmed = old.programmed; on_overflow = old.on_overflow } in
+    let new : Settings =
+    record {
+      angle = old.angle;
+      switches = old.switches;
+      distributor = slot;
+      accumulator = old.accumulator;
+      latch = old.latch;
+      programmed = old.programmed;
+      on_overflow = old.on_overflow;
+    } in
     let here : HoldSettings new (lines ++ distributor value ∷ []) = record {
       angle = keeps angle_in lines (distributor value) holds.angle refl;
       switches = keeps switches_in lines (distributor value) holds.switches refl;
@@ -101,14 +167,34 @@ took_distributor (Ok done) old slot setting value is can empty filled = λ lines
     let both : There (Distributor value) = (here, not_said distributor_in lines holds.distributor empty) in
     subst There (sym is) both
 
-pub took_accumulator : {A E : Type 0} (result : Result A E) (old : Settings) (slot : Option ℤ) (setting : Setting) (value : ℤ) → setting ≡ Accumulator value → CanBeStated setting
+pub took_accumulator : {A E : Type 0} (result : Result A E) (old : Settings) (slot : Option ℤ) (setting : Setting)
+    (value : ℤ) → setting ≡ Accumulator value → CanBeStated setting
     → OnOk result (old.accumulator ≡ None) → OnOk result (slot ≡ Some value)
-    → OnOk result ((lines : List Line) → Taken old (record { angle = old.angle; switches = old.switches; distributor = old.distributor; accumulator = slot; latch = old.latch; programmed = old.programmed; on_overflow = old.on_overflow }) setting lines)
+    → OnOk result ((lines : List Line)
+    → Taken old (record {
+      angle = old.angle;
+      switches = old.switches;
+      distributor = old.distributor;
+      accumulator = slot;
+      latch = old.latch;
+      programmed = old.programmed;
+      on_overflow = old.on_overflow;
+    }) setting
+    lines)
 took_accumulator (Err fault) old slot setting value is can empty filled = tt
 took_accumulator (Ok done) old slot setting value is can empty filled = λ lines holds.
     let here = subst CanBeStated is can in
     let small : unsigned_abs value < 10 ^ 20 = small_accumulator here.0 value here.1 in
-    let new : Settings = record { angle = old.angle; switches = old.switches; distributor = old.distributor; accumulator = slot; latch = old.latch; programmed = old.programmed; on_overflow = old.on_overflow } in
+    let new : Settings =
+    record {
+      angle = old.angle;
+      switches = old.switches;
+      distributor = old.distributor;
+      accumulator = slot;
+      latch = old.latch;
+      programmed = old.programmed;
+      on_overflow = old.on_overflow;
+    } in
     let here : HoldSettings new (lines ++ accumulator value ∷ []) = record {
       angle = keeps angle_in lines (accumulator value) holds.angle refl;
       switches = keeps switches_in lines (accumulator value) holds.switches refl;
@@ -124,12 +210,32 @@ took_accumulator (Ok done) old slot setting value is can empty filled = λ lines
     let both : There (Accumulator value) = (here, not_said accumulator_in lines holds.accumulator empty) in
     subst There (sym is) both
 
-pub took_latch : {A E : Type 0} (result : Result A E) (old : Settings) (slot : Option Bool) (setting : Setting) (value : Bool) → setting ≡ Latch value → CanBeStated setting
+pub took_latch : {A E : Type 0} (result : Result A E) (old : Settings) (slot : Option Bool) (setting : Setting)
+    (value : Bool) → setting ≡ Latch value → CanBeStated setting
     → OnOk result (old.latch ≡ None) → OnOk result (slot ≡ Some value)
-    → OnOk result ((lines : List Line) → Taken old (record { angle = old.angle; switches = old.switches; distributor = old.distributor; accumulator = old.accumulator; latch = slot; programmed = old.programmed; on_overflow = old.on_overflow }) setting lines)
+    → OnOk result ((lines : List Line)
+    → Taken old (record {
+      angle = old.angle;
+      switches = old.switches;
+      distributor = old.distributor;
+      accumulator = old.accumulator;
+      latch = slot;
+      programmed = old.programmed;
+      on_overflow = old.on_overflow;
+    })
+    setting lines)
 took_latch (Err fault) old slot setting value is can empty filled = tt
 took_latch (Ok done) old slot setting value is can empty filled = λ lines holds.
-    let new : Settings = record { angle = old.angle; switches = old.switches; distributor = old.distributor; accumulator = old.accumulator; latch = slot; programmed = old.programmed; on_overflow = old.on_overflow } in
+    let new : Settings =
+    record {
+      angle = old.angle;
+      switches = old.switches;
+      distributor = old.distributor;
+      accumulator = old.accumulator;
+      latch = slot;
+      programmed = old.programmed;
+      on_overflow = old.on_overflow;
+    } in
     let here : HoldSettings new (lines ++ latch value ∷ []) = record {
       angle = keeps angle_in lines (latch value) holds.angle refl;
       switches = keeps switches_in lines (latch value) holds.switches refl;
@@ -145,12 +251,32 @@ took_latch (Ok done) old slot setting value is can empty filled = λ lines holds
     let both : There (Latch value) = (here, not_said latch_in lines holds.latch empty) in
     subst There (sym is) both
 
-pub took_programmed : {A E : Type 0} (result : Result A E) (old : Settings) (slot : Option Bool) (setting : Setting) (value : Bool) → setting ≡ Programmed value → CanBeStated setting
+pub took_programmed : {A E : Type 0} (result : Result A E) (old : Settings) (slot : Option Bool) (setting : Setting)
+    (value : Bool) → setting ≡ Programmed value → CanBeStated setting
     → OnOk result (old.programmed ≡ None) → OnOk result (slot ≡ Some value)
-    → OnOk result ((lines : List Line) → Taken old (record { angle = old.angle; switches = old.switches; distributor = old.distributor; accumulator = old.accumulator; latch = old.latch; programmed = slot; on_overflow = old.on_overflow }) setting lines)
+    → OnOk result ((lines : List Line)
+    → Taken old (record {
+      angle = old.angle;
+      switches = old.switches;
+      distributor = old.distributor;
+      accumulator = old.accumulator;
+      latch = old.latch;
+      programmed = slot;
+      on_overflow = old.on_overflow;
+    }) setting
+    lines)
 took_programmed (Err fault) old slot setting value is can empty filled = tt
 took_programmed (Ok done) old slot setting value is can empty filled = λ lines holds.
-    let new : Settings = record { angle = old.angle; switches = old.switches; distributor = old.distributor; accumulator = old.accumulator; latch = old.latch; programmed = slot; on_overflow = old.on_overflow } in
+    let new : Settings =
+    record {
+      angle = old.angle;
+      switches = old.switches;
+      distributor = old.distributor;
+      accumulator = old.accumulator;
+      latch = old.latch;
+      programmed = slot;
+      on_overflow = old.on_overflow;
+    } in
     let here : HoldSettings new (lines ++ programmed value ∷ []) = record {
       angle = keeps angle_in lines (programmed value) holds.angle refl;
       switches = keeps switches_in lines (programmed value) holds.switches refl;
@@ -166,12 +292,32 @@ took_programmed (Ok done) old slot setting value is can empty filled = λ lines 
     let both : There (Programmed value) = (here, not_said programmed_in lines holds.programmed empty) in
     subst There (sym is) both
 
-pub took_on_overflow : {A E : Type 0} (result : Result A E) (old : Settings) (slot : Option Bool) (setting : Setting) (value : Bool) → setting ≡ OnOverflow value → CanBeStated setting
+pub took_on_overflow : {A E : Type 0} (result : Result A E) (old : Settings) (slot : Option Bool) (setting : Setting)
+    (value : Bool) → setting ≡ OnOverflow value → CanBeStated setting
     → OnOk result (old.on_overflow ≡ None) → OnOk result (slot ≡ Some value)
-    → OnOk result ((lines : List Line) → Taken old (record { angle = old.angle; switches = old.switches; distributor = old.distributor; accumulator = old.accumulator; latch = old.latch; programmed = old.programmed; on_overflow = slot }) setting lines)
+    → OnOk result ((lines : List Line)
+    → Taken old (record {
+      angle = old.angle;
+      switches = old.switches;
+      distributor = old.distributor;
+      accumulator = old.accumulator;
+      latch = old.latch;
+      programmed = old.programmed;
+      on_overflow = slot;
+    }) setting
+    lines)
 took_on_overflow (Err fault) old slot setting value is can empty filled = tt
 took_on_overflow (Ok done) old slot setting value is can empty filled = λ lines holds.
-    let new : Settings = record { angle = old.angle; switches = old.switches; distributor = old.distributor; accumulator = old.accumulator; latch = old.latch; programmed = old.programmed; on_overflow = slot } in
+    let new : Settings =
+    record {
+      angle = old.angle;
+      switches = old.switches;
+      distributor = old.distributor;
+      accumulator = old.accumulator;
+      latch = old.latch;
+      programmed = old.programmed;
+      on_overflow = slot;
+    } in
     let here : HoldSettings new (lines ++ on_overflow value ∷ []) = record {
       angle = keeps angle_in lines (on_overflow value) holds.angle refl;
       switches = keeps switches_in lines (on_overflow value) holds.switches refl;

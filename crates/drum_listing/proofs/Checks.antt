@@ -95,7 +95,8 @@ abbrev turn : Word → Turn
 turn first = record { origin = state first; wait = 0; outcome = step times (state first) 0 }
 
 -- a step that goes on, one that stops early, and one of an operation outside of the profile
-steps : turn_lines times 7 (turn (word false 6901030106) ∷ turn (word true 6925000106) ∷ turn (word false 8401000106) ∷ [])
+steps : turn_lines times 7
+    (turn (word false 6901030106) ∷ turn (word true 6925000106) ∷ turn (word false 8401000106) ∷ [])
     ≡ codes "step 7 0100 +6901030106 found 49 ready 52 data 52 ended 55\n"
     ++ codes "step 8 0100 -6925000106 found 49 ready 52 ended 52\n"
     ++ codes "step 9 0100 +8401000106 found 49 ended 49\n"

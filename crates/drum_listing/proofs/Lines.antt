@@ -1,5 +1,6 @@
 -- Lines, put together of their pieces.
-use Rattle.std.proofs.Common.{◌≡◌, ℕ, List, [], ◌∷◌, ◌++◌, flat_map, map, refl, ap, sym, ◌∙◌, append_assoc, Option, Some, None}
+use Rattle.std.proofs.Common.{◌≡◌, ℕ, List, [], ◌∷◌, ◌++◌, flat_map, map, refl, ap, sym, ◌∙◌, append_assoc, Option}
+use Rattle.std.proofs.Common.{Some, None}
 use Rattle.std.proofs.lemmas.List.{append-nil}
 use Rattle.std.specs.Prelude.{codes, decimal}
 use Rattle.drum_core.specs.declared.op.Op.{Op}
@@ -21,7 +22,8 @@ use Rattle.drum_listing.specs.TraceText.{turn_line}
 use Rattle.drum_listing.specs.WalkText.{hop_text, visit_line, way_text}
 
 -- a moment is its two pieces, and so is a way
-moment_pieces : (name : List ℕ) (moment : Option ℕ) → moment_text name moment ≡ name_with name moment ++ digits_with moment
+moment_pieces : (name : List ℕ) (moment : Option ℕ)
+    → moment_text name moment ≡ name_with name moment ++ digits_with moment
 moment_pieces name None = refl
 moment_pieces name (Some moment) = refl
 
@@ -36,21 +38,31 @@ times_grouped : (begin found ready ready' operand operand' behind ended last : L
     ≡ (begin ++ found ++ (ready ++ ready') ++ (operand ++ operand')) ++ behind ++ ended ++ last
 times_grouped begin found ready ready' operand operand' behind ended last = simp append_assoc
 
-hop_grouped : (hop moments behind ended last : List ℕ) → hop ++ (moments ++ behind ++ ended ++ last) ≡ hop ++ moments ++ behind ++ ended ++ last
+hop_grouped : (hop moments behind ended last : List ℕ)
+    → hop ++ (moments ++ behind ++ ended ++ last) ≡ hop ++ moments ++ behind ++ ended ++ last
 hop_grouped hop moments behind ended last = simp append_assoc
 
 -- the end of a line
 pub times_told : (moments : Moments) (ended : ℕ) (found ready ready' operand operand' end : List ℕ)
-    → found ≡ decimal moments.found → ready ≡ name_with (codes " ready ") moments.ready → ready' ≡ digits_with moments.ready
-    → operand ≡ name_with (codes " data ") moments.operand → operand' ≡ digits_with moments.operand → end ≡ decimal ended
-    → codes " found " ++ (found ++ (ready ++ (ready' ++ (operand ++ (operand' ++ (codes " ended " ++ (end ++ codes "\n"))))))) ≡ times_text moments ended
+    → found ≡ decimal moments.found → ready ≡ name_with (codes " ready ") moments.ready
+    → ready' ≡ digits_with moments.ready
+    → operand ≡ name_with (codes " data ") moments.operand → operand' ≡ digits_with moments.operand
+    → end ≡ decimal ended
+    → codes " found " ++ (found
+    ++ (ready ++ (ready' ++ (operand ++ (operand' ++ (codes " ended " ++ (end ++ codes "\n")))))))
+    ≡ times_text moments ended
 times_told moments ended found ready ready' operand operand' end p q r s t u =
     rw (p, q, r, s, t, u) (
-    times_grouped (codes " found ") (decimal moments.found) (name_with (codes " ready ") moments.ready) (digits_with moments.ready)
-    (name_with (codes " data ") moments.operand) (digits_with moments.operand) (codes " ended ") (decimal ended) (codes "\n")
-    ∙ ap (λ (xs : List ℕ). (codes " found " ++ decimal moments.found ++ xs ++ (name_with (codes " data ") moments.operand ++ digits_with moments.operand)) ++ codes " ended " ++ decimal ended ++ codes "\n")
+    times_grouped (codes " found ") (decimal moments.found) (name_with (codes " ready ") moments.ready)
+    (digits_with moments.ready)
+    (name_with (codes " data ") moments.operand) (digits_with moments.operand) (codes " ended ") (decimal ended)
+    (codes "\n")
+    ∙ ap (λ (xs : List ℕ). (codes " found " ++ decimal moments.found ++ xs
+    ++ (name_with (codes " data ") moments.operand ++ digits_with moments.operand)) ++ codes " ended "
+    ++ decimal ended ++ codes "\n")
     (sym (moment_pieces (codes " ready ") moments.ready))
-    ∙ ap (λ (xs : List ℕ). (codes " found " ++ decimal moments.found ++ moment_text (codes " ready ") moments.ready ++ xs) ++ codes " ended " ++ decimal ended ++ codes "\n")
+    ∙ ap (λ (xs : List ℕ). (codes " found " ++ decimal moments.found ++ moment_text (codes " ready ") moments.ready
+    ++ xs) ++ codes " ended " ++ decimal ended ++ codes "\n")
     (sym (moment_pieces (codes " data ") moments.operand))
     )
 
@@ -72,15 +84,20 @@ pub fetch_told : (number place : ℕ) (word : Word) (digits at spelled : List �
 fetch_told number place word digits at spelled p q r =
     simp append-nil (ap (λ (xs : List ℕ). codes "step " ++ (xs ++ (codes " " ++ (at ++ (codes " " ++ spelled))))) p
     ∙ ap (λ (xs : List ℕ). codes "step " ++ (decimal number ++ (codes " " ++ (xs ++ (codes " " ++ spelled))))) q
-    ∙ ap (λ (xs : List ℕ). codes "step " ++ (decimal number ++ (codes " " ++ (digits_of 4 place ++ (codes " " ++ xs))))) r
+    ∙ ap (λ (xs : List ℕ). codes "step " ++ (decimal number ++ (codes " " ++ (digits_of 4 place ++ (codes " " ++ xs)))))
+    r
     ∙ three_grouped (codes "step ") (codes " ") (decimal number) (digits_of 4 place) (spelling word))
 
 -- a hop
 pub hop_told : (visit : Visited) (place op d i way onto begun : List ℕ)
-    → place ≡ digits_of 4 visit.place → op ≡ digits_of 2 visit.ins.op → d ≡ digits_of 4 visit.ins.d → i ≡ digits_of 4 visit.ins.i
+    → place ≡ digits_of 4 visit.place → op ≡ digits_of 2 visit.ins.op → d ≡ digits_of 4 visit.ins.d
+    → i ≡ digits_of 4 visit.ins.i
     → way ≡ way_name visit.way → onto ≡ onto_digits visit.way → begun ≡ decimal visit.begun
-    → place ++ (codes " " ++ (op ++ (codes " " ++ (d ++ (codes " " ++ (i ++ (codes " " ++ (way ++ (onto ++ (codes " begun " ++ (begun ++ []))))))))))) ≡ hop_text visit
-hop_told visit place op d i way onto begun p q r s t u v = rw (p, q, r, s, t, u, v, way_pieces visit.way) (simp (append_assoc, append-nil))
+    → place ++ (codes " " ++ (op
+    ++ (codes " " ++ (d ++ (codes " "
+    ++ (i ++ (codes " " ++ (way ++ (onto ++ (codes " begun " ++ (begun ++ []))))))))))) ≡ hop_text visit
+hop_told visit place op d i way onto begun p q r s t u v =
+    rw (p, q, r, s, t, u, v, way_pieces visit.way) (simp (append_assoc, append-nil))
 
 -- the line of a hop
 pub visit_told : (times : Op → Entry) (angle : ℕ) (visit : Visited) (moments : Moments)
@@ -88,10 +105,12 @@ pub visit_told : (times : Op → Entry) (angle : ℕ) (visit : Visited) (moments
     → hop_text visit ++ times_text moments visit.ended ≡ visit_line times angle visit
 visit_told times angle visit moments told =
     ap (λ (some : Moments). hop_text visit ++ times_text some visit.ended) told
-    ∙ hop_grouped (hop_text visit) (moments_text (moments_of times angle visit.place visit.ins visit.way visit.begun)) (codes " ended ") (decimal visit.ended) (codes "\n")
+    ∙ hop_grouped (hop_text visit) (moments_text (moments_of times angle visit.place visit.ins visit.way visit.begun))
+    (codes " ended ") (decimal visit.ended) (codes "\n")
 
 -- the line of a turn
-pub turn_told : (times : Op → Entry) (number angle : ℕ) (turn : Turn) (visit : Visited) (word : Word) (moments : Moments)
+pub turn_told : (times : Op → Entry) (number angle : ℕ) (turn : Turn) (visit : Visited) (word : Word)
+    (moments : Moments)
     → visit ≡ visited (hop_of turn) → word ≡ fetched turn.origin → turn.origin.start ≡ angle
     → moments ≡ moments_of times angle visit.place visit.ins visit.way visit.begun
     → fetch_text number visit.place word ++ times_text moments visit.ended ≡ turn_line times number turn
@@ -104,9 +123,11 @@ turn_told times number angle turn visit word moments same is start told =
     ∙ ap (λ (w : Word). fetch_text number s.sought w ++ times_text moments (time_of turn.outcome)) is
     ∙ ap (λ (some : Moments). fetch_text number s.sought (fetched s) ++ times_text some (time_of turn.outcome)) at_start
     ∙ line_grouped (codes "step ") (codes " ") (decimal number) (digits_of 4 s.sought) (spelling (fetched s))
-    (moments_text (moments_of times s.start s.sought (instruction_in s) (ended_by turn.outcome) s.time)) (codes " ended ") (decimal (time_of turn.outcome)) (codes "\n")
+    (moments_text (moments_of times s.start s.sought (instruction_in s) (ended_by turn.outcome) s.time))
+    (codes " ended ") (decimal (time_of turn.outcome)) (codes "\n")
 
 -- texts of things that are seen otherwise
-pub flat_map_map : {X Y : Type 0} (f : Y → List ℕ) (g : X → Y) (xs : List X) → flat_map (λ x. f (g x)) xs ≡ flat_map f (map g xs)
+pub flat_map_map : {X Y : Type 0} (f : Y → List ℕ) (g : X → Y) (xs : List X)
+    → flat_map (λ x. f (g x)) xs ≡ flat_map f (map g xs)
 flat_map_map f g [] = refl
 flat_map_map f g (x ∷ xs) = ap (λ (rest : List ℕ). f (g x) ++ rest) (flat_map_map f g xs)

@@ -16,29 +16,38 @@ use Rattle.drum_bound.specs.Visited.{visited}
 
 -- a visit of the hop's parts is the hop
 same_visit : (turn : Turn) (place begun ended : ℕ) (ins : Instruction) (way : Way)
-    → place ≡ turn.origin.sought → ins ≡ instruction_in turn.origin → way ≡ ended_by turn.outcome → turn.origin.time ≡ begun → ended ≡ time_of turn.outcome
+    → place ≡ turn.origin.sought → ins ≡ instruction_in turn.origin → way ≡ ended_by turn.outcome
+    → turn.origin.time ≡ begun → ended ≡ time_of turn.outcome
     → record { place = place; ins = ins; way = way; begun = begun; ended = ended } ≡ visited (hop_of turn)
 same_visit turn place begun ended ins way p q r s t =
     let begins : begun ≡ turn.origin.time = sym s in
     rw (p, q, r, begins, t)
 
 -- a step that goes on
-pub went_on : (turn : Turn) (outcome : Stepped) (origin from next : Location) (word : Word) (load read : Bool) (words punch : Option (List Word)) (used before : ℕ) (ins : Instruction)
-    → turn.outcome ≡ outcome → Tells outcome origin (fetched turn.origin) load words (Went from word next used read punch)
+pub went_on : (turn : Turn) (outcome : Stepped) (origin from next : Location) (word : Word) (load read : Bool)
+    (words punch : Option (List Word)) (used before : ℕ) (ins : Instruction)
+    → turn.outcome ≡ outcome
+    → Tells outcome origin (fetched turn.origin) load words (Went from word next used read punch)
     → origin.number ≡ turn.origin.sought → turn.origin.time ≡ before → ins ≡ instruction_of word
-    → record { place = from.number; ins = ins; way = to next.number; begun = before; ended = used } ≡ visited (hop_of turn)
+    → record { place = from.number; ins = ins; way = to next.number; begun = before; ended = used }
+    ≡ visited (hop_of turn)
 went_on turn (on s) origin from next word load read words punch used before ins is tells sought time of =
-    same_visit turn from.number before used ins (to next.number) (ap (λ (place : Location). place.number) tells.0 ∙ sought)
+    same_visit turn from.number before used ins (to next.number)
+    (ap (λ (place : Location). place.number) tells.0 ∙ sought)
     (of ∙ ap instruction_of tells.1) (ap to tells.2 ∙ sym (ap ended_by is)) time (tells.3 ∙ sym (ap time_of is))
-went_on turn (stopped held because moment) origin from next word load read words punch used before ins is tells sought time of = cc
+went_on turn (stopped held because moment) origin from next word load read words punch used before ins is tells sought
+    time of = cc
 
 -- a step that stops
-pub stopped_there : (turn : Turn) (outcome : Stepped) (origin from : Location) (word : Word) (load : Bool) (words : Option (List Word)) (why : whys.Why) (used before : ℕ) (ins : Instruction) (way : Way)
+pub stopped_there : (turn : Turn) (outcome : Stepped) (origin from : Location) (word : Word) (load : Bool)
+    (words : Option (List Word)) (why : whys.Why) (used before : ℕ) (ins : Instruction) (way : Way)
     → turn.outcome ≡ outcome → Tells outcome origin (fetched turn.origin) load words (Stopped from word why used)
     → origin.number ≡ turn.origin.sought → turn.origin.time ≡ before → ins ≡ instruction_of word → way ≡ stops_by why
     → record { place = from.number; ins = ins; way = way; begun = before; ended = used } ≡ visited (hop_of turn)
-stopped_there turn (on s) origin from word load words why used before ins way is tells sought time of ends = absurd tells
-stopped_there turn (stopped held because moment) origin from word load words why used before ins way is tells sought time of ends =
+stopped_there turn (on s) origin from word load words why used before ins way is tells sought time of ends =
+    absurd tells
+stopped_there turn (stopped held because moment) origin from word load words why used before ins way is tells sought
+    time of ends =
     let place : from ≡ origin = cc in
     let fetch : word ≡ fetched turn.origin = cc in
     let same : why ≡ because = cc in

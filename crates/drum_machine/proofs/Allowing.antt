@@ -1,5 +1,6 @@
 -- Which instructions lists allow, of what is compared.
-use Rattle.std.proofs.Common.{◌≡◌, Bool, true, false, subst, ℕ, zero, suc, ◌<◌, List, [], ◌∷◌, ◌++◌, length, get_or, refl, ap, inl, inr, arith}
+use Rattle.std.proofs.Common.{◌≡◌, Bool, true, false, subst, ℕ, zero, suc, ◌<◌, List, [], ◌∷◌, ◌++◌, length, get_or}
+use Rattle.std.proofs.Common.{refl, ap, inl, inr, arith}
 use Rattle.std.specs.Prelude.{flat_map, ◌==◌, ◌&&◌, IsTrue, is_some, Option, Some}
 use Rattle.std.specs.Bool.{MatchBool}
 use Rattle.std.proofs.lemmas.Bool.Decides.{nat_tests}
@@ -12,13 +13,17 @@ use Rattle.drum_times.specs.Allowed.{Matches, matching, listed}
 use Rattle.drum_times.proofs.Matching.{matching_has, has_matching}
 
 -- what matches one of the patterns is allowed by them
-pub allowed_by_one : (ps : List Pattern) (k : ℕ) (d : Pattern) (ins : Instruction) → k < length ps → Matches (get_or ps k d) ins → Contains (flat_map matching ps) ins
+pub allowed_by_one : (ps : List Pattern) (k : ℕ) (d : Pattern) (ins : Instruction) → k < length ps
+    → Matches (get_or ps k d) ins → Contains (flat_map matching ps) ins
 allowed_by_one [] k d ins inside matches = absurd (omega arith)
-allowed_by_one (p ∷ ps) zero d ins inside matches = Contains-append_left (matching p) (flat_map matching ps) ins (matching_has p ins matches)
-allowed_by_one (p ∷ ps) (suc k) d ins inside matches = Contains-append_right (matching p) (flat_map matching ps) ins (allowed_by_one ps k d ins (omega arith) matches)
+allowed_by_one (p ∷ ps) zero d ins inside matches =
+    Contains-append_left (matching p) (flat_map matching ps) ins (matching_has p ins matches)
+allowed_by_one (p ∷ ps) (suc k) d ins inside matches =
+    Contains-append_right (matching p) (flat_map matching ps) ins (allowed_by_one ps k d ins (omega arith) matches)
 
 -- what matches none of them isn't
-pub allowed_by_none : (ps : List Pattern) (ins : Instruction) → ((k : ℕ) (d : Pattern) → k < length ps → ¬ Matches (get_or ps k d) ins) → ¬ Contains (flat_map matching ps) ins
+pub allowed_by_none : (ps : List Pattern) (ins : Instruction)
+    → ((k : ℕ) (d : Pattern) → k < length ps → ¬ Matches (get_or ps k d) ins) → ¬ Contains (flat_map matching ps) ins
 allowed_by_none [] ins none has = absurd (omega (arith, has.1))
 allowed_by_none (p ∷ ps) ins none has =
     elim (Contains-append_cases (matching p) (flat_map matching ps) ins has) [
@@ -48,14 +53,20 @@ loaded_test held ins false e = λ has.
 
 -- the test of a listed location, where what the deck loads there isn't the instruction
 abbrev Tested : Bool → List Instruction → Instruction → Option (List Pattern) → Type 0
-Tested r held ins patterns = MatchBool r (IsTrue (is_some patterns) → Contains (held ++ listed patterns) ins) (¬ (IsTrue (is_some patterns) → Contains (held ++ listed patterns) ins))
+Tested r held ins patterns =
+    MatchBool r (IsTrue (is_some patterns) → Contains (held ++ listed patterns) ins)
+    (¬ (IsTrue (is_some patterns) → Contains (held ++ listed patterns) ins))
 
 by_patterns : (r : Bool) (held : List Instruction) (ps : List Pattern) (ins : Instruction) → ¬ Contains held ins
-    → MatchBool r (Contains (flat_map matching ps) ins) (¬ Contains (flat_map matching ps) ins) → Tested r held ins (Some ps)
+    → MatchBool r (Contains (flat_map matching ps) ins) (¬ Contains (flat_map matching ps) ins)
+    → Tested r held ins (Some ps)
 by_patterns true held ps ins other has = λ _. Contains-append_right held (flat_map matching ps) ins has
 by_patterns false held ps ins other none = λ allowed.
-    elim (Contains-append_cases held (flat_map matching ps) ins (allowed refl)) [ inl first ↦ other first | inr later ↦ none later ]
+    elim (Contains-append_cases held (flat_map matching ps) ins (allowed refl))
+    [ inl first ↦ other first | inr later ↦ none later ]
 
-pub listed_test : (r : Bool) (held : List Instruction) (ps : List Pattern) (patterns : Option (List Pattern)) (ins : Instruction) → Some ps ≡ patterns → ¬ Contains held ins
-    → MatchBool r (Contains (flat_map matching ps) ins) (¬ Contains (flat_map matching ps) ins) → Tested r held ins patterns
+pub listed_test : (r : Bool) (held : List Instruction) (ps : List Pattern) (patterns : Option (List Pattern))
+    (ins : Instruction) → Some ps ≡ patterns → ¬ Contains held ins
+    → MatchBool r (Contains (flat_map matching ps) ins) (¬ Contains (flat_map matching ps) ins)
+    → Tested r held ins patterns
 listed_test r held ps patterns ins is other has = subst (Tested r held ins) is (by_patterns r held ps ins other has)

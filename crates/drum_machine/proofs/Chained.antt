@@ -1,5 +1,6 @@
 -- The moments of a step are those of a chain of clockworks, so they keep to the laws of one.
-use Rattle.std.proofs.Common.{◌≡◌, ℕ, ◌+◌, ◌*◌, ◌^◌, ◌≤◌, ◌≢◌, Bool, true, false, if◌then◌else◌, Some, None, refl, ap, ◌∙◌, inl, inr, arith}
+use Rattle.std.proofs.Common.{◌≡◌, ℕ, ◌+◌, ◌*◌, ◌^◌, ◌≤◌, ◌≢◌, Bool, true, false, if◌then◌else◌, Some, None, refl, ap}
+use Rattle.std.proofs.Common.{◌∙◌, inl, inr, arith}
 use Rattle.std.proofs.Math.Nat.{mul-le-mul_left}
 use Rattle.std.proofs.lemmas.Bool.{le-ltb, ne_eqb, cases_lt}
 use Rattle.drum_core.specs.declared.location.Kind.{Kind}
@@ -14,7 +15,8 @@ use Rattle.drum_core.specs.Moment.{first}
 use Rattle.drum_core.specs.Span.{kind_span-≤, parity_span-≤}
 use Rattle.drum_core.specs.Waits.{available_recurs}
 use Rattle.drum_core.proofs.Waited.{first_again}
-use Rattle.drum_core.proofs.Clockworks.{Clockworks, KeepsTime, keeps_time, seek_clockworks, parity_clockworks, delay_clockworks, optional_clockworks, then_clockworks}
+use Rattle.drum_core.proofs.Clockworks.{Clockworks, KeepsTime, keeps_time, seek_clockworks, parity_clockworks}
+use Rattle.drum_core.proofs.Clockworks.{delay_clockworks, optional_clockworks, then_clockworks}
 use Rattle.drum_times.specs.declared.entry.Entry.{Entry}
 use Rattle.drum_machine.specs.Timing.{found, ready, waits_for_operand, reached, ended}
 
@@ -25,16 +27,20 @@ record GoesTo (kind : Clockworks) (moment : ℕ → ℕ) (most : ℕ) : Type 0 w
   pub short : kind.ghosts.most clockwork ≤ most
 
 -- its moments, and others that are the same, keep to the laws
-keeps : {kind : Clockworks} {moment : ℕ → ℕ} {most : ℕ} → GoesTo kind moment most → (other : ℕ → ℕ) (limit : ℕ) → ((t : ℕ) → moment t ≡ other t) → most ≤ limit
+keeps : {kind : Clockworks} {moment : ℕ → ℕ} {most : ℕ} → GoesTo kind moment most → (other : ℕ → ℕ) (limit : ℕ)
+    → ((t : ℕ) → moment t ≡ other t) → most ≤ limit
     → KeepsTime other limit
 keeps {kind} goes other limit same short =
     keeps_time kind goes.clockwork other limit (λ t. goes.same t ∙ same t) (omega (arith, goes.short, short))
 
 -- one and then the other
-chained : {a b : Clockworks} {f g : ℕ → ℕ} {m n : ℕ} → GoesTo a f m → GoesTo b g n → m + n ≤ 2 ^ 40 → GoesTo (then_clockworks a b) (λ t. g (f t)) (m + n)
+chained : {a b : Clockworks} {f g : ℕ → ℕ} {m n : ℕ} → GoesTo a f m → GoesTo b g n → m + n ≤ 2 ^ 40
+    → GoesTo (then_clockworks a b) (λ t. g (f t)) (m + n)
 chained {a} {b} {f} {g} one other limited =
-    let spans : a.ghosts.most one.clockwork + b.ghosts.most other.clockwork ≤ 2 ^ 40 = omega (arith, one.short, other.short, limited) in
-    let both : (then_clockworks a b).row.Denot = record { first = one.clockwork; second = other.clockwork; limited = spans } in
+    let spans : a.ghosts.most one.clockwork + b.ghosts.most other.clockwork ≤ 2 ^ 40 =
+    omega (arith, one.short, other.short, limited) in
+    let both : (then_clockworks a b).row.Denot =
+    record { first = one.clockwork; second = other.clockwork; limited = spans } in
     record {
       clockwork = both;
       same = λ t. ap (b.ghosts.moment other.clockwork) (one.same t) ∙ other.same (f t);
@@ -54,7 +60,8 @@ parities parity =
 -- a number of no location counts as 8003's
 had_as_upper : (n : ℕ) → 2000 ≤ n → n ≢ 8000 → n ≢ 8001 → n ≢ 8002 → is_available 8003 ≡ is_available n
 had_as_upper n past switches distributor lower =
-    let upper : Upper ≡ kind_of n = rw (le-ltb n 2000 past, ne_eqb n 8000 switches, ne_eqb n 8001 distributor, ne_eqb n 8002 lower) refl in
+    let upper : Upper ≡ kind_of n =
+    rw (le-ltb n 2000 past, ne_eqb n 8000 switches, ne_eqb n 8001 distributor, ne_eqb n 8002 lower) refl in
     ap (λ (kind : Kind). is_had kind n) upper
 
 seeks_location : (n : ℕ) → IsLocation n → GoesTo seek_clockworks (found n) 49
@@ -66,7 +73,12 @@ seeks_location n exists =
 seeks_none : (n : ℕ) → 2000 ≤ n → n ≢ 8000 → n ≢ 8001 → n ≢ 8002 → GoesTo seek_clockworks (found n) 49
 seeks_none n past switches distributor lower =
     let upper : GoesTo seek_clockworks (found 8003) 49 = seeks_location 8003 (omega arith, λ h. omega arith) in
-    record { clockwork = upper.clockwork; same = λ t. upper.same t ∙ ap (λ (had : ℕ → Bool). first had t) (had_as_upper n past switches distributor lower); short = upper.short }
+    record {
+      clockwork = upper.clockwork;
+      same =
+          λ t. upper.same t ∙ ap (λ (had : ℕ → Bool). first had t) (had_as_upper n past switches distributor lower);
+      short = upper.short;
+    }
 
 -- the search for a word
 seeks : (n : ℕ) → GoesTo seek_clockworks (found n) 49
@@ -93,8 +105,10 @@ operands op d = go (waits_for_operand op)
     go false = record { clockwork = None; same = λ t. refl; short = omega arith }
 
 -- a step up to x
-to_x : (entry : Entry) (place : ℕ) → GoesTo (then_clockworks seek_clockworks delay_clockworks) (ready entry place) (49 + entry.before)
-to_x entry place = chained (seeks place) (delays entry.before (omega (arith, entry.short_before))) (omega (arith, entry.short_before))
+to_x : (entry : Entry) (place : ℕ)
+    → GoesTo (then_clockworks seek_clockworks delay_clockworks) (ready entry place) (49 + entry.before)
+to_x entry place =
+    chained (seeks place) (delays entry.before (omega (arith, entry.short_before))) (omega (arith, entry.short_before))
 
 -- The moments at which a word is found.
 pub found_keeps_time : (n : ℕ) → KeepsTime (found n) 49
@@ -103,7 +117,8 @@ found_keeps_time n = keeps (seeks n) (found n) 49 (λ t. refl) (omega arith)
 module _ (entry : Entry) (place : ℕ) where
   -- The moments x of a step.
   pub ready_keeps_time : KeepsTime (ready entry place) 92000099
-  ready_keeps_time = keeps (to_x entry place) (ready entry place) 92000099 (λ t. refl) (omega (arith, entry.short_before))
+  ready_keeps_time =
+      keeps (to_x entry place) (ready entry place) 92000099 (λ t. refl) (omega (arith, entry.short_before))
 
   -- A search that begins when the instruction is found is over at once.
   pub ready_from_found : (t : ℕ) → ready entry place (found place t) ≡ ready entry place t
@@ -117,11 +132,16 @@ module _ (entry : Entry) (place : ℕ) where
         let last = delays (entry.after + (entry.per * units + wait)) (omega (arith, work, entry.short_after)) in
         let from_x = chained acts last (omega (arith, work, entry.short_after)) in
         let whole = chained (to_x entry place) from_x (omega (arith, work, entry.short_before, entry.short_after)) in
-        keeps whole (ended entry op d place units wait) 92000099 (λ t. omega arith) (omega (arith, work, entry.short_before, entry.short_after))
+        keeps whole (ended entry op d place units wait) 92000099 (λ t. omega arith)
+        (omega (arith, work, entry.short_before, entry.short_after))
 
-    pub ended_from_found : (t : ℕ) → ended entry op d place units wait (found place t) ≡ ended entry op d place units wait t
-    ended_from_found t = ap (λ (x : ℕ). first (has_parity entry.parity) (reached op d x) + entry.after + entry.per * units + wait) (ready_from_found t)
+    pub ended_from_found : (t : ℕ)
+        → ended entry op d place units wait (found place t) ≡ ended entry op d place units wait t
+    ended_from_found t =
+        ap (λ (x : ℕ). first (has_parity entry.parity) (reached op d x) + entry.after + entry.per * units + wait)
+        (ready_from_found t)
 
     -- More units and a longer wait are a longer delay, behind all else.
-    pub ended_grows : (more longer t : ℕ) → units ≤ more → wait ≤ longer → ended entry op d place units wait t ≤ ended entry op d place more longer t
+    pub ended_grows : (more longer t : ℕ) → units ≤ more → wait ≤ longer
+        → ended entry op d place units wait t ≤ ended entry op d place more longer t
     ended_grows more longer t u w = omega (arith, mul-le-mul_left entry.per u, w)

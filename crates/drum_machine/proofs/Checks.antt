@@ -16,7 +16,8 @@ after s = contents_after (step times s 0)
 abbrev multiplied : State
 multiplied = state (word false 1901030106) (word true 4) zero_word (pos 30000000002) true
 
-product : (time_of (step times multiplied 0) ≡ 59) × (lower_word (after multiplied) ≡ word true 12) × (upper_word (after multiplied) ≡ word true 2)
+product : (time_of (step times multiplied 0) ≡ 59) × (lower_word (after multiplied) ≡ word true 12)
+    × (upper_word (after multiplied) ≡ word true 2)
 unfolding first
 product = (refl, refl, refl)
 
@@ -24,21 +25,24 @@ product = (refl, refl, refl)
 abbrev divided : State
 divided = state (word false 1401030106) (word false 5) zero_word (negsuc 16) true
 
-quotient : (time_of (step times divided 0) ≡ 64) × (lower_word (after divided) ≡ word true 3) × (upper_word (after divided) ≡ word true 2)
+quotient : (time_of (step times divided 0) ≡ 64) × (lower_word (after divided) ≡ word true 3)
+    × (upper_word (after divided) ≡ word true 2)
 unfolding first
 quotient = (refl, refl, refl)
 
 abbrev divided_by_minus : State
 divided_by_minus = state (word false 1401030106) (word true 5) zero_word (negsuc 16) true
 
-positive_quotient : (time_of (step times divided_by_minus 0) ≡ 64) × (lower_word (after divided_by_minus) ≡ word false 3) × (upper_word (after divided_by_minus) ≡ word true 2)
+positive_quotient : (time_of (step times divided_by_minus 0) ≡ 64)
+    × (lower_word (after divided_by_minus) ≡ word false 3) × (upper_word (after divided_by_minus) ≡ word true 2)
 unfolding first
 positive_quotient = (refl, refl, refl)
 
 abbrev divided_and_reset : State
 divided_and_reset = state (word false 6401030106) (word true 5) zero_word (negsuc 16) true
 
-quotient_alone : (time_of (step times divided_and_reset 0) ≡ 64) × (lower_word (after divided_and_reset) ≡ word false 3) × (upper_word (after divided_and_reset) ≡ word false 0)
+quotient_alone : (time_of (step times divided_and_reset 0) ≡ 64) × (lower_word (after divided_and_reset) ≡ word false 3)
+    × (upper_word (after divided_and_reset) ≡ word false 0)
 unfolding first
 quotient_alone = (refl, refl, refl)
 
@@ -46,7 +50,8 @@ quotient_alone = (refl, refl, refl)
 abbrev large_quotient : State
 large_quotient = state (word false 1401030106) (word true 1) zero_word (pos 10000000000) true
 
-quotient_stop : step times large_quotient 0 ≡ stopped (record large_quotient.contents { distributor = word true 1; latch = true }) why.Quotient 58
+quotient_stop : step times large_quotient 0
+    ≡ stopped (record large_quotient.contents { distributor = word true 1; latch = true }) why.Quotient 58
 unfolding first
 quotient_stop = refl
 
@@ -55,14 +60,16 @@ abbrev overflow_at_stop : State
 overflow_at_stop = state (word false 1001030106) (word false 1) zero_word (pos 99999999990000000000) true
 
 overflow_stops : step times overflow_at_stop 0
-    ≡ stopped (record overflow_at_stop.contents { distributor = word false 1; accumulator = pos 0; latch = true }) why.Overflow 55
+    ≡ stopped (record overflow_at_stop.contents { distributor = word false 1; accumulator = pos 0; latch = true })
+    why.Overflow 55
 unfolding first
 overflow_stops = refl
 
 abbrev overflowing : State
 overflowing = state (word false 1001030106) (word false 1) zero_word (pos 99999999990000000000) false
 
-overflow_goes_on : (time_of (step times overflowing 0) ≡ 55) × ((after overflowing).latch ≡ true) × (lower_word (after overflowing) ≡ word false 0) × (upper_word (after overflowing) ≡ word false 0)
+overflow_goes_on : (time_of (step times overflowing 0) ≡ 55) × ((after overflowing).latch ≡ true)
+    × (lower_word (after overflowing) ≡ word false 0) × (upper_word (after overflowing) ≡ word false 0)
 unfolding first
 overflow_goes_on = (refl, refl, refl, refl)
 
@@ -70,14 +77,16 @@ overflow_goes_on = (refl, refl, refl, refl)
 abbrev stored_data_address : State
 stored_data_address = state (word false 2201030106) zero_word (word false 1234567890) (pos 98760000) true
 
-data_address : (word_in (after stored_data_address) 103 ≡ word false 1298767890) × ((after stored_data_address).distributor ≡ word false 1298767890)
+data_address : (word_in (after stored_data_address) 103 ≡ word false 1298767890)
+    × ((after stored_data_address).distributor ≡ word false 1298767890)
 unfolding first
 data_address = (refl, refl)
 
 abbrev stored_next_address : State
 stored_next_address = state (word false 2301030106) zero_word (word false 1234567890) (pos 4321) true
 
-next_address : (word_in (after stored_next_address) 103 ≡ word false 1234564321) × ((after stored_next_address).distributor ≡ word false 1234564321)
+next_address : (word_in (after stored_next_address) 103 ≡ word false 1234564321)
+    × ((after stored_next_address).distributor ≡ word false 1234564321)
 unfolding first
 next_address = (refl, refl)
 
@@ -90,7 +99,8 @@ rounded_by_ten : (after (state (word false 3100000106) zero_word zero_word (pos 
 unfolding first
 rounded_by_ten = refl
 
-rounded_to_zero : (after (state (word false 3100000106) zero_word zero_word (negsuc 4999999998) true)).accumulator ≡ pos 0
+rounded_to_zero : (after (state (word false 3100000106) zero_word zero_word (negsuc 4999999998) true)).accumulator
+    ≡ pos 0
 unfolding first
 rounded_to_zero = refl
 

@@ -1,10 +1,13 @@
 -- A law of steps: under notes that a step keeps to, it ends by one of its instruction's ways, and then.
-use Rattle.std.specs.Prelude.{◌≡◌, ℕ, suc, ◌+◌, ◌-◌, ◌^◌, nat_le, ℤ, unsigned_abs, ◌+ℤ◌, ◌≤◌, ◌==◌, Bool, true, false, not, ◌&&◌, ◌||◌, if◌then◌else◌, List, [], ◌∷◌, ◌++◌, map, filter, Option, Some, Contains}
+use Rattle.std.specs.Prelude.{◌≡◌, ℕ, suc, ◌+◌, ◌-◌, ◌^◌, nat_le, ℤ, unsigned_abs, ◌+ℤ◌, ◌≤◌, ◌==◌, Bool, true, false}
+use Rattle.std.specs.Prelude.{not, ◌&&◌, ◌||◌, if◌then◌else◌, List, [], ◌∷◌, ◌++◌, map, filter, Option, Some, Contains}
 use Rattle.std.proofs.Common.{refl, ap, sym, ◌∙◌, subst, arith}
 use Rattle.std.specs.List.{list_any}
 use Rattle.std.proofs.lemmas.List.Elements.{Contains-append_right}
 use Rattle.drum_core.specs.declared.op.Op.{Op}
-use Rattle.drum_core.specs.declared.op.Op.TheVariants.{NoOperation, Stop, Add, ResetAdd, Divide, DivideReset, Multiply, Store, Shift, Branch, LoadDistributor, Read, Punch, BranchOnDigit}
+use Rattle.drum_core.specs.declared.op.Op.TheVariants.{NoOperation, Stop, Add, ResetAdd, Divide, DivideReset, Multiply}
+use Rattle.drum_core.specs.declared.op.Op.TheVariants.{Store, Shift, Branch, LoadDistributor, Read, Punch}
+use Rattle.drum_core.specs.declared.op.Op.TheVariants.{BranchOnDigit}
 use Rattle.drum_core.specs.Location.{is_location}
 use Rattle.drum_core.specs.Op.{op_of, operand_of}
 use Rattle.drum_core.specs.Recurs.{never_earlier}
@@ -17,11 +20,13 @@ use Rattle.drum_times.specs.Allowed.{Notes}
 use Rattle.drum_machine.specs.declared.card.Card.{Card}
 use Rattle.drum_machine.specs.declared.why.Why.TheVariants as why
 use Rattle.drum_machine.specs.Contents.{Contents, word_at}
-use Rattle.drum_machine.specs.Effect.{Outcome, goes, stops, effect, reads, keeps, branches_on, takes, digit_at, is_too_large, amount_of, product, holds}
+use Rattle.drum_machine.specs.Effect.{Outcome, goes, stops, effect, reads, keeps, branches_on, takes, digit_at}
+use Rattle.drum_machine.specs.Effect.{is_too_large, amount_of, product, holds}
 use Rattle.drum_machine.specs.Ending.{ended_by, stops_by, clock_by, declared, own_notes}
 use Rattle.drum_machine.specs.Keeps.{IsAsDeclared, IsWithoutLoad, is_load, reads_load, reads_with}
 use Rattle.drum_machine.specs.Run.{time_of}
-use Rattle.drum_machine.specs.Step.{State, Stepped, on, stopped, step, step_with, step_of, instruction_in, is_operand, is_read, has_cards, lacks_card, leaves, clock_of}
+use Rattle.drum_machine.specs.Step.{State, Stepped, on, stopped, step, step_with, step_of, instruction_in, is_operand}
+use Rattle.drum_machine.specs.Step.{is_read, has_cards, lacks_card, leaves, clock_of}
 use Rattle.drum_machine.specs.Timing.{found, ready, reached, ended, units_of, waits_for_operand}
 use Rattle.drum_machine.specs.Ways.{Way, early, to, late, in_order, ways_of_stop, ways_of, ways_with, ways}
 
@@ -36,7 +41,8 @@ abbrev pub onward : ℕ → Way
 onward next = if is_location next then to next else late
 
 -- each of the next locations is among the ways
-going_first : (next : ℕ) (nexts : List ℕ) (stops_late : Bool) → Contains (in_order false (next ∷ nexts) stops_late) (onward next)
+going_first : (next : ℕ) (nexts : List ℕ) (stops_late : Bool)
+    → Contains (in_order false (next ∷ nexts) stops_late) (onward next)
 going_first next nexts stops_late = go (is_location next)
   where
     rest : List Way
@@ -45,7 +51,9 @@ going_first next nexts stops_late = go (is_location next)
     any : Bool
     any = list_any (λ n. not (is_location n)) nexts
 
-    go : (b : Bool) → Contains (map to (if b then next ∷ filter is_location nexts else filter is_location nexts) ++ (if stops_late || (not b || any) then late ∷ [] else [])) (if b then to next else late)
+    go : (b : Bool) → Contains
+        (map to (if b then next ∷ filter is_location nexts else filter is_location nexts)
+        ++ (if stops_late || (not b || any) then late ∷ [] else [])) (if b then to next else late)
     go true = here (to next) _
     go false = Contains-append_right rest _ late (last stops_late)
       where
@@ -61,7 +69,8 @@ going_second next other = go (is_location next) (is_location other)
   where
     go : (first second : Bool) → Contains
         (map to (if first then next ∷ (if second then other ∷ [] else []) else (if second then other ∷ [] else []))
-        ++ (if false || (not first || (not second || false)) then late ∷ [] else [])) (if second then to other else late)
+        ++ (if false || (not first || (not second || false)) then late ∷ [] else []))
+        (if second then to other else late)
     go true true = there (to next) (to other) (to other ∷ []) (here (to other) [])
     go true false = there (to next) late (late ∷ []) (here late [])
     go false true = here (to other) (late ∷ [])
@@ -83,16 +92,19 @@ abbrev pub EndsIn : List Way → Outcome → Type 0
 EndsIn among (goes after next) = Contains among (onward next)
 EndsIn among (stops held because) = (stops_by because ≡ late) × Contains among late
 
-ends_if : (among : List Way) (b : Bool) (x y : Outcome) → EndsIn among x → EndsIn among y → EndsIn among (if b then x else y)
+ends_if : (among : List Way) (b : Bool) (x y : Outcome) → EndsIn among x → EndsIn among y
+    → EndsIn among (if b then x else y)
 ends_if among true x y p q = p
 ends_if among false x y p q = q
 
 keeps_ends : (c : Contents) (z : ℤ) (i : ℕ) → EndsIn (in_order false (i ∷ []) true) (keeps c z i)
 keeps_ends c z i =
     ends_if (in_order false (i ∷ []) true) (nat_le (10 ^ 20) (unsigned_abs z)) _ _
-    (ends_if (in_order false (i ∷ []) true) c.overflow_stops _ _ (refl, stop_last (i ∷ [])) (going_first i [] true)) (going_first i [] true)
+    (ends_if (in_order false (i ∷ []) true) c.overflow_stops _ _ (refl, stop_last (i ∷ [])) (going_first i [] true))
+    (going_first i [] true)
 
-stop_ends : (c : Contents) (i : ℕ) (programmed : switches.Programmed) (stopping : Bool) → IsAsDeclared programmed stopping
+stop_ends : (c : Contents) (i : ℕ) (programmed : switches.Programmed) (stopping : Bool)
+    → IsAsDeclared programmed stopping
     → EndsIn (ways_of_stop programmed i) (if stopping then stops c why.Programmed else goes c i)
 stop_ends c i switch.Stop true as_declared = (refl, stop_last [])
 stop_ends c i switch.Stop false as_declared = cc
@@ -105,19 +117,23 @@ branch_ends : (d i : ℕ) (b : Bool) → Contains (in_order false (d ∷ i ∷ [
 branch_ends d i true = going_first d (i ∷ []) false
 branch_ends d i false = going_second d i
 
-read_ends : (c : Contents) (d i : ℕ) (load_cards : Bool) (cards : List Card) → has_cards cards ≡ true → (load_cards ≡ false → is_load cards ≡ false)
+read_ends : (c : Contents) (d i : ℕ) (load_cards : Bool) (cards : List Card) → has_cards cards ≡ true
+    → (load_cards ≡ false → is_load cards ≡ false)
     → EndsIn (in_order true ((if load_cards then d ∷ [] else []) ++ i ∷ []) false) (reads c cards d i)
 read_ends c d i load_cards [] some without = cc
-read_ends c d i true (card ∷ cards) some without = there early (onward (if card.load then d else i)) _ (branch_ends d i card.load)
+read_ends c d i true (card ∷ cards) some without =
+    there early (onward (if card.load then d else i)) _ (branch_ends d i card.load)
 read_ends c d i false (card ∷ cards) some without =
-    subst (λ (load : Bool). Contains (in_order true (i ∷ []) false) (onward (if load then d else i))) (sym (without refl)) (there early (onward i) _ (going_first i [] false))
+    subst (λ (load : Bool). Contains (in_order true (i ∷ []) false) (onward (if load then d else i)))
+    (sym (without refl)) (there early (onward i) _ (going_first i [] false))
 
 digit_ends : (c : Contents) (digit d i : ℕ) → EndsIn (in_order false (d ∷ i ∷ []) true) (branches_on c digit d i)
 digit_ends c digit d i =
     ends_if (in_order false (d ∷ i ∷ []) true) (digit == 8) _ _ (going_first d (i ∷ []) true)
     (ends_if (in_order false (d ∷ i ∷ []) true) (digit == 9) _ _ (going_later d i) (refl, stop_last (d ∷ i ∷ [])))
 
-divides_ends : (large : Bool) (held after : Contents) (i : ℕ) → EndsIn (in_order false (i ∷ []) true) (if large then stops held why.Quotient else goes after i)
+divides_ends : (large : Bool) (held after : Contents) (i : ℕ)
+    → EndsIn (in_order false (i ∷ []) true) (if large then stops held why.Quotient else goes after i)
 divides_ends true held after i = (refl, stop_last (i ∷ []))
 divides_ends false held after i = going_first i [] true
 
@@ -126,20 +142,27 @@ supplied : (has : Bool) → not has ≡ false → has ≡ true
 supplied true e = refl
 supplied false e = cc
 
-effect_ends : (notes : Notes) (c : Contents) (op : Op) (d i : ℕ) → IsAsDeclared notes.programmed c.programmed_stops → lacks_card op c ≡ false
-    → (is_read op ≡ true → notes.load_cards ≡ false → is_load c.cards ≡ false) → EndsIn (ways_of notes op d i) (effect c op d i)
+effect_ends : (notes : Notes) (c : Contents) (op : Op) (d i : ℕ) → IsAsDeclared notes.programmed c.programmed_stops
+    → lacks_card op c ≡ false
+    → (is_read op ≡ true → notes.load_cards ≡ false → is_load c.cards ≡ false)
+    → EndsIn (ways_of notes op d i) (effect c op d i)
 effect_ends notes c NoOperation d i as_declared card without = going_first i [] false
 effect_ends notes c Stop d i as_declared card without = stop_ends c i notes.programmed c.programmed_stops as_declared
-effect_ends notes c (Add a) d i as_declared card without = keeps_ends (takes c (word_at c d)) (c.accumulator +ℤ amount_of a (number_in (word_at c d))) i
+effect_ends notes c (Add a) d i as_declared card without =
+    keeps_ends (takes c (word_at c d)) (c.accumulator +ℤ amount_of a (number_in (word_at c d))) i
 effect_ends notes c (ResetAdd a) d i as_declared card without = going_first i [] false
-effect_ends notes c Divide d i as_declared card without = divides_ends (is_too_large c.accumulator (number_in (word_at c d))) _ _ i
-effect_ends notes c DivideReset d i as_declared card without = divides_ends (is_too_large c.accumulator (number_in (word_at c d))) _ _ i
-effect_ends notes c Multiply d i as_declared card without = keeps_ends (takes c (word_at c d)) (product c.accumulator (number_in (word_at c d))) i
+effect_ends notes c Divide d i as_declared card without =
+    divides_ends (is_too_large c.accumulator (number_in (word_at c d))) _ _ i
+effect_ends notes c DivideReset d i as_declared card without =
+    divides_ends (is_too_large c.accumulator (number_in (word_at c d))) _ _ i
+effect_ends notes c Multiply d i as_declared card without =
+    keeps_ends (takes c (word_at c d)) (product c.accumulator (number_in (word_at c d))) i
 effect_ends notes c (Store s) d i as_declared card without = going_first i [] false
 effect_ends notes c (Shift s) d i as_declared card without = going_first i [] false
 effect_ends notes c (Branch b) d i as_declared card without = branch_ends d i (holds b c)
 effect_ends notes c LoadDistributor d i as_declared card without = going_first i [] false
-effect_ends notes c Read d i as_declared card without = read_ends c d i notes.load_cards c.cards (supplied (has_cards c.cards) card) (without refl)
+effect_ends notes c Read d i as_declared card without =
+    read_ends c d i notes.load_cards c.cards (supplied (has_cards c.cards) card) (without refl)
 effect_ends notes c Punch d i as_declared card without = going_first i [] false
 effect_ends notes c (BranchOnDigit p) d i as_declared card without = digit_ends c (digit_at p c.distributor) d i
 
@@ -154,16 +177,21 @@ pub record Ends (among : List Way) (start x e : ℕ) (outcome : Stepped) : Type 
   pub at : start + time_of outcome ≡ clock_by (ended_by outcome) x e
   pub from : KeepsStart start outcome
 
-left_ends : (among : List Way) (s : State) (x e : ℕ) (outcome : Outcome) → s.start ≤ e → EndsIn among outcome → Ends among s.start x e (leaves s e outcome)
+left_ends : (among : List Way) (s : State) (x e : ℕ) (outcome : Outcome) → s.start ≤ e → EndsIn among outcome
+    → Ends among s.start x e (leaves s e outcome)
 left_ends among s x e (stops held because) later p = record {
   by = subst (Contains among) (sym p.0) p.1;
-  at = let same : clock_by (stops_by because) x e ≡ e = ap (λ (w : Way). clock_by w x e) p.0 in omega (arith, same, later);
+  at =
+      let same : clock_by (stops_by because) x e ≡ e =
+      ap (λ (w : Way). clock_by w x e) p.0 in omega (arith, same, later);
   from = tt;
 }
 left_ends among s x e (goes after next) later p = go (is_location next) p
   where
     go : (b : Bool) → Contains among (if b then to next else late)
-        → Ends among s.start x e (if b then on (record { contents = after; sought = next; time = e - s.start; start = s.start }) else stopped after why.Next (e - s.start))
+        → Ends among s.start x e
+        (if b then on (record { contents = after; sought = next; time = e - s.start; start = s.start })
+        else stopped after why.Next (e - s.start))
     go true q = record { by = q; at = omega (arith, later); from = refl }
     go false q = record { by = q; at = omega (arith, later); from = tt }
 
@@ -181,35 +209,56 @@ reached_later op d x = go (waits_for_operand op)
 ended_later : (entry : Entry) (op : Op) (d place units wait clock : ℕ) → clock ≤ ended entry op d place units wait clock
 ended_later entry op d place units wait clock =
     let x = ready entry place clock in
-    omega (arith, found_later place clock, reached_later op d x, never_earlier (parity_recurs entry.parity) (reached op d x))
+    omega (
+      arith,
+      found_later place clock,
+      reached_later op d x,
+      never_earlier (parity_recurs entry.parity)
+          (reached op d x),
+    )
 
 -- where 70 reads, no load card is read by notes that have none
-without_load : (notes : Notes) (s : State) (op : Op) → op_of (instruction_in s).op ≡ Some op → is_operand (operand_of op) (instruction_in s).d ≡ true → IsWithoutLoad notes s
+without_load : (notes : Notes) (s : State) (op : Op) → op_of (instruction_in s).op ≡ Some op
+    → is_operand (operand_of op) (instruction_in s).d ≡ true → IsWithoutLoad notes s
     → is_read op ≡ true → notes.load_cards ≡ false → is_load s.contents.cards ≡ false
 without_load notes s op is wanted without read none =
-    let fetched : reads_load s ≡ ((is_read op && is_operand (operand_of op) (instruction_in s).d) && is_load s.contents.cards) = ap (λ (o : Option Op). reads_with s o && is_load s.contents.cards) is in
-    let reads : ((is_read op && is_operand (operand_of op) (instruction_in s).d) && is_load s.contents.cards) ≡ is_load s.contents.cards = rw (read, wanted) refl in
+    let fetched : reads_load s
+    ≡ ((is_read op && is_operand (operand_of op) (instruction_in s).d) && is_load s.contents.cards) =
+    ap (λ (o : Option Op). reads_with s o && is_load s.contents.cards) is in
+    let reads : ((is_read op && is_operand (operand_of op) (instruction_in s).d) && is_load s.contents.cards)
+    ≡ is_load s.contents.cards = rw (read, wanted) refl in
     sym reads ∙ sym fetched ∙ without none
 
 op_ends : (times : Op → Entry) (s : State) (wait : ℕ) (op : Op) (notes : Notes) → op_of (instruction_in s).op ≡ Some op
     → IsAsDeclared notes.programmed s.contents.programmed_stops → IsWithoutLoad notes s
-    → Ends (ways_with notes (Some op) (instruction_in s).d (instruction_in s).i) s.start (ready (times op) s.sought (clock_of s))
-    (ended (times op) op (instruction_in s).d s.sought (units_of op (instruction_in s).d s.contents) wait (clock_of s)) (step_of times s wait op)
+    → Ends (ways_with notes (Some op) (instruction_in s).d (instruction_in s).i) s.start
+    (ready (times op) s.sought (clock_of s))
+    (ended (times op) op (instruction_in s).d s.sought (units_of op (instruction_in s).d s.contents) wait (clock_of s))
+    (step_of times s wait op)
 op_ends times s wait op notes is as_declared without =
     go (is_operand (operand_of op) (instruction_in s).d) (lacks_card op s.contents)
-    (λ wanted card. effect_ends notes s.contents op (instruction_in s).d (instruction_in s).i as_declared card (without_load notes s op is wanted without)) (lacking op)
+    (λ wanted card. effect_ends notes s.contents op (instruction_in s).d (instruction_in s).i as_declared card
+    (without_load notes s op is wanted without)) (lacking op)
   where
     x : ℕ
     x = ready (times op) s.sought (clock_of s)
 
     e : ℕ
-    e = ended (times op) op (instruction_in s).d s.sought (units_of op (instruction_in s).d s.contents) wait (clock_of s)
+    e =
+        ended (times op) op (instruction_in s).d s.sought (units_of op (instruction_in s).d s.contents) wait
+        (clock_of s)
 
     before_x : s.start ≤ ready (times op) s.sought (clock_of s)
     before_x = omega (arith, found_later s.sought (clock_of s))
 
-    before_e : s.start ≤ ended (times op) op (instruction_in s).d s.sought (units_of op (instruction_in s).d s.contents) wait (clock_of s)
-    before_e = omega (arith, ended_later (times op) op (instruction_in s).d s.sought (units_of op (instruction_in s).d s.contents) wait (clock_of s))
+    before_e : s.start ≤ ended (times op) op (instruction_in s).d s.sought (units_of op (instruction_in s).d s.contents)
+        wait (clock_of s)
+    before_e =
+        omega (
+          arith,
+          ended_later (times op) op (instruction_in s).d s.sought
+              (units_of op (instruction_in s).d s.contents) wait (clock_of s),
+        )
 
     among : List Way
     among = ways_of notes op (instruction_in s).d (instruction_in s).i
@@ -217,7 +266,8 @@ op_ends times s wait op notes is as_declared without =
     outcome : Outcome
     outcome = effect s.contents op (instruction_in s).d (instruction_in s).i
 
-    lacking : (op : Op) → lacks_card op s.contents ≡ true → Contains (ways_of notes op (instruction_in s).d (instruction_in s).i) early
+    lacking : (op : Op) → lacks_card op s.contents ≡ true
+        → Contains (ways_of notes op (instruction_in s).d (instruction_in s).i) early
     lacking Read h = here early _
     lacking NoOperation h = cc
     lacking Stop h = cc
@@ -233,22 +283,28 @@ op_ends times s wait op notes is as_declared without =
     lacking Punch h = cc
     lacking (BranchOnDigit p) h = cc
 
-    go : (wanted lacks : Bool) → (wanted ≡ true → lacks ≡ false → EndsIn among outcome) → (lacks ≡ true → Contains among early)
+    go : (wanted lacks : Bool) → (wanted ≡ true → lacks ≡ false → EndsIn among outcome)
+        → (lacks ≡ true → Contains among early)
         → Ends (if wanted then among else early ∷ []) s.start x e
-        (if not wanted then stopped s.contents why.Operand (x - s.start) else (if lacks then stopped s.contents why.Card (x - s.start) else leaves s e outcome))
+        (if not wanted then stopped s.contents why.Operand (x - s.start)
+        else (if lacks then stopped s.contents why.Card (x - s.start) else leaves s e outcome))
     go false lacks acts stops_early = record { by = here early []; at = omega (arith, before_x); from = tt }
     go true true acts stops_early = record { by = stops_early refl; at = omega (arith, before_x); from = tt }
     go true false acts stops_early = left_ends among s x e outcome before_e (acts refl refl)
 
 -- Under notes that it keeps to, a step of an operation in the profile ends by one of its instruction's ways: at x if
 -- by Early, and else at e.
-pub step_ends : (times : Op → Entry) (s : State) (wait : ℕ) (op : Op) (notes : Notes) → op_of (instruction_in s).op ≡ Some op
+pub step_ends : (times : Op → Entry) (s : State) (wait : ℕ) (op : Op) (notes : Notes)
+    → op_of (instruction_in s).op ≡ Some op
     → IsAsDeclared notes.programmed s.contents.programmed_stops → IsWithoutLoad notes s
     → Ends (ways notes (instruction_in s)) s.start (ready (times op) s.sought (clock_of s))
-    (ended (times op) op (instruction_in s).d s.sought (units_of op (instruction_in s).d s.contents) wait (clock_of s)) (step times s wait)
+    (ended (times op) op (instruction_in s).d s.sought (units_of op (instruction_in s).d s.contents) wait (clock_of s))
+    (step times s wait)
 step_ends times s wait op notes is as_declared without =
-    subst (λ (o : Option Op). Ends (ways_with notes o (instruction_in s).d (instruction_in s).i) s.start (ready (times op) s.sought (clock_of s))
-    (ended (times op) op (instruction_in s).d s.sought (units_of op (instruction_in s).d s.contents) wait (clock_of s)) (step_with times s wait o))
+    subst (λ (o : Option Op). Ends (ways_with notes o (instruction_in s).d (instruction_in s).i) s.start
+    (ready (times op) s.sought (clock_of s))
+    (ended (times op) op (instruction_in s).d s.sought (units_of op (instruction_in s).d s.contents) wait (clock_of s))
+    (step_with times s wait o))
     (sym is) (op_ends times s wait op notes is as_declared without)
 
 -- a step keeps to its own notes
@@ -265,11 +321,13 @@ own_without s none = rw none (last (reads_with s (op_of (instruction_in s).op)))
 
 pub ends_by_its_own : (times : Op → Entry) (s : State) (wait : ℕ) (op : Op) → op_of (instruction_in s).op ≡ Some op
     → Contains (ways (own_notes s) (instruction_in s)) (ended_by (step times s wait))
-ends_by_its_own times s wait op is = (step_ends times s wait op (own_notes s) is (own_declared s.contents.programmed_stops) (own_without s)).by
+ends_by_its_own times s wait op is =
+    (step_ends times s wait op (own_notes s) is (own_declared s.contents.programmed_stops) (own_without s)).by
 
 -- and so it ends at x or at e
 pub ends_then : (times : Op → Entry) (s : State) (wait : ℕ) (op : Op) → op_of (instruction_in s).op ≡ Some op
     → s.start + time_of (step times s wait)
     ≡ clock_by (ended_by (step times s wait)) (ready (times op) s.sought (clock_of s))
     (ended (times op) op (instruction_in s).d s.sought (units_of op (instruction_in s).d s.contents) wait (clock_of s))
-ends_then times s wait op is = (step_ends times s wait op (own_notes s) is (own_declared s.contents.programmed_stops) (own_without s)).at
+ends_then times s wait op is =
+    (step_ends times s wait op (own_notes s) is (own_declared s.contents.programmed_stops) (own_without s)).at

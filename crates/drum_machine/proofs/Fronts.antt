@@ -14,23 +14,30 @@ nothing_taken : (n : ℕ) → take {A = Turn} n [] ≡ []
 nothing_taken zero = refl
 nothing_taken (suc n) = refl
 
-front_follows : (outcome : Stepped) (Right Front : State → Type 0) (turns : List Turn) (n : ℕ) → ((next : State) → Right next → Front next)
+front_follows : (outcome : Stepped) (Right Front : State → Type 0) (turns : List Turn) (n : ℕ)
+    → ((next : State) → Right next → Front next)
     → Follow outcome Right turns → Follow outcome Front (take n turns)
 front_follows (on next) Right Front turns n front follows = front next follows
 front_follows (stopped held because moment) Right Front turns n front follows = ap (take n) follows ∙ nothing_taken n
 
-pub run_front : (times : Op → Entry) (s : State) (turns : List Turn) (n : ℕ) → IsRun times s turns → IsRun times s (take n turns)
+pub run_front : (times : Op → Entry) (s : State) (turns : List Turn) (n : ℕ) → IsRun times s turns
+    → IsRun times s (take n turns)
 run_front times s turns zero is_run = tt
 run_front times s [] (suc n) is_run = tt
 run_front times s (turn ∷ turns) (suc n) is_run = (
   is_run.0,
-  front_follows turn.outcome (λ next. IsRun times next turns) (λ next. IsRun times next (take n turns)) turns n (λ next runs. run_front times next turns n runs) is_run.1,
+  front_follows turn.outcome (λ next. IsRun times next turns) (λ next. IsRun times next (take n turns)) turns n
+      (λ next runs. run_front times next turns n runs) is_run.1,
 )
 
-kept_from : (loads : ℕ → Option Word) (notes : Notes) (counts : List ℕ) (turns : List Turn) (n : ℕ) → AreKept loads notes counts turns → AreKept loads notes counts (take n turns)
+kept_from : (loads : ℕ → Option Word) (notes : Notes) (counts : List ℕ) (turns : List Turn) (n : ℕ)
+    → AreKept loads notes counts turns → AreKept loads notes counts (take n turns)
 kept_from loads notes counts turns zero kept = tt
 kept_from loads notes counts [] (suc n) kept = tt
-kept_from loads notes counts (turn ∷ turns) (suc n) kept = (kept.0, kept_from loads notes (counts_after notes counts turn) turns n kept.1)
+kept_from loads notes counts (turn ∷ turns) (suc n) kept =
+    (kept.0, kept_from loads notes (counts_after notes counts turn) turns n kept.1)
 
-pub kept_front : (loads : ℕ → Option Word) (notes : Notes) (s : State) (turns : List Turn) (n : ℕ) → IsKept loads notes s turns → IsKept loads notes s (take n turns)
-kept_front loads notes s turns n kept = record { declared = kept.declared; kept = kept_from loads notes (no_counts notes.marks) turns n kept.kept }
+pub kept_front : (loads : ℕ → Option Word) (notes : Notes) (s : State) (turns : List Turn) (n : ℕ)
+    → IsKept loads notes s turns → IsKept loads notes s (take n turns)
+kept_front loads notes s turns n kept =
+    record { declared = kept.declared; kept = kept_from loads notes (no_counts notes.marks) turns n kept.kept }

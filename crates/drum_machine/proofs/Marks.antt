@@ -22,13 +22,34 @@ twice = omega arith
 
 -- from 0110 back to 0100 once, and inside of that from 0100 to itself twice; a third inside the second
 abbrev pub outer : Mark
-outer = record { from = record { number = 110; exists = hundred_ten }; onto = record { number = 100; exists = hundred }; most = 1; inside = None; four_digits = once }
+outer =
+    record {
+      from = record { number = 110; exists = hundred_ten };
+      onto = record { number = 100; exists = hundred };
+      most = 1;
+      inside = None;
+      four_digits = once;
+    }
 
 abbrev pub inner : Mark
-inner = record { from = record { number = 100; exists = hundred }; onto = record { number = 100; exists = hundred }; most = 2; inside = Some 0; four_digits = twice }
+inner =
+    record {
+      from = record { number = 100; exists = hundred };
+      onto = record { number = 100; exists = hundred };
+      most = 2;
+      inside = Some 0;
+      four_digits = twice;
+    }
 
 abbrev pub innermost : Mark
-innermost = record { from = record { number = 100; exists = hundred }; onto = record { number = 110; exists = hundred_ten }; most = 2; inside = Some 1; four_digits = twice }
+innermost =
+    record {
+      from = record { number = 100; exists = hundred };
+      onto = record { number = 110; exists = hundred_ten };
+      most = 2;
+      inside = Some 1;
+      four_digits = twice;
+    }
 
 abbrev pub marks : List Mark
 marks = outer ∷ inner ∷ innermost ∷ []
@@ -36,7 +57,8 @@ marks = outer ∷ inner ∷ innermost ∷ []
 none_yet : no_counts marks ≡ 0 ∷ 0 ∷ 0 ∷ []
 none_yet = refl
 
-inside : (is_inside marks 1 0 ≡ true) × (is_inside marks 2 0 ≡ true) × (is_inside marks 2 1 ≡ true) × (is_inside marks 0 1 ≡ false) × (is_inside marks 1 1 ≡ false)
+inside : (is_inside marks 1 0 ≡ true) × (is_inside marks 2 0 ≡ true) × (is_inside marks 2 1 ≡ true)
+    × (is_inside marks 0 1 ≡ false) × (is_inside marks 1 1 ≡ false)
 inside = (refl, refl, refl, refl, refl)
 
 -- a pass of the outer one sets back what is inside it, directly or through the other

@@ -2,7 +2,9 @@
 use Rattle.std.proofs.Common.{ℕ, ◌≤◌, Bool, true, false, List, [], replicate, arith, ℤ, None}
 use Rattle.std.specs.Prelude.{slice_set, slice_index_or}
 use Rattle.drum_core.specs.declared.op.Op.{Op}
-use Rattle.drum_core.specs.declared.op.Op.TheVariants.{NoOperation, Stop, Add, ResetAdd, Divide, DivideReset, Multiply, Store, Shift, Branch, LoadDistributor, Read, Punch, BranchOnDigit}
+use Rattle.drum_core.specs.declared.op.Op.TheVariants.{NoOperation, Stop, Add, ResetAdd, Divide, DivideReset, Multiply}
+use Rattle.drum_core.specs.declared.op.Op.TheVariants.{Store, Shift, Branch, LoadDistributor, Read, Punch}
+use Rattle.drum_core.specs.declared.op.Op.TheVariants.{BranchOnDigit}
 use Rattle.drum_core.specs.declared.op.store.Store.TheVariants as store
 use Rattle.drum_core.specs.declared.rotation.parity.Parity.{Parity}
 use Rattle.drum_core.specs.declared.rotation.parity.Parity.TheVariants.{Any, Even, Odd}
@@ -22,7 +24,8 @@ pub record InRange (before after per wait_min wait_max : ℕ) : Type 0 where
   pub waits : wait_min ≤ wait_max
   pub short_wait : wait_max ≤ 1000000
 
-abbrev pub entry : (before after : ℕ) → Parity → (per wait_min wait_max : ℕ) → InRange before after per wait_min wait_max → Entry
+abbrev pub entry : (before after : ℕ) → Parity → (per wait_min wait_max : ℕ)
+    → InRange before after per wait_min wait_max → Entry
 entry before after parity per wait_min wait_max range = record {
   before = before;
   after = after;
@@ -39,31 +42,103 @@ entry before after parity per wait_min wait_max range = record {
 }
 
 pub quick : InRange 1 0 0 0 0
-quick = record { some_before = omega arith; short_before = omega arith; short_after = omega arith; short_per = omega arith; waits = omega arith; short_wait = omega arith }
+quick =
+    record {
+      some_before = omega arith;
+      short_before = omega arith;
+      short_after = omega arith;
+      short_per = omega arith;
+      waits = omega arith;
+      short_wait = omega arith;
+    }
 
 pub adding : InRange 3 2 0 0 0
-adding = record { some_before = omega arith; short_before = omega arith; short_after = omega arith; short_per = omega arith; waits = omega arith; short_wait = omega arith }
+adding =
+    record {
+      some_before = omega arith;
+      short_before = omega arith;
+      short_after = omega arith;
+      short_per = omega arith;
+      waits = omega arith;
+      short_wait = omega arith;
+    }
 
 pub dividing : InRange 3 5 2 0 0
-dividing = record { some_before = omega arith; short_before = omega arith; short_after = omega arith; short_per = omega arith; waits = omega arith; short_wait = omega arith }
+dividing =
+    record {
+      some_before = omega arith;
+      short_before = omega arith;
+      short_after = omega arith;
+      short_per = omega arith;
+      waits = omega arith;
+      short_wait = omega arith;
+    }
 
 pub multiplying : InRange 3 1 2 0 0
-multiplying = record { some_before = omega arith; short_before = omega arith; short_after = omega arith; short_per = omega arith; waits = omega arith; short_wait = omega arith }
+multiplying =
+    record {
+      some_before = omega arith;
+      short_before = omega arith;
+      short_after = omega arith;
+      short_per = omega arith;
+      waits = omega arith;
+      short_wait = omega arith;
+    }
 
 pub storing : InRange 3 3 0 0 0
-storing = record { some_before = omega arith; short_before = omega arith; short_after = omega arith; short_per = omega arith; waits = omega arith; short_wait = omega arith }
+storing =
+    record {
+      some_before = omega arith;
+      short_before = omega arith;
+      short_after = omega arith;
+      short_per = omega arith;
+      waits = omega arith;
+      short_wait = omega arith;
+    }
 
 pub joining : InRange 3 4 0 0 0
-joining = record { some_before = omega arith; short_before = omega arith; short_after = omega arith; short_per = omega arith; waits = omega arith; short_wait = omega arith }
+joining =
+    record {
+      some_before = omega arith;
+      short_before = omega arith;
+      short_after = omega arith;
+      short_per = omega arith;
+      waits = omega arith;
+      short_wait = omega arith;
+    }
 
 pub shifting : InRange 2 1 2 0 0
-shifting = record { some_before = omega arith; short_before = omega arith; short_after = omega arith; short_per = omega arith; waits = omega arith; short_wait = omega arith }
+shifting =
+    record {
+      some_before = omega arith;
+      short_before = omega arith;
+      short_after = omega arith;
+      short_per = omega arith;
+      waits = omega arith;
+      short_wait = omega arith;
+    }
 
 pub branching : InRange 2 1 0 0 0
-branching = record { some_before = omega arith; short_before = omega arith; short_after = omega arith; short_per = omega arith; waits = omega arith; short_wait = omega arith }
+branching =
+    record {
+      some_before = omega arith;
+      short_before = omega arith;
+      short_after = omega arith;
+      short_per = omega arith;
+      waits = omega arith;
+      short_wait = omega arith;
+    }
 
 pub with_cards : InRange 1 1 0 100 3125
-with_cards = record { some_before = omega arith; short_before = omega arith; short_after = omega arith; short_per = omega arith; waits = omega arith; short_wait = omega arith }
+with_cards =
+    record {
+      some_before = omega arith;
+      short_before = omega arith;
+      short_after = omega arith;
+      short_per = omega arith;
+      waits = omega arith;
+      short_wait = omega arith;
+    }
 
 -- the timing table
 abbrev pub times : Op → Entry

@@ -15,12 +15,14 @@ use Rattle.drum_machine.proofs.Alone.{writes_no_other}
 use Rattle.drum_machine.specs.Ending.{ended_by, own_notes}
 use Rattle.drum_machine.proofs.Ends.{ends_by_its_own}
 use Rattle.drum_machine.specs.Feed.{cards_left, waits_left}
-use Rattle.drum_machine.specs.Machine.{Tells, Becomes, TakesStep, WritesAlone, EndsByAWay, state_in, op_in, way_told, wait_with}
+use Rattle.drum_machine.specs.Machine.{Tells, Becomes, TakesStep, WritesAlone, EndsByAWay, state_in, op_in, way_told}
+use Rattle.drum_machine.specs.Machine.{wait_with}
 use Rattle.drum_machine.specs.Step.{State, Stepped, on, stopped, contents_after, step, fetched, instruction_in}
 use Rattle.drum_machine.specs.Ways.{Way, to, ways}
 
 -- the way that is told is that by which the step ended
-told_way : (stepped : Stepped) (origin : Location) (word : Word) (load : Bool) (words : Option (List Word)) (answer : Step)
+told_way : (stepped : Stepped) (origin : Location) (word : Word) (load : Bool) (words : Option (List Word))
+    (answer : Step)
     → Tells stepped origin word load words answer → ended_by stepped ≡ way_told answer
 told_way (on next) origin word load words (Went from fetch onto used read punch) told = ap to (sym told.2)
 told_way (on next) origin word load words (Stopped from fetch because used) told = absurd told
@@ -38,13 +40,16 @@ pub takes_ends : (times : Op → Entry) (before : Machine) (fed : Feed) (answer 
 takes_ends times before fed answer after left takes op is =
     let s : State = state_in before (cards_left fed) in
     let wait : ℕ = wait_with times (op_in s) (waits_left fed) in
-    subst (λ (way : Way). Contains (ways (own_notes s) (instruction_in s)) way) (told_way (step times s wait) before.sought _ _ _ answer takes.tells) (ends_by_its_own times s wait op is)
+    subst (λ (way : Way). Contains (ways (own_notes s) (instruction_in s)) way)
+    (told_way (step times s wait) before.sought _ _ _ answer takes.tells) (ends_by_its_own times s wait op is)
 
 -- and writes what it writes alone.
 pub takes_writes : (times : Op → Entry) (before : Machine) (fed : Feed) (answer : Step) (after : Machine) (left : Feed)
-    → TakesStep times before fed answer after left → WritesAlone (state_in before (cards_left fed)) (state_in after (cards_left left))
+    → TakesStep times before fed answer after left
+    → WritesAlone (state_in before (cards_left fed)) (state_in after (cards_left left))
 takes_writes times before fed answer after left takes place apart =
     let s : State = state_in before (cards_left fed) in
     let wait : ℕ = wait_with times (op_in s) (waits_left fed) in
-    ap (λ (c : Contents). slice_get c.drum place) (holds_after (step times s wait) before.sought (fetched s) after (cards_left left) takes.becomes)
+    ap (λ (c : Contents). slice_get c.drum place)
+    (holds_after (step times s wait) before.sought (fetched s) after (cards_left left) takes.becomes)
     ∙ writes_no_other times s wait place apart

@@ -1,5 +1,6 @@
 -- What a monitor has seen, one turn later.
-use Rattle.std.proofs.Common.{◌≡◌, ℕ, zero, suc, ◌≤◌, List, [], ◌∷◌, ◌++◌, take, length, replicate, Option, Some, None, refl, sym, ap, subst, ◌∙◌, arith}
+use Rattle.std.proofs.Common.{◌≡◌, ℕ, zero, suc, ◌≤◌, List, [], ◌∷◌, ◌++◌, take, length, replicate, Option, Some, None}
+use Rattle.std.proofs.Common.{refl, sym, ap, subst, ◌∙◌, arith}
 use Rattle.std.specs.Prelude.{MatchOption}
 use Rattle.drum_core.specs.declared.word.Word.{Word}
 use Rattle.drum_times.specs.declared.notes.mark.Mark.{Mark}
@@ -15,36 +16,52 @@ zeros_within : (marks : List Mark) → AreWithin marks (no_counts marks)
 zeros_within [] = tt
 zeros_within (mark ∷ marks) = (omega arith, zeros_within marks)
 
-kept_within : (loads : ℕ → Option Word) (notes : Notes) (counts : List ℕ) (turns : List Turn) → AreKept loads notes counts turns → AreWithin notes.marks counts → AreWithin notes.marks (counts_over notes counts turns)
+kept_within : (loads : ℕ → Option Word) (notes : Notes) (counts : List ℕ) (turns : List Turn)
+    → AreKept loads notes counts turns → AreWithin notes.marks counts
+    → AreWithin notes.marks (counts_over notes counts turns)
 kept_within loads notes counts [] kept within = within
-kept_within loads notes counts (turn ∷ turns) kept within = kept_within loads notes (counts_after notes counts turn) turns kept.1 kept.0.marks
+kept_within loads notes counts (turn ∷ turns) kept within =
+    kept_within loads notes (counts_after notes counts turn) turns kept.1 kept.0.marks
 
-kept_more : (loads : ℕ → Option Word) (notes : Notes) (counts : List ℕ) (turns : List Turn) (turn : Turn) → AreKept loads notes counts turns
+kept_more : (loads : ℕ → Option Word) (notes : Notes) (counts : List ℕ) (turns : List Turn) (turn : Turn)
+    → AreKept loads notes counts turns
     → IsKeptTurn loads notes (counts_over notes counts turns) turn → AreKept loads notes counts (turns ++ turn ∷ [])
 kept_more loads notes counts [] turn kept one = (one, tt)
-kept_more loads notes counts (first ∷ turns) turn kept one = (kept.0, kept_more loads notes (counts_after notes counts first) turns turn kept.1 one)
+kept_more loads notes counts (first ∷ turns) turn kept one =
+    (kept.0, kept_more loads notes (counts_after notes counts first) turns turn kept.1 one)
 
-over_more : (notes : Notes) (counts : List ℕ) (turns : List Turn) (turn : Turn) → counts_over notes counts (turns ++ turn ∷ []) ≡ counts_after notes (counts_over notes counts turns) turn
+over_more : (notes : Notes) (counts : List ℕ) (turns : List Turn) (turn : Turn)
+    → counts_over notes counts (turns ++ turn ∷ []) ≡ counts_after notes (counts_over notes counts turns) turn
 over_more notes counts [] turn = refl
 over_more notes counts (first ∷ turns) turn = over_more notes (counts_after notes counts first) turns turn
 
 -- one turn more is seen, or leaves the notes
-pub seen_more : (loads : ℕ → Option Word) (notes : Notes) (m n : Monitor) (turns : List Turn) (turn : Turn) (left : Option Left) → HasSeen loads notes m turns
-    → MatchOption left (AreWithin notes.marks (counts_in m notes) → IsKeptTurn loads notes (counts_in m notes) turn × (counts_in n notes ≡ counts_after notes (counts_in m notes) turn))
+pub seen_more : (loads : ℕ → Option Word) (notes : Notes) (m n : Monitor) (turns : List Turn) (turn : Turn)
+    (left : Option Left) → HasSeen loads notes m turns
+    → MatchOption left (AreWithin notes.marks (counts_in m notes) → IsKeptTurn loads notes (counts_in m notes) turn
+    × (counts_in n notes ≡ counts_after notes (counts_in m notes) turn))
     (λ l. Leaves loads notes (counts_in m notes) turn l)
-    → MatchOption left (HasSeen loads notes n (turns ++ turn ∷ [])) (λ l. Leaves loads notes (counts_over notes (no_counts notes.marks) turns) turn l)
+    → MatchOption left (HasSeen loads notes n (turns ++ turn ∷ []))
+    (λ l. Leaves loads notes (counts_over notes (no_counts notes.marks) turns) turn l)
 seen_more loads notes m n turns turn None seen judged =
     let within : AreWithin notes.marks (counts_in m notes) =
-    subst (AreWithin notes.marks) (sym seen.counts) (kept_within loads notes (no_counts notes.marks) turns seen.kept (zeros_within notes.marks)) in
+    subst (AreWithin notes.marks) (sym seen.counts)
+    (kept_within loads notes (no_counts notes.marks) turns seen.kept (zeros_within notes.marks)) in
     let one = judged within in
     record {
-      counts = one.1 ∙ ap (λ (counts : List ℕ). counts_after notes counts turn) seen.counts ∙ sym (over_more notes (no_counts notes.marks) turns turn);
-      kept = kept_more loads notes (no_counts notes.marks) turns turn seen.kept (subst (λ (counts : List ℕ). IsKeptTurn loads notes counts turn) seen.counts one.0);
+      counts =
+          one.1 ∙ ap (λ (counts : List ℕ). counts_after notes counts turn) seen.counts
+          ∙ sym (over_more notes (no_counts notes.marks) turns turn);
+      kept =
+          kept_more loads notes (no_counts notes.marks) turns turn seen.kept
+          (subst (λ (counts : List ℕ). IsKeptTurn loads notes counts turn) seen.counts one.0);
     }
-seen_more loads notes m n turns turn (Some l) seen judged = subst (λ (counts : List ℕ). Leaves loads notes counts turn l) seen.counts judged
+seen_more loads notes m n turns turn (Some l) seen judged =
+    subst (λ (counts : List ℕ). Leaves loads notes counts turn l) seen.counts judged
 
 -- no pass is counted at first
-pub zeros : (marks : List Mark) (most : ℕ) → length marks ≤ most → take (length marks) (replicate most 0) ≡ no_counts marks
+pub zeros : (marks : List Mark) (most : ℕ) → length marks ≤ most
+    → take (length marks) (replicate most 0) ≡ no_counts marks
 zeros [] most few = refl
 zeros (mark ∷ marks) zero few = absurd (omega arith)
 zeros (mark ∷ marks) (suc most) few = ap (λ (counts : List ℕ). 0 ∷ counts) (zeros marks most (omega arith))

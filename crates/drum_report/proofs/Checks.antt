@@ -13,7 +13,8 @@ walk =
     record { place = 100; ins = instruction_of (word false 6901030106); way = to 106; begun = 0; ended = 55 }
     ∷ record { place = 106; ins = instruction_of (word false 100000106); way = late; begun = 55; ended = 56 } ∷ []
 
-below_106 : (length (visits_at (λ place. nat_lt place 106) walk) ≡ 1) × (time_in (visits_at (λ place. nat_lt place 106) walk) ≡ 55)
+below_106 : (length (visits_at (λ place. nat_lt place 106) walk) ≡ 1)
+    × (time_in (visits_at (λ place. nat_lt place 106) walk) ≡ 55)
 below_106 = (refl, refl)
 
 all_of_it : (length walk ≡ 2) × (time_in walk ≡ 56) × (used_after 0 walk ≡ 56)

@@ -1,15 +1,18 @@
 -- What checks that find no fault have found.
-use Rattle.std.proofs.Common.{◌≡◌, ℕ, ◌≤◌, Bool, true, false, ◌||◌, cond, List, [], ◌∷◌, ◌++◌, map, Option, Some, None, refl, ap, sym, ◌∙◌}
+use Rattle.std.proofs.Common.{◌≡◌, ℕ, ◌≤◌, Bool, true, false, ◌||◌, cond, List, [], ◌∷◌, ◌++◌, map, Option, Some, None}
+use Rattle.std.proofs.Common.{refl, ap, sym, ◌∙◌}
 use Rattle.std.proofs.lemmas.Bool.{and_parts, leb-true}
 use Rattle.std.proofs.lemmas.Map.Text.{is_eq-slice_cmp}
 use Rattle.std.proofs.lemmas.Slice.Eq.{bytes_eq-Decides}
 use Rattle.std.specs.List.{AllByRecursion}
 use Rattle.std.specs.Prelude.{◌&&◌, nat_le, pos, negsuc, is_some}
 use Rattle.drum_core.specs.Location.{is_location}
-use Rattle.drum_times.specs.Document.{Fault, in_turn, missing, range, missing_in, is_among, whole, location, text, number_faults, text_faults}
+use Rattle.drum_times.specs.Document.{Fault, in_turn, missing, range, missing_in, is_among, whole, location, text}
+use Rattle.drum_times.specs.Document.{number_faults, text_faults}
 use Rattle.drum_times.specs.TimesDocument.{HasNumber}
 use Rattle.drum_times.proofs.Sequences.{none_before, none_behind, not_missing}
-use Rattle.toml.specs.Data.{Data, string, integer, float, boolean, datetime, array, table, Members, get_member, same_key}
+use Rattle.toml.specs.Data.{Data, string, integer, float, boolean, datetime, array, table, Members, get_member}
+use Rattle.toml.specs.Data.{same_key}
 
 -- a key that isn't missing has a value
 pub value_there : (at : List ℕ) (keys : List (List ℕ)) (fields : Members) (key : List ℕ)

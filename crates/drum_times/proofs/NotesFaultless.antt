@@ -1,5 +1,6 @@
 -- A document without a fault says notes.
-use Rattle.std.proofs.Common.{◌≡◌, ℕ, ◌+◌, ◌-◌, ◌<◌, ◌≤◌, Bool, true, false, ◌||◌, ◌&&◌, cond, List, [], ◌∷◌, ◌++◌, length, Option, Some, None, refl, ap, sym, ◌∙◌, subst, arith}
+use Rattle.std.proofs.Common.{◌≡◌, ℕ, ◌+◌, ◌-◌, ◌<◌, ◌≤◌, Bool, true, false, ◌||◌, ◌&&◌, cond, List, [], ◌∷◌, ◌++◌}
+use Rattle.std.proofs.Common.{length, Option, Some, None, refl, ap, sym, ◌∙◌, subst, arith}
 use Rattle.std.proofs.lemmas.Bool.{and_parts, leb-true, ltb-true}
 use Rattle.std.specs.List.{AllByRecursion}
 use Rattle.std.specs.Prelude.{codes, decimal, nat_le, nat_lt, IsTrue, IsSome}
@@ -9,7 +10,8 @@ use Rattle.drum_times.specs.declared.notes.mark.Mark.{Mark}
 use Rattle.drum_times.specs.declared.notes.pattern.Pattern.{Pattern}
 use Rattle.drum_times.specs.declared.notes.programmed.Programmed.TheVariants.{Stop, Run, Any}
 use Rattle.drum_times.specs.Allowed.{Notes, Listed}
-use Rattle.drum_times.specs.Document.{Fault, is_count, count_of, range, whole, element_faults, elements_faults, array_faults, location}
+use Rattle.drum_times.specs.Document.{Fault, is_count, count_of, range, whole, element_faults, elements_faults}
+use Rattle.drum_times.specs.Document.{array_faults, location}
 use Rattle.drum_times.specs.NotesDocument as said
 use Rattle.drum_times.specs.TimesDocument.{HasNumber}
 use Rattle.drum_times.proofs.Faultless.{said_of, value_there, whole_there, location_there, text_there, each_none}
@@ -17,7 +19,8 @@ use Rattle.drum_times.proofs.NotesLaws.{number_is, edges_same}
 use Rattle.drum_times.proofs.NotesSaid.{IsFine, count_same, places_same}
 use Rattle.drum_times.proofs.NotesSound.{own_edges, own_locations, nested, few_marks}
 use Rattle.drum_times.proofs.Sequences.{none_before, none_behind, known_anywhere}
-use Rattle.toml.specs.Data.{Data, string, integer, float, boolean, datetime, array, table, Items, no_items, item, Members, get_member}
+use Rattle.toml.specs.Data.{Data, string, integer, float, boolean, datetime, array, table, Items, no_items, item}
+use Rattle.toml.specs.Data.{Members, get_member}
 
 -- a number that passes the test is a location's
 is_location_of : (n : ℕ) → is_location n ≡ true → IsLocation n

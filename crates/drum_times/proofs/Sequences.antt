@@ -1,12 +1,14 @@
 -- Faults of checks that are made one after the other.
 use Rattle.std.proofs.lemmas.Result.{err_from_is_err_and}
-use Rattle.std.proofs.Common.{Result, IfErr, ◌≡◌, ℕ, Bool, true, false, ◌||◌, cond, List, [], ◌∷◌, ◌++◌, refl, ap, sym, ◌∙◌, subst}
+use Rattle.std.proofs.Common.{Result, IfErr, ◌≡◌, ℕ, Bool, true, false, ◌||◌, cond, List, [], ◌∷◌, ◌++◌, refl, ap, sym}
+use Rattle.std.proofs.Common.{◌∙◌, subst}
 use Rattle.std.proofs.lemmas.List.{append-nil}
 use Rattle.std.proofs.lemmas.Map.Text.{is_eq-slice_cmp}
 use Rattle.std.proofs.lemmas.Slice.Eq.{bytes_eq-Decides}
 use Rattle.std.specs.Prelude.{IsErrAnd}
 use Rattle.drum_times.specs.declared.fault.NoteFault.{NoteFault}
-use Rattle.drum_times.specs.declared.fault.NoteFault.TheVariants.{Toml, Memory, Missing, Unknown, Range, Kind, TwoMarks, TwoLists}
+use Rattle.drum_times.specs.declared.fault.NoteFault.TheVariants.{Toml, Memory, Missing, Unknown, Range, Kind, TwoMarks}
+use Rattle.drum_times.specs.declared.fault.NoteFault.TheVariants.{TwoLists}
 use Rattle.drum_times.specs.Document.{Fault, unknown, is_among, missing_in, unknown_in}
 use Rattle.drum_times.specs.Refused.{Begin, IsFirst}
 use Rattle.toml.specs.Data.{Members, no_members, member, same_key}
@@ -51,33 +53,44 @@ none_behind [] ys none = none
 none_behind (x ∷ xs) ys none = cc
 
 -- a key of some, none of which is missing, isn't missing
-pub not_missing : (at : List ℕ) (keys : List (List ℕ)) (fields : Members) (key : List ℕ) → missing_in at keys fields ≡ [] → is_among key keys ≡ true → missing_in at (key ∷ []) fields ≡ []
+pub not_missing : (at : List ℕ) (keys : List (List ℕ)) (fields : Members) (key : List ℕ)
+    → missing_in at keys fields ≡ [] → is_among key keys ≡ true → missing_in at (key ∷ []) fields ≡ []
 not_missing at [] fields key none among = cc
-not_missing at (one ∷ keys) fields key none among = go (same_key one key) refl among (λ h. not_missing at keys fields key (none_behind _ (missing_in at keys fields) none) h)
+not_missing at (one ∷ keys) fields key none among =
+    go (same_key one key) refl among
+    (λ h. not_missing at keys fields key (none_behind _ (missing_in at keys fields) none) h)
   where
-    go : (same : Bool) → same_key one key ≡ same → (same || is_among key keys) ≡ true → (is_among key keys ≡ true → missing_in at (key ∷ []) fields ≡ []) → missing_in at (key ∷ []) fields ≡ []
+    go : (same : Bool) → same_key one key ≡ same → (same || is_among key keys) ≡ true
+        → (is_among key keys ≡ true → missing_in at (key ∷ []) fields ≡ []) → missing_in at (key ∷ []) fields ≡ []
     go true test h further =
         let is : one ≡ key = (bytes_eq-Decides one key).0 (sym (is_eq-slice_cmp one key) ∙ test) in
-        subst (λ (k : List ℕ). missing_in at (k ∷ []) fields ≡ []) is (append-nil _ ∙ none_before _ (missing_in at keys fields) none)
+        subst (λ (k : List ℕ). missing_in at (k ∷ []) fields ≡ []) is
+        (append-nil _ ∙ none_before _ (missing_in at keys fields) none)
     go false test h further = further h
 
 -- so the first fault of its value is the first
-pub first_there : (at : List ℕ) (keys : List (List ℕ)) (fields : Members) (key : List ℕ) (xs : List Fault) (fault : NoteFault) → missing_in at keys fields ≡ [] → is_among key keys ≡ true
+pub first_there : (at : List ℕ) (keys : List (List ℕ)) (fields : Members) (key : List ℕ) (xs : List Fault)
+    (fault : NoteFault) → missing_in at keys fields ≡ [] → is_among key keys ≡ true
     → IsFirst (missing_in at (key ∷ []) fields ++ xs) fault → IsFirst xs fault
-first_there at keys fields key xs fault none among first = subst (λ (ys : List Fault). IsFirst (ys ++ xs) fault) (not_missing at keys fields key none among) first
+first_there at keys fields key xs fault none among first =
+    subst (λ (ys : List Fault). IsFirst (ys ++ xs) fault) (not_missing at keys fields key none among) first
 
 -- what a `?` hands on
-pub carried : {T : Type 0} (r : Result T NoteFault) (faults : List Fault) (fault : NoteFault) → IsErrAnd r (λ other. other ≡ fault) → IsFirst faults fault → IfErr r (IsFirst faults)
+pub carried : {T : Type 0} (r : Result T NoteFault) (faults : List Fault) (fault : NoteFault)
+    → IsErrAnd r (λ other. other ≡ fault) → IsFirst faults fault → IfErr r (IsFirst faults)
 carried r faults fault is first =
     let handed = err_from_is_err_and r is in
     rw handed.1 (subst (IsFirst faults) (sym handed.2) first)
 
 -- where no key is unknown, none is at another path
-pub known_anywhere : (at at' : List ℕ) (keys : List (List ℕ)) (fields : Members) → unknown_in at keys fields ≡ [] → unknown_in at' keys fields ≡ []
+pub known_anywhere : (at at' : List ℕ) (keys : List (List ℕ)) (fields : Members) → unknown_in at keys fields ≡ []
+    → unknown_in at' keys fields ≡ []
 known_anywhere at at' keys no_members known = refl
-known_anywhere at at' keys (member key value fields) known = go (is_among key keys) known (λ rest. known_anywhere at at' keys fields rest)
+known_anywhere at at' keys (member key value fields) known =
+    go (is_among key keys) known (λ rest. known_anywhere at at' keys fields rest)
   where
-    go : (among : Bool) → cond among [] (unknown (at ++ key) ∷ []) ++ unknown_in at keys fields ≡ [] → (unknown_in at keys fields ≡ [] → unknown_in at' keys fields ≡ [])
+    go : (among : Bool) → cond among [] (unknown (at ++ key) ∷ []) ++ unknown_in at keys fields ≡ []
+        → (unknown_in at keys fields ≡ [] → unknown_in at' keys fields ≡ [])
         → cond among [] (unknown (at' ++ key) ∷ []) ++ unknown_in at' keys fields ≡ []
     go true h further = further h
     go false h further = cc

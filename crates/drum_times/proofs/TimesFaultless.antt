@@ -1,5 +1,6 @@
 -- A document without a fault says a timing table.
-use Rattle.std.proofs.Common.{◌≡◌, ℕ, zero, suc, ◌≤◌, true, List, [], ◌∷◌, ◌++◌, map, Option, Some, None, refl, ap, sym, ◌∙◌, subst, arith}
+use Rattle.std.proofs.Common.{◌≡◌, ℕ, zero, suc, ◌≤◌, true, List, [], ◌∷◌, ◌++◌, map, Option, Some, None, refl, ap, sym}
+use Rattle.std.proofs.Common.{◌∙◌, subst, arith}
 use Rattle.std.specs.Prelude.{codes, flat_map, slice_get}
 use Rattle.drum_core.specs.declared.op.Op.{Op}
 use Rattle.drum_core.specs.declared.rotation.parity.Parity.{Parity}
@@ -9,8 +10,11 @@ use Rattle.drum_core.proofs.OpLaws.{place_of}
 use Rattle.drum_times.specs.declared.entry.Entry.{Entry}
 use Rattle.drum_times.specs.declared.times.read_entry.Form.{Form}
 use Rattle.drum_times.specs.declared.times.read_entry.Form.TheVariants.{Plain, Units, Waits}
-use Rattle.drum_times.specs.Document.{Fault, missing, kind, unknown_in, missing_in, is_among, whole, text, number_at, number_in}
-use Rattle.drum_times.specs.TimesDocument.{HasNumber, HasRest, IsPlain, IsEntry, SaysOperation, IsTimes, keys_of, form_of, key_of, longest, text_of, plain_faults, rest_faults, entry_faults, operation_faults, operations_faults, times_faults}
+use Rattle.drum_times.specs.Document.{Fault, missing, kind, unknown_in, missing_in, is_among, whole, text, number_at}
+use Rattle.drum_times.specs.Document.{number_in}
+use Rattle.drum_times.specs.TimesDocument.{HasNumber, HasRest, IsPlain, IsEntry, SaysOperation, IsTimes, keys_of}
+use Rattle.drum_times.specs.TimesDocument.{form_of, key_of, longest, text_of, plain_faults, rest_faults, entry_faults}
+use Rattle.drum_times.specs.TimesDocument.{operation_faults, operations_faults, times_faults}
 use Rattle.drum_times.proofs.EntryFaults.{unknown_of, missing_of}
 use Rattle.drum_times.proofs.Faultless.{value_there, whole_there, text_there}
 use Rattle.drum_times.proofs.Sequences.{none_before, none_behind, known_anywhere}

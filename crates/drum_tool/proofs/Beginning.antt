@@ -24,7 +24,8 @@ no_answer None none = refl
 no_answer (Some what) none = cc
 
 -- and a verdict is that of the switch
-pub of_switch : (g : Setting) (setup : Setup) (answered : Option lefts.Left) (verdict : Verdict) → AnswersSwitch g setup answered
+pub of_switch : (g : Setting) (setup : Setup) (answered : Option lefts.Left) (verdict : Verdict)
+    → AnswersSwitch g setup answered
     → option_map left_before answered ≡ Some verdict
     → (verdict ≡ left_before left.Switch) × ¬ IsAsDeclared g.notes.programmed setup.programmed
 of_switch g setup None verdict answers is = cc
@@ -34,7 +35,8 @@ of_switch g setup (Some what) verdict answers is =
 
 module _ (g : Setting) (given : Given) (begun : Begun) (is : IsBegun g given begun) where
   -- the verdict that comes before any step
-  says_before : (verdict : Verdict) → begun.verdict ≡ Some verdict → IsVerdict g given begun.bound 0 verdict × (used_in verdict ≡ 0)
+  says_before : (verdict : Verdict) → begun.verdict ≡ Some verdict → IsVerdict g given begun.bound 0 verdict
+      × (used_in verdict ≡ 0)
   says_before verdict at =
       let before = is.before verdict at in
       subst (λ (one : Verdict). IsVerdict g given begun.bound 0 one × (used_in one ≡ 0)) (sym before.0)
@@ -60,7 +62,8 @@ module _ (g : Setting) (given : Given) (begun : Begun) (is : IsBegun g given beg
 
   -- the verdict of a run that was followed
   pub replay_followed : (turns : List Turn) (verdict : Verdict)
-      → IsFollowed g (state_of begun.following) (waits_of begun.following) begun.bound turns verdict → IsReplay g given verdict
+      → IsFollowed g (state_of begun.following) (waits_of begun.following) begun.bound turns verdict
+      → IsReplay g given verdict
   replay_followed turns verdict followed = record {
     own_words = is.own_words;
     worst = begun.bound;

@@ -1,5 +1,6 @@
 -- How a run is followed, step by step.
-use Rattle.std.proofs.Common.{◌≡◌, ℕ, ◌+◌, ◌<◌, ◌≤◌, List, [], ◌∷◌, ◌++◌, length, refl, ap, sym, subst, ◌∙◌, arith, length-append, Option, Some, None}
+use Rattle.std.proofs.Common.{◌≡◌, ℕ, ◌+◌, ◌<◌, ◌≤◌, List, [], ◌∷◌, ◌++◌, length, refl, ap, sym, subst, ◌∙◌, arith}
+use Rattle.std.proofs.Common.{length-append, Option, Some, None}
 use Rattle.std.specs.Prelude.{MatchOption}
 use Rattle.drum_core.specs.declared.location.Location.{Location}
 use Rattle.drum_core.specs.declared.word.Word.{Word}
@@ -17,14 +18,16 @@ use Rattle.drum_machine.specs.Counts.{no_counts}
 use Rattle.drum_machine.specs.FirstState.{IsSetUp}
 use Rattle.drum_machine.specs.Feed.{cards_left, waits_left}
 use Rattle.drum_machine.specs.Keeps.{IsAsDeclared, Leaves, reads_load}
-use Rattle.drum_machine.specs.Machine.{GoesOn, Tells, Becomes, TakesStep, state_in, used_by, sought_by, op_in, punched_with}
+use Rattle.drum_machine.specs.Machine.{GoesOn, Tells, Becomes, TakesStep, state_in, used_by, sought_by, op_in}
+use Rattle.drum_machine.specs.Machine.{punched_with}
 use Rattle.drum_machine.specs.Monitor.{HasSeen, IsToldOf, answer_of, counts_over}
 use Rattle.drum_machine.specs.Run.{Turn, IsFirstState, time_of, used_from}
 use Rattle.drum_machine.specs.Step.{State, Stepped, on, stopped, contents_after, fetched}
 use Rattle.drum_flow.specs.Walk.{Setting}
 use Rattle.drum_lines.specs.declared.verdict.Verdict.TheVariants.{Kept, Left}
 use Rattle.drum_tool.specs.declared.following.Following.{Following}
-use Rattle.drum_tool.specs.Following.{IsBounded, CanBegin, AreGiven, AreOfRun, IsFollowed, IsFollowing, state_of, waits_of, turn_of, used_so_far}
+use Rattle.drum_tool.specs.Following.{IsBounded, CanBegin, AreGiven, AreOfRun, IsFollowed, IsFollowing, state_of}
+use Rattle.drum_tool.specs.Following.{waits_of, turn_of, used_so_far}
 use Rattle.drum_tool.specs.Replay.{Given, AreFed, LeavesAt, IsLeft}
 use Rattle.drum_tool.proofs.Leading.{lead_run, lead_fed, lead_more, lead_used, used_more}
 
@@ -47,7 +50,8 @@ can_begin g setup s None set_up first declared none = record {
 can_begin g setup s (Some what) set_up first declared none = absurd (cc)
 
 -- nothing is followed yet
-pub none_yet : (g : Setting) (bound : ℕ) (f : Following) → CanBegin g (state_of f) → HasSeen g.loads g.notes f.monitor []
+pub none_yet : (g : Setting) (bound : ℕ) (f : Following) → CanBegin g (state_of f)
+    → HasSeen g.loads g.notes f.monitor []
     → answer_of f.monitor ≡ None → GoesOn f.machine → f.steps ≡ 0 → IsFollowing g (state_of f) (waits_of f) bound [] f
 none_yet g bound f begins seen silent goes none = record {
   lead = (refl, refl);
@@ -105,14 +109,17 @@ module _ (g : Setting) where
       -- an answer tells of an outcome
       abbrev TellsOf : Stepped → answers.Step → Type 0
       TellsOf outcome answered =
-          Tells outcome (sought_by before.machine) (fetched now) (reads_load now) (punched_with (op_in now) now) answered
+          Tells outcome (sought_by before.machine) (fetched now) (reads_load now) (punched_with (op_in now) now)
+          answered
 
-      module _ (said : answers.Step) (after : Machine) (rest : Feed) (takes : TakesStep g.times before.machine before.feed said after rest) where
+      module _ (said : answers.Step) (after : Machine) (rest : Feed)
+          (takes : TakesStep g.times before.machine before.feed said after rest) where
         -- they use no more than the bound, where they are seen,
         seen_bounded : (seer : Monitor) → HasSeen g.loads g.notes seer more → time_of turn.outcome ≤ bound
         seen_bounded seer seen =
             subst (λ (used : ℕ). used ≤ bound) (used_more 0 turns turn)
-            (bounded first more begins.first (lead_run g.times first waits turns now left_waits takes.may_wait following.lead)
+            (bounded first more begins.first
+            (lead_run g.times first waits turns now left_waits takes.may_wait following.lead)
             (record { declared = begins.declared; kept = seen.kept }))
 
         -- and are the first of the run that is fixed by what is given
@@ -133,7 +140,8 @@ module _ (g : Setting) where
         -- A step that doesn't stop, and doesn't leave the notes, is followed.
         pub goes_on : (seer : Monitor) → HasSeen g.loads g.notes seer more → answer_of seer ≡ None
             → (GoesOn after → used_so_far before < used_by after)
-            → ((origin : Location) (word : Word) (because : whys.Why) (used : ℕ) → said ≡ answer.Stopped origin word because used → ⊥)
+            → ((origin : Location) (word : Word) (because : whys.Why) (used : ℕ)
+            → said ≡ answer.Stopped origin word because used → ⊥)
             → IsFollowing g first waits bound more (further seer)
         goes_on seer seen silent later goes = go turn.outcome refl takes.tells takes.becomes
           where
@@ -157,7 +165,15 @@ module _ (g : Setting) where
                 absurd (goes (sought_by before.machine) (fetched now) because moment tells)
 
         few : length more ≤ bound + 1
-        few = omega (arith, following.counted, following.each_takes_time, following.within, length-append turns (turn ∷ []))
+        few =
+            omega (
+              arith,
+              following.counted,
+              following.each_takes_time,
+              following.within,
+              length-append turns
+                  (turn ∷ []),
+            )
 
         number : before.steps + 1 ≡ length more
         number = counts_more turns turn before.steps following.counted
@@ -190,13 +206,15 @@ module _ (g : Setting) where
             }
           where
             go : (outcome : Stepped) → turn.outcome ≡ outcome
-                → TellsOf outcome (answer.Stopped origin word because used) → turn.outcome ≡ stopped (contents_after turn.outcome) because used
+                → TellsOf outcome (answer.Stopped origin word because used)
+                → turn.outcome ≡ stopped (contents_after turn.outcome) because used
             go (on next) is tells = absurd tells
             go (stopped held why moment) is tells =
                 let same : why ≡ because = cc in
                 let at : moment ≡ used = cc in
                 let holds : held ≡ contents_after turn.outcome = ap contents_after (sym is) in
-                is ∙ ap (λ (c : Contents). stopped c why moment) holds ∙ ap (λ (w : whys.Why). stopped (contents_after turn.outcome) w moment) same
+                is ∙ ap (λ (c : Contents). stopped c why moment) holds
+                ∙ ap (λ (w : whys.Why). stopped (contents_after turn.outcome) w moment) same
                 ∙ ap (stopped (contents_after turn.outcome) because) at
 
         -- A step that leaves the notes is the last.
@@ -209,7 +227,8 @@ module _ (g : Setting) where
           short = few;
         }
           where
-            at : (given : Given) → AreGiven g given first waits → LeavesAt g given (length more) (used_so_far before) what
+            at : (given : Given) → AreGiven g given first waits
+                → LeavesAt g given (length more) (used_so_far before) what
             at given are = record {
               declared = as_declared given are;
               turns = turns;

@@ -1,9 +1,11 @@
 -- What an input gives, and how many reads failed of it.
-use Rattle.std.proofs.Common.{◌≡◌, ℕ, ◌+◌, ◌≤◌, suc, zero, List, Option, Some, None, Result, Ok, Err, IfErr, IfSome, length, refl, subst, arith}
+use Rattle.std.proofs.Common.{◌≡◌, ℕ, ◌+◌, ◌≤◌, suc, zero, List, Option, Some, None, Result, Ok, Err, IfErr, IfSome}
+use Rattle.std.proofs.Common.{length, refl, subst, arith}
 use Rattle.drum_core.specs.declared.deck.fault.DeckFault.TheVariants as deck
 use Rattle.drum_tool.specs.declared.documents.Documents.{Documents}
 use Rattle.drum_lines.specs.declared.fault.Fault.{Fault}
-use Rattle.drum_lines.specs.declared.fault.Fault.TheVariants.{NoPart, Part, Memory, Deck, Times, Notes, Inputs, Refused, Loaded}
+use Rattle.drum_lines.specs.declared.fault.Fault.TheVariants.{NoPart, Part, Memory, Deck, Times, Notes, Inputs, Refused}
+use Rattle.drum_lines.specs.declared.fault.Fault.TheVariants.{Loaded}
 use Rattle.drum_lines.specs.FaultStatus.{failed_by, reads_failed}
 use Rattle.drum_tool.specs.Joined.{Gives, GivesNone, Joins, JoinsNone}
 
@@ -19,13 +21,16 @@ given_none bytes (Refused fault) short is = (short, is)
 given_none bytes (Loaded location) short is = (short, is)
 
 -- all bytes of an input join no documents, where these are known
-pub known_none : (left : Option (List ℕ)) (text : List ℕ) (fault : Fault) → IfSome left (λ bytes. text ≡ bytes) → length text ≤ 16777216
+pub known_none : (left : Option (List ℕ)) (text : List ℕ) (fault : Fault) → IfSome left (λ bytes. text ≡ bytes)
+    → length text ≤ 16777216
     → JoinsNone text fault → IfSome left (λ bytes. GivesNone bytes fault)
 known_none None text fault all short is = tt
-known_none (Some bytes) text fault all short is = subst (λ (t : List ℕ). GivesNone t fault) all (given_none text fault short is)
+known_none (Some bytes) text fault all short is =
+    subst (λ (t : List ℕ). GivesNone t fault) all (given_none text fault short is)
 
 -- and join documents
-pub known_documents : (left : Option (List ℕ)) (text : List ℕ) (documents : Documents) → IfSome left (λ bytes. text ≡ bytes) → length text ≤ 16777216
+pub known_documents : (left : Option (List ℕ)) (text : List ℕ) (documents : Documents)
+    → IfSome left (λ bytes. text ≡ bytes) → length text ≤ 16777216
     → Joins text documents → IfSome left (λ bytes. Gives bytes documents)
 known_documents None text documents all short is = tt
 known_documents (Some bytes) text documents all short is = subst (λ (t : List ℕ). Gives t documents) all (short, is)
@@ -49,7 +54,8 @@ unread text (Inputs fault) is = absurd is.2
 unread text (Refused fault) is = refl
 unread text (Loaded location) is = refl
 
-pub joined_unread : {A : Type 0} (text : List ℕ) (result : Result A Fault) → IfErr result (JoinsNone text) → failed_by result ≡ 0
+pub joined_unread : {A : Type 0} (text : List ℕ) (result : Result A Fault) → IfErr result (JoinsNone text)
+    → failed_by result ≡ 0
 joined_unread text (Ok documents) is = refl
 joined_unread text (Err fault) is = unread text fault is
 

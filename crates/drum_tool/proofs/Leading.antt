@@ -9,20 +9,24 @@ use Rattle.drum_tool.specs.Following as spec
 use Rattle.drum_tool.specs.Following.{Goes}
 use Rattle.drum_tool.specs.Replay.{AreFed}
 
-goes_any : (outcome : Stepped) (Right : State → Type 0) (Thing : Type 0) → ((next : State) → Right next → Thing) → Goes outcome Right → Thing
+goes_any : (outcome : Stepped) (Right : State → Type 0) (Thing : Type 0) → ((next : State) → Right next → Thing)
+    → Goes outcome Right → Thing
 goes_any (on next) Right Thing so goes = so next goes
 goes_any (stopped held because moment) Right Thing so goes = absurd goes
 
-goes_goes : (outcome : Stepped) (Right Other : State → Type 0) → ((next : State) → Right next → Other next) → Goes outcome Right → Goes outcome Other
+goes_goes : (outcome : Stepped) (Right Other : State → Type 0) → ((next : State) → Right next → Other next)
+    → Goes outcome Right → Goes outcome Other
 goes_goes (on next) Right Other so goes = so next goes
 goes_goes (stopped held because moment) Right Other so goes = absurd goes
 
-goes_follows : (outcome : Stepped) (Right Other : State → Type 0) (turns : List Turn) → ((next : State) → Right next → Other next) → Goes outcome Right → Follow outcome Other turns
+goes_follows : (outcome : Stepped) (Right Other : State → Type 0) (turns : List Turn)
+    → ((next : State) → Right next → Other next) → Goes outcome Right → Follow outcome Other turns
 goes_follows (on next) Right Other turns so goes = so next goes
 goes_follows (stopped held because moment) Right Other turns so goes = absurd goes
 
 -- the time after turns is that after the last
-pub used_more : (time : ℕ) (turns : List Turn) (turn : Turn) → used_from time (turns ++ turn ∷ []) ≡ time_of turn.outcome
+pub used_more : (time : ℕ) (turns : List Turn) (turn : Turn)
+    → used_from time (turns ++ turn ∷ []) ≡ time_of turn.outcome
 used_more time [] turn = refl
 used_more time (one ∷ turns) turn = used_more (time_of one.outcome) turns turn
 
@@ -45,10 +49,13 @@ module _ (times : Op → Entry) where
   last_follows (stopped held because moment) = refl
 
   -- one turn more is a run,
-  pub lead_run : (s : State) (waits : List ℕ) (turns : List Turn) (now : State) (left : List ℕ) → MayBe now left → Lead s waits turns now left
+  pub lead_run : (s : State) (waits : List ℕ) (turns : List Turn) (now : State) (left : List ℕ) → MayBe now left
+      → Lead s waits turns now left
       → IsRun times s (turns ++ turn_at now left ∷ [])
-  lead_run s waits [] now left may lead =
-      (subst (λ (state : State). IsTurn times state (turn_at now left)) (sym lead.0) (is_turn now left may), last_follows (turn_at now left).outcome)
+  lead_run s waits [] now left may lead = (
+    subst (λ (state : State). IsTurn times state (turn_at now left)) (sym lead.0) (is_turn now left may),
+    last_follows (turn_at now left).outcome,
+  )
   lead_run s waits (turn ∷ turns) now left may lead = (
     lead.0,
     goes_follows turn.outcome (λ next. Lead next (waits_with (op_in turn.origin) turn.origin waits) turns now left)
@@ -57,7 +64,8 @@ module _ (times : Op → Entry) where
   )
 
   -- which takes the waits,
-  pub lead_fed : (s : State) (waits : List ℕ) (turns : List Turn) (now : State) (left : List ℕ) → Lead s waits turns now left
+  pub lead_fed : (s : State) (waits : List ℕ) (turns : List Turn) (now : State) (left : List ℕ)
+      → Lead s waits turns now left
       → AreFed times waits (turns ++ turn_at now left ∷ [])
   lead_fed s waits [] now left lead = (ap (λ (rest : List ℕ). wait_with times (op_in now) rest) (sym lead.1), tt)
   lead_fed s waits (turn ∷ turns) now left lead = (
@@ -68,7 +76,8 @@ module _ (times : Op → Entry) where
   )
 
   -- and which leads on where it goes on.
-  pub lead_more : (s : State) (waits : List ℕ) (turns : List Turn) (now : State) (left : List ℕ) (next : State) (rest : List ℕ) → MayBe now left
+  pub lead_more : (s : State) (waits : List ℕ) (turns : List Turn) (now : State) (left : List ℕ) (next : State)
+      (rest : List ℕ) → MayBe now left
       → Lead s waits turns now left → (turn_at now left).outcome ≡ on next → waits_with (op_in now) now left ≡ rest
       → Lead s waits (turns ++ turn_at now left ∷ []) next rest
   lead_more s waits [] now left next rest may lead onto over =
@@ -76,26 +85,32 @@ module _ (times : Op → Entry) where
       subst (λ (state : State). IsTurn times state (turn_at now left)) (sym lead.0) (is_turn now left may) in (
         here,
         ap (λ (fed : List ℕ). wait_with times (op_in now) fed) (sym lead.1),
-        subst (λ (outcome : Stepped). Goes outcome (λ state. (state ≡ next) × (waits_with (op_in now) now waits ≡ rest))) (sym onto)
+        subst (λ (outcome : Stepped). Goes outcome
+            (λ state. (state ≡ next) × (waits_with (op_in now) now waits ≡ rest))) (sym onto)
             (refl, ap (λ (fed : List ℕ). waits_with (op_in now) now fed) lead.1 ∙ over),
       )
   lead_more s waits (turn ∷ turns) now left next rest may lead onto over = (
     lead.0,
     lead.1,
     goes_goes turn.outcome (λ state. Lead state (waits_with (op_in turn.origin) turn.origin waits) turns now left)
-        (λ state. Lead state (waits_with (op_in turn.origin) turn.origin waits) (turns ++ turn_at now left ∷ []) next rest)
-        (λ state leads. lead_more state (waits_with (op_in turn.origin) turn.origin waits) turns now left next rest may leads onto over) lead.2,
+        (λ state. Lead state (waits_with (op_in turn.origin) turn.origin waits) (turns ++ turn_at now left ∷ []) next
+        rest)
+        (λ state leads. lead_more state (waits_with (op_in turn.origin) turn.origin waits) turns now left next rest may
+        leads onto over) lead.2,
   )
 
   used_along : (outcome : Stepped) (turns : List Turn) (now : State) (Right : State → Type 0)
-      → ((next : State) → Right next → used_from next.time turns ≡ now.time) → Goes outcome Right → used_from (time_of outcome) turns ≡ now.time
+      → ((next : State) → Right next → used_from next.time turns ≡ now.time) → Goes outcome Right
+      → used_from (time_of outcome) turns ≡ now.time
   used_along (on next) turns now Right so goes = so next goes
   used_along (stopped held because moment) turns now Right so goes = absurd goes
 
   -- the time that turns lead to
-  pub lead_used : (s : State) (waits : List ℕ) (turns : List Turn) (now : State) (left : List ℕ) → Lead s waits turns now left
+  pub lead_used : (s : State) (waits : List ℕ) (turns : List Turn) (now : State) (left : List ℕ)
+      → Lead s waits turns now left
       → used_from s.time turns ≡ now.time
   lead_used s waits [] now left lead = ap (λ (state : State). state.time) lead.0
   lead_used s waits (turn ∷ turns) now left lead =
-      used_along turn.outcome turns now (λ next. Lead next (waits_with (op_in turn.origin) turn.origin waits) turns now left)
+      used_along turn.outcome turns now
+      (λ next. Lead next (waits_with (op_in turn.origin) turn.origin waits) turns now left)
       (λ next rest. lead_used next (waits_with (op_in turn.origin) turn.origin waits) turns now left rest) lead.2

@@ -1,5 +1,6 @@
 -- A setup and a feed fix one run.
-use Rattle.std.proofs.Common.{◌≡◌, ℕ, zero, suc, ◌<◌, List, [], ◌∷◌, length, take, refl, ap, sym, subst, ◌∙◌, arith, Bool, ℤ, Option, Some}
+use Rattle.std.proofs.Common.{◌≡◌, ℕ, zero, suc, ◌<◌, List, [], ◌∷◌, length, take, refl, ap, sym, subst, ◌∙◌, arith}
+use Rattle.std.proofs.Common.{Bool, ℤ, Option, Some}
 use Rattle.std.specs.Prelude.{slice_get}
 use Rattle.drum_core.specs.declared.op.Op.{Op}
 use Rattle.drum_core.specs.declared.word.Word.{Word}
@@ -16,7 +17,8 @@ use Rattle.drum_tool.specs.Replay.{Given, AreFed, IsReplayed}
 use Rattle.drum_tool.specs.Following.{turn_at}
 
 -- lists that are as long and have the same at each place are one
-same_places : (xs ys : List Word) → length xs ≡ length ys → ((k : ℕ) → k < length xs → slice_get xs k ≡ slice_get ys k) → xs ≡ ys
+same_places : (xs ys : List Word) → length xs ≡ length ys → ((k : ℕ) → k < length xs → slice_get xs k ≡ slice_get ys k)
+    → xs ≡ ys
 same_places [] [] long same = refl
 same_places [] (y ∷ ys) long same = absurd (omega (arith, long))
 same_places (x ∷ xs) [] long same = absurd (omega (arith, long))
@@ -26,8 +28,10 @@ same_places (x ∷ xs) (y ∷ ys) long same =
     cc
 
 -- values that agree in what they hold are one
-contents_alike : (made : List Word → Word → Word → ℤ → Option Bool → Bool → Bool → Bool → List Card → Contents) (a b : Contents) → a.drum ≡ b.drum
-    → a.switches ≡ b.switches → a.distributor ≡ b.distributor → a.accumulator ≡ b.accumulator → a.remainder ≡ b.remainder → a.latch ≡ b.latch
+contents_alike : (made : List Word → Word → Word → ℤ → Option Bool → Bool → Bool → Bool → List Card → Contents)
+    (a b : Contents) → a.drum ≡ b.drum
+    → a.switches ≡ b.switches → a.distributor ≡ b.distributor → a.accumulator ≡ b.accumulator
+    → a.remainder ≡ b.remainder → a.latch ≡ b.latch
     → a.programmed_stops ≡ b.programmed_stops → a.overflow_stops ≡ b.overflow_stops → a.cards ≡ b.cards
     → made a.drum a.switches a.distributor a.accumulator a.remainder a.latch a.programmed_stops a.overflow_stops a.cards
     ≡ made b.drum b.switches b.distributor b.accumulator b.remainder b.latch b.programmed_stops b.overflow_stops b.cards
@@ -46,23 +50,28 @@ contents_of drum switches distributor accumulator remainder latch programmed ove
   cards = cards;
 }
 
-same_contents : (a b : Contents) → a.drum ≡ b.drum → a.switches ≡ b.switches → a.distributor ≡ b.distributor → a.accumulator ≡ b.accumulator
-    → a.remainder ≡ b.remainder → a.latch ≡ b.latch → a.programmed_stops ≡ b.programmed_stops → a.overflow_stops ≡ b.overflow_stops
+same_contents : (a b : Contents) → a.drum ≡ b.drum → a.switches ≡ b.switches → a.distributor ≡ b.distributor
+    → a.accumulator ≡ b.accumulator
+    → a.remainder ≡ b.remainder → a.latch ≡ b.latch → a.programmed_stops ≡ b.programmed_stops
+    → a.overflow_stops ≡ b.overflow_stops
     → a.cards ≡ b.cards → a ≡ b
 unfolding contents_of
 same_contents a b drum switches distributor accumulator remainder latch programmed overflow cards =
     contents_alike contents_of a b drum switches distributor accumulator remainder latch programmed overflow cards
 
-state_alike : (made : Contents → ℕ → ℕ → ℕ → State) (s t : State) → s.contents ≡ t.contents → s.sought ≡ t.sought → s.time ≡ t.time
+state_alike : (made : Contents → ℕ → ℕ → ℕ → State) (s t : State) → s.contents ≡ t.contents → s.sought ≡ t.sought
+    → s.time ≡ t.time
     → s.start ≡ t.start → made s.contents s.sought s.time s.start ≡ made t.contents t.sought t.time t.start
 state_alike made s t contents sought time start = cc
 
 same_state : (s t : State) → s.contents ≡ t.contents → s.sought ≡ t.sought → s.time ≡ t.time → s.start ≡ t.start → s ≡ t
 same_state s t contents sought time start =
-    let made : Contents → ℕ → ℕ → ℕ → State = λ c next used angle. record { contents = c; sought = next; time = used; start = angle } in
+    let made : Contents → ℕ → ℕ → ℕ → State =
+    λ c next used angle. record { contents = c; sought = next; time = used; start = angle } in
     state_alike made s t contents sought time start
 
-turn_alike : (made : State → ℕ → Stepped → Turn) (a b : Turn) → a.origin ≡ b.origin → a.wait ≡ b.wait → a.outcome ≡ b.outcome
+turn_alike : (made : State → ℕ → Stepped → Turn) (a b : Turn) → a.origin ≡ b.origin → a.wait ≡ b.wait
+    → a.outcome ≡ b.outcome
     → made a.origin a.wait a.outcome ≡ made b.origin b.wait b.outcome
 turn_alike made a b origin wait outcome = cc
 
@@ -72,7 +81,8 @@ same_turn a b origin wait outcome =
     turn_alike made a b origin wait outcome
 
 -- one drum is set up,
-one_drum : (loads : ℕ → Option Word) (given : Given) (drum other : List Word) → IsFirstDrum loads given.setup.words.items drum
+one_drum : (loads : ℕ → Option Word) (given : Given) (drum other : List Word)
+    → IsFirstDrum loads given.setup.words.items drum
     → IsFirstDrum loads given.setup.words.items other → drum ≡ other
 one_drum loads given drum other is is_other =
     same_places drum other (is.whole ∙ sym is_other.whole) (λ k below.
@@ -80,26 +90,32 @@ one_drum loads given drum other is is_other =
     is.first k inside ∙ sym (is_other.first k inside))
 
 -- and one first state.
-pub one_first : (g : Setting) (given : Given) (s t : State) → IsSetUp g.loads g.start given.setup s → s.contents.cards ≡ given.cards
+pub one_first : (g : Setting) (given : Given) (s t : State) → IsSetUp g.loads g.start given.setup s
+    → s.contents.cards ≡ given.cards
     → IsSetUp g.loads g.start given.setup t → t.contents.cards ≡ given.cards → s ≡ t
 one_first g given s t is reader is_other other_reader =
     same_state s t
     (same_contents s.contents t.contents (one_drum g.loads given s.contents.drum t.contents.drum is.drum is_other.drum)
-    (is.switches ∙ sym is_other.switches) (is.distributor ∙ sym is_other.distributor) (is.accumulator ∙ sym is_other.accumulator)
+    (is.switches ∙ sym is_other.switches) (is.distributor ∙ sym is_other.distributor)
+    (is.accumulator ∙ sym is_other.accumulator)
     (is.remainder ∙ sym is_other.remainder) (is.latch ∙ sym is_other.latch) (is.programmed ∙ sym is_other.programmed)
     (is.on_overflow ∙ sym is_other.on_overflow) (reader ∙ sym other_reader))
     (is.seeks ∙ sym is_other.seeks) (is.at_once ∙ sym is_other.at_once) (is.angle ∙ sym is_other.angle)
 
 module _ (times : Op → Entry) where
   -- a state and the waits fix the turn
-  the_turn : (s : State) (waits : List ℕ) (turn : Turn) → IsTurn times s turn → turn.wait ≡ wait_with times (op_in turn.origin) waits → turn ≡ turn_at times s waits
+  the_turn : (s : State) (waits : List ℕ) (turn : Turn) → IsTurn times s turn
+      → turn.wait ≡ wait_with times (op_in turn.origin) waits → turn ≡ turn_at times s waits
   the_turn s waits turn is fed =
-      let wait : turn.wait ≡ wait_with times (op_in s) waits = fed ∙ ap (λ (from : State). wait_with times (op_in from) waits) is.from_here in
+      let wait : turn.wait ≡ wait_with times (op_in s) waits =
+      fed ∙ ap (λ (from : State). wait_with times (op_in from) waits) is.from_here in
       same_turn turn (turn_at times s waits) is.from_here wait (is.stepped ∙ ap (step times s) wait)
 
-  pub one_turn : (s : State) (waits : List ℕ) (turn other : Turn) → IsTurn times s turn → turn.wait ≡ wait_with times (op_in turn.origin) waits
+  pub one_turn : (s : State) (waits : List ℕ) (turn other : Turn) → IsTurn times s turn
+      → turn.wait ≡ wait_with times (op_in turn.origin) waits
       → IsTurn times s other → other.wait ≡ wait_with times (op_in other.origin) waits → turn ≡ other
-  one_turn s waits turn other is fed is_other other_fed = the_turn s waits turn is fed ∙ sym (the_turn s waits other is_other other_fed)
+  one_turn s waits turn other is fed is_other other_fed =
+      the_turn s waits turn is fed ∙ sym (the_turn s waits other is_other other_fed)
 
   one_rest : (outcome : Stepped) (turns others : List Turn) → Follow outcome (λ next. IsRun times next turns) turns
       → Follow outcome (λ next. IsRun times next others) others
@@ -121,23 +137,30 @@ module _ (times : Op → Entry) where
       subst (λ (one : Turn). AreFed times (waits_with (op_in one.origin) one.origin waits) others) here fed_other.1 in
       let rest : turns ≡ others =
       one_rest turn.outcome turns others run.1 follow_other (λ next runs runs_other.
-      one_from turns others next (waits_with (op_in turn.origin) turn.origin waits) runs fed.1 runs_other waits_other (omega (arith, long))) in
+      one_from turns others next (waits_with (op_in turn.origin) turn.origin waits) runs fed.1 runs_other waits_other
+      (omega (arith, long))) in
       cc
 
-pub one_run : (g : Setting) (given : Given) (turns others : List Turn) → IsReplayed g given turns → IsReplayed g given others
+pub one_run : (g : Setting) (given : Given) (turns others : List Turn) → IsReplayed g given turns
+    → IsReplayed g given others
     → length turns ≡ length others → turns ≡ others
 one_run g given turns others is is_other long =
-    let same : is_other.first ≡ is.first = one_first g given is_other.first is.first is_other.set_up is_other.reader is.set_up is.reader in
-    one_from g.times turns others is.first given.waits is.run is.fed (subst (λ (s : State). IsRun g.times s others) same is_other.run) is_other.fed long
+    let same : is_other.first ≡ is.first =
+    one_first g given is_other.first is.first is_other.set_up is_other.reader is.set_up is.reader in
+    one_from g.times turns others is.first given.waits is.run is.fed
+    (subst (λ (s : State). IsRun g.times s others) same is_other.run) is_other.fed long
 
 -- Waits that are fed to turns are fed to the first of them,
-fed_front : (times : Op → Entry) (waits : List ℕ) (turns : List Turn) (n : ℕ) → AreFed times waits turns → AreFed times waits (take n turns)
+fed_front : (times : Op → Entry) (waits : List ℕ) (turns : List Turn) (n : ℕ) → AreFed times waits turns
+    → AreFed times waits (take n turns)
 fed_front times waits turns zero fed = tt
 fed_front times waits [] (suc n) fed = tt
-fed_front times waits (turn ∷ turns) (suc n) fed = (fed.0, fed_front times (waits_with (op_in turn.origin) turn.origin waits) turns n fed.1)
+fed_front times waits (turn ∷ turns) (suc n) fed =
+    (fed.0, fed_front times (waits_with (op_in turn.origin) turn.origin waits) turns n fed.1)
 
 -- and so the first turns of a run are those of a shorter one.
-pub front_replayed : (g : Setting) (given : Given) (turns : List Turn) (n : ℕ) → IsReplayed g given turns → IsReplayed g given (take n turns)
+pub front_replayed : (g : Setting) (given : Given) (turns : List Turn) (n : ℕ) → IsReplayed g given turns
+    → IsReplayed g given (take n turns)
 front_replayed g given turns n is = record {
   first = is.first;
   set_up = is.set_up;

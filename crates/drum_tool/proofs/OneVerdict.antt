@@ -35,7 +35,8 @@ module _ (g : Setting) where
   KeptTurn counts turn = IsKeptTurn g.loads g.notes counts turn
 
   -- a turn has one first cause
-  one_cause : (counts : List ℕ) (turn : Turn) (what other : lefts.Left) → Leave counts turn what → Leave counts turn other → what ≡ other
+  one_cause : (counts : List ℕ) (turn : Turn) (what other : lefts.Left) → Leave counts turn what
+      → Leave counts turn other → what ≡ other
   one_cause counts turn (left.Unlisted location word) (left.Unlisted place fetch) is is_other =
       let where_it_is : location ≡ place = same_location location place (is.0 ∙ sym is_other.0) in
       let read : word ≡ fetch = is.1 ∙ sym is_other.1 in
@@ -46,7 +47,8 @@ module _ (g : Setting) where
   one_cause counts turn (left.TooOften from onto) (left.Unlisted place fetch) is is_other = absurd (is_other.2 is.0)
   one_cause counts turn (left.TooOften from onto) (left.TooOften begin end) is is_other =
       let begins : from ≡ begin = same_location from begin (is.3 ∙ sym is_other.3) in
-      let ends : onto ≡ end = same_location onto end (goes_to_one turn.outcome onto.number end.number is.4 is_other.4) in
+      let ends : onto ≡ end =
+      same_location onto end (goes_to_one turn.outcome onto.number end.number is.4 is_other.4) in
       cc
   one_cause counts turn (left.TooOften from onto) left.Switch is is_other = absurd is_other
   one_cause counts turn (left.TooOften from onto) left.LoadCard is is_other = absurd (is_other.1 is.1)
@@ -57,7 +59,8 @@ module _ (g : Setting) where
   one_cause counts turn left.LoadCard left.LoadCard is is_other = refl
 
   -- a turn that keeps to the notes doesn't leave them
-  kept_leaves_none : (counts : List ℕ) (turn : Turn) (what : lefts.Left) → KeptTurn counts turn → Leave counts turn what → ⊥
+  kept_leaves_none : (counts : List ℕ) (turn : Turn) (what : lefts.Left) → KeptTurn counts turn → Leave counts turn what
+      → ⊥
   kept_leaves_none counts turn (left.Unlisted location word) kept leaves = leaves.2 kept.listed
   kept_leaves_none counts turn (left.TooOften from onto) kept leaves = leaves.2 kept.marks
   kept_leaves_none counts turn left.Switch kept leaves = leaves
@@ -70,17 +73,20 @@ module _ (g : Setting) where
       × ((held : Contents) × (because : whys.Why) × (moment : ℕ) × (turn.outcome ≡ stopped held because moment)))
       ⊎ ((what : lefts.Left) × Leave counts turn what)
 
-  stops_last : (outcome : Stepped) (held : Contents) (because : whys.Why) (moment : ℕ) (Right : State → Type 0) (turns : List Turn) (last : Turn)
+  stops_last : (outcome : Stepped) (held : Contents) (because : whys.Why) (moment : ℕ) (Right : State → Type 0)
+      (turns : List Turn) (last : Turn)
       → outcome ≡ stopped held because moment → Follow outcome Right (turns ++ last ∷ []) → ⊥
   stops_last (on next) held because moment Right turns last stops follow = cc
   stops_last (stopped then why time) held because moment Right turns last stops follow = some_last turns last follow
 
   -- none comes with a turn that keeps to the notes, where turns follow it
-  ends_last : (counts : List ℕ) (turn : Turn) (Right : State → Type 0) (turns : List Turn) (last : Turn) → Ends counts turn → KeptTurn counts turn
+  ends_last : (counts : List ℕ) (turn : Turn) (Right : State → Type 0) (turns : List Turn) (last : Turn)
+      → Ends counts turn → KeptTurn counts turn
       → Follow turn.outcome Right (turns ++ last ∷ []) → ⊥
   ends_last counts turn Right turns last (inl (kept, (held, because, moment, stops))) keeps follow =
       stops_last turn.outcome held because moment Right turns last stops follow
-  ends_last counts turn Right turns last (inr (what, leaves)) keeps follow = kept_leaves_none counts turn what keeps leaves
+  ends_last counts turn Right turns last (inr (what, leaves)) keeps follow =
+      kept_leaves_none counts turn what keeps leaves
 
   -- Turns from a state with waits, and a last one with which a verdict comes; marks were passed so
   -- often before them.
@@ -92,41 +98,59 @@ module _ (g : Setting) where
 
   -- what follows the first turn, where that goes on
   ending_rest : (outcome : Stepped) (waits counts : List ℕ) (turns : List Turn) (last : Turn)
-      → Follow outcome (λ next. IsRun g.times next (turns ++ last ∷ [])) (turns ++ last ∷ []) → AreFed g.times waits (turns ++ last ∷ [])
+      → Follow outcome (λ next. IsRun g.times next (turns ++ last ∷ [])) (turns ++ last ∷ [])
+      → AreFed g.times waits (turns ++ last ∷ [])
       → AreKept g.loads g.notes counts turns → Ends (counts_over g.notes counts turns) last
       → (next : State) → outcome ≡ on next → Ending next waits counts turns last
   ending_rest (on state) waits counts turns last follow fed kept ends next onto =
       let same : state ≡ next = cc in
-      record { run = subst (λ (s : State). IsRun g.times s (turns ++ last ∷ [])) same follow; fed = fed; kept = kept; ends = ends }
-  ending_rest (stopped held because moment) waits counts turns last follow fed kept ends next onto = absurd (some_last turns last follow)
+      record {
+        run = subst (λ (s : State). IsRun g.times s (turns ++ last ∷ [])) same follow;
+        fed = fed;
+        kept = kept;
+        ends = ends;
+      }
+  ending_rest (stopped held because moment) waits counts turns last follow fed kept ends next onto =
+      absurd (some_last turns last follow)
 
-  goes_or_none : (outcome : Stepped) (Right : State → Type 0) (turns : List Turn) (last : Turn) → Follow outcome Right (turns ++ last ∷ [])
+  goes_or_none : (outcome : Stepped) (Right : State → Type 0) (turns : List Turn) (last : Turn)
+      → Follow outcome Right (turns ++ last ∷ [])
       → (next : State) × (outcome ≡ on next)
   goes_or_none (on next) Right turns last follow = (next, refl)
   goes_or_none (stopped held because moment) Right turns last follow = absurd (some_last turns last follow)
 
   -- the turns, and the last, are one
-  one_ending : (turns others : List Turn) (last end : Turn) (s : State) (waits counts : List ℕ) → Ending s waits counts turns last
+  one_ending : (turns others : List Turn) (last end : Turn) (s : State) (waits counts : List ℕ)
+      → Ending s waits counts turns last
       → Ending s waits counts others end → (turns ≡ others) × (last ≡ end)
   one_ending [] [] last end s waits counts is is_other =
       (refl, one_turn g.times s waits last end is.run.0 is.fed.0 is_other.run.0 is_other.fed.0)
   one_ending [] (other ∷ others) last end s waits counts is is_other =
       let same : last ≡ other = one_turn g.times s waits last other is.run.0 is.fed.0 is_other.run.0 is_other.fed.0 in
-      absurd (ends_last counts other (λ next. IsRun g.times next (others ++ end ∷ [])) others end (subst (Ends counts) same is.ends) is_other.kept.0 is_other.run.1)
+      absurd (ends_last counts other (λ next. IsRun g.times next (others ++ end ∷ [])) others end
+      (subst (Ends counts) same is.ends) is_other.kept.0 is_other.run.1)
   one_ending (turn ∷ turns) [] last end s waits counts is is_other =
       let same : end ≡ turn = one_turn g.times s waits end turn is_other.run.0 is_other.fed.0 is.run.0 is.fed.0 in
-      absurd (ends_last counts turn (λ next. IsRun g.times next (turns ++ last ∷ [])) turns last (subst (Ends counts) same is_other.ends) is.kept.0 is.run.1)
+      absurd (ends_last counts turn (λ next. IsRun g.times next (turns ++ last ∷ [])) turns last
+      (subst (Ends counts) same is_other.ends) is.kept.0 is.run.1)
   one_ending (turn ∷ turns) (other ∷ others) last end s waits counts is is_other =
       let same : turn ≡ other = one_turn g.times s waits turn other is.run.0 is.fed.0 is_other.run.0 is_other.fed.0 in
       let goes = goes_or_none turn.outcome (λ next. IsRun g.times next (turns ++ last ∷ [])) turns last is.run.1 in
-      let rest = ending_rest turn.outcome (waits_with (op_in turn.origin) turn.origin waits) (counts_after g.notes counts turn) turns last
+      let rest =
+      ending_rest turn.outcome (waits_with (op_in turn.origin) turn.origin waits) (counts_after g.notes counts turn)
+      turns last
       is.run.1 is.fed.1 is.kept.1 is.ends goes.0 goes.1 in
       let onto : other.outcome ≡ on goes.0 = ap (λ (one : Turn). one.outcome) (sym same) ∙ goes.1 in
-      let rest_other = ending_rest other.outcome (waits_with (op_in other.origin) other.origin waits) (counts_after g.notes counts other) others end
+      let rest_other =
+      ending_rest other.outcome (waits_with (op_in other.origin) other.origin waits)
+      (counts_after g.notes counts other) others end
       is_other.run.1 is_other.fed.1 is_other.kept.1 is_other.ends goes.0 onto in
       let Rest : Turn → Type 0 =
-      λ one. Ending goes.0 (waits_with (op_in one.origin) one.origin waits) (counts_after g.notes counts one) others end in
-      let alike = one_ending turns others last end goes.0 (waits_with (op_in turn.origin) turn.origin waits) (counts_after g.notes counts turn) rest
+      λ one. Ending goes.0 (waits_with (op_in one.origin) one.origin waits) (counts_after g.notes counts one) others
+      end in
+      let alike =
+      one_ending turns others last end goes.0 (waits_with (op_in turn.origin) turn.origin waits)
+      (counts_after g.notes counts turn) rest
       (subst Rest (sym same) rest_other) in
       let all : turn ∷ turns ≡ other ∷ others = let first = same in let others_too = alike.0 in cc in
       (all, alike.1)
@@ -145,14 +169,20 @@ module _ (g : Setting) where
       kept : AreKept g.loads g.notes (no_counts g.notes.marks) turns
       ends : Ends (counts_over g.notes (no_counts g.notes.marks) turns) last
 
-    one_end : (turns others : List Turn) (last end : Turn) → Ended turns last → Ended others end → (turns ≡ others) × (last ≡ end)
+    one_end : (turns others : List Turn) (last end : Turn) → Ended turns last → Ended others end → (turns ≡ others)
+        × (last ≡ end)
     one_end turns others last end is is_other =
         let p = is.replayed in
         let q = is_other.replayed in
         let same : q.first ≡ p.first = one_first g given q.first p.first q.set_up q.reader p.set_up p.reader in
         one_ending turns others last end p.first given.waits (no_counts g.notes.marks)
         (record { run = p.run; fed = p.fed; kept = is.kept; ends = is.ends })
-        (record { run = subst (λ (s : State). IsRun g.times s (others ++ end ∷ [])) same q.run; fed = q.fed; kept = is_other.kept; ends = is_other.ends })
+        (record {
+          run = subst (λ (s : State). IsRun g.times s (others ++ end ∷ [])) same q.run;
+          fed = q.fed;
+          kept = is_other.kept;
+          ends = is_other.ends;
+        })
 
     stops_ended : (step used : ℕ) (because : whys.Why) (at : StopsAt g given step used because) → Ended at.turns at.last
     stops_ended step used because at =
@@ -163,38 +193,50 @@ module _ (g : Setting) where
     leaves_ended step used what at = record { replayed = at.replayed; kept = at.kept; ends = inr (what, at.leaves) }
 
     -- it stops once, for one reason, at one time,
-    one_stop : (step step' used used' : ℕ) (because because' : whys.Why) → StopsAt g given step used because → StopsAt g given step' used' because'
+    one_stop : (step step' used used' : ℕ) (because because' : whys.Why) → StopsAt g given step used because
+        → StopsAt g given step' used' because'
         → (used ≡ used') × (because ≡ because') × (step ≡ step')
     one_stop step step' used used' because because' at other =
-        let same = one_end at.turns other.turns at.last other.last (stops_ended step used because at) (stops_ended step' used' because' other) in
-        let outcomes : stopped at.held because used ≡ stopped other.held because' used' = sym at.stops ∙ ap (λ (turn : Turn). turn.outcome) same.1 ∙ other.stops in
+        let same =
+        one_end at.turns other.turns at.last other.last (stops_ended step used because at)
+        (stops_ended step' used' because' other) in
+        let outcomes : stopped at.held because used ≡ stopped other.held because' used' =
+        sym at.stops ∙ ap (λ (turn : Turn). turn.outcome) same.1 ∙ other.stops in
         let times : used ≡ used' = cc in
         let reasons : because ≡ because' = cc in
         (times, reasons, at.number ∙ ap (λ (turns : List Turn). length turns + 1) same.0 ∙ sym other.number)
 
     -- or leaves the notes once, in one way, and not both.
-    one_leave : (step step' used used' : ℕ) (what what' : lefts.Left) → LeavesAt g given step used what → LeavesAt g given step' used' what'
+    one_leave : (step step' used used' : ℕ) (what what' : lefts.Left) → LeavesAt g given step used what
+        → LeavesAt g given step' used' what'
         → (what ≡ what') × (step ≡ step') × (used ≡ used')
     one_leave step step' used used' what what' at other =
-        let same = one_end at.turns other.turns at.last other.last (leaves_ended step used what at) (leaves_ended step' used' what' other) in
+        let same =
+        one_end at.turns other.turns at.last other.last (leaves_ended step used what at)
+        (leaves_ended step' used' what' other) in
         let none : List ℕ = no_counts g.notes.marks in
         let leaves : Leave (counts_over g.notes none at.turns) at.last what' =
         subst (λ (turns : List Turn). Leave (counts_over g.notes none turns) at.last what') (sym same.0)
-        (subst (λ (turn : Turn). Leave (counts_over g.notes none other.turns) turn what') (sym same.1) other.leaves) in (
+        (subst (λ (turn : Turn). Leave (counts_over g.notes none other.turns) turn what') (sym same.1)
+        other.leaves) in (
           one_cause (counts_over g.notes none at.turns) at.last what what' at.leaves leaves,
           at.number ∙ ap (λ (turns : List Turn). length turns + 1) same.0 ∙ sym other.number,
           at.time ∙ ap (used_from 0) same.0 ∙ sym other.time,
         )
 
-    stops_or_leaves : (step step' used used' : ℕ) (because : whys.Why) (what : lefts.Left) → StopsAt g given step used because
+    stops_or_leaves : (step step' used used' : ℕ) (because : whys.Why) (what : lefts.Left)
+        → StopsAt g given step used because
         → LeavesAt g given step' used' what → ⊥
     stops_or_leaves step step' used used' because what at other =
-        let same = one_end at.turns other.turns at.last other.last (stops_ended step used because at) (leaves_ended step' used' what other) in
+        let same =
+        one_end at.turns other.turns at.last other.last (stops_ended step used because at)
+        (leaves_ended step' used' what other) in
         let none : List ℕ = no_counts g.notes.marks in
         let leaves : Leave (counts_over g.notes none at.turns) at.last what =
         subst (λ (turns : List Turn). Leave (counts_over g.notes none turns) at.last what) (sym same.0)
         (subst (λ (turn : Turn). Leave (counts_over g.notes none other.turns) turn what) (sym same.1) other.leaves) in
-        kept_leaves_none (counts_over g.notes none at.turns) at.last what (kept_last none at.turns at.last at.kept).1 leaves
+        kept_leaves_none (counts_over g.notes none at.turns) at.last what (kept_last none at.turns at.last at.kept).1
+        leaves
 
     abbrev Declared : Type 0
     Declared = IsAsDeclared g.notes.programmed given.setup.programmed
@@ -211,18 +253,22 @@ module _ (g : Setting) where
     by_what step used left.Switch is = inl (refl, is.0, is.1, is.2)
     by_what step used left.LoadCard is = inr is
 
-    stops_or_left : (step step' used used' : ℕ) (because : whys.Why) (what : lefts.Left) → StopsAt g given step used because → ByWhat step' used' what → ⊥
+    stops_or_left : (step step' used used' : ℕ) (because : whys.Why) (what : lefts.Left)
+        → StopsAt g given step used because → ByWhat step' used' what → ⊥
     stops_or_left step step' used used' because what at (inl switched) = switched.1 at.declared
-    stops_or_left step step' used used' because what at (inr leaves) = stops_or_leaves step step' used used' because what at leaves
+    stops_or_left step step' used used' because what at (inr leaves) =
+        stops_or_leaves step step' used used' because what at leaves
 
     one_left : (step step' used used' : ℕ) (what what' : lefts.Left) → ByWhat step used what → ByWhat step' used' what'
         → (what ≡ what') × (step ≡ step') × (used ≡ used')
-    one_left step step' used used' what what' (inl is) (inl other) = (is.0 ∙ sym other.0, is.2 ∙ sym other.2, is.3 ∙ sym other.3)
+    one_left step step' used used' what what' (inl is) (inl other) =
+        (is.0 ∙ sym other.0, is.2 ∙ sym other.2, is.3 ∙ sym other.3)
     one_left step step' used used' what what' (inl is) (inr at) = absurd (is.1 at.declared)
     one_left step step' used used' what what' (inr at) (inl is) = absurd (is.1 at.declared)
     one_left step step' used used' what what' (inr at) (inr other) = one_leave step step' used used' what what' at other
 
-    pub one_verdict : (worst step step' : ℕ) (verdict other : Verdict) → IsVerdict g given worst step verdict → IsVerdict g given worst step' other
+    pub one_verdict : (worst step step' : ℕ) (verdict other : Verdict) → IsVerdict g given worst step verdict
+        → IsVerdict g given worst step' other
         → (verdict ≡ other) × (step ≡ step')
     one_verdict worst step step' (Kept used bound because) (Kept used' bound' because') is is_other =
         let same = one_stop step step' used used' because because' is.1 is_other.1 in
@@ -236,7 +282,9 @@ module _ (g : Setting) where
     one_verdict worst step step' (Left what number used) (Kept used' bound because) is is_other =
         absurd (stops_or_left step' step used' used because what is_other.1 (by_what step used what is.1))
     one_verdict worst step step' (Left what number used) (Left what' number' used') is is_other =
-        let same = one_left step step' used used' what what' (by_what step used what is.1) (by_what step' used' what' is_other.1) in
+        let same =
+        one_left step step' used used' what what' (by_what step used what is.1)
+        (by_what step' used' what' is_other.1) in
         let ways : what ≡ what' = same.0 in
         let numbers : number ≡ number' = is.0 ∙ same.1 ∙ sym is_other.0 in
         let times : used ≡ used' = same.2 in

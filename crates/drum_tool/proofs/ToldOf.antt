@@ -29,8 +29,10 @@ status_in (complains text status) = status
 status_in (breaks_off text) = Failed
 
 -- a result to `bound` is the line of documents that are given
-pub result_of_bound : (Are : Documents → Type 0) (No : Fault → Type 0) (failures : ℕ) (text : List ℕ) (status : statuses.Status) → AnswersOn SaysBound Are No failures (says text status)
-    → (documents : Documents) × Are documents × (bound : ℕ) × IsBound documents bound × (text ≡ bound_text bound) × (status ≡ Done)
+pub result_of_bound : (Are : Documents → Type 0) (No : Fault → Type 0) (failures : ℕ) (text : List ℕ)
+    (status : statuses.Status) → AnswersOn SaysBound Are No failures (says text status)
+    → (documents : Documents) × Are documents × (bound : ℕ) × IsBound documents bound × (text ≡ bound_text bound)
+    × (status ≡ Done)
 result_of_bound Are No failures text status (inl (documents, are, none, (bound, is, reply))) =
     (documents, are, bound, is, ap text_in reply, ap status_in reply)
 result_of_bound Are No failures text status (inr (fault, is, none, reply)) = absurd (let bad = reply in cc)
@@ -57,18 +59,21 @@ behind_file [] = []
 behind_file (file ∷ files) = files
 
 -- refused words are told no result, where clap takes them
-pub no_result : (words : List Text) (refused : Refused) (text : List ℕ) (status : statuses.Status) → AreRefused words refused → takes drum650 words ≡ true
+pub no_result : (words : List Text) (refused : Refused) (text : List ℕ) (status : statuses.Status)
+    → AreRefused words refused → takes drum650 words ≡ true
     → says text status ≡ refused_reply refused → ⊥
 no_result words refused text status are taken reply =
     let memory : refused ≡ Memory = are.taken taken in
     let bad : says text status ≡ refused_reply Memory = reply ∙ ap refused_reply memory in cc
 
 -- names that are the same begin with the same byte
-same_first : (said other : Option (Text × List (Option Text))) → said ≡ other → first_byte (name_in said) ≡ first_byte (name_in other)
+same_first : (said other : Option (Text × List (Option Text))) → said ≡ other
+    → first_byte (name_in said) ≡ first_byte (name_in other)
 same_first said other same = ap (λ (s : Option (Text × List (Option Text))). first_byte (name_in s)) same
 
 -- the command of these words is `bound`, with these names
-pub of_files : (held : List ℕ → Option (List ℕ)) (deck times notes : Text) (command : Command) (failures : ℕ) (text : List ℕ) (status : statuses.Status)
+pub of_files : (held : List ℕ → Option (List ℕ)) (deck times notes : Text) (command : Command) (failures : ℕ)
+    (text : List ℕ) (status : statuses.Status)
     → Some (said_by command) ≡ Some (codes "bound", Some deck ∷ Some times ∷ Some notes ∷ [])
     → AnswersCommand held command failures (says text status)
     → (bound : ℕ) × IsBoundOfFiles held deck times notes bound × (text ≡ bound_text bound) × (status ≡ Done)
@@ -77,7 +82,8 @@ of_files held deck times notes (Bound files) failures text status said answers =
     let names = ap files_in said in
     let deck_is : files.deck.now ≡ deck = ap file_in names in
     let times_is : files.times.now ≡ times = ap (λ (files : List (Option Text)). file_in (behind_file files)) names in
-    let notes_is : files.notes.now ≡ notes = ap (λ (files : List (Option Text)). file_in (behind_file (behind_file files))) names in (
+    let notes_is : files.notes.now ≡ notes =
+    ap (λ (files : List (Option Text)). file_in (behind_file (behind_file files))) names in (
       found.2,
       record {
         documents = found.0;
@@ -89,8 +95,13 @@ of_files held deck times notes (Bound files) failures text status said answers =
       found.4,
       found.5,
     )
-of_files held deck times notes (Report files) failures text status said answers = absurd (let bad : 114 ≡ 98 = same_first _ _ said in omega (arith, bad))
-of_files held deck times notes (Walk files) failures text status said answers = absurd (let bad : 119 ≡ 98 = same_first _ _ said in omega (arith, bad))
-of_files held deck times notes (Draw files) failures text status said answers = absurd (let bad : 100 ≡ 98 = same_first _ _ said in omega (arith, bad))
-of_files held deck times notes (Replay files inputs) failures text status said answers = absurd (let bad : 114 ≡ 98 = same_first _ _ said in omega (arith, bad))
-of_files held deck times notes (Trace files inputs) failures text status said answers = absurd (let bad : 116 ≡ 98 = same_first _ _ said in omega (arith, bad))
+of_files held deck times notes (Report files) failures text status said answers =
+    absurd (let bad : 114 ≡ 98 = same_first _ _ said in omega (arith, bad))
+of_files held deck times notes (Walk files) failures text status said answers =
+    absurd (let bad : 119 ≡ 98 = same_first _ _ said in omega (arith, bad))
+of_files held deck times notes (Draw files) failures text status said answers =
+    absurd (let bad : 100 ≡ 98 = same_first _ _ said in omega (arith, bad))
+of_files held deck times notes (Replay files inputs) failures text status said answers =
+    absurd (let bad : 114 ≡ 98 = same_first _ _ said in omega (arith, bad))
+of_files held deck times notes (Trace files inputs) failures text status said answers =
+    absurd (let bad : 116 ≡ 98 = same_first _ _ said in omega (arith, bad))

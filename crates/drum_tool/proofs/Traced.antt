@@ -1,5 +1,7 @@
 -- The lines of a run's steps, and the verdict behind them.
-use Rattle.std.proofs.Common.{◌≡◌, ℕ, suc, ◌+◌, ◌-◌, Bool, true, false, not, List, [], ◌∷◌, ◌++◌, length, take, ap, sym, subst, ◌∙◌, arith, append_assoc, append-nil, length-append, inl, inr, Option, Some, None, Result, Ok, Err}
+use Rattle.std.proofs.Common.{◌≡◌, ℕ, suc, ◌+◌, ◌-◌, Bool, true, false, not, List, [], ◌∷◌, ◌++◌, length, take, ap, sym}
+use Rattle.std.proofs.Common.{subst, ◌∙◌, arith, append_assoc, append-nil, length-append, inl, inr, Option, Some, None}
+use Rattle.std.proofs.Common.{Result, Ok, Err}
 use Rattle.std.specs.Prelude.{MatchResult, if◌then◌else◌}
 use Rattle.std.specs.Io.KnownBytes.{Appends}
 use Rattle.drum_core.proofs.Bytes.{Appends-then, take_behind}
@@ -7,7 +9,8 @@ use Rattle.drum_core.specs.declared.op.Op.{Op}
 use Rattle.drum_times.specs.declared.entry.Entry.{Entry}
 use Rattle.drum_machine.specs.Machine.{op_in, waits_with}
 use Rattle.drum_machine.specs.Run.{Turn}
-use Rattle.drum_machine.specs.Step.{State, Stepped, on, stopped, clock_of, instruction_in, is_operand, lacks_card, leaves, step, step_with}
+use Rattle.drum_machine.specs.Step.{State, Stepped, on, stopped, clock_of, instruction_in, is_operand, lacks_card}
+use Rattle.drum_machine.specs.Step.{leaves, step, step_with}
 use Rattle.drum_machine.specs.declared.why.Why.TheVariants as why
 use Rattle.drum_machine.specs.Effect.{Outcome, effect, goes, stops}
 use Rattle.drum_machine.specs.Timing.{ended, ready, units_of}
@@ -26,37 +29,44 @@ use Rattle.drum_tool.proofs.Beginning.{before_none, followed_all, replay_before,
 
 -- one line more
 pub lines_more : (times : Op → Entry) (number : ℕ) (turns : List Turn) (turn : Turn)
-    → turn_lines times number (turns ++ turn ∷ []) ≡ turn_lines times number turns ++ turn_line times (number + length turns) turn
+    → turn_lines times number (turns ++ turn ∷ []) ≡ turn_lines times number turns
+    ++ turn_line times (number + length turns) turn
 lines_more times number [] turn =
     let same : number + 0 ≡ number = omega arith in
     append-nil (turn_line times number turn) ∙ ap (λ (n : ℕ). turn_line times n turn) (sym same)
 lines_more times number (one ∷ turns) turn =
     let same : suc number + length turns ≡ number + suc (length turns) = omega arith in
     ap (λ (rest : List ℕ). turn_line times number one ++ rest)
-    (lines_more times (suc number) turns turn ∙ ap (λ (n : ℕ). turn_lines times (suc number) turns ++ turn_line times n turn) same)
-    ∙ sym (append_assoc (turn_line times number one) (turn_lines times (suc number) turns) (turn_line times (number + suc (length turns)) turn))
+    (lines_more times (suc number) turns turn
+    ∙ ap (λ (n : ℕ). turn_lines times (suc number) turns ++ turn_line times n turn) same)
+    ∙ sym (append_assoc (turn_line times number one) (turn_lines times (suc number) turns)
+    (turn_line times (number + suc (length turns)) turn))
 
 -- ---- a run keeps its angle at time 0
 
-leaves_start : (s : State) (clock : ℕ) (outcome : Outcome) (next : State) → leaves s clock outcome ≡ on next → next.start ≡ s.start
+leaves_start : (s : State) (clock : ℕ) (outcome : Outcome) (next : State) → leaves s clock outcome ≡ on next
+    → next.start ≡ s.start
 leaves_start s clock (stops held because) next is = absurd (let bad = is in cc)
 leaves_start s clock (goes contents place) next is = go (is_location place) is
   where
     went : State
     went = record { contents = contents; sought = place; time = clock - s.start; start = s.start }
 
-    go : (b : Bool) → (if b then on went else stopped contents why.Next (clock - s.start)) ≡ on next → next.start ≡ s.start
+    go : (b : Bool) → (if b then on went else stopped contents why.Next (clock - s.start)) ≡ on next
+        → next.start ≡ s.start
     go true same = let one : went ≡ next = cc in ap (λ (state : State). state.start) (sym one)
     go false same = absurd (let bad = same in cc)
 
 acted_start : (s : State) (x e : ℕ) (outcome : Outcome) (next : State) (wanted lacks : Bool)
-    → (if not wanted then stopped s.contents why.Operand (x - s.start) else (if lacks then stopped s.contents why.Card (x - s.start) else leaves s e outcome)) ≡ on next
+    → (if not wanted then stopped s.contents why.Operand (x - s.start)
+    else (if lacks then stopped s.contents why.Card (x - s.start) else leaves s e outcome)) ≡ on next
     → next.start ≡ s.start
 acted_start s x e outcome next false lacks is = absurd (let bad = is in cc)
 acted_start s x e outcome next true true is = absurd (let bad = is in cc)
 acted_start s x e outcome next true false is = leaves_start s e outcome next is
 
-step_start : (times : Op → Entry) (s : State) (wait : ℕ) (next : State) → step times s wait ≡ on next → next.start ≡ s.start
+step_start : (times : Op → Entry) (s : State) (wait : ℕ) (next : State) → step times s wait ≡ on next
+    → next.start ≡ s.start
 step_start times s wait next is = go (op_of (instruction_in s).op) is
   where
     go : (op : Option Op) → step_with times s wait op ≡ on next → next.start ≡ s.start
@@ -68,7 +78,8 @@ step_start times s wait next is = go (op_of (instruction_in s).op) is
         (effect s.contents op ins.d ins.i) next (is_operand (operand_of op) ins.d) (lacks_card op s.contents) same
 
 goes_start : (s : State) (now : State) (outcome reached : Stepped) (Right : State → Type 0) → outcome ≡ reached
-    → ((next : State) → reached ≡ on next → next.start ≡ s.start) → ((next : State) → Right next → now.start ≡ next.start)
+    → ((next : State) → reached ≡ on next → next.start ≡ s.start)
+    → ((next : State) → Right next → now.start ≡ next.start)
     → Goes outcome Right → now.start ≡ s.start
 goes_start s now (on next) reached Right is here later onward = later next onward ∙ here next (sym is)
 goes_start s now (stopped held because moment) reached Right is here later onward = absurd onward
@@ -102,7 +113,8 @@ module _ (g : Setting) (given : Given) (begun : Begun) (is : IsBegun g given beg
 
   -- and else those that were followed
   pub traced_followed : (turns : List Turn) (verdict : Verdict)
-      → IsFollowed g (state_of begun.following) (waits_of begun.following) begun.bound turns verdict → IsTraced g given turns verdict
+      → IsFollowed g (state_of begun.following) (waits_of begun.following) begun.bound turns verdict
+      → IsTraced g given turns verdict
   traced_followed turns verdict followed = record {
     replay = replay_followed g given begun is turns verdict followed;
     replayed = followed.of_run given is.are;
@@ -118,7 +130,8 @@ either_map (Err e) q f h = h e q
 -- ---- what goes out
 
 -- a text that goes out whole, and another behind it
-pub gets_behind : (old mid new : Device) (front text : List ℕ) (ending status : Status) → GetsAll old mid front → GetsResult mid new text ending status
+pub gets_behind : (old mid new : Device) (front text : List ℕ) (ending status : Status) → GetsAll old mid front
+    → GetsResult mid new text ending status
     → GetsResult old new (front ++ text) ending status
 gets_behind old mid new front text ending status all (inl (rest, is)) =
     inl ((Appends-then old.written mid.written new.written front text all.0 rest.0, rest.1 ∙ all.1), is)

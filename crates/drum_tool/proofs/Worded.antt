@@ -9,19 +9,24 @@ use Rattle.drum_command.specs.Line.{said_by, said_by_words}
 use Rattle.drum_tool.specs.Reply.{Reply, AnswersCommand, AnswersJoined}
 use Rattle.drum_tool.specs.Words.{AreRefused, Answers, refused_reply}
 
-pub without_words : (bytes : List ℕ) (failures : ℕ) (held : List ℕ → Option (List ℕ)) (reply : Reply) (words : List (Bor Text))
+pub without_words : (bytes : List ℕ) (failures : ℕ) (held : List ℕ → Option (List ℕ)) (reply : Reply)
+    (words : List (Bor Text))
     → true ≡ (length words == 0) → AnswersJoined bytes failures reply → Answers (texts words) bytes failures held reply
 without_words bytes failures held reply [] none is = is
-without_words bytes failures held reply (word ∷ words) none is = absurd (let zero_length : length (word ∷ words) ≡ 0 = eqb-true _ _ (sym none) in omega (arith, zero_length))
+without_words bytes failures held reply (word ∷ words) none is =
+    absurd (let zero_length : length (word ∷ words) ≡ 0 = eqb-true _ _ (sym none) in omega (arith, zero_length))
 
-pub with_command : (bytes : List ℕ) (failures : ℕ) (held : List ℕ → Option (List ℕ)) (reply : Reply) (words : List (Bor Text))
+pub with_command : (bytes : List ℕ) (failures : ℕ) (held : List ℕ → Option (List ℕ)) (reply : Reply)
+    (words : List (Bor Text))
     → false ≡ (length words == 0) → (command : Command) → said_by_words (texts words) ≡ Some (said_by command)
     → AnswersCommand held command failures reply → Answers (texts words) bytes failures held reply
 with_command bytes failures held reply [] some command said is = absurd (let bad : false ≡ true = some in cc)
 with_command bytes failures held reply (word ∷ words) some command said is = inl (command, said, is)
 
-pub with_refused : (bytes : List ℕ) (failures : ℕ) (held : List ℕ → Option (List ℕ)) (reply : Reply) (words : List (Bor Text))
-    → false ≡ (length words == 0) → (refused : Refused) → AreRefused (texts words) refused → failures ≡ 0 → reply ≡ refused_reply refused
+pub with_refused : (bytes : List ℕ) (failures : ℕ) (held : List ℕ → Option (List ℕ)) (reply : Reply)
+    (words : List (Bor Text))
+    → false ≡ (length words == 0) → (refused : Refused) → AreRefused (texts words) refused → failures ≡ 0
+    → reply ≡ refused_reply refused
     → Answers (texts words) bytes failures held reply
 with_refused bytes failures held reply [] some refused are none is = absurd (let bad : false ≡ true = some in cc)
 with_refused bytes failures held reply (word ∷ words) some refused are none is = inr (refused, are, none, is)

@@ -1,4 +1,5 @@
-use Rattle.std.proofs.Common.{◌≡◌, ◌∙◌, ◌<◌, ◌+◌, ℕ, Bool, ap, ap₂, sym, map, take, length, List, [], ◌∷◌, ◌++◌, slice_index_or}
+use Rattle.std.proofs.Common.{◌≡◌, ◌∙◌, ◌<◌, ◌+◌, ℕ, Bool, ap, ap₂, sym, map, take, length, List, [], ◌∷◌, ◌++◌}
+use Rattle.std.proofs.Common.{slice_index_or}
 use Rattle.clap.specs.Words.{App, Shape, shape_of, with_subcommand}
 use Rattle.drum_command.specs.declared.entries.Entry.{Entry}
 use Rattle.drum_command.specs.Entry.{verb_of}
@@ -17,10 +18,12 @@ abbrev program_at : List Shape → Bool → App
 program_at commands is_leaf = record (program commands) { top = record (program commands).top { is_leaf = is_leaf } }
 
 -- a program with one command more
-with_subcommand-program : (commands : List Shape) (s : Shape) → with_subcommand (program commands) s ≡ program (commands ++ s ∷ [])
+with_subcommand-program : (commands : List Shape) (s : Shape)
+    → with_subcommand (program commands) s ≡ program (commands ++ s ∷ [])
 with_subcommand-program commands s = ap (program_at (commands ++ s ∷ [])) (sym (is_empty-push commands s))
 
-shapes-take_more : (entries : List Entry) (i : ℕ) (d : Entry) (s : Shape) → i < length entries → s ≡ shape_for (slice_index_or entries i d)
+shapes-take_more : (entries : List Entry) (i : ℕ) (d : Entry) (s : Shape) → i < length entries
+    → s ≡ shape_for (slice_index_or entries i d)
     → shapes (take i entries) ++ s ∷ [] ≡ shapes (take (i + 1) entries)
 shapes-take_more entries i d s within is =
     ap₂ (λ (xs : List Shape) (x : Shape). xs ++ x ∷ []) (map-map verb_shape verb_of (take i entries)) is
@@ -28,7 +31,9 @@ shapes-take_more entries i d s within is =
 
 pub loop-entry-preserved : goal.loop-entry-preserved
 loop-entry-preserved c =
-    let more = shapes-take_more c.entries-entry-items.result.now c.loop-entry.entry-index _ _ c.loop-entry-test.true c.in_ok-subcommand.ensures.shape in
+    let more =
+    shapes-take_more c.entries-entry-items.result.now c.loop-entry.entry-index _ _ c.loop-entry-test.true
+    c.in_ok-subcommand.ensures.shape in
     c.in_ok-line-2.ensures.shape c.in_ok-subcommand.ensures.local
     ∙ ap (λ (a : App). with_subcommand a (shape_of c.in_ok-subcommand.field-0)) c.loop-entry.invariant
     ∙ with_subcommand-program _ _ ∙ ap program more

@@ -16,8 +16,12 @@ command_in-requires c =
     let words = texts c.args.words.now in
     let line_is = c.in-Ok.ensures in
     let parsed = c.in-Ok-try_get_matches_from.ensures in
-    let none = subst (λ (a : App). fault_of a words ≡ []) line_is (parsed.kinds (ap is_simple_and_free line_is ∙ drum650_is_free)) in
-    let found = (parsed.matches (ap is_simple line_is ∙ drum650_is_simple)).1 ∙ ap (λ (a : App). subcommand_of a words) line_is in
+    let none =
+    subst (λ (a : App). fault_of a words ≡ []) line_is
+    (parsed.kinds (ap is_simple_and_free line_is ∙ drum650_is_free)) in
+    let found =
+    (parsed.matches (ap is_simple line_is ∙ drum650_is_simple)).1
+    ∙ ap (λ (a : App). subcommand_of a words) line_is in
     ap (λ o. option_map_or is_whole o false) found ∙ accepted_whole words none
 
 pub returns-in-Err-clause-taken : goal.returns-in-Err-clause-taken

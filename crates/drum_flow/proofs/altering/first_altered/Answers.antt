@@ -13,8 +13,11 @@ returns-in-Some-first_altered_in-clause-some c =
     let first = c.in-Some-first_altered_in.ensures.some in
     record {
       ins = first.ins;
-      first = first_in_all (said.Alters (loads_in flow.deck.now) flow.notes.now (start_in flow.deck.now)) c.loop-pattern.yielded (patterns_left c.next.new.self)
-          (patterns_left c.loop-pattern.pattern-iterator) c.in-Some.pattern (allowed (loads_in flow.deck.now) flow.notes.now c.args.location.number) first.ins
+      first =
+          first_in_all (said.Alters (loads_in flow.deck.now) flow.notes.now (start_in flow.deck.now))
+          c.loop-pattern.yielded (patterns_left c.next.new.self)
+          (patterns_left c.loop-pattern.pattern-iterator) c.in-Some.pattern
+          (allowed (loads_in flow.deck.now) flow.notes.now c.args.location.number) first.ins
           c.loop-pattern.invariant.split c.in-Some.ensures.steps c.loop-pattern.invariant.none first.first;
       lowest = first.lowest;
     }
@@ -23,15 +26,22 @@ pub loop-pattern-preserved : goal.loop-pattern-preserved
 loop-pattern-preserved c =
     let flow = c.args.flow.now in
     record {
-      split = patterns_taken c.loop-pattern.yielded (patterns_left c.loop-pattern.pattern-iterator) (patterns_left c.next.new.self) c.in-Some.pattern
-          (allowed (loads_in flow.deck.now) flow.notes.now c.args.location.number) c.loop-pattern.invariant.split c.in-Some.ensures.steps;
-      none = none_in_more (said.Alters (loads_in flow.deck.now) flow.notes.now (start_in flow.deck.now)) c.loop-pattern.yielded c.in-Some.pattern c.loop-pattern.invariant.none
+      split =
+          patterns_taken c.loop-pattern.yielded (patterns_left c.loop-pattern.pattern-iterator)
+          (patterns_left c.next.new.self) c.in-Some.pattern
+          (allowed (loads_in flow.deck.now) flow.notes.now c.args.location.number) c.loop-pattern.invariant.split
+          c.in-Some.ensures.steps;
+      none =
+          none_in_more (said.Alters (loads_in flow.deck.now) flow.notes.now (start_in flow.deck.now))
+          c.loop-pattern.yielded c.in-Some.pattern c.loop-pattern.invariant.none
           c.in_default.ensures.none;
     }
 
 pub returns-clause-none : goal.returns-clause-none
 returns-clause-none c ins there =
     let flow = c.args.flow.now in
-    let all = patterns_all c.loop-pattern.yielded (patterns_left c.loop-pattern.pattern-iterator) (allowed (loads_in flow.deck.now) flow.notes.now c.args.location.number)
+    let all =
+    patterns_all c.loop-pattern.yielded (patterns_left c.loop-pattern.pattern-iterator)
+    (allowed (loads_in flow.deck.now) flow.notes.now c.args.location.number)
     c.loop-pattern.invariant.split c.in-None.ensures.steps.0 in
     c.loop-pattern.invariant.none ins (subst (λ (list : List Instruction). Contains list ins) (sym all) there)

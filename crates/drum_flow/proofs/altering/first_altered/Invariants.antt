@@ -9,6 +9,8 @@ use Rattle.drum_flow.proofs.altering.first_altered.Given as goal
 -- the instructions of the patterns so far alter nothing, and the others are left
 abbrev pub invariant-loop-pattern : goal.invariant-loop-pattern
 invariant-loop-pattern l = record {
-  split : flat_map matching (l.yielded ++ patterns_left l.pattern-iterator) ≡ allowed (loads_in l.flow.deck.now) l.flow.notes.now l.fn.location.number;
-  none : NoneAlters (loads_in l.flow.deck.now) l.flow.notes.now (start_in l.flow.deck.now) (flat_map matching l.yielded);
+  split : flat_map matching (l.yielded ++ patterns_left l.pattern-iterator)
+      ≡ allowed (loads_in l.flow.deck.now) l.flow.notes.now l.fn.location.number;
+  none : NoneAlters (loads_in l.flow.deck.now) l.flow.notes.now (start_in l.flow.deck.now)
+      (flat_map matching l.yielded);
 }

@@ -14,11 +14,15 @@ returns-in-Some-clause-some c =
     let pattern = c.args.pattern in
     let d = c.loop-d.d in
     let word = c.in-Some.word.number in
-    let lowest : IsLowestAltered (loads_in flow.deck.now) flow.notes.now (start_in flow.deck.now) (matching_at pattern d) word =
-    subst (λ (ins : Instruction). IsLowestAltered (loads_in flow.deck.now) flow.notes.now (start_in flow.deck.now) ins word) c.instruction_of-instruction.ensures c.in-Some.ensures.some in
+    let lowest : IsLowestAltered (loads_in flow.deck.now) flow.notes.now (start_in flow.deck.now)
+    (matching_at pattern d) word =
+    subst (λ (ins : Instruction). IsLowestAltered (loads_in flow.deck.now) flow.notes.now (start_in flow.deck.now) ins
+    word) c.instruction_of-instruction.ensures c.in-Some.ensures.some in
     record {
       ins = matching_at pattern d;
-      first = first_in_pattern (said.Alters (loads_in flow.deck.now) flow.notes.now (start_in flow.deck.now)) pattern d c.loop-d.invariant.from c.loop-d-test.true c.loop-d.invariant.none
+      first =
+          first_in_pattern (said.Alters (loads_in flow.deck.now) flow.notes.now (start_in flow.deck.now)) pattern d
+          c.loop-d.invariant.from c.loop-d-test.true c.loop-d.invariant.none
           (word, lowest.written, lowest.fixed);
       lowest = lowest;
     }
@@ -36,8 +40,10 @@ loop-d-preserved c =
       none = λ k low high alters. elim (cases_lt k d) [
         | inl before ↦ c.loop-d.invariant.none k low before alters
         | inr here ↦ (let same : writes (matching_at pattern k) ≡ writes ins =
-            sym (ap (λ (one : Instruction). writes one) (matching_with_d pattern ins d k made)) ∙ c.same_writes_end-d.ensures.same k (omega (arith, at, here)) high in
-            c.in_default.ensures.none (alters.0, subst (λ (words : List ℕ). Contains words alters.0) same alters.1, alters.2))
+            sym (ap (λ (one : Instruction). writes one) (matching_with_d pattern ins d k made))
+            ∙ c.same_writes_end-d.ensures.same k (omega (arith, at, here)) high in
+            c.in_default.ensures.none
+            (alters.0, subst (λ (words : List ℕ). Contains words alters.0) same alters.1, alters.2))
       ];
     }
 

@@ -8,7 +8,9 @@ use Rattle.drum_flow.proofs.altering.first_altered_in.Given as goal
 abbrev pub invariant-loop-d : goal.invariant-loop-d
 invariant-loop-d l = record {
   from : l.pattern.d_from ≤ l.d;
-  none : (k : ℕ) → l.pattern.d_from ≤ k → k < l.d → ¬ said.Alters (loads_in l.flow.deck.now) l.flow.notes.now (start_in l.flow.deck.now) (instruction l.pattern.op k l.pattern.i);
+  none : (k : ℕ) → l.pattern.d_from ≤ k → k < l.d
+      → ¬ said.Alters (loads_in l.flow.deck.now) l.flow.notes.now (start_in l.flow.deck.now)
+      (instruction l.pattern.op k l.pattern.i);
 }
 
 abbrev pub decreases-loop-d : goal.decreases-loop-d

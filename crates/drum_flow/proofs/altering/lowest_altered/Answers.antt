@@ -1,4 +1,5 @@
-use Rattle.std.proofs.Common.{◌≡◌, ℕ, true, false, Option, Some, None, IfSome, IfNone, sym, ◌∙◌, subst, inl, inr, arith, Bool}
+use Rattle.std.proofs.Common.{◌≡◌, ℕ, true, false, Option, Some, None, IfSome, IfNone, sym, ◌∙◌, subst, inl, inr, arith}
+use Rattle.std.proofs.Common.{Bool}
 use Rattle.std.specs.Prelude.{IsSome}
 use Rattle.std.proofs.lemmas.Bool.{cases_eq}
 use Rattle.drum_core.specs.declared.location.Location.{Location}
@@ -8,7 +9,8 @@ use Rattle.drum_flow.specs.Fixed.{IsFlagged}
 use Rattle.drum_flow.proofs.Alterations.{lowest_first, none_altered}
 use Rattle.drum_flow.proofs.altering.lowest_altered.Goals as goal
 
-if_some : (found : Option Location) (n : ℕ) (P : ℕ → Type 0) → IfSome found (λ location. location.number ≡ n) → P n → IfSome found (λ location. P location.number)
+if_some : (found : Option Location) (n : ℕ) (P : ℕ → Type 0) → IfSome found (λ location. location.number ≡ n) → P n
+    → IfSome found (λ location. P location.number)
 if_some None n P same holds = tt
 if_some (Some location) n P same holds = subst P (sym same) holds
 
@@ -20,13 +22,21 @@ pub returns-then-has-clause-some : goal.returns-then-has-clause-some
 returns-then-has-clause-some c =
     let flow = c.args.flow.now in
     let number = c.loop-number.number in
-    if_some c.new.result number (IsLowestAltered (loads_in flow.deck.now) flow.notes.now (start_in flow.deck.now) c.args.instruction) c.new.ensures.value
-    (lowest_first (loads_in flow.deck.now) flow.notes.now (start_in flow.deck.now) c.args.instruction c.writes-words.result.start c.writes-words.result.end c.writes-words.ensures.all
-    number c.loop-number.auto.number c.loop-number-test.true (c.requires.only number (c.has.ensures.0 c.if-has.true)) c.loop-number.invariant)
+    if_some c.new.result number
+    (IsLowestAltered (loads_in flow.deck.now) flow.notes.now (start_in flow.deck.now) c.args.instruction)
+    c.new.ensures.value
+    (lowest_first (loads_in flow.deck.now) flow.notes.now (start_in flow.deck.now) c.args.instruction
+    c.writes-words.result.start c.writes-words.result.end c.writes-words.ensures.all
+    number c.loop-number.auto.number c.loop-number-test.true (c.requires.only number (c.has.ensures.0 c.if-has.true))
+    c.loop-number.invariant)
 
 pub returns-then-has-clause-none : goal.returns-then-has-clause-none
 returns-then-has-clause-none c =
-    if_none c.new.result _ (c.new.ensures.valid.1 (omega (arith, c.loop-number-test.true, c.writes-words.ensures.on_drum), λ past. absurd (omega (arith, past, c.loop-number-test.true, c.writes-words.ensures.on_drum))))
+    if_none c.new.result _ (c.new.ensures.valid.1 (
+      omega (arith, c.loop-number-test.true, c.writes-words.ensures.on_drum),
+      λ past. absurd
+          (omega (arith, past, c.loop-number-test.true, c.writes-words.ensures.on_drum)),
+    ))
 
 pub loop-number-preserved : goal.loop-number-preserved
 loop-number-preserved c k low high fixed = elim (cases_eq k c.loop-number.number) [
@@ -39,5 +49,6 @@ loop-number-preserved c k low high fixed = elim (cases_eq k c.loop-number.number
 pub returns-clause-none : goal.returns-clause-none
 returns-clause-none c =
     let flow = c.args.flow.now in
-    none_altered (loads_in flow.deck.now) flow.notes.now (start_in flow.deck.now) c.args.instruction c.writes-words.result.start c.writes-words.result.end c.writes-words.ensures.all
+    none_altered (loads_in flow.deck.now) flow.notes.now (start_in flow.deck.now) c.args.instruction
+    c.writes-words.result.start c.writes-words.result.end c.writes-words.ensures.all
     (λ k low high. c.loop-number.invariant k low (omega (arith, high, c.loop-number-test.false)))

@@ -13,5 +13,7 @@ returns-clause-least c least other here there =
     let small = location_at locations c.loop-place.smallest least here in
     let one = location_at locations at.0 other at.1 in
     let inside : at.0 < length locations = slice_get_within locations at.0 one.0 one.1 in
-    let low = c.loop-place.invariant.least at.0 small.0 one.0 (omega (arith, inside, c.loop-place-test.false)) small.1 one.1 in
+    let low =
+    c.loop-place.invariant.least at.0 small.0 one.0 (omega (arith, inside, c.loop-place-test.false)) small.1
+    one.1 in
     omega (arith, low, small.2, one.2)

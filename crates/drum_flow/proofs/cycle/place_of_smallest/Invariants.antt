@@ -7,5 +7,6 @@ use Rattle.drum_flow.proofs.cycle.place_of_smallest.Given as goal
 abbrev pub invariant-loop-place : goal.invariant-loop-place
 invariant-loop-place l = record {
   within : l.smallest < length l.locations;
-  least : (k : ℕ) (least other : Location) → k < l.place → slice_get l.locations l.smallest ≡ Some least → slice_get l.locations k ≡ Some other → least.number ≤ other.number;
+  least : (k : ℕ) (least other : Location) → k < l.place → slice_get l.locations l.smallest ≡ Some least
+      → slice_get l.locations k ≡ Some other → least.number ≤ other.number;
 }

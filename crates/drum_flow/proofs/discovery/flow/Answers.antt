@@ -11,15 +11,19 @@ use Rattle.drum_flow.proofs.discovery.flow.Goals as goal
 
 past_end : (xs : List ℕ) (k : ℕ) → slice_get xs k ≡ None → length xs ≤ k
 past_end xs k none = elim (cases_lt k (length xs)) [
-  | inl inside ↦ (let clash : ◌≡◌ {A = Option ℕ} None (Some (get_or xs k 0)) = sym none ∙ slice_get-get_or xs k 0 inside in cc)
+  | inl inside ↦ (let clash : ◌≡◌ {A = Option ℕ} None (Some (get_or xs k 0)) = sym none
+      ∙ slice_get-get_or xs k 0 inside in cc)
   | inr past ↦ past
 ]
 
 pub returns-in_err-check_place-clause-refused : goal.returns-in_err-check_place-clause-refused
 returns-in_err-check_place-clause-refused c =
-    let here : slice_get (places_of c.loop-location.executed) c.loop-location.turn ≡ Some c.in-Some.location.number = sym c.in-Some.ensures.value in
-    handed c.from_residual-in_err-check_place.result _ c.in_err-check_place.field-0.0 c.from_residual-in_err-check_place.ensures.1
-    (wrong_met (loads_in c.args.deck.now) c.args.notes.now (start_in c.args.deck.now) c.loop-location.turn c.in-Some.location.number (places_of c.loop-location.executed) c.in_err-check_place.field-0.0
+    let here : slice_get (places_of c.loop-location.executed) c.loop-location.turn ≡ Some c.in-Some.location.number =
+    sym c.in-Some.ensures.value in
+    handed c.from_residual-in_err-check_place.result _ c.in_err-check_place.field-0.0
+    c.from_residual-in_err-check_place.ensures.1
+    (wrong_met (loads_in c.args.deck.now) c.args.notes.now (start_in c.args.deck.now) c.loop-location.turn
+    c.in-Some.location.number (places_of c.loop-location.executed) c.in_err-check_place.field-0.0
     c.loop-location.invariant.found c.loop-location.invariant.good here c.in_err-check_place.ensures.wrong)
 
 pub loop-location-preserved : goal.loop-location-preserved
@@ -32,8 +36,12 @@ loop-location-preserved c =
     let here : slice_get before turn ≡ Some location.number = sym c.in-Some.ensures.value in
     let added = c.in_ok-add_successors.ensures in
     record {
-      found = found_next loads notes (start_in c.args.deck.now) turn location.number before (places_of c.add_successors.new.self) c.loop-location.invariant.found here added;
-      good = λ k place lt at. good_more loads notes before (successors loads notes location.number) turn location.number c.loop-location.invariant.good here c.in_ok-check_place.ensures.good k place lt
+      found =
+          found_next loads notes (start_in c.args.deck.now) turn location.number before
+          (places_of c.add_successors.new.self) c.loop-location.invariant.found here added;
+      good =
+          λ k place lt at. good_more loads notes before (successors loads notes location.number) turn location.number
+          c.loop-location.invariant.good here c.in_ok-check_place.ensures.good k place lt
           (sym (ap (λ (xs : List ℕ). slice_get xs k) added) ∙ at);
     }
 
@@ -42,4 +50,5 @@ returns-clause-executed c =
     let places = places_of c.loop-location.executed in
     let turn = c.loop-location.turn in
     let none : slice_get places turn ≡ None = sym c.in_default.ensures.value in
-    all_executed (loads_in c.args.deck.now) c.args.notes.now (start_in c.args.deck.now) turn places c.loop-location.invariant.found (past_end places turn none) c.loop-location.invariant.good
+    all_executed (loads_in c.args.deck.now) c.args.notes.now (start_in c.args.deck.now) turn places
+    c.loop-location.invariant.found (past_end places turn none) c.loop-location.invariant.good

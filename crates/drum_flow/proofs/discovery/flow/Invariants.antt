@@ -10,7 +10,8 @@ use Rattle.drum_flow.proofs.discovery.flow.Given as goal
 abbrev pub invariant-loop-location : goal.invariant-loop-location
 invariant-loop-location l = record {
   found : found_after (loads_in l.deck) l.notes (start_in l.deck) l.turn ≡ places_of l.executed;
-  good : (k place : ℕ) → k < l.turn → slice_get (places_of l.executed) k ≡ Some place → IsGood (loads_in l.deck) l.notes place;
+  good : (k place : ℕ) → k < l.turn → slice_get (places_of l.executed) k ≡ Some place
+      → IsGood (loads_in l.deck) l.notes place;
 }
 
 abbrev pub decreases-loop-location : goal.decreases-loop-location

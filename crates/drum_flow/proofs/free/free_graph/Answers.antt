@@ -6,4 +6,5 @@ use Rattle.drum_flow.proofs.free.free_graph.Goals as goal
 pub new-requires : goal.new-requires
 new-requires c =
     let flow = c.args.flow.now in
-    rows_within (loads_in flow.deck.now) flow.notes.now (executed_in flow) c.in_ok-rows.rows.items c.in_ok-rows.ensures.long c.in_ok-rows.ensures.rows
+    rows_within (loads_in flow.deck.now) flow.notes.now (executed_in flow) c.in_ok-rows.rows.items
+    c.in_ok-rows.ensures.long c.in_ok-rows.ensures.rows

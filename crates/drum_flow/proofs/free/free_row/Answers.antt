@@ -14,7 +14,11 @@ returns c =
     let loads = loads_in flow.deck.now in
     let targets = c.locations.result.now in
     let all : numbers targets ≡ with_new [] (successors loads flow.notes.now c.args.from.number) =
-    c.locations.ensures.all ∙ c.in_ok-add_successors.ensures ∙ ap (λ (places : List ℕ). with_new places (successors loads flow.notes.now c.args.from.number)) c.none-targets.ensures in
-    IfOk-weaker c.unmarked_row.result (λ row. IsUnmarkedRow flow.notes.now.marks (executed_in flow) (numbers targets) c.args.from.number row.items)
+    c.locations.ensures.all ∙ c.in_ok-add_successors.ensures
+    ∙ ap (λ (places : List ℕ). with_new places (successors loads flow.notes.now c.args.from.number))
+    c.none-targets.ensures in
+    IfOk-weaker c.unmarked_row.result
+    (λ row. IsUnmarkedRow flow.notes.now.marks (executed_in flow) (numbers targets) c.args.from.number row.items)
     (λ row. IsFreeRow loads flow.notes.now (executed_in flow) c.args.from.number row.items)
-    (λ row unmarked. row_free loads flow.notes.now (executed_in flow) (numbers targets) c.args.from.number row.items all unmarked) c.unmarked_row.ensures
+    (λ row unmarked. row_free loads flow.notes.now (executed_in flow) (numbers targets) c.args.from.number row.items all
+    unmarked) c.unmarked_row.ensures

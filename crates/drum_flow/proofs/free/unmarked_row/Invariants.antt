@@ -7,4 +7,5 @@ use Rattle.drum_flow.proofs.free.unmarked_row.Given as goal
 -- the places of the targets so far
 abbrev pub invariant-loop-onto : goal.invariant-loop-onto
 invariant-loop-onto l =
-    IsUnmarkedRow l.flow.notes.now.marks (executed_in l.flow) (map (λ (location : Location). location.number) (take l.onto-index l.targets)) l.fn.from.number l.row.items
+    IsUnmarkedRow l.flow.notes.now.marks (executed_in l.flow)
+    (map (λ (location : Location). location.number) (take l.onto-index l.targets)) l.fn.from.number l.row.items

@@ -15,7 +15,8 @@ locations_at-requires c place there = omega (arith, c.requires.cycle.within plac
 
 pub turned-requires-clause-some : goal.turned-requires-clause-some
 turned-requires-clause-some c =
-    let some : 0 < length c.args.cycle.now = cycle_some (row c.args.graph.now) c.args.cycle.now c.requires.cycle.closed in
+    let some : 0 < length c.args.cycle.now =
+    cycle_some (row c.args.graph.now) c.args.cycle.now c.requires.cycle.closed in
     let locations = c.in-Ok.locations in
     omega (
       arith,
@@ -30,15 +31,24 @@ pub turned-requires-clause-few : goal.turned-requires-clause-few
 turned-requires-clause-few c =
     let flow = c.args.flow.now in
     let locations = c.in-Ok.locations in
-    let within : (place : ℕ) → Contains c.args.cycle.now place → place < length (executed_in flow) = λ place there. omega (arith, c.requires.cycle.within place there, c.requires.size) in
+    let within : (place : ℕ) → Contains c.args.cycle.now place → place < length (executed_in flow) =
+    λ place there. omega (arith, c.requires.cycle.within place there, c.requires.size) in
     let different : AreDifferent (numbers locations.items) =
     subst AreDifferent (sym c.in-Ok.ensures.numbers)
-    (different_at (loads_in flow.deck.now) flow.notes.now (executed_in flow) (row c.args.graph.now) c.in-Ok.ensures.different c.requires.rows c.args.cycle.now within c.requires.cycle.distinct) in
-    omega (arith, few_locations locations.items different, length-map locations.items (λ (one : Location). one.number), locations.ok.0)
+    (different_at (loads_in flow.deck.now) flow.notes.now (executed_in flow) (row c.args.graph.now)
+    c.in-Ok.ensures.different c.requires.rows c.args.cycle.now within c.requires.cycle.distinct) in
+    omega (
+      arith,
+      few_locations locations.items different,
+      length-map locations.items (λ (one : Location). one.number),
+      locations.ok.0,
+    )
 
 pub returns-in-Ok : goal.returns-in-Ok
 returns-in-Ok c =
     let flow = c.args.flow.now in
-    cycle_free (loads_in flow.deck.now) flow.notes.now (executed_in flow) (row c.args.graph.now) (size c.args.graph.now) c.args.cycle.now (numbers c.turned.result.locations.items)
+    cycle_free (loads_in flow.deck.now) flow.notes.now (executed_in flow) (row c.args.graph.now) (size c.args.graph.now)
+    c.args.cycle.now (numbers c.turned.result.locations.items)
     c.in-Ok.ensures.different c.requires.rows c.requires.size c.requires.cycle
-    (subst (λ (ns : List ℕ). IsTurned ns (numbers c.turned.result.locations.items)) c.in-Ok.ensures.numbers c.turned.ensures)
+    (subst (λ (ns : List ℕ). IsTurned ns (numbers c.turned.result.locations.items)) c.in-Ok.ensures.numbers
+    c.turned.ensures)

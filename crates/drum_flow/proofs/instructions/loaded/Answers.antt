@@ -5,4 +5,6 @@ use Rattle.drum_flow.proofs.Instructed.{one_instruction}
 use Rattle.drum_flow.proofs.instructions.loaded.Goals as goal
 
 pub returns-in-Some : goal.returns-in-Some
-returns-in-Some c = ap (λ (ins : Instruction). ins ∷ []) (one_instruction c.in-Some.word c.of.result c.of.ensures) ∙ ap loaded (sym c.in-Some.is ∙ c.word.ensures.held)
+returns-in-Some c =
+    ap (λ (ins : Instruction). ins ∷ []) (one_instruction c.in-Some.word c.of.result c.of.ensures)
+    ∙ ap loaded (sym c.in-Some.is ∙ c.word.ensures.held)

@@ -10,6 +10,7 @@ use Rattle.drum_flow.proofs.place.first_outside.Given as goal
 -- the instructions of the patterns so far are in the profile, and the others are left
 abbrev pub invariant-loop-pattern : goal.invariant-loop-pattern
 invariant-loop-pattern l = record {
-  split : flat_map matching (l.yielded ++ patterns_left l.pattern-iterator) ≡ allowed (loads_in l.deck) l.notes l.fn.location.number;
+  split : flat_map matching (l.yielded ++ patterns_left l.pattern-iterator)
+      ≡ allowed (loads_in l.deck) l.notes l.fn.location.number;
   inside : (other : Instruction) → Contains (flat_map matching l.yielded) other → ¬ IsOutside other;
 }

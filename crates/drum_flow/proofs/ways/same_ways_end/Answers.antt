@@ -10,5 +10,7 @@ returns-clause-same c d low high =
     let ins = c.args.instruction in
     let notes = c.args.notes.now in
     ways_at notes ins d (omega (arith, high, c.part_end.ensures.few))
-    ∙ same_part notes (op_of ins.op) d ins.d ins.i (c.part_end.ensures.locations d low high) (c.part_end.ensures.drum d low high)
-    (one_false (branches_with notes (op_of ins.op)) (is_location ins.d) (sym c.may_go_on_at_d.ensures ∙ c.if-may_go_on_at_d.false))
+    ∙ same_part notes (op_of ins.op) d ins.d ins.i (c.part_end.ensures.locations d low high)
+    (c.part_end.ensures.drum d low high)
+    (one_false (branches_with notes (op_of ins.op)) (is_location ins.d)
+    (sym c.may_go_on_at_d.ensures ∙ c.if-may_go_on_at_d.false))

@@ -8,13 +8,15 @@ use Rattle.drum_flow.proofs.writes.same_writes_end.Goals as goal
 pub returns-then-d-ge2000-clause-same : goal.returns-then-d-ge2000-clause-same
 returns-then-d-ge2000-clause-same c d low high =
     let ins = c.args.instruction in
-    writes_at ins d high ∙ none_written (op_of ins.op) d (omega (arith, low, c.if-d-ge2000.true)) ∙ sym (none_written (op_of ins.op) ins.d c.if-d-ge2000.true)
+    writes_at ins d high ∙ none_written (op_of ins.op) d (omega (arith, low, c.if-d-ge2000.true))
+    ∙ sym (none_written (op_of ins.op) ins.d c.if-d-ge2000.true)
 
 pub returns-in_default-clause-same : goal.returns-in_default-clause-same
 returns-in_default-clause-same c d low high =
     let ins = c.args.instruction in
     let none : op_of ins.op ≡ None = sym c.of.ensures.listed ∙ c.in_default.is in
-    writes_at ins d high ∙ ap (λ (op : Option Op). writes_with op d) none ∙ sym (ap (λ (op : Option Op). writes_with op ins.d) none)
+    writes_at ins d high ∙ ap (λ (op : Option Op). writes_with op d) none
+    ∙ sym (ap (λ (op : Option Op). writes_with op ins.d) none)
 
 pub returns-in_default-op : goal.returns-in_default-op
 returns-in_default-op c =
@@ -22,6 +24,9 @@ returns-in_default-op c =
     let some : op_of ins.op ≡ Some c.in-Some.op = sym c.of.ensures.listed ∙ c.in-Some.is in
     record {
       past = omega (arith, ins.four);
-      same = λ d low high. writes_at ins d high ∙ ap (λ (op : Option Op). writes_with op d) some ∙ none_other c.in-Some.op d c.in_default-op.not-Store c.in_default-op.not-Read
-          ∙ sym (ap (λ (op : Option Op). writes_with op ins.d) some ∙ none_other c.in-Some.op ins.d c.in_default-op.not-Store c.in_default-op.not-Read);
+      same =
+          λ d low high. writes_at ins d high ∙ ap (λ (op : Option Op). writes_with op d) some
+          ∙ none_other c.in-Some.op d c.in_default-op.not-Store c.in_default-op.not-Read
+          ∙ sym (ap (λ (op : Option Op). writes_with op ins.d) some
+          ∙ none_other c.in-Some.op ins.d c.in_default-op.not-Store c.in_default-op.not-Read);
     }

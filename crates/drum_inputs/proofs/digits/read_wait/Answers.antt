@@ -4,7 +4,8 @@ use Rattle.drum_core.specs.Numeral.{digits_of}
 use Rattle.drum_core.proofs.Numerals.{length-digits_of}
 use Rattle.drum_inputs.proofs.Halves.{at_length, same_number}
 use Rattle.drum_inputs.proofs.digits.read_wait.Goals as goal
-use Rattle.drum_inputs.proofs.digits.read_wait.Goals.{then-is_empty-via-then-is_empty, then-is_empty-via-else-is_empty+then-digits-gt7}
+use Rattle.drum_inputs.proofs.digits.read_wait.Goals.{then-is_empty-via-then-is_empty}
+use Rattle.drum_inputs.proofs.digits.read_wait.Goals.{then-is_empty-via-else-is_empty+then-digits-gt7}
 
 pub returns-then-is_empty-clause-none : goal.returns-then-is_empty-clause-none
 returns-then-is_empty-clause-none c n (count, some, seven, small, million, written) =
@@ -12,7 +13,8 @@ returns-then-is_empty-clause-none c n (count, some, seven, small, million, writt
     let long : length c.in-Some.digits.now ≡ count = ap length digits ∙ length-digits_of count n in
     elim c.then-is_empty.branch [
       | then-is_empty-via-then-is_empty w ↦
-          let empty : length c.in-Some.digits.now ≡ 0 = eqb-true (length c.in-Some.digits.now) 0 (sym c.is_empty.ensures ∙ w.if-is_empty.true) in
+          let empty : length c.in-Some.digits.now ≡ 0 =
+          eqb-true (length c.in-Some.digits.now) 0 (sym c.is_empty.ensures ∙ w.if-is_empty.true) in
           omega (arith, long, empty)
       | then-is_empty-via-else-is_empty+then-digits-gt7 w ↦ omega (arith, long)
     ]
@@ -20,7 +22,9 @@ returns-then-is_empty-clause-none c n (count, some, seven, small, million, writt
 pub returns-in_default-read_digits-clause-none : goal.returns-in_default-read_digits-clause-none
 returns-in_default-read_digits-clause-none c n (count, some, seven, small, million, written) =
     let digits : c.in-Some.digits.now ≡ digits_of count n = ap (drop 5) (sym c.in-Some.ensures ∙ written) in
-    let same : n ≡ c.in-Some-read_digits.wait = same_number c.in-Some.digits.now count n c.in-Some-read_digits.wait digits small c.in-Some-read_digits.ensures.found c.in-Some-read_digits.ensures.small in
+    let same : n ≡ c.in-Some-read_digits.wait =
+    same_number c.in-Some.digits.now count n c.in-Some-read_digits.wait digits small
+    c.in-Some-read_digits.ensures.found c.in-Some-read_digits.ensures.small in
     omega (arith, same, c.if-wait-le-LONGEST.false)
 
 pub returns-in_default-read_digits-2-clause-none : goal.returns-in_default-read_digits-2-clause-none

@@ -3,10 +3,16 @@ use Rattle.drum_inputs.proofs.Progress.{left_too_long, inputs_of_left, refused_o
 use Rattle.drum_inputs.proofs.read.read_inputs.Goals as goal
 
 pub returns-in-Err-TooLong-clause-refused : goal.returns-in-Err-TooLong-clause-refused
-returns-in-Err-TooLong-clause-refused g c not_read not_memory = left_too_long (g.I.Input.left c.args.reader.now) (c.in-Err-TooLong.ensures.long (ap Err c.in-Err-TooLong.field-0-is))
+returns-in-Err-TooLong-clause-refused g c not_read not_memory =
+    left_too_long (g.I.Input.left c.args.reader.now)
+    (c.in-Err-TooLong.ensures.long (ap Err c.in-Err-TooLong.field-0-is))
 
 pub returns-clause-inputs : goal.returns-clause-inputs
-returns-clause-inputs g c = inputs_of_left (g.I.Input.left c.args.reader.now) c.in-Ok.text.items c.deref-2.result.now c.read_lines.result c.deref-2.ensures.value c.in-Ok.ensures.all c.read_lines.ensures.ok
+returns-clause-inputs g c =
+    inputs_of_left (g.I.Input.left c.args.reader.now) c.in-Ok.text.items c.deref-2.result.now c.read_lines.result
+    c.deref-2.ensures.value c.in-Ok.ensures.all c.read_lines.ensures.ok
 
 pub returns-clause-refused : goal.returns-clause-refused
-returns-clause-refused g c = refused_of_left (g.I.Input.left c.args.reader.now) c.in-Ok.text.items c.deref-2.result.now c.read_lines.result c.deref-2.ensures.value c.in-Ok.ensures.all c.read_lines.ensures.err
+returns-clause-refused g c =
+    refused_of_left (g.I.Input.left c.args.reader.now) c.in-Ok.text.items c.deref-2.result.now c.read_lines.result
+    c.deref-2.ensures.value c.in-Ok.ensures.all c.read_lines.ensures.err

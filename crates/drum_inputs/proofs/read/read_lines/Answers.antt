@@ -6,5 +6,7 @@ loop-line-preserved c =
     let p = c.loop-line.invariant.so_far in
     let next = c.in_ok-take.ensures.ok p.lines p.holds in
     record {
-      so_far = one_more c.args.text.now c.loop-line.line-iterator.rest.now c.next.new.self.rest.now c.loop-line.stating c.take.new.self c.loop-line.number c.in-Some.line.now next.0 p c.in-Some.ensures.steps next.1 next.2;
+      so_far =
+          one_more c.args.text.now c.loop-line.line-iterator.rest.now c.next.new.self.rest.now c.loop-line.stating
+          c.take.new.self c.loop-line.number c.in-Some.line.now next.0 p c.in-Some.ensures.steps next.1 next.2;
     }

@@ -6,7 +6,10 @@ use Rattle.drum_listing.proofs.step_line.send_fetch.Goals as goal
 
 pub returns-clause-sent : goal.returns-clause-sent
 returns-clause-sent g c =
-    subst (IsSent (g.O.Output.written c.args.writer.now) (g.O.Output.written c.send.new.output) c.args.sent c.send.result)
-    (fetch_told c.args.number c.args.origin.number c.args.word c.as_bytes.result.now c.four_digits-at.result c.spelling_of-spelled.result
-    (c.as_bytes.ensures.value ∙ c.format.ensures.text) (c.four_digits-at.ensures ∙ ap (digits_of 4) c.number.ensures) c.spelling_of-spelled.ensures)
+    subst (IsSent (g.O.Output.written c.args.writer.now) (g.O.Output.written c.send.new.output) c.args.sent
+    c.send.result)
+    (fetch_told c.args.number c.args.origin.number c.args.word c.as_bytes.result.now c.four_digits-at.result
+    c.spelling_of-spelled.result
+    (c.as_bytes.ensures.value ∙ c.format.ensures.text) (c.four_digits-at.ensures ∙ ap (digits_of 4) c.number.ensures)
+    c.spelling_of-spelled.ensures)
     c.send.ensures.sent

@@ -19,7 +19,8 @@ returns-in_err-sent-clause-sent g c turn tells start before =
     let p = err_from_is_err_and c.from_residual.result c.from_residual.ensures.1 in
     let fetch = fetch_text c.args.number visit.place.number c.word_of.result in
     rw (p.1, p.2) (subst (IsSent old new c.args.sent (Err fault))
-    (turn_told times c.args.number c.args.angle turn (seen_visit visit) c.word_of.result moments (c.visit_of-visit.ensures.visit times turn tells before)
+    (turn_told times c.args.number c.args.angle turn (seen_visit visit) c.word_of.result moments
+    (c.visit_of-visit.ensures.visit times turn tells before)
     (c.word_of.ensures times turn tells) start c.of-moments.ensures)
     (IsSent-cut old new c.args.sent fault fetch (times_text moments visit.ended) c.in_err-sent.ensures.sent))
 
@@ -33,6 +34,8 @@ returns-clause-sent g c turn tells start before =
     let new = g.O.Output.written c.send_times.new.writer in
     let fetch = fetch_text c.args.number visit.place.number c.word_of.result in
     subst (IsSent old new c.args.sent c.send_times.result)
-    (turn_told times c.args.number c.args.angle turn (seen_visit visit) c.word_of.result moments (c.visit_of-visit.ensures.visit times turn tells before)
+    (turn_told times c.args.number c.args.angle turn (seen_visit visit) c.word_of.result moments
+    (c.visit_of-visit.ensures.visit times turn tells before)
     (c.word_of.ensures times turn tells) start c.of-moments.ensures)
-    (IsSent-then old between new c.args.sent c.in_ok-sent.sent c.send_times.result fetch (times_text moments visit.ended) c.in_ok-sent.ensures.sent c.send_times.ensures.sent)
+    (IsSent-then old between new c.args.sent c.in_ok-sent.sent c.send_times.result fetch
+    (times_text moments visit.ended) c.in_ok-sent.ensures.sent c.send_times.ensures.sent)

@@ -17,7 +17,8 @@ returns-in_err-sent-clause-sent g c =
     let new = g.O.Output.written c.send_hop.new.writer in
     let fault = c.in_err-sent.field-0.0 in
     let p = err_from_is_err_and c.from_residual.result c.from_residual.ensures.1 in
-    rw (p.1, p.2) (subst (IsSent old new c.args.sent (Err fault)) (visit_told (entry_in c.args.times.now) c.args.angle visit moments c.of-moments.ensures)
+    rw (p.1, p.2) (subst (IsSent old new c.args.sent (Err fault))
+    (visit_told (entry_in c.args.times.now) c.args.angle visit moments c.of-moments.ensures)
     (IsSent-cut old new c.args.sent fault (hop_text visit) (times_text moments visit.ended) c.in_err-sent.ensures.sent))
 
 pub returns-clause-sent : goal.returns-clause-sent
@@ -27,5 +28,7 @@ returns-clause-sent g c =
     let old = g.O.Output.written c.args.writer.now in
     let between = g.O.Output.written c.send_hop.new.writer in
     let new = g.O.Output.written c.send_times.new.writer in
-    subst (IsSent old new c.args.sent c.send_times.result) (visit_told (entry_in c.args.times.now) c.args.angle visit moments c.of-moments.ensures)
-    (IsSent-then old between new c.args.sent c.in_ok-sent.sent c.send_times.result (hop_text visit) (times_text moments visit.ended) c.in_ok-sent.ensures.sent c.send_times.ensures.sent)
+    subst (IsSent old new c.args.sent c.send_times.result)
+    (visit_told (entry_in c.args.times.now) c.args.angle visit moments c.of-moments.ensures)
+    (IsSent-then old between new c.args.sent c.in_ok-sent.sent c.send_times.result (hop_text visit)
+    (times_text moments visit.ended) c.in_ok-sent.ensures.sent c.send_times.ensures.sent)

@@ -16,19 +16,29 @@ use Rattle.drum_listing.proofs.Lines.{flat_map_map}
 use Rattle.drum_listing.proofs.walk.list_walk.Goals as goal
 
 -- none of the analysis's hops begins after its bound
-begun_early : (analysis : Analysis) (walk : List Visit) → map seen_visit walk ≡ visits_of analysis → ∥ AreInTime 0 (visits_of analysis) (bound_of analysis) ∥₁
+begun_early : (analysis : Analysis) (walk : List Visit) → map seen_visit walk ≡ visits_of analysis
+    → ∥ AreInTime 0 (visits_of analysis) (bound_of analysis) ∥₁
     → ∥ AreInTime 0 (map seen_visit walk) (bound_of analysis) ∥₁
-begun_early analysis walk told in_time = subst (λ (visits : List Visited). ∥ AreInTime 0 visits (bound_of analysis) ∥₁) (sym told) in_time
+begun_early analysis walk told in_time =
+    subst (λ (visits : List Visited). ∥ AreInTime 0 visits (bound_of analysis) ∥₁) (sym told) in_time
 
 pub send_visits-requires-clause-early : goal.send_visits-requires-clause-early
 send_visits-requires-clause-early g c k d within =
     let analysis = c.args.analysis.now in
     let walk = c.walk.result.now in
-    omega (arith, begun_within walk (bound_of analysis) (begun_early analysis walk c.walk.ensures.told c.walk.ensures.in_time) k d within, c.bound-bound.ensures.told, c.bound-bound.ensures.below)
+    omega (
+      arith,
+      begun_within walk (bound_of analysis)
+          (begun_early analysis walk c.walk.ensures.told c.walk.ensures.in_time) k d within,
+      c.bound-bound.ensures.told,
+      c.bound-bound.ensures.below,
+    )
 
 -- the lines that went out are those of the analysis's hops
-lines_told : (times : Op → Entry) (angle : ℕ) (analysis : Analysis) (walk : List Visit) → angle ≡ angle_of analysis → map seen_visit walk ≡ visits_of analysis
-    → flat_map (λ (visit : Visit). visit_line times angle (seen_visit visit)) walk ≡ flat_map (visit_line times (angle_of analysis)) (visits_of analysis)
+lines_told : (times : Op → Entry) (angle : ℕ) (analysis : Analysis) (walk : List Visit) → angle ≡ angle_of analysis
+    → map seen_visit walk ≡ visits_of analysis
+    → flat_map (λ (visit : Visit). visit_line times angle (seen_visit visit)) walk
+    ≡ flat_map (visit_line times (angle_of analysis)) (visits_of analysis)
 lines_told times angle analysis walk at told =
     flat_map_map (visit_line times angle) seen_visit walk ∙ ap (flat_map (visit_line times angle)) told
     ∙ ap (λ (a : ℕ). flat_map (visit_line times a) (visits_of analysis)) at
@@ -43,8 +53,11 @@ returns-in_err-sent-clause-written g c =
     let p = err_from_is_err_and c.from_residual.result c.from_residual.ensures.1 in
     let lines = flat_map (visit_line times (angle_of analysis)) (visits_of analysis) in
     let told : IsSent old new 0 (Err fault) lines =
-    subst (IsSent old new 0 (Err fault)) (lines_told times c.angle.result analysis c.walk.result.now c.angle.ensures c.walk.ensures.told) c.in_err-sent.ensures.sent in
-    rw (p.1, p.2) (written_cut old new fault (walk_text times (angle_of analysis) (visits_of analysis) (bound_of analysis))
+    subst (IsSent old new 0 (Err fault))
+    (lines_told times c.angle.result analysis c.walk.result.now c.angle.ensures c.walk.ensures.told)
+    c.in_err-sent.ensures.sent in
+    rw (p.1, p.2) (written_cut old new fault
+    (walk_text times (angle_of analysis) (visits_of analysis) (bound_of analysis))
     (IsSent-cut old new 0 fault lines (bound_text (bound_of analysis)) told))
 
 pub returns-in_err-send_bound-clause-written : goal.returns-in_err-send_bound-clause-written
@@ -59,10 +72,14 @@ returns-in_err-send_bound-clause-written g c =
     let p = err_from_is_err_and c.from_residual-in_err-send_bound.result c.from_residual-in_err-send_bound.ensures.1 in
     let lines = flat_map (visit_line times (angle_of analysis)) (visits_of analysis) in
     let told : IsSent old between 0 (Ok sent) lines =
-    subst (IsSent old between 0 (Ok sent)) (lines_told times c.angle.result analysis c.walk.result.now c.angle.ensures c.walk.ensures.told) c.in_ok-sent.ensures.sent in
+    subst (IsSent old between 0 (Ok sent))
+    (lines_told times c.angle.result analysis c.walk.result.now c.angle.ensures c.walk.ensures.told)
+    c.in_ok-sent.ensures.sent in
     let last : IsSent between new sent (Err fault) (bound_text (bound_of analysis)) =
-    subst (λ (bound : ℕ). IsSent between new sent (Err fault) (bound_text bound)) c.bound-bound.ensures.told c.in_err-send_bound.ensures.sent in
-    rw (p.1, p.2) (written_cut old new fault (walk_text times (angle_of analysis) (visits_of analysis) (bound_of analysis))
+    subst (λ (bound : ℕ). IsSent between new sent (Err fault) (bound_text bound)) c.bound-bound.ensures.told
+    c.in_err-send_bound.ensures.sent in
+    rw (p.1, p.2) (written_cut old new fault
+    (walk_text times (angle_of analysis) (visits_of analysis) (bound_of analysis))
     (IsSent-then old between new 0 sent (Err fault) lines (bound_text (bound_of analysis)) told last))
 
 pub returns-clause-written : goal.returns-clause-written
@@ -76,8 +93,11 @@ returns-clause-written g c =
     let total = c.in_ok-send_bound.field-0 in
     let lines = flat_map (visit_line times (angle_of analysis)) (visits_of analysis) in
     let told : IsSent old between 0 (Ok sent) lines =
-    subst (IsSent old between 0 (Ok sent)) (lines_told times c.angle.result analysis c.walk.result.now c.angle.ensures c.walk.ensures.told) c.in_ok-sent.ensures.sent in
+    subst (IsSent old between 0 (Ok sent))
+    (lines_told times c.angle.result analysis c.walk.result.now c.angle.ensures c.walk.ensures.told)
+    c.in_ok-sent.ensures.sent in
     let last : IsSent between new sent (Ok total) (bound_text (bound_of analysis)) =
-    subst (λ (bound : ℕ). IsSent between new sent (Ok total) (bound_text bound)) c.bound-bound.ensures.told c.in_ok-send_bound.ensures.sent in
+    subst (λ (bound : ℕ). IsSent between new sent (Ok total) (bound_text bound)) c.bound-bound.ensures.told
+    c.in_ok-send_bound.ensures.sent in
     written_whole old new total (walk_text times (angle_of analysis) (visits_of analysis) (bound_of analysis))
     (IsSent-then old between new 0 sent (Ok total) lines (bound_text (bound_of analysis)) told last)

@@ -11,7 +11,12 @@ use Rattle.drum_listing.proofs.walk.send_visits.Goals as goal
 pub send_visit-requires-clause-early : goal.send_visit-requires-clause-early
 send_visit-requires-clause-early g c =
     let visit = c.visit-item.result in
-    omega (arith, ap (λ (one : Visit). one.begun) c.visit-item.is, c.requires.early c.loop-visit.visit-index visit c.loop-visit-test.true)
+    omega (
+      arith,
+      ap (λ (one : Visit). one.begun) c.visit-item.is,
+      c.requires.early c.loop-visit.visit-index visit
+          c.loop-visit-test.true,
+    )
 
 pub returns-in_err-sent-clause-sent : goal.returns-in_err-sent-clause-sent
 returns-in_err-sent-clause-sent g c =
@@ -26,7 +31,8 @@ returns-in_err-sent-clause-sent g c =
     let p = err_from_is_err_and c.from_residual.result c.from_residual.ensures.1 in
     let here : IsSent between new c.loop-visit.sent (Err fault) (line (get_or walk index visit)) =
     subst (IsSent between new c.loop-visit.sent (Err fault)) (ap line c.visit-item.is) c.in_err-sent.ensures.sent in
-    rw (p.1, p.2) (sent_cut line walk index visit c.loop-visit-test.true old between new 0 c.loop-visit.sent fault c.loop-visit.invariant.so_far here)
+    rw (p.1, p.2) (sent_cut line walk index visit c.loop-visit-test.true old between new 0 c.loop-visit.sent fault
+    c.loop-visit.invariant.so_far here)
 
 pub loop-visit-preserved : goal.loop-visit-preserved
 loop-visit-preserved g c =
@@ -38,9 +44,12 @@ loop-visit-preserved g c =
     let between = g.O.Output.written c.loop-visit.writer in
     let new = g.O.Output.written c.send_visit.new.writer in
     let here : IsSent between new c.loop-visit.sent (Ok c.in_ok-sent.sent) (line (get_or walk index visit)) =
-    subst (IsSent between new c.loop-visit.sent (Ok c.in_ok-sent.sent)) (ap line c.visit-item.is) c.in_ok-sent.ensures.sent in
+    subst (IsSent between new c.loop-visit.sent (Ok c.in_ok-sent.sent)) (ap line c.visit-item.is)
+    c.in_ok-sent.ensures.sent in
     record {
-      so_far = sent_more line walk index visit c.loop-visit-test.true old between new 0 c.loop-visit.sent c.in_ok-sent.sent c.loop-visit.invariant.so_far here;
+      so_far =
+          sent_more line walk index visit c.loop-visit-test.true old between new 0 c.loop-visit.sent c.in_ok-sent.sent
+          c.loop-visit.invariant.so_far here;
       few = omega (arith, c.loop-visit.invariant.few, c.in_ok-sent.ensures.few);
       calls = omega (arith, c.loop-visit.invariant.calls, c.in_ok-sent.ensures.calls);
       failures = omega (arith, c.loop-visit.invariant.failures, c.in_ok-sent.ensures.failures);

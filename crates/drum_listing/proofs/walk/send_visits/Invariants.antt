@@ -10,7 +10,8 @@ use Rattle.drum_listing.proofs.walk.send_visits.Given as goal
 abbrev pub invariant-loop-visit : goal.invariant-loop-visit
 invariant-loop-visit g l = record {
   so_far : IsSent (g.O.Output.written l.fn.writer) (g.O.Output.written l.writer) 0 (Ok l.sent)
-      (flat_map (λ (visit : Visit). visit_line (entry_in l.times) l.angle (seen_visit visit)) (take l.visit-index l.walk));
+      (flat_map (λ (visit : Visit). visit_line (entry_in l.times) l.angle (seen_visit visit))
+      (take l.visit-index l.walk));
   few : l.sent ≤ 200 * l.visit-index;
   calls : g.O.Output.called l.writer ≤ g.O.Output.called l.fn.writer + 200 * l.visit-index;
   failures : g.O.Output.failed l.writer ≡ g.O.Output.failed l.fn.writer;

@@ -5,4 +5,5 @@ use Rattle.drum_machine.proofs.passes.is_inside.Goals as goal
 
 pub loop-preserved : goal.loop-preserved
 loop-preserved c =
-    inside_outward c.args.marks.now c.loop.counter c.loop.place c.in-Some.next c.args.outer (omega arith) c.in-Some.ensures (ne_eqb _ _ c.if-next-outer.false) ∙ c.loop.invariant
+    inside_outward c.args.marks.now c.loop.counter c.loop.place c.in-Some.next c.args.outer (omega arith)
+    c.in-Some.ensures (ne_eqb _ _ c.if-next-outer.false) ∙ c.loop.invariant

@@ -6,4 +6,5 @@ use Rattle.drum_machine.proofs.setup.is_given.Given as goal
 
 -- none so far is for the location
 abbrev pub invariant-loop-given : goal.invariant-loop-given
-invariant-loop-given l = (k : ℕ) (d : Location × Word) → k < l.given-index → (slice_index_or l.words k d).0.number ≢ l.location.number
+invariant-loop-given l =
+    (k : ℕ) (d : Location × Word) → k < l.given-index → (slice_index_or l.words k d).0.number ≢ l.location.number

@@ -10,7 +10,8 @@ returns-in_err-documents-clause-fault g c =
 pub returns-in_err-inputs-clause-fault : goal.returns-in_err-inputs-clause-fault
 returns-in_err-inputs-clause-fault g c =
     let p = err_from_is_err_and c.from_residual-in_err-inputs.result c.from_residual-in_err-inputs.ensures.1 in
-    let file = λ (name : List ℕ). ap (λ (f : List ℕ → Option (Option (List ℕ))). f name) c.in_ok-documents.ensures.stays in
+    let file =
+    λ (name : List ℕ). ap (λ (f : List ℕ → Option (Option (List ℕ))). f name) c.in_ok-documents.ensures.stays in
     rw (p.1, p.2) (λ held told. inr (
       c.in_ok-documents.documents,
       c.in_ok-documents.ensures.held held told,
@@ -19,7 +20,8 @@ returns-in_err-inputs-clause-fault g c =
 
 pub returns-clause-held : goal.returns-clause-held
 returns-clause-held g c held told =
-    let file = λ (name : List ℕ). ap (λ (f : List ℕ → Option (Option (List ℕ))). f name) c.in_ok-documents.ensures.stays in (
+    let file =
+    λ (name : List ℕ). ap (λ (f : List ℕ → Option (Option (List ℕ))). f name) c.in_ok-documents.ensures.stays in (
       c.in_ok-documents.ensures.held held told,
       c.in_ok-inputs.ensures.inputs (held c.args.inputs.now) (file c.args.inputs.now ∙ told c.args.inputs.now),
     )

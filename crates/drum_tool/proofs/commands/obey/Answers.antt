@@ -5,14 +5,16 @@ use Rattle.drum_lines.specs.FaultStatus.{reads_failed}
 use Rattle.drum_lines.specs.declared.status.Status.TheVariants.{Done}
 use Rattle.drum_tool.specs.Documents.{IsBound}
 use Rattle.drum_tool.specs.Output.{GetsResult, device}
-use Rattle.drum_tool.specs.Reply.{AnswersCommand, bound_reply, fault_reply, picture_reply, report_reply, verdict_reply, walk_reply}
+use Rattle.drum_tool.specs.Reply.{AnswersCommand, bound_reply, fault_reply, picture_reply, report_reply, verdict_reply}
+use Rattle.drum_tool.specs.Reply.{walk_reply}
 use Rattle.drum_tool.proofs.Replies.{counted}
 use Rattle.drum_tool.proofs.commands.obey.Goals as goal
 
 pub returns-in-Ok : goal.returns-in-Ok
 returns-in-Ok g c =
     let documents = c.in-Ok.field-0-0 in
-    let is : IsBound documents c.bound.result = subst (IsBound documents) (sym c.bound.ensures.told) c.in-Ok.ensures.bound in
+    let is : IsBound documents c.bound.result =
+    subst (IsBound documents) (sym c.bound.ensures.told) c.in-Ok.ensures.bound in
     let reply = bound_reply c.bound.result in (
       reply,
       (c.tell_bound.ensures, refl),
@@ -27,7 +29,8 @@ returns-in-Bound g c =
       fault_reply fault,
       (refl, c.complain.ensures.line, c.complain.ensures.status),
       (λ held failures told count.
-          counted (λ (n : ℕ). AnswersCommand held c.args.command n (fault_reply fault)) _ _ failures (reads_failed fault) c.in-Err.ensures.counted count
+          counted (λ (n : ℕ). AnswersCommand held c.args.command n (fault_reply fault)) _ _ failures
+          (reads_failed fault) c.in-Err.ensures.counted count
           (rw c.in-Bound.is (inr (fault, c.in-Err.ensures.fault held told, refl, refl)))),
     )
 
@@ -39,12 +42,20 @@ returns-in-Ok-analysis g c =
       reply,
       (c.tell_report.ensures, refl),
       (λ held failures told count.
-          counted (λ (n : ℕ). AnswersCommand held c.args.command n reply) _ _ failures 0 c.in-Ok-analysis.ensures.counted count
+          counted (λ (n : ℕ). AnswersCommand held c.args.command n reply) _ _ failures 0
+          c.in-Ok-analysis.ensures.counted count
           (rw c.in-Report.is (inl (
             documents,
             c.in-Ok-analysis.ensures.held held told,
             refl,
-            (bound_of analysis, c.in-Ok-analysis.ensures.bound, angle_of analysis, visits_of analysis, c.in-Ok-analysis.ensures.walk, refl),
+            (
+              bound_of analysis,
+              c.in-Ok-analysis.ensures.bound,
+              angle_of analysis,
+              visits_of analysis,
+              c.in-Ok-analysis.ensures.walk,
+              refl,
+            ),
           )))),
     )
 
@@ -54,7 +65,8 @@ returns-in-Report g c =
       fault_reply fault,
       (refl, c.complain-in-Err-analysis.ensures.line, c.complain-in-Err-analysis.ensures.status),
       (λ held failures told count.
-          counted (λ (n : ℕ). AnswersCommand held c.args.command n (fault_reply fault)) _ _ failures (reads_failed fault) c.in-Err-analysis.ensures.counted count
+          counted (λ (n : ℕ). AnswersCommand held c.args.command n (fault_reply fault)) _ _ failures
+          (reads_failed fault) c.in-Err-analysis.ensures.counted count
           (rw c.in-Report.is (inr (fault, c.in-Err-analysis.ensures.fault held told, refl, refl)))),
     )
 
@@ -66,12 +78,20 @@ returns-in-Ok-analysis-2 g c =
       reply,
       (c.tell_walk.ensures, refl),
       (λ held failures told count.
-          counted (λ (n : ℕ). AnswersCommand held c.args.command n reply) _ _ failures 0 c.in-Ok-analysis-2.ensures.counted count
+          counted (λ (n : ℕ). AnswersCommand held c.args.command n reply) _ _ failures 0
+          c.in-Ok-analysis-2.ensures.counted count
           (rw c.in-Walk.is (inl (
             documents,
             c.in-Ok-analysis-2.ensures.held held told,
             refl,
-            (bound_of analysis, c.in-Ok-analysis-2.ensures.bound, angle_of analysis, visits_of analysis, c.in-Ok-analysis-2.ensures.walk, refl),
+            (
+              bound_of analysis,
+              c.in-Ok-analysis-2.ensures.bound,
+              angle_of analysis,
+              visits_of analysis,
+              c.in-Ok-analysis-2.ensures.walk,
+              refl,
+            ),
           )))),
     )
 
@@ -81,7 +101,8 @@ returns-in-Walk g c =
       fault_reply fault,
       (refl, c.complain-in-Err-analysis-2.ensures.line, c.complain-in-Err-analysis-2.ensures.status),
       (λ held failures told count.
-          counted (λ (n : ℕ). AnswersCommand held c.args.command n (fault_reply fault)) _ _ failures (reads_failed fault) c.in-Err-analysis-2.ensures.counted count
+          counted (λ (n : ℕ). AnswersCommand held c.args.command n (fault_reply fault)) _ _ failures
+          (reads_failed fault) c.in-Err-analysis-2.ensures.counted count
           (rw c.in-Walk.is (inr (fault, c.in-Err-analysis-2.ensures.fault held told, refl, refl)))),
     )
 
@@ -89,12 +110,15 @@ pub returns-in-Ok-picture_of : goal.returns-in-Ok-picture_of
 returns-in-Ok-picture_of g c =
     let old = device (g.O.Output.written c.args.out.now) (g.O.Output.failed c.args.out.now) in
     let new = device (g.O.Output.written c.tell_text.new.out) (g.O.Output.failed c.tell_text.new.out) in
-    let gets = subst (λ (text : List ℕ). GetsResult old new text Done c.tell_text.result) c.as_bytes.ensures.value c.tell_text.ensures in
+    let gets =
+    subst (λ (text : List ℕ). GetsResult old new text Done c.tell_text.result) c.as_bytes.ensures.value
+    c.tell_text.ensures in
     let reply = picture_reply (string_bytes c.in-Ok-picture_of.picture) in (
       reply,
       (gets, refl),
       (λ held failures told count.
-          counted (λ (n : ℕ). AnswersCommand held c.args.command n reply) _ _ failures 0 c.in-Ok-picture_of.ensures.counted count
+          counted (λ (n : ℕ). AnswersCommand held c.args.command n reply) _ _ failures 0
+          c.in-Ok-picture_of.ensures.counted count
           (rw c.in-Draw.is (c.in-Ok-picture_of.ensures.picture held told))),
     )
 
@@ -104,7 +128,8 @@ returns-in-Draw g c =
       fault_reply fault,
       (refl, c.complain-in-Err-picture_of.ensures.line, c.complain-in-Err-picture_of.ensures.status),
       (λ held failures told count.
-          counted (λ (n : ℕ). AnswersCommand held c.args.command n (fault_reply fault)) _ _ failures (reads_failed fault) c.in-Err-picture_of.ensures.counted count
+          counted (λ (n : ℕ). AnswersCommand held c.args.command n (fault_reply fault)) _ _ failures
+          (reads_failed fault) c.in-Err-picture_of.ensures.counted count
           (rw c.in-Draw.is (inr (fault, c.in-Err-picture_of.ensures.fault held told, refl, refl)))),
     )
 
@@ -114,7 +139,8 @@ returns-in-Ok-verdict g c =
       reply,
       (c.tell_verdict.ensures, refl),
       (λ held failures told count.
-          counted (λ (n : ℕ). AnswersCommand held c.args.command n reply) _ _ failures 0 c.in-Ok-verdict.ensures.counted count
+          counted (λ (n : ℕ). AnswersCommand held c.args.command n reply) _ _ failures 0 c.in-Ok-verdict.ensures.counted
+          count
           (rw c.in-Replay.is (c.in-Ok-verdict.ensures.verdict held told))),
     )
 
@@ -124,7 +150,8 @@ returns-in-Replay g c =
       fault_reply fault,
       (refl, c.complain-in-Err-verdict.ensures.line, c.complain-in-Err-verdict.ensures.status),
       (λ held failures told count.
-          counted (λ (n : ℕ). AnswersCommand held c.args.command n (fault_reply fault)) _ _ failures (reads_failed fault) c.in-Err-verdict.ensures.counted count
+          counted (λ (n : ℕ). AnswersCommand held c.args.command n (fault_reply fault)) _ _ failures
+          (reads_failed fault) c.in-Err-verdict.ensures.counted count
           (rw c.in-Replay.is (inr (fault, c.in-Err-verdict.ensures.fault held told, refl, refl)))),
     )
 
@@ -135,7 +162,8 @@ returns-in-Ok-begun g c =
       told_so.0,
       told_so.2 (device (g.E.Output.written c.args.err.now) (g.E.Output.failed c.args.err.now)),
       (λ held failures told count.
-          counted (λ (n : ℕ). AnswersCommand held c.args.command n told_so.0) _ _ failures 0 c.in-Ok-begun.ensures.counted count
+          counted (λ (n : ℕ). AnswersCommand held c.args.command n told_so.0) _ _ failures 0
+          c.in-Ok-begun.ensures.counted count
           (rw c.in-Trace.is (begun.2 held told_so.0 told told_so.1))),
     )
 
@@ -145,6 +173,7 @@ returns g c =
       fault_reply fault,
       (refl, c.complain-in-Err-begun.ensures.line, c.complain-in-Err-begun.ensures.status),
       (λ held failures told count.
-          counted (λ (n : ℕ). AnswersCommand held c.args.command n (fault_reply fault)) _ _ failures (reads_failed fault) c.in-Err-begun.ensures.counted count
+          counted (λ (n : ℕ). AnswersCommand held c.args.command n (fault_reply fault)) _ _ failures
+          (reads_failed fault) c.in-Err-begun.ensures.counted count
           (rw c.in-Trace.is (inr (fault, c.in-Err-begun.ensures.fault held told, refl, refl)))),
     )

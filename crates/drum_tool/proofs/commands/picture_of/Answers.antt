@@ -18,4 +18,9 @@ returns-clause-picture g c =
 pub returns-clause-fault : goal.returns-clause-fault
 returns-clause-fault g c =
     err_map _ _ c.drawing.result c.drawing.ensures.wanting (λ fault wanting held told.
-    inr (c.in_ok-documents.documents, c.in_ok-documents.ensures.held held told, subst (IsAnalysisFault c.in_ok-documents.documents) (sym wanting) tt))
+    inr (
+      c.in_ok-documents.documents,
+      c.in_ok-documents.ensures.held held told,
+      subst
+          (IsAnalysisFault c.in_ok-documents.documents) (sym wanting) tt,
+    ))

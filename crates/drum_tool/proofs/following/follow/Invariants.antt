@@ -7,7 +7,8 @@ use Rattle.drum_tool.proofs.following.follow.Given as goal
 abbrev pub invariant-loop-verdict : goal.invariant-loop-verdict
 invariant-loop-verdict l = record {
   turns : List Turn;
-  so_far : IsFollowing (setting l.deck l.times l.notes) (state_of l.fn.following) (waits_of l.fn.following) l.bound turns l.following;
+  so_far : IsFollowing (setting l.deck l.times l.notes) (state_of l.fn.following) (waits_of l.fn.following) l.bound
+      turns l.following;
 }
 
 -- each step uses time

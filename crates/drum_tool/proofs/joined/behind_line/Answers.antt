@@ -5,4 +5,6 @@ pub returns-in_default : goal.returns-in_default
 returns-in_default c = no_front c.args.line.now c.args.text.now c.in_default.ensures
 
 pub returns-in-Some-2 : goal.returns-in-Some-2
-returns-in-Some-2 c = no_line c.args.line.now c.args.text.now c.in-Some.rest.now c.in-Some-split_first.next.now c.in-Some-split_first.feed.now c.in-Some.ensures c.in-Some-split_first.ensures.cases.0 c.if-feed-eq10.false
+returns-in-Some-2 c =
+    no_line c.args.line.now c.args.text.now c.in-Some.rest.now c.in-Some-split_first.next.now
+    c.in-Some-split_first.feed.now c.in-Some.ensures c.in-Some-split_first.ensures.cases.0 c.if-feed-eq10.false

@@ -20,23 +20,30 @@ returns-clause-begun c =
     let now = state_in c.in-Ok-new.machine cards in
     let set_up = c.in-Ok-new.ensures.set_up cards in
     let monitor = c.new-monitor.result in
-    let following : Following = record { machine = c.in-Ok-new.machine; monitor = monitor; feed = c.args.inputs.feed; steps = 0 } in
+    let following : Following =
+    record { machine = c.in-Ok-new.machine; monitor = monitor; feed = c.args.inputs.feed; steps = 0 } in
     let told : c.verdict_before-verdict.result ≡ option_map left_before (answer_of monitor) =
     c.verdict_before-verdict.ensures ∙ ap (option_map left_before) c.left.ensures in
-    let silent : c.verdict_before-verdict.result ≡ None → answer_of monitor ≡ None = λ none. no_answer (answer_of monitor) (sym told ∙ none) in
+    let silent : c.verdict_before-verdict.result ≡ None → answer_of monitor ≡ None =
+    λ none. no_answer (answer_of monitor) (sym told ∙ none) in
     let begins = λ (none : c.verdict_before-verdict.result ≡ None).
-    can_begin g c.args.inputs.setup now (answer_of monitor) set_up (c.in-Ok-new.ensures.first cards) c.new-monitor.ensures.declared (silent none) in
+    can_begin g c.args.inputs.setup now (answer_of monitor) set_up (c.in-Ok-new.ensures.first cards)
+    c.new-monitor.ensures.declared (silent none) in
     record {
       ready = record {
         bounded = subst (λ (bound : ℕ). IsBounded g bound) (sym c.bound.ensures.told) c.in-Ok.ensures.kept;
         below = c.bound.ensures.below;
         angle = set_up.angle;
         begins = begins;
-        follows = λ none. none_yet g c.bound.result following (begins none) (c.new-monitor.ensures.seen (loads_in c.args.deck.now))
+        follows =
+            λ none. none_yet g c.bound.result following (begins none)
+            (c.new-monitor.ensures.seen (loads_in c.args.deck.now))
             (silent none) c.in-Ok-new.ensures.runs refl;
       };
       own_words = sym c.loaded_by.ensures ∙ c.in_default.is;
       worst = subst (λ (bound : ℕ). IsWorst g bound) (sym c.bound.ensures.told) c.in-Ok.ensures.worst;
       are = record { set_up = set_up; reader = refl; feed = refl };
-      before = λ verdict at. of_switch g c.args.inputs.setup (answer_of monitor) verdict c.new-monitor.ensures.declared (sym told ∙ at);
+      before =
+          λ verdict at. of_switch g c.args.inputs.setup (answer_of monitor) verdict c.new-monitor.ensures.declared
+          (sym told ∙ at);
     }

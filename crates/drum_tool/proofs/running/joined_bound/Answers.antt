@@ -1,6 +1,7 @@
 use Rattle.std.proofs.Common.{sym, ◌∙◌}
 use Rattle.std.proofs.lemmas.Result.{err_from_is_err_and}
-use Rattle.drum_tool.proofs.Replies.{analysed_unread, bound_refused, bound_with, bound_without, err_map, ok_map, some_map}
+use Rattle.drum_tool.proofs.Replies.{analysed_unread, bound_refused, bound_with, bound_without, err_map, ok_map}
+use Rattle.drum_tool.proofs.Replies.{some_map}
 use Rattle.drum_tool.proofs.running.joined_bound.Goals as goal
 
 pub returns-in_err-documents-clause-fault : goal.returns-in_err-documents-clause-fault

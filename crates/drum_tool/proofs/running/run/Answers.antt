@@ -9,7 +9,8 @@ returns-then-is_empty-clause-told g c =
       told.0,
       told.1,
       (λ bytes failures held left files count.
-          without_words bytes failures held told.0 c.args.words.now c.if-is_empty.ensures (told.2 bytes failures left (omega (arith, count)))),
+          without_words bytes failures held told.0 c.args.words.now c.if-is_empty.ensures
+          (told.2 bytes failures left (omega (arith, count)))),
     )
 
 pub returns-in-Ok-clause-told : goal.returns-in-Ok-clause-told
@@ -18,7 +19,8 @@ returns-in-Ok-clause-told g c =
       told.0,
       told.1,
       (λ bytes failures held left files count.
-          with_command bytes failures held told.0 c.args.words.now c.if-is_empty.ensures c.in-Ok.command c.in-Ok.ensures.told
+          with_command bytes failures held told.0 c.args.words.now c.if-is_empty.ensures c.in-Ok.command
+          c.in-Ok.ensures.told
           (told.2 held failures files (omega (arith, count)))),
     )
 

@@ -21,5 +21,6 @@ returns-in-Err-clause-told g c =
       (refl, c.tell_fault.ensures.line, c.tell_fault.ensures.status),
       (λ bytes failures left failed.
           subst (λ (n : ℕ). AnswersJoined bytes n (fault_reply fault)) (sym (c.in-Err.ensures.counted failures failed))
-          (known _ (λ (bytes : List ℕ). AnswersJoined bytes (reads_failed fault) (fault_reply fault)) bytes left c.in-Err.ensures.fault)),
+          (known _ (λ (bytes : List ℕ). AnswersJoined bytes (reads_failed fault) (fault_reply fault)) bytes left
+          c.in-Err.ensures.fault)),
     )

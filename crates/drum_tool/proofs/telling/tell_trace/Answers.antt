@@ -19,7 +19,8 @@ returns-in-Ok g c given is =
       trace_reply all written.0 verdict,
       inl (written.0, verdict, written.1, refl),
       (λ err. (
-        gets_behind old mid new (turn_lines all.times 1 written.0) (verdict_text verdict) (status_of verdict) c.tell_verdict.result
+        gets_behind old mid new (turn_lines all.times 1 written.0) (verdict_text verdict) (status_of verdict)
+            c.tell_verdict.result
             (written.2, omega (arith, c.in-Ok.ensures.failures)) c.tell_verdict.ensures,
         refl,
       )),

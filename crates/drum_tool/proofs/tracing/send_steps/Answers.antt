@@ -15,8 +15,10 @@ use Rattle.drum_tool.proofs.Traced.{lead_start, lines_more}
 use Rattle.drum_tool.proofs.tracing.send_steps.Goals as goal
 
 -- the line of a turn more goes out behind those so far
-behind : (times : Op → Entry) (old between new : Option (List ℕ)) (sent : ℕ) (result : Result ℕ WriteFault) (turns : List Turn) (turn : Turn) (number : ℕ)
-    → number ≡ 1 + length turns → IsSent old between 0 (Ok sent) (turn_lines times 1 turns) → IsSent between new sent result (turn_line times number turn)
+behind : (times : Op → Entry) (old between new : Option (List ℕ)) (sent : ℕ) (result : Result ℕ WriteFault)
+    (turns : List Turn) (turn : Turn) (number : ℕ)
+    → number ≡ 1 + length turns → IsSent old between 0 (Ok sent) (turn_lines times 1 turns)
+    → IsSent between new sent result (turn_line times number turn)
     → IsSent old new 0 result (turn_lines times 1 (turns ++ turn ∷ []))
 behind times old between new sent result turns turn number is gone here =
     subst (IsSent old new 0 result) (sym (lines_more times 1 turns turn))
@@ -30,18 +32,25 @@ returns-in_err-sent-clause-written g c =
     let turns = c.loop-following.invariant.turns in
     let before = c.loop-following.following in
     let turn = turn_of all.times before in
-    let start = lead_start all.times (state_of c.args.following) (waits_of c.args.following) turns (state_of before) (waits_of before) so_far.lead
+    let start =
+    lead_start all.times (state_of c.args.following) (waits_of c.args.following) turns (state_of before)
+    (waits_of before) so_far.lead
     ∙ c.requires.angle in
     let fault = c.in_err-sent.field-0.0 in
     let p = err_from_is_err_and c.from_residual.result c.from_residual.ensures.1 in
-    let gone = behind all.times (g.O.Output.written c.args.out.now) (g.O.Output.written c.loop-following.out) (g.O.Output.written c.send_step.new.writer)
-    c.loop-following.sent (Err fault) turns turn c.advance-step.new.self.steps (omega (arith, c.advance-step.ensures.steps, so_far.counted))
+    let gone =
+    behind all.times (g.O.Output.written c.args.out.now) (g.O.Output.written c.loop-following.out)
+    (g.O.Output.written c.send_step.new.writer)
+    c.loop-following.sent (Err fault) turns turn c.advance-step.new.self.steps
+    (omega (arith, c.advance-step.ensures.steps, so_far.counted))
     c.loop-following.invariant.gone
     (c.in_err-sent.ensures.sent turn (c.advance-step.ensures.told so_far.goes) start (sym c.used-before.ensures)) in
     rw (p.1, p.2) (
       turns ++ turn ∷ [],
-      c.advance-step.ensures.of_run (state_of c.args.following) (waits_of c.args.following) turns c.requires.begins c.requires.bounded so_far,
-      written_cut (g.O.Output.written c.args.out.now) (g.O.Output.written c.send_step.new.writer) fault (turn_lines all.times 1 (turns ++ turn ∷ [])) gone,
+      c.advance-step.ensures.of_run (state_of c.args.following) (waits_of c.args.following) turns c.requires.begins
+          c.requires.bounded so_far,
+      written_cut (g.O.Output.written c.args.out.now) (g.O.Output.written c.send_step.new.writer) fault
+          (turn_lines all.times 1 (turns ++ turn ∷ [])) gone,
     )
 
 pub returns-in-Some-clause-written : goal.returns-in-Some-clause-written
@@ -55,14 +64,19 @@ returns-in-Some-clause-written g c =
     let turn = turn_of all.times before in
     let more = turns ++ turn ∷ [] in
     let start = lead_start all.times s waits turns (state_of before) (waits_of before) so_far.lead ∙ c.requires.angle in
-    let gone = behind all.times (g.O.Output.written c.args.out.now) (g.O.Output.written c.loop-following.out) (g.O.Output.written c.send_step.new.writer)
-    c.loop-following.sent (Ok c.in_ok-sent.sent) turns turn c.advance-step.new.self.steps (omega (arith, c.advance-step.ensures.steps, so_far.counted))
+    let gone =
+    behind all.times (g.O.Output.written c.args.out.now) (g.O.Output.written c.loop-following.out)
+    (g.O.Output.written c.send_step.new.writer)
+    c.loop-following.sent (Ok c.in_ok-sent.sent) turns turn c.advance-step.new.self.steps
+    (omega (arith, c.advance-step.ensures.steps, so_far.counted))
     c.loop-following.invariant.gone
     (c.in_ok-sent.ensures.sent turn (c.advance-step.ensures.told so_far.goes) start (sym c.used-before.ensures)) in (
       more,
-      subst (λ (o : Option Verdict). MatchOption o (IsFollowing all s waits c.args.bound more c.advance-step.new.self) (IsFollowed all s waits c.args.bound more))
+      subst (λ (o : Option Verdict). MatchOption o (IsFollowing all s waits c.args.bound more c.advance-step.new.self)
+          (IsFollowed all s waits c.args.bound more))
           c.in-Some.is (c.advance-step.ensures.advanced s waits turns c.requires.begins c.requires.bounded so_far),
-      written_whole (g.O.Output.written c.args.out.now) (g.O.Output.written c.send_step.new.writer) c.in_ok-sent.sent (turn_lines all.times 1 more) gone,
+      written_whole (g.O.Output.written c.args.out.now) (g.O.Output.written c.send_step.new.writer) c.in_ok-sent.sent
+          (turn_lines all.times 1 more) gone,
     )
 
 pub loop-following-preserved : goal.loop-following-preserved
@@ -78,10 +92,16 @@ loop-following-preserved g c =
     let start = lead_start all.times s waits turns (state_of before) (waits_of before) so_far.lead ∙ c.requires.angle in
     record {
       turns = more;
-      so_far = subst (λ (o : Option Verdict). MatchOption o (IsFollowing all s waits c.args.bound more c.advance-step.new.self) (IsFollowed all s waits c.args.bound more))
+      so_far =
+          subst (λ (o : Option Verdict). MatchOption o
+          (IsFollowing all s waits c.args.bound more c.advance-step.new.self)
+          (IsFollowed all s waits c.args.bound more))
           c.in_default.is (c.advance-step.ensures.advanced s waits turns c.requires.begins c.requires.bounded so_far);
-      gone = behind all.times (g.O.Output.written c.args.out.now) (g.O.Output.written c.loop-following.out) (g.O.Output.written c.send_step.new.writer)
-          c.loop-following.sent (Ok c.in_ok-sent.sent) turns turn c.advance-step.new.self.steps (omega (arith, c.advance-step.ensures.steps, so_far.counted))
+      gone =
+          behind all.times (g.O.Output.written c.args.out.now) (g.O.Output.written c.loop-following.out)
+          (g.O.Output.written c.send_step.new.writer)
+          c.loop-following.sent (Ok c.in_ok-sent.sent) turns turn c.advance-step.new.self.steps
+          (omega (arith, c.advance-step.ensures.steps, so_far.counted))
           c.loop-following.invariant.gone
           (c.in_ok-sent.ensures.sent turn (c.advance-step.ensures.told so_far.goes) start (sym c.used-before.ensures));
       few = omega (arith, c.loop-following.invariant.few, c.in_ok-sent.ensures.few, c.advance-step.ensures.steps);

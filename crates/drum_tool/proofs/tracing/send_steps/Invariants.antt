@@ -11,8 +11,10 @@ use Rattle.drum_tool.proofs.tracing.send_steps.Given as goal
 abbrev pub invariant-loop-following : goal.invariant-loop-following
 invariant-loop-following g l = record {
   turns : List Turn;
-  so_far : IsFollowing (setting l.deck l.times l.notes) (state_of l.fn.following) (waits_of l.fn.following) l.bound turns l.following;
-  gone : IsSent (g.O.Output.written l.fn.out) (g.O.Output.written l.out) 0 (Ok l.sent) (turn_lines (entry_in l.times) 1 turns);
+  so_far : IsFollowing (setting l.deck l.times l.notes) (state_of l.fn.following) (waits_of l.fn.following) l.bound
+      turns l.following;
+  gone : IsSent (g.O.Output.written l.fn.out) (g.O.Output.written l.out) 0 (Ok l.sent)
+      (turn_lines (entry_in l.times) 1 turns);
   few : l.sent ≤ 200 * l.following.steps;
   calls : g.O.Output.called l.out ≤ g.O.Output.called l.fn.out + 200 * l.following.steps;
   failures : g.O.Output.failed l.out ≡ g.O.Output.failed l.fn.out;

@@ -16,7 +16,8 @@ returns-in-None-clause-written g c given is =
     let written = c.send_steps.ensures.written in (
       written.0,
       either_map c.send_steps.result written.1
-          (λ verdict followed. traced_followed (setting_of c.args.documents.now) given c.args.begun is written.0 verdict followed)
+          (λ verdict followed. traced_followed (setting_of c.args.documents.now) given c.args.begun is written.0 verdict
+          followed)
           (λ fault of_run. of_run given is.are),
       written.2,
     )

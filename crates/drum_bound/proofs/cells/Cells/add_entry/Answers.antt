@@ -1,4 +1,5 @@
-use Rattle.std.proofs.Common.{◌≡◌, ℕ, ◌+◌, ◌-◌, ◌%◌, suc, Some, List, Option, [], ◌∷◌, ◌++◌, length, set, ap, sym, ◌∙◌, subst, arith}
+use Rattle.std.proofs.Common.{◌≡◌, ℕ, ◌+◌, ◌-◌, ◌%◌, suc, Some, List, Option, [], ◌∷◌, ◌++◌, length, set, ap, sym, ◌∙◌}
+use Rattle.std.proofs.Common.{subst, arith}
 use Rattle.std.specs.Prelude.{slice_get}
 use Rattle.std.proofs.lemmas.List.{length-append, length-set}
 use Rattle.drum_bound.specs.declared.latest.Latest.{Latest}
@@ -6,7 +7,8 @@ use Rattle.drum_bound.specs.declared.key_hop.KeyHop.{KeyHop}
 use Rattle.drum_bound.specs.declared.worst.Worst.{Worst}
 use Rattle.drum_bound.specs.Held.{latest_at, kept_at, AreLinked}
 use Rattle.drum_bound.specs.Scanned.{later_than}
-use Rattle.drum_bound.proofs.HeldLaws.{added_is, entries_fewer, linked_more, latest_came, latest_of, none_kept, right_more, soon_more, AreRight}
+use Rattle.drum_bound.proofs.HeldLaws.{added_is, entries_fewer, linked_more, latest_came, latest_of, none_kept}
+use Rattle.drum_bound.proofs.HeldLaws.{right_more, soon_more, AreRight}
 use Rattle.drum_bound.proofs.cells.Cells.add_entry.Goals as goal
 
 pub unreachable-requires : goal.unreachable-requires

@@ -1,4 +1,5 @@
-use Rattle.std.proofs.Common.{◌≡◌, ℕ, ◌+◌, ◌-◌, ◌%◌, ◌<◌, suc, Some, length, set, get_or, refl, ap, sym, ◌∙◌, subst, arith}
+use Rattle.std.proofs.Common.{◌≡◌, ℕ, ◌+◌, ◌-◌, ◌%◌, ◌<◌, suc, Some, length, set, get_or, refl, ap, sym, ◌∙◌, subst}
+use Rattle.std.proofs.Common.{arith}
 use Rattle.std.specs.Prelude.{slice_get}
 use Rattle.std.proofs.lemmas.List.{length-set}
 use Rattle.std.proofs.lemmas.Option.{slice_get-get_or, slice_get_read}
@@ -8,7 +9,8 @@ use Rattle.drum_bound.specs.declared.key_hop.KeyHop.{KeyHop}
 use Rattle.drum_bound.specs.declared.worst.Worst.{Worst}
 use Rattle.drum_bound.specs.Held.{entry_of, kept_in, latest_at, AreHeld, AreLinked}
 use Rattle.drum_bound.specs.Scanned.{cell_at}
-use Rattle.drum_bound.proofs.HeldLaws.{latest_came, latest_of, raised_by_earlier, raised_by_later, raised_is, right_raised, some_kept, soon_raised}
+use Rattle.drum_bound.proofs.HeldLaws.{latest_came, latest_of, raised_by_earlier, raised_by_later, raised_is}
+use Rattle.drum_bound.proofs.HeldLaws.{right_raised, some_kept, soon_raised}
 use Rattle.drum_bound.proofs.cells.Cells.raise_entry.Goals as goal
 
 -- a key that has an entry has one of the entries

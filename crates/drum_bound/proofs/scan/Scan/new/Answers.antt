@@ -1,4 +1,5 @@
-use Rattle.std.proofs.Common.{◌≡◌, ℕ, ◌*◌, List, length, Option, None, set, replicate, Some, ap, sym, ◌∙◌, refl, subst, arith}
+use Rattle.std.proofs.Common.{◌≡◌, ℕ, ◌*◌, List, length, Option, None, set, replicate, Some, ap, sym, ◌∙◌, refl, subst}
+use Rattle.std.proofs.Common.{arith}
 use Rattle.drum_core.specs.Loads.{start_in}
 use Rattle.drum_flow.specs.Flow.{deck_of, order_in}
 use Rattle.drum_bound.specs.declared.key_hop.KeyHop.{KeyHop}

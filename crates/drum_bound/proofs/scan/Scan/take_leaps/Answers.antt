@@ -43,7 +43,8 @@ loop-number-init c =
     record {
       same = refl;
       half =
-          half_none c.args.self.now c.args.search.now.key c.args.search.now.begun c.requires.scanned c.requires.search.begun;
+          half_none c.args.self.now c.args.search.now.key c.args.search.now.begun c.requires.scanned
+          c.requires.search.begun;
     }
 
 pub take_leap-requires-clause-ready : goal.take_leap-requires-clause-ready

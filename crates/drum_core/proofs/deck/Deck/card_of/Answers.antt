@@ -9,7 +9,8 @@ pub returns-clause-among : goal.returns-clause-among
 returns-clause-among c =
     let deck = c.args.self.now in
     let given = c.in_ok-given.given in
-    card_among deck.image.items deck.cards.items deck.start (sym deck.image.ok.0 ∙ deck.whole) deck.of_lines c.args.location.number given.line
+    card_among deck.image.items deck.cards.items deck.start (sym deck.image.ok.0 ∙ deck.whole) deck.of_lines
+    c.args.location.number given.line
     (ap (option_map (λ (one : Given). one.line)) (sym c.in_ok-given.ensures.held))
 
 pub returns-clause-numbered : goal.returns-clause-numbered

@@ -15,6 +15,10 @@ loop-line-preserved c =
     record {
       few = omega arith;
       counted = omega (arith, before.counted, ap length steps);
-      left = λ long. long_behind longest line rest short (subst (λ (lines : List (List ℕ)). Any (λ one. longest < length one) lines) steps (before.left long));
-      among = λ long. before.among (subst (λ (lines : List (List ℕ)). Any (λ one. longest < length one) lines) (sym steps) (long_among longest line rest long));
+      left =
+          λ long. long_behind longest line rest short
+          (subst (λ (lines : List (List ℕ)). Any (λ one. longest < length one) lines) steps (before.left long));
+      among =
+          λ long. before.among (subst (λ (lines : List (List ℕ)). Any (λ one. longest < length one) lines) (sym steps)
+          (long_among longest line rest long));
     }

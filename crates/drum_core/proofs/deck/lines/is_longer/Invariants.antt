@@ -8,6 +8,8 @@ abbrev pub invariant-loop-line : goal.invariant-loop-line
 invariant-loop-line l = record {
   few : l.lines ≤ l.most;
   counted : l.lines + length (lines_of l.line-iterator.rest.now) ≡ length (lines_of l.text);
-  left : Any (λ line. l.longest < length line) (lines_of l.text) → Any (λ line. l.longest < length line) (lines_of l.line-iterator.rest.now);
-  among : Any (λ line. l.longest < length line) (lines_of l.line-iterator.rest.now) → Any (λ line. l.longest < length line) (lines_of l.text);
+  left : Any (λ line. l.longest < length line) (lines_of l.text)
+      → Any (λ line. l.longest < length line) (lines_of l.line-iterator.rest.now);
+  among : Any (λ line. l.longest < length line) (lines_of l.line-iterator.rest.now)
+      → Any (λ line. l.longest < length line) (lines_of l.text);
 }

@@ -11,9 +11,11 @@ returns-then-is_some-clause-taken c =
     let number = c.args.first + c.loop-place.place in
     let slot = c.index_mut-slot.result.now in
     let long : 2000 ≡ length image.items = sym c.loop-place.invariant.drum ∙ image.ok.0 in
-    let here : slice_get image.items number ≡ Some slot = slice_get_read image.items 2000 number slot long (omega arith) c.index_mut-slot.ensures.value in
+    let here : slice_get image.items number ≡ Some slot =
+    slice_get_read image.items 2000 number slot long (omega arith) c.index_mut-slot.ensures.value in
     let full : is_some slot ≡ true = sym c.is_some.ensures ∙ c.if-is_some.true in
-    taken_here (λ (word : Word). record { word = word; line = c.args.line }) c.args.image.now.items image.items c.args.first c.loop-place.place (length c.args.words.now) c.args.words.now slot
+    taken_here (λ (word : Word). record { word = word; line = c.args.line }) c.args.image.now.items image.items
+    c.args.first c.loop-place.place (length c.args.words.now) c.args.words.now slot
     c.loop-place.invariant.puts c.loop-place-test.true here full
 
 pub loop-place-preserved : goal.loop-place-preserved
@@ -22,13 +24,17 @@ loop-place-preserved c =
     let number = c.args.first + c.loop-place.place in
     let slot = c.index_mut-slot.result.now in
     let long : 2000 ≡ length image.items = sym c.loop-place.invariant.drum ∙ image.ok.0 in
-    let here : slice_get image.items number ≡ Some slot = slice_get_read image.items 2000 number slot long (omega arith) c.index_mut-slot.ensures.value in
+    let here : slice_get image.items number ≡ Some slot =
+    slice_get_read image.items 2000 number slot long (omega arith) c.index_mut-slot.ensures.value in
     let empty : is_some slot ≡ false = sym c.is_some.ensures ∙ c.if-is_some.false in
     let this : slice_get c.args.words.now c.loop-place.place ≡ Some c.index-words-place.result =
-    slice_get_read c.args.words.now (length c.args.words.now) c.loop-place.place c.index-words-place.result refl c.loop-place-test.true c.index-words-place.is in
+    slice_get_read c.args.words.now (length c.args.words.now) c.loop-place.place c.index-words-place.result refl
+    c.loop-place-test.true c.index-words-place.is in
     record {
       drum = c.loop-place.invariant.drum;
-      puts = put_more (λ (word : Word). record { word = word; line = c.args.line }) c.args.image.now.items image.items c.args.first c.loop-place.place c.args.words.now c.index-words-place.result slot
+      puts =
+          put_more (λ (word : Word). record { word = word; line = c.args.line }) c.args.image.now.items image.items
+          c.args.first c.loop-place.place c.args.words.now c.index-words-place.result slot
           c.loop-place.invariant.puts (omega (arith, long)) this here empty;
     }
 

@@ -7,5 +7,6 @@ use Rattle.drum_core.proofs.deck.loading.put_words.Given as goal
 abbrev pub invariant-loop-place : goal.invariant-loop-place
 invariant-loop-place l = record {
   drum : vec_len l.image ≡ 2000;
-  puts : ArePut (λ (word : Word). record { word = word; line = l.line }) l.fn.image.items l.image.items l.first l.place l.words;
+  puts : ArePut (λ (word : Word). record { word = word; line = l.line }) l.fn.image.items l.image.items l.first l.place
+      l.words;
 }

@@ -3,10 +3,16 @@ use Rattle.drum_core.proofs.Progress.{left_too_long, deck_of_left, refused_of_le
 use Rattle.drum_core.proofs.deck.read.read_deck.Goals as goal
 
 pub returns-in-Err-TooLong-clause-refused : goal.returns-in-Err-TooLong-clause-refused
-returns-in-Err-TooLong-clause-refused g c not_read not_memory = left_too_long (g.I.Input.left c.args.reader.now) (c.in-Err-TooLong.ensures.long (ap Err c.in-Err-TooLong.field-0-is))
+returns-in-Err-TooLong-clause-refused g c not_read not_memory =
+    left_too_long (g.I.Input.left c.args.reader.now)
+    (c.in-Err-TooLong.ensures.long (ap Err c.in-Err-TooLong.field-0-is))
 
 pub returns-clause-deck : goal.returns-clause-deck
-returns-clause-deck g c = deck_of_left (g.I.Input.left c.args.reader.now) c.in-Ok.text.items c.deref-2.result.now c.read_lines.result c.deref-2.ensures.value c.in-Ok.ensures.all c.read_lines.ensures.ok
+returns-clause-deck g c =
+    deck_of_left (g.I.Input.left c.args.reader.now) c.in-Ok.text.items c.deref-2.result.now c.read_lines.result
+    c.deref-2.ensures.value c.in-Ok.ensures.all c.read_lines.ensures.ok
 
 pub returns-clause-refused : goal.returns-clause-refused
-returns-clause-refused g c = refused_of_left (g.I.Input.left c.args.reader.now) c.in-Ok.text.items c.deref-2.result.now c.read_lines.result c.deref-2.ensures.value c.in-Ok.ensures.all c.read_lines.ensures.err
+returns-clause-refused g c =
+    refused_of_left (g.I.Input.left c.args.reader.now) c.in-Ok.text.items c.deref-2.result.now c.read_lines.result
+    c.deref-2.ensures.value c.in-Ok.ensures.all c.read_lines.ensures.err

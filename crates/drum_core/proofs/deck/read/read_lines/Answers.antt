@@ -4,7 +4,8 @@ use Rattle.drum_core.specs.declared.deck.lines.Lines.{Lines}
 use Rattle.drum_core.specs.Lines.{lines_of}
 use Rattle.drum_core.specs.DeckText.{IsRefused}
 use Rattle.drum_core.proofs.Handed.{handed, handed_is}
-use Rattle.drum_core.proofs.Progress.{next_number, few_left, few_lines, one_more, refused_here, deck_of_all, no_start_at_all}
+use Rattle.drum_core.proofs.Progress.{next_number, few_left, few_lines, one_more, refused_here, deck_of_all}
+use Rattle.drum_core.proofs.Progress.{no_start_at_all}
 use Rattle.drum_core.proofs.deck.read.read_lines.Goals as goal
 
 pub loop-line-init : goal.loop-line-init
@@ -21,40 +22,65 @@ loop-line-init c = record {
 
 pub overflow_add-number : goal.overflow_add-number
 overflow_add-number c =
-    let few = few_left c.args.text.now c.loop-line.line-iterator.rest.now c.loop-line.loading c.loop-line.number c.requires.short c.loop-line.invariant.so_far in
+    let few =
+    few_left c.args.text.now c.loop-line.line-iterator.rest.now c.loop-line.loading c.loop-line.number
+    c.requires.short c.loop-line.invariant.so_far in
     omega (arith, few)
 
 pub returns-in_err-take-clause-err : goal.returns-in_err-take-clause-err
 returns-in_err-take-clause-err c =
     let p = c.loop-line.invariant.so_far in
     handed c.from_residual-in_err-take.result _ c.in_err-take.field-0.0 c.from_residual-in_err-take.ensures.1
-    (λ not_memory. refused_here c.args.text.now c.loop-line.line-iterator.rest.now c.next.new.self.rest.now c.loop-line.loading c.loop-line.number c.in-Some.line.now c.in_err-take.field-0.0 c.requires.short p
-    c.in-Some.ensures.steps (c.in_err-take.ensures.err not_memory p.lines (next_number c.args.text.now c.loop-line.line-iterator.rest.now c.loop-line.loading c.loop-line.number p) p.holds))
+    (λ not_memory. refused_here c.args.text.now c.loop-line.line-iterator.rest.now c.next.new.self.rest.now
+    c.loop-line.loading c.loop-line.number c.in-Some.line.now c.in_err-take.field-0.0 c.requires.short p
+    c.in-Some.ensures.steps (c.in_err-take.ensures.err not_memory p.lines
+    (next_number c.args.text.now c.loop-line.line-iterator.rest.now c.loop-line.loading c.loop-line.number p)
+    p.holds))
 
 pub returns-in_err-take-clause-read : goal.returns-in_err-take-clause-read
 returns-in_err-take-clause-read c is_read =
     let p = c.loop-line.invariant.so_far in
-    let same : c.in_err-take.field-0.0 ≡ faults.Read = handed_is c.from_residual-in_err-take.result c.in_err-take.field-0.0 faults.Read c.from_residual-in_err-take.ensures.1 is_read in
+    let same : c.in_err-take.field-0.0 ≡ faults.Read =
+    handed_is c.from_residual-in_err-take.result c.in_err-take.field-0.0 faults.Read
+    c.from_residual-in_err-take.ensures.1 is_read in
     subst (IsRefused c.args.text.now) same
-    (refused_here c.args.text.now c.loop-line.line-iterator.rest.now c.next.new.self.rest.now c.loop-line.loading c.loop-line.number c.in-Some.line.now c.in_err-take.field-0.0 c.requires.short p
+    (refused_here c.args.text.now c.loop-line.line-iterator.rest.now c.next.new.self.rest.now c.loop-line.loading
+    c.loop-line.number c.in-Some.line.now c.in_err-take.field-0.0 c.requires.short p
     c.in-Some.ensures.steps
-    (c.in_err-take.ensures.err (λ is_memory. cc) p.lines (next_number c.args.text.now c.loop-line.line-iterator.rest.now c.loop-line.loading c.loop-line.number p) p.holds))
+    (c.in_err-take.ensures.err (λ is_memory. cc) p.lines
+    (next_number c.args.text.now c.loop-line.line-iterator.rest.now c.loop-line.loading c.loop-line.number p)
+    p.holds))
 
 pub loop-line-preserved : goal.loop-line-preserved
 loop-line-preserved c =
     let p = c.loop-line.invariant.so_far in
-    let next = c.in_ok-take.ensures.ok p.lines (next_number c.args.text.now c.loop-line.line-iterator.rest.now c.loop-line.loading c.loop-line.number p) p.holds in
+    let next =
+    c.in_ok-take.ensures.ok p.lines
+    (next_number c.args.text.now c.loop-line.line-iterator.rest.now c.loop-line.loading c.loop-line.number p)
+    p.holds in
     record {
-      so_far = one_more c.args.text.now c.loop-line.line-iterator.rest.now c.next.new.self.rest.now c.loop-line.loading c.take.new.self c.loop-line.number c.in-Some.line.now next.0 p c.in-Some.ensures.steps next.1 next.2;
+      so_far =
+          one_more c.args.text.now c.loop-line.line-iterator.rest.now c.next.new.self.rest.now c.loop-line.loading
+          c.take.new.self c.loop-line.number c.in-Some.line.now next.0 p c.in-Some.ensures.steps next.1 next.2;
     }
 
 pub returns-clause-ok : goal.returns-clause-ok
-returns-clause-ok c = deck_of_all c.args.text.now c.loop-line.line-iterator.rest.now c.loop-line.loading c.loop-line.number c.finish.result c.requires.short c.loop-line.invariant.so_far c.in-None.ensures.steps.0 c.finish.ensures.ok
+returns-clause-ok c =
+    deck_of_all c.args.text.now c.loop-line.line-iterator.rest.now c.loop-line.loading c.loop-line.number
+    c.finish.result c.requires.short c.loop-line.invariant.so_far c.in-None.ensures.steps.0 c.finish.ensures.ok
 
 pub returns-clause-err : goal.returns-clause-err
-returns-clause-err c = no_start_at_all c.args.text.now c.loop-line.line-iterator.rest.now c.loop-line.loading c.loop-line.number c.finish.result c.requires.short c.loop-line.invariant.so_far c.in-None.ensures.steps.0 c.finish.ensures.err
+returns-clause-err c =
+    no_start_at_all c.args.text.now c.loop-line.line-iterator.rest.now c.loop-line.loading c.loop-line.number
+    c.finish.result c.requires.short c.loop-line.invariant.so_far c.in-None.ensures.steps.0 c.finish.ensures.err
 
 pub finish-requires : goal.finish-requires
 finish-requires c =
-    let p = c.loop-line.invariant.so_far in
-    (p.texts, p.lines, p.said, p.holds, few_lines c.args.text.now c.loop-line.line-iterator.rest.now c.loop-line.loading c.loop-line.number c.requires.short p)
+    let p = c.loop-line.invariant.so_far in (
+      p.texts,
+      p.lines,
+      p.said,
+      p.holds,
+      few_lines c.args.text.now c.loop-line.line-iterator.rest.now c.loop-line.loading
+          c.loop-line.number c.requires.short p,
+    )

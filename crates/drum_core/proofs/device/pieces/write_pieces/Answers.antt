@@ -1,4 +1,5 @@
-use Rattle.std.proofs.Common.{◌≡◌, ℕ, ◌+◌, ◌<◌, ◌≤◌, List, [], ◌++◌, length, get_or, take, ap, sym, ◌∙◌, subst, arith, length-append}
+use Rattle.std.proofs.Common.{◌≡◌, ℕ, ◌+◌, ◌<◌, ◌≤◌, List, [], ◌++◌, length, get_or, take, ap, sym, ◌∙◌, subst, arith}
+use Rattle.std.proofs.Common.{length-append}
 use Rattle.std.proofs.lemmas.List.Folds.{length-flat_map-take}
 use Rattle.std.specs.Borrow.{Bor}
 use Rattle.std.specs.Io.KnownBytes.{Appends}
@@ -45,7 +46,8 @@ returns-in-Err-clause-front g c =
     ap (λ (n : ℕ). take (n + sent) (joined pieces)) c.loop-piece.invariant.so_far
     ∙ front_of_pieces bytes_of pieces i sent past c.loop-piece-test.true c.in-Err.ensures.some in
     subst (Appends (g.O.Output.written c.args.output.now) (g.O.Output.written c.write_whole.new.output)) (sym same)
-    (Appends-then (g.O.Output.written c.args.output.now) (g.O.Output.written c.loop-piece.output) (g.O.Output.written c.write_whole.new.output)
+    (Appends-then (g.O.Output.written c.args.output.now) (g.O.Output.written c.loop-piece.output)
+    (g.O.Output.written c.write_whole.new.output)
     before (take sent (get_or pieces i past).now) c.loop-piece.invariant.front c.in-Err.ensures.front)
 
 pub returns-in-Err-clause-some : goal.returns-in-Err-clause-some
@@ -64,11 +66,15 @@ loop-piece-preserved g c =
     let i = c.loop-piece.piece-index in
     let before = joined (take i pieces) in
     let piece = (get_or pieces i past).now in
-    let more : joined (take (i + 1) pieces) ≡ before ++ piece = pieces_more bytes_of pieces i past c.loop-piece-test.true in
+    let more : joined (take (i + 1) pieces) ≡ before ++ piece =
+    pieces_more bytes_of pieces i past c.loop-piece-test.true in
     record {
       so_far = omega (arith, ap length more, length-append before piece, c.loop-piece.invariant.so_far);
-      front = subst (Appends (g.O.Output.written c.args.output.now) (g.O.Output.written c.write_whole.new.output)) (sym more)
-          (Appends-then (g.O.Output.written c.args.output.now) (g.O.Output.written c.loop-piece.output) (g.O.Output.written c.write_whole.new.output)
+      front =
+          subst (Appends (g.O.Output.written c.args.output.now) (g.O.Output.written c.write_whole.new.output))
+          (sym more)
+          (Appends-then (g.O.Output.written c.args.output.now) (g.O.Output.written c.loop-piece.output)
+          (g.O.Output.written c.write_whole.new.output)
           before piece c.loop-piece.invariant.front c.in-Ok.ensures.all);
       calls = omega (arith, c.loop-piece.invariant.calls, c.in-Ok.ensures.calls);
       failed = omega (arith, c.loop-piece.invariant.failed, c.in-Ok.ensures.failures);

@@ -4,4 +4,6 @@ use Rattle.drum_flow.proofs.Founds.{numbers, numbers_added}
 use Rattle.drum_flow.proofs.executed.Executed.add.Goals as goal
 
 pub returns : goal.returns
-returns c = ap numbers c.in_ok-insert.ensures.keys ∙ numbers_added eq-value.it (λ a b. refl) c.args.self.now.locations.keys c.args.location
+returns c =
+    ap numbers c.in_ok-insert.ensures.keys
+    ∙ numbers_added eq-value.it (λ a b. refl) c.args.self.now.locations.keys c.args.location

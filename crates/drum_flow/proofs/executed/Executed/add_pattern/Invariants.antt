@@ -9,7 +9,8 @@ use Rattle.drum_flow.proofs.executed.Executed.add_pattern.Given as goal
 -- pattern add
 abbrev pub invariant-loop-d : goal.invariant-loop-d
 invariant-loop-d l =
-    with_new (places_of l.self) (targets_by l.notes (matching_from l.pattern l.d)) ≡ with_new (places_of l.fn.self) (targets_by l.notes (matching l.pattern))
+    with_new (places_of l.self) (targets_by l.notes (matching_from l.pattern l.d))
+    ≡ with_new (places_of l.fn.self) (targets_by l.notes (matching l.pattern))
 
 abbrev pub decreases-loop-d : goal.decreases-loop-d
 decreases-loop-d l = suc l.pattern.d_to - l.d

@@ -15,13 +15,17 @@ loop-pattern-init c =
     let loads = loads_in c.args.deck.now in
     let notes = c.args.notes.now in
     let before = places_of c.args.self.now in
-    let all : flat_map matching (patterns_left c.into_iter-pattern-iterator.result) ≡ allowed loads notes c.args.location.number =
-    ap (λ (patterns : Patterns). flat_map matching (patterns_left patterns)) c.into_iter-pattern-iterator.ensures.into_iter_gives ∙ c.at-pattern-items.ensures in
-    ap (λ (instructions : List Instruction). with_new before (targets_by notes instructions)) all ∙ ap (with_new before) (successors_by loads notes c.args.location.number)
+    let all : flat_map matching (patterns_left c.into_iter-pattern-iterator.result)
+    ≡ allowed loads notes c.args.location.number =
+    ap (λ (patterns : Patterns). flat_map matching (patterns_left patterns))
+    c.into_iter-pattern-iterator.ensures.into_iter_gives ∙ c.at-pattern-items.ensures in
+    ap (λ (instructions : List Instruction). with_new before (targets_by notes instructions)) all
+    ∙ ap (with_new before) (successors_by loads notes c.args.location.number)
 
 pub loop-pattern-preserved : goal.loop-pattern-preserved
 loop-pattern-preserved c =
     let notes = c.args.notes.now in
     let rest = patterns_left c.next.new.self in
     ap (λ (places : List ℕ). with_new places (targets_by notes (flat_map matching rest))) c.in_default.ensures
-    ∙ sym (added_more notes (places_of c.loop-pattern.self) c.in-Some.pattern (patterns_left c.loop-pattern.pattern-iterator) rest c.in-Some.ensures.steps) ∙ c.loop-pattern.invariant
+    ∙ sym (added_more notes (places_of c.loop-pattern.self) c.in-Some.pattern
+    (patterns_left c.loop-pattern.pattern-iterator) rest c.in-Some.ensures.steps) ∙ c.loop-pattern.invariant

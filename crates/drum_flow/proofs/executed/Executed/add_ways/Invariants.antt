@@ -7,4 +7,5 @@ use Rattle.drum_flow.proofs.executed.Executed.add_ways.Given as goal
 -- what is there, and what the ways that are left will add, is what all of them add
 abbrev pub invariant-loop-way : goal.invariant-loop-way
 invariant-loop-way l =
-    with_new (places_of l.self) (targets_of (ways_left l.way-iterator)) ≡ with_new (places_of l.fn.self) (targets_of (ways_left l.fn.ways))
+    with_new (places_of l.self) (targets_of (ways_left l.way-iterator))
+    ≡ with_new (places_of l.fn.self) (targets_of (ways_left l.fn.ways))

@@ -4,7 +4,10 @@ use Rattle.drum_flow.proofs.Founds.{numbers_different, few_locations}
 use Rattle.drum_flow.proofs.executed.Executed.locations.Goals as goal
 
 pub returns-clause-different : goal.returns-clause-different
-returns-clause-different c = numbers_different eq-value.it (λ a b. refl) c.args.self.now.locations.keys c.as_slice.ensures.unique
+returns-clause-different c =
+    numbers_different eq-value.it (λ a b. refl) c.args.self.now.locations.keys c.as_slice.ensures.unique
 
 pub returns-clause-few : goal.returns-clause-few
-returns-clause-few c = few_locations c.args.self.now.locations.keys (numbers_different eq-value.it (λ a b. refl) c.args.self.now.locations.keys c.as_slice.ensures.unique)
+returns-clause-few c =
+    few_locations c.args.self.now.locations.keys
+    (numbers_different eq-value.it (λ a b. refl) c.args.self.now.locations.keys c.as_slice.ensures.unique)

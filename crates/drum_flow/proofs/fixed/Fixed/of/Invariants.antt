@@ -7,5 +7,6 @@ use Rattle.drum_flow.proofs.fixed.Fixed.of.Given as goal
 abbrev pub invariant-loop-location : goal.invariant-loop-location
 invariant-loop-location l = record {
   long : vec_len l.flags ≡ 8004;
-  flagged : AreFlagged (map (λ (location : Location). location.number) (take l.location-index l.executed)) l.notes l.flags.items;
+  flagged : AreFlagged (map (λ (location : Location). location.number) (take l.location-index l.executed)) l.notes
+      l.flags.items;
 }

@@ -13,10 +13,12 @@ loop-place-preserved c = record {
       let place = c.loop-place.place in
       let word = c.index-words-place.result in
       let before = given ++ placed c.args.first (take place words) in
-      let more : placed c.args.first (take (place + 1) words) ≡ placed c.args.first (take place words) ++ (c.args.first + place, word) ∷ [] =
+      let more : placed c.args.first (take (place + 1) words) ≡ placed c.args.first (take place words)
+      ++ (c.args.first + place, word) ∷ [] =
       placed_more c.args.first place words word c.loop-place-test.true (sym c.index-words-place.is) in
       let all : before ++ (c.args.first + place, word) ∷ [] ≡ given ++ placed c.args.first (take (place + 1) words) =
-      append_assoc given (placed c.args.first (take place words)) ((c.args.first + place, word) ∷ []) ∙ ap (λ (xs : List (ℕ × Word)). given ++ xs) (sym more) in
+      append_assoc given (placed c.args.first (take place words)) ((c.args.first + place, word) ∷ [])
+      ∙ ap (λ (xs : List (ℕ × Word)). given ++ xs) (sym more) in
       subst (HoldWords c.push.new.self) all (c.in_ok-push.ensures before (c.loop-place.invariant.given given holds));
 }
 
@@ -24,4 +26,5 @@ pub returns : goal.returns
 returns c given holds =
     let words = c.args.words.now in
     let all : take c.loop-place.place words ≡ words = take_all c.loop-place.place words (omega arith) in
-    subst (λ (ws : List Word). HoldWords c.loop-place.self (given ++ placed c.args.first ws)) all (c.loop-place.invariant.given given holds)
+    subst (λ (ws : List Word). HoldWords c.loop-place.self (given ++ placed c.args.first ws)) all
+    (c.loop-place.invariant.given given holds)

@@ -7,5 +7,6 @@ use Rattle.drum_inputs.proofs.drum_words.DrumWords.give.Given as goal
 -- the words so far have been given
 abbrev pub invariant-loop-place : goal.invariant-loop-place
 invariant-loop-place l = record {
-  given : (given : List (ℕ × Word)) → HoldWords l.fn.self given → HoldWords l.self (given ++ placed l.first (take l.place l.words));
+  given : (given : List (ℕ × Word)) → HoldWords l.fn.self given
+      → HoldWords l.self (given ++ placed l.first (take l.place l.words));
 }

@@ -1,4 +1,5 @@
-use Rattle.drum_inputs.specs.InputsText.{comment, angle, switches, distributor, accumulator, latch, programmed, on_overflow, words, card, wait}
+use Rattle.drum_inputs.specs.InputsText.{comment, angle, switches, distributor, accumulator, latch, programmed}
+use Rattle.drum_inputs.specs.InputsText.{on_overflow, words, card, wait}
 use Rattle.drum_inputs.specs.declared.setting.Setting.TheVariants as settings
 use Rattle.drum_inputs.proofs.line.Line.read.Goals as goal
 
@@ -10,7 +11,8 @@ returns-in-None-clause-none c (distributor word) is_line = c.in_default.ensures.
 returns-in-None-clause-none c (accumulator a) is_line = c.in_default.ensures.none (settings.Accumulator a) is_line
 returns-in-None-clause-none c (latch is_on) is_line = c.in_default.ensures.none (settings.Latch is_on) is_line
 returns-in-None-clause-none c (programmed stops) is_line = c.in_default.ensures.none (settings.Programmed stops) is_line
-returns-in-None-clause-none c (on_overflow stops) is_line = c.in_default.ensures.none (settings.OnOverflow stops) is_line
+returns-in-None-clause-none c (on_overflow stops) is_line =
+    c.in_default.ensures.none (settings.OnOverflow stops) is_line
 returns-in-None-clause-none c (words n ws) is_line = c.in_default-read.ensures.none n ws is_line
 returns-in-None-clause-none c (card load ws) is_line = c.in_default-read_card.ensures.none load ws is_line
 returns-in-None-clause-none c (wait n) is_line = c.in-None.ensures.none n is_line

@@ -1,5 +1,6 @@
 use Rattle.std.proofs.Common.{true, false}
-use Rattle.drum_inputs.specs.declared.setting.Setting.TheVariants.{Angle, Switches, Distributor, Accumulator, Latch, Programmed, OnOverflow}
+use Rattle.drum_inputs.specs.declared.setting.Setting.TheVariants.{Angle, Switches, Distributor, Accumulator, Latch}
+use Rattle.drum_inputs.specs.declared.setting.Setting.TheVariants.{Programmed, OnOverflow}
 use Rattle.drum_inputs.proofs.setting.Setting.read.Goals as goal
 
 pub returns-in-None-clause-none : goal.returns-in-None-clause-none

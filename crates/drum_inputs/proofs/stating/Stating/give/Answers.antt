@@ -13,7 +13,13 @@ returns-then-from-words-gt-DRUM-clause-err c not_memory lines bytes holds is_lin
   (
     text.words c.args.card.now.address (take c.args.card.now.len c.args.card.now.words),
     is_line,
-    omega (arith, c.if-from-words-gt-DRUM.true, c.from.ensures, ap (λ (ws : List Word). length ws) c.words-words.ensures),
+    omega (
+      arith,
+      c.if-from-words-gt-DRUM.true,
+      c.from.ensures,
+      ap (λ (ws : List Word). length ws)
+          c.words-words.ensures,
+    ),
   ),
 )
 
@@ -23,8 +29,11 @@ returns-then-has_any-clause-err c not_memory lines bytes holds is_line =
     let ws : List Word = take c.args.card.now.len c.args.card.now.words in
     let same : c.words-words.result.now ≡ ws = c.words-words.ensures in
     let count : length c.words-words.result.now ≡ length ws = ap (λ (vs : List Word). length vs) same in
-    let fits : first + length c.words-words.result.now ≤ 2000 = omega (arith, c.if-from-words-gt-DRUM.false, c.from.ensures) in
-    let some = marked_given c.args.self.now.drum (text.given_in lines) first (length c.words-words.result.now) fits holds.words (c.has_any.ensures.0 c.if-has_any.true) in (
+    let fits : first + length c.words-words.result.now ≤ 2000 =
+    omega (arith, c.if-from-words-gt-DRUM.false, c.from.ensures) in
+    let some =
+    marked_given c.args.self.now.drum (text.given_in lines) first (length c.words-words.result.now) fits holds.words
+    (c.has_any.ensures.0 c.if-has_any.true) in (
       refl,
       (
         text.words first ws,
@@ -40,11 +49,17 @@ returns-clause-ok c lines holds =
     let ws : List Word = take c.args.card.now.len c.args.card.now.words in
     let same : c.words-words.result.now ≡ ws = c.words-words.ensures in
     let count : length c.words-words.result.now ≡ length ws = ap (λ (vs : List Word). length vs) same in
-    let fits : first + length c.words-words.result.now ≤ 2000 = omega (arith, c.if-from-words-gt-DRUM.false, c.from.ensures) in
-    let long : length c.args.self.now.drum.marks.items ≡ 2000 = omega (arith, c.args.self.now.drum.marks.ok.0, c.args.self.now.drum.whole) in
-    let given = subst (λ (vs : List Word). HoldWords c.give.new.self (text.given_in lines ++ text.placed first vs)) same (c.in_ok-give.ensures (text.given_in lines) holds.words) in
+    let fits : first + length c.words-words.result.now ≤ 2000 =
+    omega (arith, c.if-from-words-gt-DRUM.false, c.from.ensures) in
+    let long : length c.args.self.now.drum.marks.items ≡ 2000 =
+    omega (arith, c.args.self.now.drum.marks.ok.0, c.args.self.now.drum.whole) in
+    let given =
+    subst (λ (vs : List Word). HoldWords c.give.new.self (text.given_in lines ++ text.placed first vs)) same
+    (c.in_ok-give.ensures (text.given_in lines) holds.words) in
     holds_words c.args.self.now _ lines first ws holds refl given refl refl (λ past. omega (arith, past, fits, count))
     (λ (location, low, high, is_given).
-    let marked : Contains (slice_range c.args.self.now.drum.marks.items first (first + length c.words-words.result.now)) true =
-    given_marked c.args.self.now.drum (text.given_in lines) first (length c.words-words.result.now) location (omega (arith, fits, long)) long holds.words low (omega (arith, high, count)) is_given in
+    let marked : Contains (slice_range c.args.self.now.drum.marks.items first (first + length c.words-words.result.now))
+    true =
+    given_marked c.args.self.now.drum (text.given_in lines) first (length c.words-words.result.now) location
+    (omega (arith, fits, long)) long holds.words low (omega (arith, high, count)) is_given in
     cc (c.has_any.ensures.1 marked, c.if-has_any.false))

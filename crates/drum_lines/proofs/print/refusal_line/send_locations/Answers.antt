@@ -17,10 +17,12 @@ returns-in_err-sent-clause-sent g c =
     let new = g.O.Output.written c.send.new.output in
     let fault = c.in_err-sent.field-0.0 in
     let p = err_from_is_err_and c.from_residual.result c.from_residual.ensures.1 in
-    let digits : c.four_digits-digits.result ≡ digits_of 4 location.number = c.four_digits-digits.ensures ∙ ap (digits_of 4) c.number.ensures in
+    let digits : c.four_digits-digits.result ≡ digits_of 4 location.number =
+    c.four_digits-digits.ensures ∙ ap (digits_of 4) c.number.ensures in
     let told : codes " " ++ (c.four_digits-digits.result ++ []) ≡ next_location (get_or locations index location) =
     ap (λ (xs : List ℕ). codes " " ++ (xs ++ [])) digits ∙ ap next_location c.location-item.is in
     let here : IsSent between new c.loop-location.sent (Err fault) (next_location (get_or locations index location)) =
     subst (IsSent between new c.loop-location.sent (Err fault)) told c.in_err-sent.ensures.sent in
-    rw (p.1, p.2) (sent_cut next_location locations index location c.loop-location-test.true old between new c.args.sent c.loop-location.sent fault
+    rw (p.1, p.2) (sent_cut next_location locations index location c.loop-location-test.true old between new c.args.sent
+    c.loop-location.sent fault
     c.loop-location.invariant.so_far here)

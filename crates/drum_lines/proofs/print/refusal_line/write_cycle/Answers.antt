@@ -13,7 +13,8 @@ returns-in_err-sent-clause-written g c =
     let new = g.O.Output.written c.send.new.output in
     let fault = c.in_err-sent.field-0.0 in
     let p = err_from_is_err_and c.from_residual.result c.from_residual.ensures.1 in
-    rw (p.1, p.2) (cut_begin old new fault (codes "fault 35 unbounded") (flat_map next_location c.args.cycle.now.locations.items) (codes "\n") c.in_err-sent.ensures.sent)
+    rw (p.1, p.2) (cut_begin old new fault (codes "fault 35 unbounded")
+    (flat_map next_location c.args.cycle.now.locations.items) (codes "\n") c.in_err-sent.ensures.sent)
 
 pub returns-in_err-sent-2-clause-written : goal.returns-in_err-sent-2-clause-written
 returns-in_err-sent-2-clause-written g c =
@@ -25,8 +26,10 @@ returns-in_err-sent-2-clause-written g c =
     let fault = c.in_err-sent-2.field-0.0 in
     let p = err_from_is_err_and c.from_residual-in_err-sent-2.result c.from_residual-in_err-sent-2.ensures.1 in
     let middle : IsSent first new sent (Err fault) (flat_map next_location locations) =
-    subst (λ (some : List Location). IsSent first new sent (Err fault) (flat_map next_location some)) c.deref.ensures.value c.in_err-sent-2.ensures.sent in
-    rw (p.1, p.2) (cut_middle old new first sent fault (codes "fault 35 unbounded") (flat_map next_location locations) (codes "\n") c.in_ok-sent.ensures.sent middle)
+    subst (λ (some : List Location). IsSent first new sent (Err fault) (flat_map next_location some))
+    c.deref.ensures.value c.in_err-sent-2.ensures.sent in
+    rw (p.1, p.2) (cut_middle old new first sent fault (codes "fault 35 unbounded") (flat_map next_location locations)
+    (codes "\n") c.in_ok-sent.ensures.sent middle)
 
 pub returns-in_err-send-clause-written : goal.returns-in_err-send-clause-written
 returns-in_err-send-clause-written g c =
@@ -40,9 +43,12 @@ returns-in_err-send-clause-written g c =
     let fault = c.in_err-send.field-0.0 in
     let p = err_from_is_err_and c.from_residual-in_err-send.result c.from_residual-in_err-send.ensures.1 in
     let middle : IsSent first second sent (Ok more) (flat_map next_location locations) =
-    subst (λ (some : List Location). IsSent first second sent (Ok more) (flat_map next_location some)) c.deref.ensures.value c.in_ok-sent-2.ensures.sent in
-    rw (p.1, p.2) (written_cut old new fault (codes "fault 35 unbounded" ++ flat_map next_location locations ++ codes "\n")
-    (all_three old new first second sent more (Err fault) (codes "fault 35 unbounded") (flat_map next_location locations) (codes "\n")
+    subst (λ (some : List Location). IsSent first second sent (Ok more) (flat_map next_location some))
+    c.deref.ensures.value c.in_ok-sent-2.ensures.sent in
+    rw (p.1, p.2) (written_cut old new fault
+    (codes "fault 35 unbounded" ++ flat_map next_location locations ++ codes "\n")
+    (all_three old new first second sent more (Err fault) (codes "fault 35 unbounded")
+    (flat_map next_location locations) (codes "\n")
     c.in_ok-sent.ensures.sent middle c.in_err-send.ensures.sent))
 
 pub returns-clause-written : goal.returns-clause-written
@@ -56,7 +62,9 @@ returns-clause-written g c =
     let more = c.in_ok-sent-2.sent in
     let total = c.in_ok-send.field-0 in
     let middle : IsSent first second sent (Ok more) (flat_map next_location locations) =
-    subst (λ (some : List Location). IsSent first second sent (Ok more) (flat_map next_location some)) c.deref.ensures.value c.in_ok-sent-2.ensures.sent in
+    subst (λ (some : List Location). IsSent first second sent (Ok more) (flat_map next_location some))
+    c.deref.ensures.value c.in_ok-sent-2.ensures.sent in
     written_whole old new total (codes "fault 35 unbounded" ++ flat_map next_location locations ++ codes "\n")
-    (all_three old new first second sent more (Ok total) (codes "fault 35 unbounded") (flat_map next_location locations) (codes "\n")
+    (all_three old new first second sent more (Ok total) (codes "fault 35 unbounded") (flat_map next_location locations)
+    (codes "\n")
     c.in_ok-sent.ensures.sent middle c.in_ok-send.ensures.sent)

@@ -7,10 +7,13 @@ use Rattle.drum_lines.proofs.print.verdict_line.write_too_often.Goals as goal
 
 pub returns-clause-written : goal.returns-clause-written
 returns-clause-written g c =
-    subst (λ (rest : List ℕ). IsWritten (g.O.Output.written c.args.output.now) (g.O.Output.written c.write_line.new.output) c.write_line.result
+    subst (λ (rest : List ℕ). IsWritten (g.O.Output.written c.args.output.now)
+    (g.O.Output.written c.write_line.new.output) c.write_line.result
     (codes "left toooften " ++ rest))
-    (four_texts (codes " ") (codes " step ") (codes " used ") c.four_digits-from.result (digits_of 4 c.args.from.number) c.four_digits-onto.result (digits_of 4 c.args.onto.number)
+    (four_texts (codes " ") (codes " step ") (codes " used ") c.four_digits-from.result (digits_of 4 c.args.from.number)
+    c.four_digits-onto.result (digits_of 4 c.args.onto.number)
     c.as_bytes.result.now (decimal c.args.step) c.as_bytes-2.result.now (decimal c.args.used)
-    (c.four_digits-from.ensures ∙ ap (digits_of 4) c.number.ensures) (c.four_digits-onto.ensures ∙ ap (digits_of 4) c.number-2.ensures)
+    (c.four_digits-from.ensures ∙ ap (digits_of 4) c.number.ensures)
+    (c.four_digits-onto.ensures ∙ ap (digits_of 4) c.number-2.ensures)
     (c.as_bytes.ensures.value ∙ c.format.ensures.text) (c.as_bytes-2.ensures.value ∙ c.format-2.ensures.text))
     c.write_line.ensures.written

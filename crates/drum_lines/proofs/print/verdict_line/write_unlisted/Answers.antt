@@ -8,9 +8,11 @@ use Rattle.drum_lines.proofs.print.verdict_line.write_unlisted.Goals as goal
 
 pub returns-clause-written : goal.returns-clause-written
 returns-clause-written g c =
-    subst (λ (rest : List ℕ). IsWritten (g.O.Output.written c.args.output.now) (g.O.Output.written c.write_line.new.output) c.write_line.result
+    subst (λ (rest : List ℕ). IsWritten (g.O.Output.written c.args.output.now)
+    (g.O.Output.written c.write_line.new.output) c.write_line.result
     (codes "left unlisted " ++ rest))
-    (four_texts (codes " ") (codes " step ") (codes " used ") c.four_digits-at.result (digits_of 4 c.args.location.number) c.spelling_of-spelled.result (spelling c.args.word)
+    (four_texts (codes " ") (codes " step ") (codes " used ") c.four_digits-at.result
+    (digits_of 4 c.args.location.number) c.spelling_of-spelled.result (spelling c.args.word)
     c.as_bytes.result.now (decimal c.args.step) c.as_bytes-2.result.now (decimal c.args.used)
     (c.four_digits-at.ensures ∙ ap (digits_of 4) c.number.ensures) c.spelling_of-spelled.ensures
     (c.as_bytes.ensures.value ∙ c.format.ensures.text) (c.as_bytes-2.ensures.value ∙ c.format-2.ensures.text))

@@ -4,8 +4,10 @@ use Rattle.drum_machine.proofs.machine.Machine.step.Goals as goal
 
 pub returns-in-Some-of-clause-writes : goal.returns-in-Some-of-clause-writes
 returns-in-Some-of-clause-writes c = λ before.
-    takes_writes (entry_in c.args.times.now) c.args.self.now c.args.feed.now c.take.result c.take.new.self c.take.new.feed c.take.ensures.takes
+    takes_writes (entry_in c.args.times.now) c.args.self.now c.args.feed.now c.take.result c.take.new.self
+    c.take.new.feed c.take.ensures.takes
 
 pub returns-in-Some-of-clause-ends : goal.returns-in-Some-of-clause-ends
 returns-in-Some-of-clause-ends c = λ before.
-    takes_ends (entry_in c.args.times.now) c.args.self.now c.args.feed.now c.take.result c.take.new.self c.take.new.feed c.take.ensures.takes
+    takes_ends (entry_in c.args.times.now) c.args.self.now c.args.feed.now c.take.result c.take.new.self c.take.new.feed
+    c.take.ensures.takes

@@ -12,4 +12,5 @@ returns-then-matches c =
     (subst (λ (p : Pattern). Matches p c.args.instruction) c.pattern-item.is matches)
 
 pub returns : goal.returns
-returns c = allowed_by_none c.args.patterns.now c.args.instruction (λ k d inside. c.loop-pattern.invariant k d (omega arith))
+returns c =
+    allowed_by_none c.args.patterns.now c.args.instruction (λ k d inside. c.loop-pattern.invariant k d (omega arith))

@@ -10,6 +10,8 @@ use Rattle.drum_machine.proofs.monitor.allowed.is_loaded.Goals as goal
 pub returns-in-Some : goal.returns-in-Some
 returns-in-Some c =
     let ins = c.args.instruction in
-    subst (λ (o : Option Word). MatchBool c.eq.result (Contains (loaded o) ins) (¬ Contains (loaded o) ins)) c.in-Some.ensures.held
-    (subst (λ (held : Instruction). MatchBool c.eq.result (Contains (held ∷ []) ins) (¬ Contains (held ∷ []) ins)) c.instruction_of.ensures
+    subst (λ (o : Option Word). MatchBool c.eq.result (Contains (loaded o) ins) (¬ Contains (loaded o) ins))
+    c.in-Some.ensures.held
+    (subst (λ (held : Instruction). MatchBool c.eq.result (Contains (held ∷ []) ins) (¬ Contains (held ∷ []) ins))
+    c.instruction_of.ensures
     (loaded_test c.instruction_of.result ins c.eq.result c.eq.ensures))

@@ -16,4 +16,5 @@ returns c cards =
     let word = c.operand-word.ensures cards in
     let value = simp to_z-of_z at c.sum-number.ensures.value in
     let kept = simp to_z-of_z at c.keep.ensures cards in
-    same_kept (contents_with c.args.self.now cards) _ _ _ _ _ (sym word) (sym (value ∙ ap (λ (w : Word). a +ℤ amount_of c.args.amount (number_in w)) word)) ∙ kept
+    same_kept (contents_with c.args.self.now cards) _ _ _ _ _ (sym word)
+    (sym (value ∙ ap (λ (w : Word). a +ℤ amount_of c.args.amount (number_in w)) word)) ∙ kept

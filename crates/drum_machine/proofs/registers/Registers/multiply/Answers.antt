@@ -17,4 +17,6 @@ returns c cards =
     let word = c.operand-word.ensures cards in
     let value = simp to_z-of_z at c.product-number.ensures.value in
     let kept = simp to_z-of_z at c.keep.ensures cards in
-    same_kept (contents_with c.args.self.now cards) _ _ _ _ _ (sym word) (sym (value ∙ ap (product a) c.number_in.ensures.value ∙ ap (λ (w : Word). product a (number_in w)) word)) ∙ kept
+    same_kept (contents_with c.args.self.now cards) _ _ _ _ _ (sym word)
+    (sym (value ∙ ap (product a) c.number_in.ensures.value ∙ ap (λ (w : Word). product a (number_in w)) word))
+    ∙ kept

@@ -16,15 +16,21 @@ abbrev past : Tally
 past = record { visits = 0; time = 0 }
 
 -- the line of a card is what its tally tells
-is_line : (deck : Deck) (walk : List Visited) (tallies : List Tally) (line : ℕ) → AreByLine deck walk tallies → line ≤ 4000
+is_line : (deck : Deck) (walk : List Visited) (tallies : List Tally) (line : ℕ) → AreByLine deck walk tallies
+    → line ≤ 4000
     → told_of_card line (get_or tallies line past) ≡ card_line deck walk line
-is_line deck walk tallies line by_line within = ap (told_of_card line) (get_or_from_slice_get tallies line _ past (by_line line within))
+is_line deck walk tallies line by_line within =
+    ap (told_of_card line) (get_or_from_slice_get tallies line _ past (by_line line within))
 
 -- the same of a line of the deck's cards
-line_told : (deck : Deck) (walk : List Visited) (tallies : List Tally) (cards : List ℕ) (index : ℕ) → cards ≡ cards_in deck → AreByLine deck walk tallies
-    → get_or cards index 0 ≤ 4000 → told_of_card (get_or cards index 0) (get_or tallies (get_or cards index 0) past) ≡ card_line deck walk (get_or (cards_in deck) index 0)
+line_told : (deck : Deck) (walk : List Visited) (tallies : List Tally) (cards : List ℕ) (index : ℕ)
+    → cards ≡ cards_in deck → AreByLine deck walk tallies
+    → get_or cards index 0 ≤ 4000
+    → told_of_card (get_or cards index 0) (get_or tallies (get_or cards index 0) past)
+    ≡ card_line deck walk (get_or (cards_in deck) index 0)
 line_told deck walk tallies cards index held by_line within =
-    is_line deck walk tallies (get_or cards index 0) by_line within ∙ ap (λ (lines : List ℕ). card_line deck walk (get_or lines index 0)) held
+    is_line deck walk tallies (get_or cards index 0) by_line within
+    ∙ ap (λ (lines : List ℕ). card_line deck walk (get_or lines index 0)) held
 
 pub returns-in_err-sent-clause-sent : goal.returns-in_err-sent-clause-sent
 returns-in_err-sent-clause-sent g c walk by_line =
@@ -40,8 +46,10 @@ returns-in_err-sent-clause-sent g c walk by_line =
     let within : index < length (cards_in deck) = omega (arith, c.loop-line-test.true, ap length held) in
     let here : IsSent between new c.loop-line.sent (Err fault) (card_line deck walk (get_or (cards_in deck) index 0)) =
     subst (IsSent between new c.loop-line.sent (Err fault))
-    (line_told deck walk c.args.tallies.now cards index held by_line (c.cards-line-items.ensures.numbered index 0 c.loop-line-test.true).1) c.in_err-sent.ensures.sent in
-    rw (p.1, p.2) (sent_cut (card_line deck walk) (cards_in deck) index 0 within old between new 0 c.loop-line.sent fault (c.loop-line.invariant.so_far walk by_line) here)
+    (line_told deck walk c.args.tallies.now cards index held by_line
+    (c.cards-line-items.ensures.numbered index 0 c.loop-line-test.true).1) c.in_err-sent.ensures.sent in
+    rw (p.1, p.2) (sent_cut (card_line deck walk) (cards_in deck) index 0 within old between new 0 c.loop-line.sent
+    fault (c.loop-line.invariant.so_far walk by_line) here)
 
 pub loop-line-preserved : goal.loop-line-preserved
 loop-line-preserved g c =
@@ -55,10 +63,13 @@ loop-line-preserved g c =
     let within : index < length (cards_in deck) = omega (arith, c.loop-line-test.true, ap length held) in
     record {
       so_far = λ walk by_line.
-          let here : IsSent between new c.loop-line.sent (Ok c.in_ok-sent.sent) (card_line deck walk (get_or (cards_in deck) index 0)) =
+          let here : IsSent between new c.loop-line.sent (Ok c.in_ok-sent.sent)
+          (card_line deck walk (get_or (cards_in deck) index 0)) =
           subst (IsSent between new c.loop-line.sent (Ok c.in_ok-sent.sent))
-          (line_told deck walk c.args.tallies.now cards index held by_line (c.cards-line-items.ensures.numbered index 0 c.loop-line-test.true).1) c.in_ok-sent.ensures.sent in
-          sent_more (card_line deck walk) (cards_in deck) index 0 within old between new 0 c.loop-line.sent c.in_ok-sent.sent (c.loop-line.invariant.so_far walk by_line) here;
+          (line_told deck walk c.args.tallies.now cards index held by_line
+          (c.cards-line-items.ensures.numbered index 0 c.loop-line-test.true).1) c.in_ok-sent.ensures.sent in
+          sent_more (card_line deck walk) (cards_in deck) index 0 within old between new 0 c.loop-line.sent
+          c.in_ok-sent.sent (c.loop-line.invariant.so_far walk by_line) here;
       few = omega (arith, c.loop-line.invariant.few, c.in_ok-sent.ensures.sent.0, c.in_ok-sent.ensures.short);
       calls = omega (arith, c.loop-line.invariant.calls, c.in_ok-sent.ensures.calls);
       failures = omega (arith, c.loop-line.invariant.failures, c.in_ok-sent.ensures.failures);

@@ -7,15 +7,26 @@ use Rattle.drum_report.proofs.reporting.sending.send_mark.Goals as goal
 
 pub returns-clause-sent : goal.returns-clause-sent
 returns-clause-sent g c =
-    let Sent : List ℕ → Type 0 = IsSent (g.O.Output.written c.args.writer.now) (g.O.Output.written c.send.new.output) c.args.sent c.send.result in
+    let Sent : List ℕ → Type 0 =
+    IsSent (g.O.Output.written c.args.writer.now) (g.O.Output.written c.send.new.output) c.args.sent
+    c.send.result in
     let numbers : List ℕ = decimal c.args.passed ++ codes " of " ++ decimal c.args.mark.now.most ++ codes "\n" in
-    let told : Sent (codes "mark " ++ (c.four_digits-from.result ++ (codes " " ++ (c.four_digits-onto.result ++ (codes " passed " ++ numbers))))) =
-    subst (λ (rest : List ℕ). Sent (codes "mark " ++ (c.four_digits-from.result ++ (codes " " ++ (c.four_digits-onto.result ++ (codes " passed " ++ rest))))))
-    (two_texts (codes " of ") c.as_bytes.result.now (decimal c.args.passed) c.as_bytes-2.result.now (decimal c.args.mark.now.most)
+    let told : Sent (codes "mark "
+    ++ (c.four_digits-from.result ++ (codes " " ++ (c.four_digits-onto.result ++ (codes " passed " ++ numbers))))) =
+    subst (λ (rest : List ℕ). Sent
+    (codes "mark " ++ (c.four_digits-from.result
+    ++ (codes " " ++ (c.four_digits-onto.result ++ (codes " passed " ++ rest))))))
+    (two_texts (codes " of ") c.as_bytes.result.now (decimal c.args.passed) c.as_bytes-2.result.now
+    (decimal c.args.mark.now.most)
     (c.as_bytes.ensures.value ∙ c.format.ensures.text) (c.as_bytes-2.ensures.value ∙ c.format-2.ensures.text))
     c.send.ensures.sent in
-    let from : Sent (codes "mark " ++ (digits_of 4 c.args.mark.now.from.number ++ (codes " " ++ (c.four_digits-onto.result ++ (codes " passed " ++ numbers))))) =
-    subst (λ (digits : List ℕ). Sent (codes "mark " ++ (digits ++ (codes " " ++ (c.four_digits-onto.result ++ (codes " passed " ++ numbers))))))
+    let from : Sent (codes "mark "
+    ++ (digits_of 4 c.args.mark.now.from.number
+    ++ (codes " " ++ (c.four_digits-onto.result ++ (codes " passed " ++ numbers))))) =
+    subst (λ (digits : List ℕ). Sent
+    (codes "mark " ++ (digits ++ (codes " " ++ (c.four_digits-onto.result ++ (codes " passed " ++ numbers))))))
     (c.four_digits-from.ensures ∙ ap (digits_of 4) c.number.ensures) told in
-    subst (λ (digits : List ℕ). Sent (codes "mark " ++ (digits_of 4 c.args.mark.now.from.number ++ (codes " " ++ (digits ++ (codes " passed " ++ numbers))))))
+    subst (λ (digits : List ℕ). Sent
+    (codes "mark " ++ (digits_of 4 c.args.mark.now.from.number
+    ++ (codes " " ++ (digits ++ (codes " passed " ++ numbers))))))
     (c.four_digits-onto.ensures ∙ ap (digits_of 4) c.number-2.ensures) from

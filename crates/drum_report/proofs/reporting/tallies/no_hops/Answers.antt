@@ -8,4 +8,5 @@ pub returns-clause-none : goal.returns-clause-none
 returns-clause-none c line within =
     let none : Tally = record { visits = 0; time = 0 } in
     let below : line < 4001 = omega (arith, within) in
-    slice_get-get_or (replicate 4001 none) line none (omega (arith, below, length-replicate 4001 none)) ∙ ap Some (get_or-replicate 4001 line none none below)
+    slice_get-get_or (replicate 4001 none) line none (omega (arith, below, length-replicate 4001 none))
+    ∙ ap Some (get_or-replicate 4001 line none none below)

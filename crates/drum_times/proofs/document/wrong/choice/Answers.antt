@@ -7,7 +7,9 @@ use Rattle.drum_times.proofs.document.wrong.choice.Goals as goal
 
 pub returns-then-eq-clause-found : goal.returns-then-eq-clause-found
 returns-then-eq-clause-found g c =
-    stands_for c.args.choices.now c.loop-name.name-index c.loop-name-item.result _ c.in-Some.text.now (omega arith) c.loop-name-item.is (sym c.in-Some.ensures) ((bytes_eq-Decides c.loop-name-item.result.0.now c.in-Some.text.now).0 (sym c.eq.ensures ∙ c.if-eq.true))
+    stands_for c.args.choices.now c.loop-name.name-index c.loop-name-item.result _ c.in-Some.text.now (omega arith)
+    c.loop-name-item.is (sym c.in-Some.ensures)
+    ((bytes_eq-Decides c.loop-name-item.result.0.now c.in-Some.text.now).0 (sym c.eq.ensures ∙ c.if-eq.true))
 
 pub loop-name-preserved : goal.loop-name-preserved
 loop-name-preserved g c = grind (arith, common_steps, is_eq-slice_cmp)

@@ -7,19 +7,26 @@ use Rattle.drum_times.proofs.TimesFaults.{keyed_at, wrong_operation, right_opera
 use Rattle.drum_times.proofs.times.read.read_entries.Goals as goal
 
 pub read_operation-requires-clause-keyed : goal.read_operation-requires-clause-keyed
-read_operation-requires-clause-keyed c = keyed_at c.args.keys.now c.args.ops.now c.loop-at.at _ NoOperation c.requires.keyed c.loop-at-test.true
+read_operation-requires-clause-keyed c =
+    keyed_at c.args.keys.now c.args.ops.now c.loop-at.at _ NoOperation c.requires.keyed c.loop-at-test.true
 
 pub returns-in-Err-clause-first : goal.returns-in-Err-clause-first
 returns-in-Err-clause-first c =
-    wrong_operation (table_view c.args.operations.now.table.now) c.args.ops.now c.loop-at.at NoOperation c.in-Err.fault c.loop-at-test.true c.loop-at.invariant.none c.in-Err.ensures.first
+    wrong_operation (table_view c.args.operations.now.table.now) c.args.ops.now c.loop-at.at NoOperation c.in-Err.fault
+    c.loop-at-test.true c.loop-at.invariant.none c.in-Err.ensures.first
 
 pub loop-at-preserved : goal.loop-at-preserved
 loop-at-preserved c = record {
   size = length-set c.loop-at.entries c.number.result c.in-Ok.entry ∙ c.loop-at.invariant.size;
-  none = right_operation (table_view c.args.operations.now.table.now) c.args.ops.now c.loop-at.at NoOperation c.loop-at-test.true c.loop-at.invariant.none c.in-Ok.ensures.none;
-  said = said_more (table_view c.args.operations.now.table.now) c.args.ops.now c.loop-at.entries c.loop-at.at NoOperation c.number.result c.in-Ok.entry c.loop-at.invariant.size c.loop-at-test.true c.number.ensures
+  none =
+      right_operation (table_view c.args.operations.now.table.now) c.args.ops.now c.loop-at.at NoOperation
+      c.loop-at-test.true c.loop-at.invariant.none c.in-Ok.ensures.none;
+  said =
+      said_more (table_view c.args.operations.now.table.now) c.args.ops.now c.loop-at.entries c.loop-at.at NoOperation
+      c.number.result c.in-Ok.entry c.loop-at.invariant.size c.loop-at-test.true c.number.ensures
       c.in-Ok.ensures.said c.loop-at.invariant.said;
 }
 
 pub returns-clause-said : goal.returns-clause-said
-returns-clause-said c = λ k op at. c.loop-at.invariant.said k op (omega (arith, slice_get_within c.args.ops.now k op at)) at
+returns-clause-said c =
+    λ k op at. c.loop-at.invariant.said k op (omega (arith, slice_get_within c.args.ops.now k op at)) at

@@ -11,7 +11,9 @@ abbrev pub invariant-loop-at : goal.invariant-loop-at
 invariant-loop-at l = record {
   size : length l.entries ≡ 100;
   -- the faults of the operations that are left are those of all
-  none : flat_map (document.operation_faults (table_view l.operations.table.now)) (drop l.at l.ops) ≡ flat_map (document.operation_faults (table_view l.operations.table.now)) l.ops;
+  none : flat_map (document.operation_faults (table_view l.operations.table.now)) (drop l.at l.ops)
+      ≡ flat_map (document.operation_faults (table_view l.operations.table.now)) l.ops;
   -- the entries so far are said
-  said : (k : ℕ) (op : Op) → k < l.at → slice_get l.ops k ≡ Some op → document.SaysOperation (table_view l.operations.table.now) op (slice_index_or l.entries (number_of op) blank);
+  said : (k : ℕ) (op : Op) → k < l.at → slice_get l.ops k ≡ Some op
+      → document.SaysOperation (table_view l.operations.table.now) op (slice_index_or l.entries (number_of op) blank);
 }

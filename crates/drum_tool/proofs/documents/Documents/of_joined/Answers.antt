@@ -10,7 +10,8 @@ returns-in-Err-clause-fault c = (
   texts_of c.in-Some.parts,
   c.in-Some.ensures.found,
   no_deck c.in-Some.parts.deck.now c.in-Err.fault (λ is. search rules) (λ read memory.
-      subst (λ left. IfSome left (λ bytes. IsRefused bytes c.in-Err.fault)) c.new.ensures.bytes (c.in-Err.ensures.refused read memory)),
+      subst (λ left. IfSome left (λ bytes. IsRefused bytes c.in-Err.fault)) c.new.ensures.bytes
+      (c.in-Err.ensures.refused read memory)),
 )
 
 pub returns-in-Err-read_times-clause-fault : goal.returns-in-Err-read_times-clause-fault
@@ -18,7 +19,11 @@ returns-in-Err-read_times-clause-fault c = (
   texts_of c.in-Some.parts,
   c.in-Some.ensures.found,
   (
-    (c.in-Ok.deck, subst (λ left. IfSome left (λ bytes. SaysDeck bytes c.in-Ok.deck)) c.new.ensures.bytes c.in-Ok.ensures.deck),
+    (
+      c.in-Ok.deck,
+      subst (λ left. IfSome left (λ bytes. SaysDeck bytes c.in-Ok.deck)) c.new.ensures.bytes
+          c.in-Ok.ensures.deck,
+    ),
     c.in-Err-read_times.ensures.refused,
   ),
 )
@@ -28,7 +33,11 @@ returns-in-Err-read_notes-clause-fault c = (
   texts_of c.in-Some.parts,
   c.in-Some.ensures.found,
   (
-    (c.in-Ok.deck, subst (λ left. IfSome left (λ bytes. SaysDeck bytes c.in-Ok.deck)) c.new.ensures.bytes c.in-Ok.ensures.deck),
+    (
+      c.in-Ok.deck,
+      subst (λ left. IfSome left (λ bytes. SaysDeck bytes c.in-Ok.deck)) c.new.ensures.bytes
+          c.in-Ok.ensures.deck,
+    ),
     (c.in-Ok-read_times.times, c.in-Ok-read_times.ensures.read),
     c.in-Err-read_notes.ensures.refused,
   ),

@@ -10,7 +10,8 @@ use Rattle.drum_tool.proofs.following.Following.advance.Goals as goal
 
 pub returns-in-Some-clause-told : goal.returns-in-Some-clause-told
 returns-in-Some-clause-told c goes =
-    told (setting c.args.deck.now c.args.times.now c.args.notes.now) c.args.self.now c.step-step.result c.step-step.new.self
+    told (setting c.args.deck.now c.args.times.now c.args.notes.now) c.args.self.now c.step-step.result
+    c.step-step.new.self
     c.step-step.new.feed (c.step-step.ensures.goes goes)
 
 pub returns-in-Stopped-clause-told : goal.returns-in-Stopped-clause-told
@@ -22,22 +23,26 @@ returns-in-Stopped-clause-told c goes =
 
 pub returns-clause-told : goal.returns-clause-told
 returns-clause-told c goes =
-    told (setting c.args.deck.now c.args.times.now c.args.notes.now) c.args.self.now c.step-step.result c.step-step.new.self
+    told (setting c.args.deck.now c.args.times.now c.args.notes.now) c.args.self.now c.step-step.result
+    c.step-step.new.self
     c.step-step.new.feed (c.step-step.ensures.goes goes)
 
 pub returns-in-Some-clause-of_run : goal.returns-in-Some-clause-of_run
 returns-in-Some-clause-of_run c s waits turns begins bounded following =
-    replayed (setting c.args.deck.now c.args.times.now c.args.notes.now) s waits c.args.bound begins bounded turns c.args.self.now following
+    replayed (setting c.args.deck.now c.args.times.now c.args.notes.now) s waits c.args.bound begins bounded turns
+    c.args.self.now following
     c.step-step.result c.step-step.new.self c.step-step.new.feed (c.step-step.ensures.goes following.goes)
 
 pub returns-in-Stopped-clause-of_run : goal.returns-in-Stopped-clause-of_run
 returns-in-Stopped-clause-of_run c s waits turns begins bounded following =
-    replayed (setting c.args.deck.now c.args.times.now c.args.notes.now) s waits c.args.bound begins bounded turns c.args.self.now following
+    replayed (setting c.args.deck.now c.args.times.now c.args.notes.now) s waits c.args.bound begins bounded turns
+    c.args.self.now following
     c.step-step.result c.step-step.new.self c.step-step.new.feed (c.step-step.ensures.goes following.goes)
 
 pub returns-clause-of_run : goal.returns-clause-of_run
 returns-clause-of_run c s waits turns begins bounded following =
-    replayed (setting c.args.deck.now c.args.times.now c.args.notes.now) s waits c.args.bound begins bounded turns c.args.self.now following
+    replayed (setting c.args.deck.now c.args.times.now c.args.notes.now) s waits c.args.bound begins bounded turns
+    c.args.self.now following
     c.step-step.result c.step-step.new.self c.step-step.new.feed (c.step-step.ensures.goes following.goes)
 
 pub returns-in-Some-clause-advanced : goal.returns-in-Some-clause-advanced
@@ -46,10 +51,14 @@ returns-in-Some-clause-advanced c s waits turns begins bounded following =
     let before = c.args.self.now in
     let takes = c.step-step.ensures.goes following.goes in
     let told_so = told g before c.step-step.result c.step-step.new.self c.step-step.new.feed takes in
-    let leaves = c.in-Some.ensures.judged following.silent (entry_in c.args.times.now) turns (turn_of g.times before) following.seen told_so in
-    subst (λ (used : ℕ). IsFollowed g s waits c.args.bound (turns ++ turn_of g.times before ∷ []) (Left c.in-Some.what (before.steps + 1) used))
+    let leaves =
+    c.in-Some.ensures.judged following.silent (entry_in c.args.times.now) turns (turn_of g.times before)
+    following.seen told_so in
+    subst (λ (used : ℕ). IsFollowed g s waits c.args.bound (turns ++ turn_of g.times before ∷ [])
+    (Left c.in-Some.what (before.steps + 1) used))
     (sym c.used-before.ensures)
-    (leaves_here g s waits c.args.bound begins bounded turns before following c.step-step.result c.step-step.new.self c.step-step.new.feed takes
+    (leaves_here g s waits c.args.bound begins bounded turns before following c.step-step.result c.step-step.new.self
+    c.step-step.new.feed takes
     c.in-Some.what leaves)
 
 pub returns-in-Stopped-clause-advanced : goal.returns-in-Stopped-clause-advanced
@@ -58,9 +67,12 @@ returns-in-Stopped-clause-advanced c s waits turns begins bounded following =
     let before = c.args.self.now in
     let takes = c.step-step.ensures.goes following.goes in
     let told_so = told g before c.step-step.result c.step-step.new.self c.step-step.new.feed takes in
-    let seen : HasSeen (loads_in c.args.deck.now) c.args.notes.now c.check.new.self (turns ++ turn_of g.times before ∷ []) =
-    c.in_default.ensures.judged following.silent (entry_in c.args.times.now) turns (turn_of g.times before) following.seen told_so in
-    stops_here g s waits c.args.bound begins bounded turns before following c.step-step.result c.step-step.new.self c.step-step.new.feed takes
+    let seen : HasSeen (loads_in c.args.deck.now) c.args.notes.now c.check.new.self
+    (turns ++ turn_of g.times before ∷ []) =
+    c.in_default.ensures.judged following.silent (entry_in c.args.times.now) turns (turn_of g.times before)
+    following.seen told_so in
+    stops_here g s waits c.args.bound begins bounded turns before following c.step-step.result c.step-step.new.self
+    c.step-step.new.feed takes
     c.check.new.self seen c.in-Stopped.origin c.in-Stopped.word c.in-Stopped.why c.in-Stopped.used c.in-Stopped.is
 
 pub returns-clause-advanced : goal.returns-clause-advanced
@@ -69,7 +81,11 @@ returns-clause-advanced c s waits turns begins bounded following =
     let before = c.args.self.now in
     let takes = c.step-step.ensures.goes following.goes in
     let told_so = told g before c.step-step.result c.step-step.new.self c.step-step.new.feed takes in
-    let seen : HasSeen (loads_in c.args.deck.now) c.args.notes.now c.check.new.self (turns ++ turn_of g.times before ∷ []) =
-    c.in_default.ensures.judged following.silent (entry_in c.args.times.now) turns (turn_of g.times before) following.seen told_so in
-    goes_on g s waits c.args.bound begins bounded turns before following c.step-step.result c.step-step.new.self c.step-step.new.feed takes
-    c.check.new.self seen (sym c.check.ensures.answered ∙ c.in_default.is) c.step-step.ensures.advances c.in_default-step.not-Stopped
+    let seen : HasSeen (loads_in c.args.deck.now) c.args.notes.now c.check.new.self
+    (turns ++ turn_of g.times before ∷ []) =
+    c.in_default.ensures.judged following.silent (entry_in c.args.times.now) turns (turn_of g.times before)
+    following.seen told_so in
+    goes_on g s waits c.args.bound begins bounded turns before following c.step-step.result c.step-step.new.self
+    c.step-step.new.feed takes
+    c.check.new.self seen (sym c.check.ensures.answered ∙ c.in_default.is) c.step-step.ensures.advances
+    c.in_default-step.not-Stopped

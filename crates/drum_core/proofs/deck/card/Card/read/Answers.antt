@@ -12,7 +12,8 @@ pub returns-in_default-read_digits-clause-none : goal.returns-in_default-read_di
 returns-in_default-read_digits-clause-none c n words is_card =
     let long = card_length c.args.line.now n words is_card in
     let four : length (take 4 c.args.line.now) ≡ 4 = length-take-le 4 c.args.line.now (omega (arith, long)) in
-    c.in_default-read_digits.ensures.none n (address_of_card c.args.line.now n words is_card ∙ ap (λ (k : ℕ). digits_of k n) (sym four))
+    c.in_default-read_digits.ensures.none n
+    (address_of_card c.args.line.now n words is_card ∙ ap (λ (k : ℕ). digits_of k n) (sym four))
 
 pub returns-then-not-read_words-clause-none : goal.returns-then-not-read_words-clause-none
 returns-then-not-read_words-clause-none c n words is_card =
@@ -21,4 +22,5 @@ returns-then-not-read_words-clause-none c n words is_card =
     let enough : length (drop 4 line) ≤ length line - 4 = omega (arith, length-drop 4 line) in
     let count : length words ≡ c.in-Some.len = omega (arith, long, c.in-Some.ensures.found) in
     let seven : c.in-Some.len ≤ 7 = omega (arith, c.in-Some.ensures.found) in
-    c.if-not-read_words.ensures.none refl words (count ∙ sym (length-take-le c.in-Some.len _ seven)) (take_all (length line - 4) (drop 4 line) enough ∙ ap (drop 4) is_card.3)
+    c.if-not-read_words.ensures.none refl words (count ∙ sym (length-take-le c.in-Some.len _ seven))
+    (take_all (length line - 4) (drop 4 line) enough ∙ ap (drop 4) is_card.3)

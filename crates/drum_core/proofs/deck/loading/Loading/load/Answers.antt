@@ -1,4 +1,5 @@
-use Rattle.std.proofs.Common.{◌≡◌, ℕ, ◌+◌, ◌≤◌, ◌<◌, ◌⊎◌, ◌++◌, ◌∷◌, [], List, length, take, slice_get, Bool, true, cond, not, Some, None, refl, sym, ◌∙◌, ap, arith, subst}
+use Rattle.std.proofs.Common.{◌≡◌, ℕ, ◌+◌, ◌≤◌, ◌<◌, ◌⊎◌, ◌++◌, ◌∷◌, [], List, length, take, slice_get, Bool, true}
+use Rattle.std.proofs.Common.{cond, not, Some, None, refl, sym, ◌∙◌, ap, arith, subst}
 use Rattle.std.specs.Result.{is_ok}
 use Rattle.drum_core.specs.declared.word.Word.{Word}
 use Rattle.drum_core.specs.DeckText as text
@@ -24,9 +25,13 @@ returns-in-Err-clause-err c not_memory lines bytes holds is_line =
     let first = c.args.card.now.address in
     let words : List Word = take c.args.card.now.len c.args.card.now.words in
     let same : c.words-words.result.now ≡ words = c.words-words.ensures in
-    let within : first + length words ≤ 2000 = omega (arith, c.if-card-words-gt-DRUM.false, ap (λ (words : List Word). length words) same) in
-    let taken = subst (λ (words : List Word). IsFirstTaken c.args.self.now.image.items first (length words) c.in-Err.location.number) same c.in-Err.ensures.taken in
-    twice_fault c.args.self.now.image.items c.args.self.now.cards.items c.args.self.now.start lines c.args.line bytes first words c.in-Err.location holds is_line within taken
+    let within : first + length words ≤ 2000 =
+    omega (arith, c.if-card-words-gt-DRUM.false, ap (λ (words : List Word). length words) same) in
+    let taken =
+    subst (λ (words : List Word). IsFirstTaken c.args.self.now.image.items first (length words)
+    c.in-Err.location.number) same c.in-Err.ensures.taken in
+    twice_fault c.args.self.now.image.items c.args.self.now.cards.items c.args.self.now.start lines c.args.line bytes
+    first words c.in-Err.location holds is_line within taken
 
 -- src/deck/loading.rt:72:5
 pub returns-clause-ok : goal.returns-clause-ok
@@ -34,16 +39,30 @@ returns-clause-ok c lines number holds =
     let first = c.args.card.now.address in
     let words : List Word = take c.args.card.now.len c.args.card.now.words in
     let same : c.words-words.result.now ≡ words = c.words-words.ensures in
-    let within : first + length words ≤ 2000 = omega (arith, c.if-card-words-gt-DRUM.false, ap (λ (words : List Word). length words) same) in
-    let ends : (pushed : Bool) → pushed ≡ true → cond pushed (c.args.self.now.cards.items ++ c.args.line ∷ []) c.args.self.now.cards.items ≡ c.args.self.now.cards.items ++ (1 + length lines) ∷ [] =
-    λ pushed is_true. ap (λ (b : Bool). cond b (c.args.self.now.cards.items ++ c.args.line ∷ []) c.args.self.now.cards.items) is_true ∙ ap (λ (n : ℕ). c.args.self.now.cards.items ++ n ∷ []) number in
-    let ended = c.push.ensures.items ∙ ends (is_ok c.push.result) (c.is_err.ensures.negation ∙ ap (λ (b : Bool). not b) c.if-is_err.false) in
-    let Free : List Word → Type 0 = λ words. (k : ℕ) → k < length words → slice_get c.args.self.now.image.items (first + k) ≡ Some None in
+    let within : first + length words ≤ 2000 =
+    omega (arith, c.if-card-words-gt-DRUM.false, ap (λ (words : List Word). length words) same) in
+    let ends : (pushed : Bool) → pushed ≡ true
+    → cond pushed (c.args.self.now.cards.items ++ c.args.line ∷ []) c.args.self.now.cards.items
+    ≡ c.args.self.now.cards.items ++ (1 + length lines) ∷ [] =
+    λ pushed is_true. ap (λ (b : Bool). cond b (c.args.self.now.cards.items ++ c.args.line ∷ [])
+    c.args.self.now.cards.items) is_true ∙ ap (λ (n : ℕ). c.args.self.now.cards.items ++ n ∷ []) number in
+    let ended =
+    c.push.ensures.items ∙ ends (is_ok c.push.result)
+    (c.is_err.ensures.negation ∙ ap (λ (b : Bool). not b) c.if-is_err.false) in
+    let Free : List Word → Type 0 =
+    λ words. (k : ℕ) → k < length words → slice_get c.args.self.now.image.items (first + k) ≡ Some None in
     let Puts : List Word → ℕ → Type 0 = λ words line. (k : ℕ) (word : Word) → slice_get words k ≡ Some word
     → slice_get c.put_words.new.image.items (first + k) ≡ Some (Some (record { word = word; line = line })) in
-    let Others : List Word → Type 0 = λ words. (n : ℕ) → (n < first) ⊎ (first + length words ≤ n) → slice_get c.put_words.new.image.items n ≡ slice_get c.args.self.now.image.items n in
+    let Others : List Word → Type 0 =
+    λ words. (n : ℕ) → (n < first) ⊎ (first + length words ≤ n)
+    → slice_get c.put_words.new.image.items n ≡ slice_get c.args.self.now.image.items n in
     let free = subst Free same c.in_default.ensures.free in
-    let put = subst (Puts words) number (subst (λ (words : List Word). Puts words c.args.line) same c.in_default.ensures.put) in
+    let put =
+    subst (Puts words) number
+    (subst (λ (words : List Word). Puts words c.args.line) same c.in_default.ensures.put) in
     let others = subst Others same c.in_default.ensures.others in
-    let held = holds_card c.args.self.now.image.items c.put_words.new.image.items c.args.self.now.cards.items c.args.self.now.start lines first words holds within free put others in
-    subst (λ (cards : List ℕ). Holds c.put_words.new.image.items cards c.args.self.now.start (lines ++ text.card first words ∷ [])) (sym ended) held
+    let held =
+    holds_card c.args.self.now.image.items c.put_words.new.image.items c.args.self.now.cards.items
+    c.args.self.now.start lines first words holds within free put others in
+    subst (λ (cards : List ℕ). Holds c.put_words.new.image.items cards c.args.self.now.start
+    (lines ++ text.card first words ∷ [])) (sym ended) held

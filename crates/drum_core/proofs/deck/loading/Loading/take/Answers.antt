@@ -9,6 +9,7 @@ use Rattle.drum_core.proofs.deck.loading.Loading.take.Goals as goal
 pub returns-in-Some-Comment-clause-ok : goal.returns-in-Some-Comment-clause-ok
 returns-in-Some-Comment-clause-ok c lines number holds = (
   text.comment,
-  subst (λ (line : read.Line). text.IsLine c.args.bytes.now (said line)) c.in-Some-Comment.field-0-is c.in-Some-Comment.ensures.found,
+  subst (λ (line : read.Line). text.IsLine c.args.bytes.now (said line)) c.in-Some-Comment.field-0-is
+      c.in-Some-Comment.ensures.found,
   holds_comment c.args.self.now.image.items c.args.self.now.cards.items c.args.self.now.start lines holds,
 )

@@ -6,6 +6,7 @@ use Rattle.drum_times.proofs.document.fields.Fields.all.Goals as goal
 
 pub returns-then-is_none-clause-first : goal.returns-then-is_none-clause-first
 returns-then-is_none-clause-first c = (
-  document.missing_in c.args.self.now.at.now (map (λ key. key.now) (drop (c.loop-key.key-index + 1) c.args.wanted.now)) (table_view c.args.self.now.table.now),
+  document.missing_in c.args.self.now.at.now (map (λ key. key.now) (drop (c.loop-key.key-index + 1) c.args.wanted.now))
+      (table_view c.args.self.now.table.now),
   grind (arith, common_steps),
 )

@@ -5,4 +5,6 @@ use Rattle.drum_times.proofs.notes.listing.Listing.patterns_in.Given as goal
 
 -- what is left says what all say
 abbrev pub invariant-loop-list : goal.invariant-loop-list
-invariant-loop-list l = said.patterns_in (map listed (drop l.list-index l.lists)) l.location.number ≡ said.patterns_in (map listed l.lists) l.location.number
+invariant-loop-list l =
+    said.patterns_in (map listed (drop l.list-index l.lists)) l.location.number
+    ≡ said.patterns_in (map listed l.lists) l.location.number
