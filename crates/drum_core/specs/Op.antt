@@ -1,6 +1,6 @@
 -- The numbers of the operations, and what each wants of its data address (IBM 650 Manual of
 -- Operation).
-use Rattle.std.specs.Prelude.{ℕ, ◌+◌, ◌==◌, List, [], ◌∷◌, Option, find}
+use Rattle.std.specs.Prelude.{ℕ, ◌+◌, ◌==◌, Bool, true, nat_lt, List, [], ◌∷◌, Option, find}
 use Rattle.drum_core.specs.declared.op.Op.{Op}
 use Rattle.drum_core.specs.declared.op.Op.TheVariants.{NoOperation, Stop, Add, ResetAdd, Divide, DivideReset, Multiply, Store, Shift, Branch, LoadDistributor, Read, Punch, BranchOnDigit}
 use Rattle.drum_core.specs.declared.op.Operand.{Operand}
@@ -15,6 +15,7 @@ use Rattle.drum_core.specs.Amount as amount
 use Rattle.drum_core.specs.Store as store
 use Rattle.drum_core.specs.Shift as shift
 use Rattle.drum_core.specs.Branch as branch
+use Rattle.drum_core.specs.Location.{is_location}
 use Rattle.drum_core.specs.Position as position
 
 -- the two digits of an operation
@@ -50,6 +51,12 @@ operand_of Stop = Unused
 operand_of (Shift s) = Unused
 operand_of (Branch b) = Unused
 operand_of (BranchOnDigit p) = Unused
+
+-- D is what is wanted
+abbrev pub is_operand : Operand → ℕ → Bool
+is_operand Any d = is_location d
+is_operand Drum d = nat_lt d 2000
+is_operand Unused d = true
 
 -- the operations of the profile, in ascending order of their numbers
 abbrev pub ops : List Op

@@ -1,3 +1,5 @@
+//! The deck that loads the drum, as its lines were read.
+
 ghost use Rattle.std.specs.Prelude.{◌≡◌, ◌<◌, vec_len};
 ghost use Rattle.drum_core.specs.Held.{AreOfLines};
 

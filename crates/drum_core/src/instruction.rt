@@ -20,11 +20,12 @@ pub struct Instruction {
 }
 
 impl Instruction {
-    ghost use Rattle.drum_core.specs.Instruction.{IsInstructionOf};
+    ghost use Rattle.drum_core.specs.Instruction.{IsInstructionOf, instruction_of};
 
     /// The instruction of a word, whose sign plays no part.
     pub fn of(word: Word) -> Instruction
-        ensures { IsInstructionOf word.digits result }
+        ensures spelled { IsInstructionOf word.digits result }
+        ensures is { result ≡ instruction_of word }
     {
         Instruction {
             op: (word.digits / 100_000_000) as u8,

@@ -12,8 +12,8 @@ ghost use Rattle.drum_core.specs.declared.deck.fault.DeckFault.{DeckFault};
 ghost use Rattle.drum_core.specs.declared.rotation.parity.Parity.{Parity};
 ghost use Rattle.drum_core.specs.declared.word.Word.{Word};
 
-/// Every text is a deck, or it has its fault; and it is the deck of one list of lines. (By the next
-/// two laws it is not both, and it has no other fault.)
+/// Every text is a deck, or it has its fault; and it is the deck of one list of lines. (That it
+/// is not both, and has no other fault, two of the laws below say.)
 pub fn deck_or_fault()
     ensures either { (text : List ℕ) → ((lines : List Line) × IsDeck text lines)
         ⊎ ((fault : DeckFault) × IsRefused text fault) }

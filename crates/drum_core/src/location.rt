@@ -1,3 +1,5 @@
+//! The locations that hold a word, and what stands at each.
+
 ghost use Rattle.std.specs.Prelude.{◌≡◌, ◌↔◌, IsSome, IfSome};
 ghost use Rattle.drum_core.specs.Location.{IsLocation};
 
@@ -30,6 +32,9 @@ pub enum Kind {
 
 impl Location {
     ghost use Rattle.drum_core.specs.Kind.{kind_of};
+
+    /// How many words the drum has: 0000 to 1999.
+    pub const DRUM: u16 = 2000;
 
     /// One more than the greatest number of a location.
     pub const NUMBERS: usize = 8004;

@@ -1,5 +1,8 @@
+//! The operations of the profile, by their numbers, and what each wants of its data address.
+
 ghost use Rattle.std.specs.Prelude.{◌≡◌, ◌≢◌, IfSome, IfNone};
 
+use crate::location::Location;
 use amount::Amount;
 use branch::Branch;
 use position::Position;
@@ -58,6 +61,21 @@ pub enum Operand {
     Drum,
     /// Nothing: the rest.
     Unused,
+}
+
+impl Operand {
+    ghost use Rattle.drum_core.specs.Op.{is_operand};
+
+    /// Whether a data address is what is wanted.
+    pub fn suits(self, d: u16) -> bool
+        ensures { result ≡ is_operand self d }
+    {
+        match self {
+            Operand::Any => Location::new(d).is_some(),
+            Operand::Drum => d < Location::DRUM,
+            Operand::Unused => true,
+        }
+    }
 }
 
 impl Op {

@@ -1,11 +1,12 @@
-//! The rotation of the drum: what takes time, as clocks that go on.
+//! The rotation of the drum: what takes time, as clocks that go on, and the laws of such times one
+//! after the other.
 
-pub mod at_angle;
-pub mod at_parity;
+pub(crate) mod at_angle;
+pub(crate) mod at_parity;
 pub mod chain;
-pub mod clockwork;
-pub mod delay;
-pub mod optional;
-pub mod parity;
-pub mod seek;
-pub mod then;
+pub(crate) mod clockwork;
+pub(crate) mod delay;
+mod optional;
+pub(crate) mod parity;
+pub(crate) mod seek;
+pub(crate) mod then;

@@ -10,9 +10,6 @@ use crate::location::Location;
 use crate::word::Word;
 use std::alloc::{AllocError, Global};
 
-/// How many words the drum has.
-const DRUM: usize = 2000;
-
 /// A deck of which some lines have been read.
 #[derive(Drop)]
 pub struct Loading {
@@ -33,7 +30,7 @@ impl Loading {
         ensures { IfOk result (λ loading. HoldsLines loading []) }
     {
         Ok(Loading {
-            image: vec![in alloc; None; DRUM]?,
+            image: vec![in alloc; None; Location::DRUM as usize]?,
             cards: Vec::new(alloc),
             start: None,
         })
@@ -63,7 +60,7 @@ impl Loading {
             → HoldsLines self.old lines → text.IsLine bytes (text.start address)
             → text.IsFaultOfLine lines line bytes fault) }
     {
-        if address >= 2000 {
+        if address >= Location::DRUM {
             return Err(DeckFault::PastDrum(line));
         }
         if self.start.is_some() {
@@ -83,7 +80,7 @@ impl Loading {
             → text.IsFaultOfLine lines line bytes fault) }
     {
         let words = card.words();
-        if card.address as usize + words.len() > DRUM {
+        if card.address as usize + words.len() > Location::DRUM as usize {
             return Err(DeckFault::PastDrum(line));
         }
         if let Err(location) = put_words(&mut self.image, card.address, words, line) {

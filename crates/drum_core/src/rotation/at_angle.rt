@@ -1,6 +1,6 @@
 ghost use Rattle.std.specs.Prelude.{◌≡◌, ◌+◌, ◌^◌, ◌<◌, ◌≤◌, ◌↔◌, IsSome, IfSome};
 
-use super::clockwork::Clockwork;
+use super::clockwork::{Clockwork, REVOLUTION};
 
 /// The wait for an angle of the drum.
 #[derive(Clone, Copy, Debug, PartialEq, Eq)]
@@ -16,7 +16,7 @@ impl AtAngle {
         ensures valid { IsSome result ↔ (angle < 50) }
         ensures value { IfSome result (λ at. at.angle ≡ angle) }
     {
-        if angle < 50 {
+        if u64::from(angle) < REVOLUTION {
             Some(AtAngle { angle })
         } else {
             None
@@ -43,7 +43,7 @@ impl Clockwork for AtAngle {
     ghost periodic = { λ at. periodic_law (angle_recurs at.angle at.on_drum) };
 
     fn go(&self, clock: u64) -> u64 {
-        clock + (u64::from(self.angle) + 50 - clock % 50) % 50
+        clock + (u64::from(self.angle) + REVOLUTION - clock % REVOLUTION) % REVOLUTION
     }
 
     fn span(&self) -> u64 {

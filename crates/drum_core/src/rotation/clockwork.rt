@@ -1,5 +1,10 @@
 ghost use Rattle.std.specs.Prelude.{◌≡◌, ℕ, ◌+◌, ◌^◌, ◌≤◌};
 
+/// The word times of a revolution of the drum.
+///
+/// Source: the IBM 650 Manual of Operation.
+pub const REVOLUTION: u64 = 50;
+
 /// Something that takes time: from a clock it goes on to a later moment.
 ///
 /// A clock counts word times from a moment of angle 0 on; 50 are a revolution.

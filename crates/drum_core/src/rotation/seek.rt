@@ -2,7 +2,7 @@ ghost use Rattle.std.specs.Prelude.{◌≡◌};
 
 use super::at_angle::AtAngle;
 use super::at_parity::AtParity;
-use super::clockwork::Clockwork;
+use super::clockwork::{Clockwork, REVOLUTION};
 use super::parity::Parity;
 use crate::location::{Kind, Location};
 
@@ -48,7 +48,7 @@ impl Clockwork for Seek {
     fn go(&self, clock: u64) -> u64 {
         match self.location.kind() {
             Kind::Drum => {
-                let angle = (self.location.number % 50) as u8;
+                let angle = (u64::from(self.location.number) % REVOLUTION) as u8;
                 AtAngle { angle }.go(clock)
             }
             Kind::Switches | Kind::Distributor => clock,

@@ -9,13 +9,13 @@ use Rattle.drum_core.proofs.Loads.{holds_card, twice_fault}
 use Rattle.drum_core.proofs.deck.loading.Loading.load.Goals as goal
 
 -- src/deck/loading.rt:80:13
-pub returns-then-card-words-gt-DRUM-clause-err : goal.returns-then-card-words-gt-DRUM-clause-err
-returns-then-card-words-gt-DRUM-clause-err c not_memory lines bytes holds is_line = (
+pub returns-then-card-words-clause-err : goal.returns-then-card-words-clause-err
+returns-then-card-words-clause-err c not_memory lines bytes holds is_line = (
   refl,
   (
     text.card c.args.card.now.address (take c.args.card.now.len c.args.card.now.words),
     is_line,
-    omega (arith, c.if-card-words-gt-DRUM.true, ap (λ (words : List Word). length words) c.words-words.ensures),
+    omega (arith, c.if-card-words.true, ap (λ (words : List Word). length words) c.words-words.ensures),
   ),
 )
 
@@ -26,7 +26,7 @@ returns-in-Err-clause-err c not_memory lines bytes holds is_line =
     let words : List Word = take c.args.card.now.len c.args.card.now.words in
     let same : c.words-words.result.now ≡ words = c.words-words.ensures in
     let within : first + length words ≤ 2000 =
-    omega (arith, c.if-card-words-gt-DRUM.false, ap (λ (words : List Word). length words) same) in
+    omega (arith, c.if-card-words.false, ap (λ (words : List Word). length words) same) in
     let taken =
     subst (λ (words : List Word). IsFirstTaken c.args.self.now.image.items first (length words)
     c.in-Err.location.number) same c.in-Err.ensures.taken in
@@ -40,7 +40,7 @@ returns-clause-ok c lines number holds =
     let words : List Word = take c.args.card.now.len c.args.card.now.words in
     let same : c.words-words.result.now ≡ words = c.words-words.ensures in
     let within : first + length words ≤ 2000 =
-    omega (arith, c.if-card-words-gt-DRUM.false, ap (λ (words : List Word). length words) same) in
+    omega (arith, c.if-card-words.false, ap (λ (words : List Word). length words) same) in
     let ends : (pushed : Bool) → pushed ≡ true
     → cond pushed (c.args.self.now.cards.items ++ c.args.line ∷ []) c.args.self.now.cards.items
     ≡ c.args.self.now.cards.items ++ (1 + length lines) ∷ [] =

@@ -6,9 +6,9 @@ use Rattle.drum_core.proofs.Loads.{holds_start, none_is}
 use Rattle.drum_core.proofs.deck.loading.Loading.start_at.Goals as goal
 
 -- src/deck/loading.rt:63:13
-pub returns-then-address-ge2000-clause-err : goal.returns-then-address-ge2000-clause-err
-returns-then-address-ge2000-clause-err c lines bytes holds is_line =
-    (refl, (text.start c.before.args.address, is_line, omega (arith, c.if-address-ge2000.true)))
+pub returns-then-address-ge-DRUM-clause-err : goal.returns-then-address-ge-DRUM-clause-err
+returns-then-address-ge-DRUM-clause-err c lines bytes holds is_line =
+    (refl, (text.start c.before.args.address, is_line, omega (arith, c.if-address-ge-DRUM.true)))
 
 -- src/deck/loading.rt:57:5
 pub returns-clause-ok : goal.returns-clause-ok
@@ -18,5 +18,5 @@ returns-clause-ok c lines holds =
     let unstarted =
     subst (λ (begun : Option Location). Holds c.args.self.now.image.items c.args.self.now.cards.items begun lines)
     nothing holds in
-    holds_start c.args.self.now.image.items c.args.self.now.cards.items lines (omega (arith, c.if-address-ge2000.false))
+    holds_start c.args.self.now.image.items c.args.self.now.cards.items lines (omega (arith, c.if-address-ge-DRUM.false))
     unstarted
