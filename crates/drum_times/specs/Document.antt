@@ -54,7 +54,7 @@ at_key check at key fields = elim (get_member key fields) [
   | Some value ↦ check (at ++ key) value
 ]
 
--- the same of a key that has to be there
+-- what is wrong at a key that has to be there: that it isn't there, or what the check finds
 abbrev pub required : (List ℕ → List ℕ → Members → List Fault) → List ℕ → List ℕ → Members
     → List Fault
 required check at key fields = missing_in at (key ∷ []) fields ++ check at key fields

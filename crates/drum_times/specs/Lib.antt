@@ -2,6 +2,7 @@ pub mod Allowed
 pub mod Document
 pub mod Entries
 pub mod Listed
+pub mod Marks
 pub mod NotesDocument
 pub mod Refused
 pub mod Says

@@ -30,3 +30,8 @@ pub struct Entry {
     pub ghost waits: { wait_min ≤ wait_max },
     pub ghost short_wait: { wait_max ≤ 1000000 },
 }
+
+impl Entry {
+    /// The longest time that an entry may state, in word times: this project's choice.
+    pub const LONGEST: u64 = 1_000_000;
+}

@@ -34,8 +34,8 @@ pub fn says_notes()
 /// So what is allowed at a location is what the deck loads there, and what matches a pattern of its
 /// list.
 pub fn listed_is_what_matches()
-    ensures listed { (pattern : Pattern) (ins : Instruction) → Contains (matching pattern) ins
-        ↔ Matches pattern ins }
+    ensures listed { (pattern : Pattern) (ins : Instruction) →
+        (Contains (matching pattern) ins ↔ Matches pattern ins) }
     ensures once { (pattern : Pattern)
         → IsStrictlyIncreasing (map (λ ins. ins.d) (matching pattern)) }
     ensures allowed { (loads : ℕ → Option Word) (notes : Notes) (location : ℕ) (ins : Instruction)

@@ -1,3 +1,5 @@
+//! Notes, read from a document, or the first fault of the document.
+
 ghost use Rattle.std.specs.Prelude.{◌≡◌, ℕ, ◌++◌, [], ◌∷◌, length, map, IfOk, IfErr, IfNone, IfSome};
 ghost use Rattle.drum_times.specs.Listed.{listed};
 ghost use Rattle.drum_times.specs.NotesDocument as said;
@@ -56,7 +58,7 @@ fn read_table(alloc: Global, table: &Table) -> Result<Notes, NoteFault>
     top.all(&["programmed", "load_cards"])?;
     let programmed = top.choice("programmed", &PROGRAMMED)?;
     let load_cards = top.choice("load_cards", &LOAD_CARDS)?;
-    let marks: Vec<Mark> = top.tables("mark", 0, Some(8))?;
+    let marks: Vec<Mark> = top.tables("mark", 0, Some(Mark::MOST))?;
     let lists: Vec<Listing> = top.tables("list", 0, None)?;
     if let Some((from, onto)) = repeated_edge(&marks) {
         return Err(NoteFault::TwoMarks(from, onto));

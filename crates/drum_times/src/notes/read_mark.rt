@@ -1,3 +1,5 @@
+//! A mark of the notes, read from its table.
+
 ghost use Rattle.std.specs.Prelude.{◌≡◌, ℕ, ◌≤◌, [], IfOk, IfErr};
 ghost use Rattle.drum_times.specs.NotesDocument as said;
 ghost use Rattle.drum_times.specs.Refused.{IsFirst};

@@ -27,7 +27,7 @@ fn has_edge(marks: &[Mark], mark: &Mark) -> bool
     ensures { result ≡ said.has_edge (map said.edge_of marks.now) (said.edge_of mark.now) }
 {
     for one in marks {
-        if one.from.number == mark.from.number && one.onto.number == mark.onto.number {
+        if one.is_on(mark.from, mark.onto) {
             return true;
         }
     }

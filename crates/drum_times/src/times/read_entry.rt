@@ -1,3 +1,5 @@
+//! An entry of a timing table, read from its keys.
+
 ghost use Rattle.std.specs.Prelude.{◌≡◌, ◌^◌, ◌*◌, ◌≤◌, [], map, IfOk, IfErr};
 ghost use Rattle.drum_times.specs.Document.{missing_in};
 ghost use Rattle.drum_times.specs.Refused.{IsFirst};
@@ -8,9 +10,6 @@ use crate::document::fields::Fields;
 use crate::entry::Entry;
 use crate::fault::NoteFault;
 use drum_core::{Op, Parity};
-
-/// The largest number in an entry, in word times.
-const LONGEST: u64 = 1_000_000;
 
 /// What an entry says beside `before`, `after` and `parity`.
 #[derive(Clone, Copy, Debug, PartialEq, Eq)]
@@ -61,8 +60,8 @@ fn read_plain(fields: &Fields<'_>) -> Result<Entry, NoteFault>
     ensures first { IfErr result (IsFirst
         (document.plain_faults fields.now.at.now (table_view fields.now.table.now))) }
 {
-    let before = fields.whole_number("before", 1, LONGEST)?;
-    let after = fields.whole_number("after", 0, LONGEST)?;
+    let before = fields.whole_number("before", 1, Entry::LONGEST)?;
+    let after = fields.whole_number("after", 0, Entry::LONGEST)?;
     let parity = fields.choice("parity", &PARITIES)?;
     Ok(Entry {
         before: before as u32,
@@ -97,13 +96,13 @@ fn read_rest(fields: &Fields<'_>, form: Form) -> Result<Rest, NoteFault>
 {
     let (per, wait_min, wait_max) = match form {
         Form::Plain => (0, 0, 0),
-        Form::Units => (fields.whole_number("per", 0, LONGEST)?, 0, 0),
+        Form::Units => (fields.whole_number("per", 0, Entry::LONGEST)?, 0, 0),
         Form::Waits => {
-            let wait_min = fields.whole_number("wait_min", 0, LONGEST)?;
+            let wait_min = fields.whole_number("wait_min", 0, Entry::LONGEST)?;
             (
                 0,
                 wait_min,
-                fields.whole_number("wait_max", wait_min, LONGEST)?,
+                fields.whole_number("wait_max", wait_min, Entry::LONGEST)?,
             )
         }
     };
