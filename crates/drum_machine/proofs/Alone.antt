@@ -10,7 +10,7 @@ use Rattle.drum_core.specs.declared.op.Op.TheVariants.{BranchOnDigit}
 use Rattle.drum_core.specs.declared.op.branch.Branch as branches
 use Rattle.drum_core.specs.declared.op.branch.Branch.TheVariants as branch
 use Rattle.drum_core.specs.declared.word.Word.{Word}
-use Rattle.drum_core.specs.Op.{operand_of}
+use Rattle.drum_core.specs.Op.{operand_of, is_operand}
 use Rattle.drum_core.specs.Word.{number_in}
 use Rattle.drum_times.specs.declared.entry.Entry.{Entry}
 use Rattle.drum_machine.specs.declared.card.Card.{Card}
@@ -18,7 +18,7 @@ use Rattle.drum_machine.specs.Contents.{Contents, word_at}
 use Rattle.drum_machine.specs.Effect.{effect, with_words, band, reads, takes, after_test, digit_at, is_too_large}
 use Rattle.drum_machine.specs.Effect.{amount_of, product}
 use Rattle.drum_machine.proofs.Going.{left_by, left_if, keeps_left, division_left, digit_left, step_leaves}
-use Rattle.drum_machine.specs.Step.{State, contents_after, step, instruction_in, is_operand}
+use Rattle.drum_machine.specs.Step.{State, contents_after, step, instruction_in}
 use Rattle.drum_machine.specs.Writes.{written_by, writes_with, writes}
 
 -- a word that is put in one place leaves the others

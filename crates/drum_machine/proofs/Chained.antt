@@ -18,7 +18,7 @@ use Rattle.drum_core.proofs.Waited.{first_again}
 use Rattle.drum_core.proofs.Clockworks.{Clockworks, KeepsTime, keeps_time, seek_clockworks, parity_clockworks}
 use Rattle.drum_core.proofs.Clockworks.{delay_clockworks, optional_clockworks, then_clockworks}
 use Rattle.drum_times.specs.declared.entry.Entry.{Entry}
-use Rattle.drum_machine.specs.Timing.{found, ready, waits_for_operand, reached, ended}
+use Rattle.drum_machine.specs.Timing.{found, ready, waits_for_operand, reached, ended, longest_step}
 
 -- a clockwork with these moments, by their clocks, and so many word times at most
 record GoesTo (kind : Clockworks) (moment : ℕ → ℕ) (most : ℕ) : Type 0 where
@@ -116,9 +116,9 @@ found_keeps_time n = keeps (seeks n) (found n) 49 (λ t. refl) (omega arith)
 
 module _ (entry : Entry) (place : ℕ) where
   -- The moments x of a step.
-  pub ready_keeps_time : KeepsTime (ready entry place) 92000099
+  pub ready_keeps_time : KeepsTime (ready entry place) longest_step
   ready_keeps_time =
-      keeps (to_x entry place) (ready entry place) 92000099 (λ t. refl) (omega (arith, entry.short_before))
+      keeps (to_x entry place) (ready entry place) longest_step (λ t. refl) (omega (arith, entry.short_before))
 
   -- A search that begins when the instruction is found is over at once.
   pub ready_from_found : (t : ℕ) → ready entry place (found place t) ≡ ready entry place t
@@ -126,13 +126,13 @@ module _ (entry : Entry) (place : ℕ) where
 
   module _ (op : Op) (d units wait : ℕ) where
     -- The moments e of a step, whose work is short.
-    pub ended_keeps_time : entry.per * units + wait ≤ 90000000 → KeepsTime (ended entry op d place units wait) 92000099
+    pub ended_keeps_time : entry.per * units + wait ≤ 90000000 → KeepsTime (ended entry op d place units wait) longest_step
     ended_keeps_time work =
         let acts = chained (operands op d) (parities entry.parity) (omega arith) in
         let last = delays (entry.after + (entry.per * units + wait)) (omega (arith, work, entry.short_after)) in
         let from_x = chained acts last (omega (arith, work, entry.short_after)) in
         let whole = chained (to_x entry place) from_x (omega (arith, work, entry.short_before, entry.short_after)) in
-        keeps whole (ended entry op d place units wait) 92000099 (λ t. omega arith)
+        keeps whole (ended entry op d place units wait) longest_step (λ t. omega arith)
         (omega (arith, work, entry.short_before, entry.short_after))
 
     pub ended_from_found : (t : ℕ)

@@ -9,7 +9,7 @@ use Rattle.drum_core.specs.declared.op.Op.TheVariants.{NoOperation, Stop, Add, R
 use Rattle.drum_core.specs.declared.op.Op.TheVariants.{Store, Shift, Branch, LoadDistributor, Read, Punch}
 use Rattle.drum_core.specs.declared.op.Op.TheVariants.{BranchOnDigit}
 use Rattle.drum_core.specs.Location.{is_location}
-use Rattle.drum_core.specs.Op.{op_of, operand_of}
+use Rattle.drum_core.specs.Op.{op_of, operand_of, is_operand}
 use Rattle.drum_core.specs.Recurs.{never_earlier}
 use Rattle.drum_core.specs.Waits.{available_recurs, parity_recurs}
 use Rattle.drum_core.specs.Word.{number_in}
@@ -25,8 +25,8 @@ use Rattle.drum_machine.specs.Effect.{is_too_large, amount_of, product, holds}
 use Rattle.drum_machine.specs.Ending.{ended_by, stops_by, clock_by, declared, own_notes}
 use Rattle.drum_machine.specs.Keeps.{IsAsDeclared, IsWithoutLoad, is_load, reads_load, reads_with}
 use Rattle.drum_machine.specs.Run.{time_of}
-use Rattle.drum_machine.specs.Step.{State, Stepped, on, stopped, step, step_with, step_of, instruction_in, is_operand}
-use Rattle.drum_machine.specs.Step.{is_read, has_cards, lacks_card, leaves, clock_of}
+use Rattle.drum_machine.specs.Step.{State, Stepped, on, stopped, step, step_with, step_of, instruction_in, is_read}
+use Rattle.drum_machine.specs.Step.{has_cards, lacks_card, leaves, clock_of}
 use Rattle.drum_machine.specs.Timing.{found, ready, reached, ended, units_of, waits_for_operand}
 use Rattle.drum_machine.specs.Ways.{Way, early, to, late, in_order, ways_of_stop, ways_of, ways_with, ways}
 

@@ -4,13 +4,13 @@ use Rattle.std.specs.Prelude.{ℤ, unsigned_abs}
 use Rattle.std.proofs.Common.{refl}
 use Rattle.drum_core.specs.declared.op.Op.{Op}
 use Rattle.drum_core.specs.Location.{is_location}
-use Rattle.drum_core.specs.Op.{op_of, operand_of}
+use Rattle.drum_core.specs.Op.{op_of, operand_of, is_operand}
 use Rattle.drum_times.specs.declared.entry.Entry.{Entry}
 use Rattle.drum_machine.specs.declared.why.Why.TheVariants as why
 use Rattle.drum_machine.specs.Contents.{Contents}
 use Rattle.drum_machine.specs.Effect.{Outcome, goes, stops, effect, becomes, overflows, keeps, branches_on}
 use Rattle.drum_machine.specs.Step.{State, on, stopped, contents_after, step, step_with, step_of, instruction_in}
-use Rattle.drum_machine.specs.Step.{is_operand, lacks_card, leaves, clock_of}
+use Rattle.drum_machine.specs.Step.{lacks_card, leaves, clock_of}
 use Rattle.drum_machine.specs.Timing.{ready, ended, units_of}
 
 -- what an outcome leaves

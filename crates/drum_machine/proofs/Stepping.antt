@@ -7,7 +7,7 @@ use Rattle.drum_core.specs.declared.op.Op.{Op}
 use Rattle.drum_core.specs.declared.op.Op.TheVariants.{NoOperation, Stop, Add, ResetAdd, Divide, DivideReset, Multiply}
 use Rattle.drum_core.specs.declared.op.Op.TheVariants.{Store, Shift, Branch, LoadDistributor, Read, Punch}
 use Rattle.drum_core.specs.declared.op.Op.TheVariants.{BranchOnDigit}
-use Rattle.drum_core.specs.Op.{operand_of}
+use Rattle.drum_core.specs.Op.{operand_of, is_operand}
 use Rattle.drum_times.specs.declared.entry.Entry.{Entry}
 use Rattle.drum_machine.specs.declared.card.Card.{Card}
 use Rattle.drum_machine.specs.Contents.{Contents}
@@ -21,8 +21,8 @@ use Rattle.drum_core.specs.declared.location.Location.{Location}
 use Rattle.drum_core.specs.declared.word.Word.{Word}
 use Rattle.drum_core.specs.Available.{has_parity}
 use Rattle.drum_core.specs.Moment.{first}
-use Rattle.drum_machine.specs.Step.{State, Stepped, step, step_with, step_of, leaves, instruction_in, is_operand}
-use Rattle.drum_machine.specs.Step.{lacks_card, clock_of}
+use Rattle.drum_machine.specs.Step.{State, Stepped, step, step_with, step_of, leaves, instruction_in, lacks_card}
+use Rattle.drum_machine.specs.Step.{clock_of}
 use Rattle.drum_machine.specs.Timing.{units_of, ended, reached, IsWait}
 
 -- a step that goes past x ends as the effect leaves it

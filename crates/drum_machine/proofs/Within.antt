@@ -5,7 +5,8 @@ use Rattle.std.specs.Prelude.{◌==◌, if◌then◌else◌}
 use Rattle.std.proofs.lemmas.Bool.{eqb-true}
 use Rattle.std.proofs.lemmas.List.{get_or_read, get_or-take}
 use Rattle.drum_times.specs.declared.notes.mark.Mark.{Mark}
-use Rattle.drum_machine.specs.Counts.{mark_on, is_inside, passed_from, after_pass, AreWithin}
+use Rattle.drum_times.specs.Marks.{mark_on}
+use Rattle.drum_machine.specs.Counts.{is_inside, passed_from, after_pass, AreWithin}
 
 -- a pass of the mark on the edge
 pub counts_passed : (marks : List Mark) (from onto passed : ℕ) (counts : List ℕ) → Some passed ≡ mark_on marks from onto

@@ -16,8 +16,8 @@ pub record Contents : Type 0 where
   -- one whole number of twenty digits
   pub accumulator : ℤ
   -- Whether the dividend was minus, while the remainder's sign stands: after 14, until an operation
-  -- 10 to 19, 30, 31, 35 or 60 to 68 next acts. (That sign and how long it lasts are this project's
-  -- choice.)
+  -- 10 to 19, 30, 31, 35 or 60 to 68 next acts, but for a 14 or 64 that stops for its quotient.
+  -- (That sign and how long it lasts are this project's choice.)
   pub remainder : Option Bool
   -- the overflow latch
   pub latch : Bool

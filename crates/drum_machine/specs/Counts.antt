@@ -1,20 +1,8 @@
 -- How often marks are passed, counted since the last pass of a mark that they stand inside of (this
 -- project's choice).
-use Rattle.std.specs.Prelude.{ℕ, zero, suc, ◌+◌, ◌≤◌, ◌==◌, Bool, false, ◌&&◌, ◌||◌, if◌then◌else◌, List, [], ◌∷◌, map, length, slice_get, Option, Some, None}
+use Rattle.std.specs.Prelude.{ℕ, zero, suc, ◌+◌, ◌≤◌, ◌==◌, Bool, false, ◌||◌, if◌then◌else◌, List, [], ◌∷◌, map, length, slice_get, Option, Some, None}
 use Rattle.drum_times.specs.declared.notes.mark.Mark.{Mark}
-
--- the mark stands on this edge
-abbrev pub is_on : Mark → ℕ → ℕ → Bool
-is_on mark from onto = mark.from.number == from && mark.onto.number == onto
-
--- the place of the mark on an edge, if there is one, the first of these marks having this place
-abbrev pub mark_from : ℕ → List Mark → ℕ → ℕ → Option ℕ
-mark_from place [] from onto = None
-mark_from place (mark ∷ marks) from onto =
-    if is_on mark from onto then Some place else mark_from (place + 1) marks from onto
-
-abbrev pub mark_on : List Mark → ℕ → ℕ → Option ℕ
-mark_on marks from onto = mark_from 0 marks from onto
+use Rattle.drum_times.specs.Marks.{mark_on}
 
 -- the mark that a mark stands inside of, by their places
 abbrev pub outer_of : Option Mark → Option ℕ

@@ -37,12 +37,12 @@ takes c w = record c { distributor = w }
 abbrev pub becomes : Contents → ℤ → Contents
 becomes c z = record c { accumulator = z; remainder = None }
 
--- It becomes what twenty digits hold of a number that wants more, and the latch goes on.
+-- the accumulator becomes what twenty digits hold of a number that wants more, and the latch goes on
 abbrev pub overflows : Contents → ℤ → Contents
 overflows c z = record (becomes c (signed (is_minus z) (unsigned_abs z % 10 ^ 20))) { latch = true }
 
--- It becomes a number. Where more than twenty digits are wanted, that is an overflow, after which
--- the machine stops if the overflow switch is at STOP.
+-- The accumulator becomes a number. Where more than twenty digits are wanted, that is an overflow,
+-- after which the machine stops if the overflow switch is at STOP.
 abbrev pub keeps : Contents → ℤ → ℕ → Outcome
 keeps c z next =
     if nat_le (10 ^ 20) (unsigned_abs z) then
@@ -149,7 +149,8 @@ abbrev pub branches_on : Contents → ℕ → ℕ → ℕ → Outcome
 branches_on c digit d i =
     if digit == 8 then goes c d else (if digit == 9 then goes c i else stops c why.Digit)
 
--- a card's words go into words 01 to 10 of D's band; a load card goes on at D
+-- A card's words go into words 01 to 10 of D's band; a load card goes on at D. (No step comes here
+-- without a card: it has stopped at x.)
 abbrev pub reads : Contents → List Card → ℕ → ℕ → Outcome
 reads c [] d i = stops c why.Card
 reads c (card ∷ cards) d i =

@@ -2,7 +2,7 @@
 use Rattle.std.specs.Prelude.{◌≡◌, ℕ, Bool, true, false, ◌&&◌, IsTrue, List, [], ◌∷◌, Option, Some, None, Contains}
 use Rattle.drum_core.specs.declared.op.Op.{Op}
 use Rattle.drum_core.specs.declared.word.Word.{Word}
-use Rattle.drum_core.specs.Op.{op_of, operand_of}
+use Rattle.drum_core.specs.Op.{op_of, operand_of, is_operand}
 use Rattle.drum_times.specs.declared.notes.programmed.Programmed as switches
 use Rattle.drum_times.specs.declared.notes.programmed.Programmed.TheVariants as switch
 use Rattle.drum_times.specs.Allowed.{Notes, is_listed, allowed}
@@ -11,7 +11,7 @@ use Rattle.drum_machine.specs.declared.left.Left.{Left}
 use Rattle.drum_machine.specs.declared.left.Left.TheVariants.{Unlisted, TooOften, Switch, LoadCard}
 use Rattle.drum_machine.specs.Counts.{after_pass, no_counts, AreWithin}
 use Rattle.drum_machine.specs.Run.{Turn}
-use Rattle.drum_machine.specs.Step.{State, Stepped, on, stopped, fetched, instruction_in, is_operand, is_read}
+use Rattle.drum_machine.specs.Step.{State, Stepped, on, stopped, fetched, instruction_in, is_read}
 
 -- the programmed switch is as declared
 abbrev pub IsAsDeclared : switches.Programmed → Bool → Type 0

@@ -1,5 +1,6 @@
 pub mod Contents
 pub mod Counts
+pub mod CountsIn
 pub mod Effect
 pub mod Ending
 pub mod Feed
@@ -13,4 +14,5 @@ pub mod Setup
 pub mod Step
 pub mod Timing
 pub mod Ways
+pub mod WaysLeft
 pub mod Writes

@@ -4,7 +4,7 @@ use Rattle.drum_core.specs.declared.location.Location.{Location}
 use Rattle.drum_core.specs.declared.op.Op.{Op}
 use Rattle.drum_core.specs.declared.op.Op.TheVariants.{Punch}
 use Rattle.drum_core.specs.declared.word.Word.{Word}
-use Rattle.drum_core.specs.Op.{op_of, operand_of}
+use Rattle.drum_core.specs.Op.{op_of, operand_of, is_operand}
 use Rattle.drum_times.specs.declared.entry.Entry.{Entry}
 use Rattle.drum_machine.specs.declared.card.Card.{Card}
 use Rattle.drum_machine.specs.declared.feed.Feed.{Feed}
@@ -17,7 +17,7 @@ use Rattle.drum_machine.specs.Ending.{own_notes, stops_by}
 use Rattle.drum_machine.specs.Feed.{cards_left, waits_left, wait_for, cards_after, waits_after}
 use Rattle.drum_machine.specs.Keeps.{reads_load}
 use Rattle.drum_machine.specs.Registers.{contents_with}
-use Rattle.drum_machine.specs.Step.{State, Stepped, on, stopped, step, fetched, instruction_in, is_operand, lacks_card, MayWait}
+use Rattle.drum_machine.specs.Step.{State, Stepped, on, stopped, step, fetched, instruction_in, lacks_card, MayWait}
 use Rattle.drum_machine.specs.Ways.{Way, to, ways}
 use Rattle.drum_machine.specs.Writes.{writes}
 

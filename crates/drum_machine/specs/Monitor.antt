@@ -1,5 +1,5 @@
 -- What a monitor has seen of a run, and how it judges a step (this project's choice).
-use Rattle.std.specs.Prelude.{◌≡◌, ℕ, List, [], ◌∷◌, take, length, Option}
+use Rattle.std.specs.Prelude.{◌≡◌, ℕ, List, [], ◌∷◌, Option}
 use Rattle.drum_core.specs.declared.location.Location.{Location}
 use Rattle.drum_core.specs.declared.op.Op.{Op}
 use Rattle.drum_core.specs.declared.word.Word.{Word}
@@ -9,6 +9,7 @@ use Rattle.drum_machine.specs.declared.left.Left.{Left}
 use Rattle.drum_machine.specs.declared.monitor.Monitor.{Monitor}
 use Rattle.drum_machine.specs.declared.step.Step as answers
 use Rattle.drum_machine.specs.Counts.{no_counts}
+use Rattle.drum_machine.specs.CountsIn as held
 use Rattle.drum_machine.specs.Keeps.{AreKept, counts_after, reads_load}
 use Rattle.drum_machine.specs.Machine.{Tells}
 use Rattle.drum_machine.specs.Run.{Turn}
@@ -20,7 +21,7 @@ answer_of m = m.left
 
 -- the counts of the notes' marks, as a monitor holds them
 abbrev pub counts_in : Monitor → Notes → List ℕ
-counts_in m notes = take (length notes.marks) m.counts
+counts_in m notes = held.counts_in m.counts notes.marks
 
 -- the counts after turns
 abbrev pub counts_over : Notes → List ℕ → List Turn → List ℕ

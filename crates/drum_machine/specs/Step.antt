@@ -1,15 +1,13 @@
 -- A step of the machine, and when it ends (IBM 650 Manual of Operation; the moments are this
 -- project's choice).
-use Rattle.std.specs.Prelude.{◌≡◌, ℕ, ◌+◌, ◌-◌, Bool, true, false, not, ◌&&◌, if◌then◌else◌, nat_lt, List, [], ◌∷◌, Option, Some, None}
+use Rattle.std.specs.Prelude.{◌≡◌, ℕ, ◌+◌, ◌-◌, Bool, true, false, not, ◌&&◌, if◌then◌else◌, List, [], ◌∷◌, Option, Some, None}
 use Rattle.drum_core.specs.declared.instruction.Instruction.{Instruction}
 use Rattle.drum_core.specs.declared.op.Op.{Op}
 use Rattle.drum_core.specs.declared.op.Op.TheVariants.{Read}
-use Rattle.drum_core.specs.declared.op.Operand.{Operand}
-use Rattle.drum_core.specs.declared.op.Operand.TheVariants.{Any, Drum, Unused}
 use Rattle.drum_core.specs.declared.word.Word.{Word}
 use Rattle.drum_core.specs.Instruction.{instruction_of}
 use Rattle.drum_core.specs.Location.{is_location}
-use Rattle.drum_core.specs.Op.{op_of, operand_of}
+use Rattle.drum_core.specs.Op.{op_of, operand_of, is_operand}
 use Rattle.drum_times.specs.declared.entry.Entry.{Entry}
 use Rattle.drum_machine.specs.declared.card.Card.{Card}
 use Rattle.drum_machine.specs.declared.why.Why as whys
@@ -49,12 +47,6 @@ fetched s = word_at s.contents s.sought
 
 abbrev pub instruction_in : State → Instruction
 instruction_in s = instruction_of (fetched s)
-
--- D is what the operation wants
-abbrev pub is_operand : Operand → ℕ → Bool
-is_operand Any d = is_location d
-is_operand Drum d = nat_lt d 2000
-is_operand Unused d = true
 
 abbrev pub is_read : Op → Bool
 is_read Read = true

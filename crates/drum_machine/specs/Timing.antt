@@ -58,6 +58,12 @@ units_of Multiply d c = digit_sum 10 (upper c.accumulator)
 units_of (Shift s) d c = places s d
 units_of _ d c = 0
 
+-- No step takes more word times: 49 until the instruction is found, 1,000,000 before its
+-- data is sought, 49 until that is found, 1 for the parity, 1,000,000 after it, and 90 units (the
+-- digit sum of ten nines) of 1,000,000 each.
+abbrev pub longest_step : ℕ
+longest_step = 49 + 1000000 + 49 + 1 + 1000000 + 90 * 1000000
+
 -- the waits that an operation may have: any of the entry's range for 70 and 71, else none
 abbrev pub IsWait : Op → Entry → ℕ → Type 0
 IsWait Read entry wait = (entry.wait_min ≤ wait) × (wait ≤ entry.wait_max)

@@ -3,9 +3,8 @@
 ghost use Rattle.std.specs.Prelude.{◌≡◌, ℕ, ◌<◌, ◌≤◌, ◌+◌, ◌*◌, true};
 ghost use Rattle.drum_core.specs.Available.{has_parity};
 ghost use Rattle.drum_core.specs.Moment.{first};
-ghost use Rattle.drum_core.specs.Op.{operand_of};
-ghost use Rattle.drum_machine.specs.Step.{is_operand};
-ghost use Rattle.drum_machine.specs.Timing.{ready, waits_for_operand, reached, ended};
+ghost use Rattle.drum_core.specs.Op.{operand_of, is_operand};
+ghost use Rattle.drum_machine.specs.Timing.{ready, waits_for_operand, reached, ended, longest_step};
 
 use drum_core::{AtParity, Clockwork, Delay, Location, Op, Seek, Then};
 use drum_times::Entry;
@@ -92,7 +91,7 @@ pub fn to_end(entry: Entry, op: Op, place: Location, d: u16, units: u64, wait: u
     requires work { entry.per * units + wait ≤ 90000000 }
     ensures moment { (clock : ℕ) → ⟦<ToEnd as Clockwork>⟧.moment result clock
         ≡ ended entry op d place.number units wait clock }
-    ensures short { ⟦<ToEnd as Clockwork>⟧.most result ≤ 92000099 }
+    ensures short { ⟦<ToEnd as Clockwork>⟧.most result ≤ longest_step }
 {
     Then {
         first: to_ready(entry, place),

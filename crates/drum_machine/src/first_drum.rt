@@ -9,9 +9,6 @@ use crate::setup::Setup;
 use drum_core::{Deck, Location, Word};
 use std::alloc::Global;
 
-/// How many words the drum has.
-const DRUM: u16 = 2000;
-
 /// The word at a drum location: the deck's, elsewhere the setup's, else +0.
 fn first_word(deck: &Deck, setup: &Setup, location: Location) -> Word
     ensures { result ≡ first_of (loads_in deck.now) setup.now.words.items location.number }
@@ -31,8 +28,8 @@ pub fn first_drum(alloc: Global, deck: &Deck, setup: &Setup) -> Result<Vec<Word>
     ensures { IfOk result (λ drum.
         IsFirstDrum (loads_in deck.now) setup.now.words.items drum.items) }
 {
-    let mut drum = Vec::with_capacity(alloc, DRUM as usize)?;
-    for number in 0..DRUM {
+    let mut drum = Vec::with_capacity(alloc, usize::from(Location::DRUM))?;
+    for number in 0..Location::DRUM {
         let word = first_word(deck, setup, Location { number });
         let Ok(()) = drum.push(word) else {
             return Err(Memory);

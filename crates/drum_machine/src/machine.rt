@@ -2,17 +2,15 @@ ghost use Rattle.std.specs.Prelude.{◌≡◌, ◌+◌, ◌-◌, ◌^◌, ◌<�
 
 use crate::chain::to_ready;
 use crate::feed::{Feed, is_load, is_read};
-use crate::fetch::instruction_of;
 use crate::first_drum::first_drum;
 use crate::memory::Memory;
 use crate::moments::{ended, found};
-use crate::operand::is_operand;
 use crate::registers::Registers;
 use crate::setup::Setup;
 use crate::step::Step;
 use crate::stop::Stop;
 use crate::why::Why;
-use drum_core::{Clockwork, Deck, Location, Op, Word};
+use drum_core::{Clockwork, Deck, Instruction, Location, Op, Word};
 use drum_times::{Entry, Times};
 use std::alloc::Global;
 
@@ -30,7 +28,7 @@ pub struct Machine {
 
 impl Machine {
     ghost use Rattle.std.specs.Prelude.{List, Some, None, Result, true};
-    ghost use Rattle.drum_core.specs.Op.{operand_of};
+    ghost use Rattle.drum_core.specs.Op.{operand_of, is_operand};
     ghost use Rattle.drum_core.specs.Loads.{loads_in, start_in};
     ghost use Rattle.drum_times.specs.Entries.{entry_in};
     ghost use Rattle.drum_core.specs.declared.word.Word.{Word as WordType};
@@ -40,8 +38,8 @@ impl Machine {
     ghost use Rattle.drum_machine.specs.Feed.{cards_left};
     ghost use Rattle.drum_machine.specs.declared.card.Card.{Card};
     ghost use Rattle.drum_machine.specs.declared.step.Step.TheVariants as Step;
-    ghost use Rattle.drum_machine.specs.Timing.{ready as ready_at};
-    ghost use Rattle.drum_machine.specs.Step.{State, leaves, fetched, instruction_in, is_operand as is_operand_of};
+    ghost use Rattle.drum_machine.specs.Timing.{longest_step, ready as ready_at};
+    ghost use Rattle.drum_machine.specs.Step.{State, leaves, fetched, instruction_in};
     ghost use Rattle.drum_machine.specs.Registers.{contents_with, outcome_of};
     ghost use Rattle.drum_machine.specs.Machine.{GoesOn, HasStopped, sought_by, used_by, Tells, Becomes, TakesStep, WritesAlone, EndsByAWay, state_in, op_in, punched_by};
 
@@ -170,13 +168,13 @@ impl Machine {
         requires op { op_in (state_in self.old (cards_left feed.old)) ≡ Some op }
         ensures takes { TakesStep (entry_in times.now) self.old feed.old result self.new feed.new }
         ensures advances { self.old.used < self.new.used }
-        ensures near { self.new.used ≤ self.old.used + 92000099 }
+        ensures near { self.new.used ≤ self.old.used + longest_step }
     {
         let entry = times.entry(op);
-        let instruction = instruction_of(word);
+        let instruction = Instruction::of(word);
         let (d, i) = (instruction.d, instruction.i);
         let x = self.ready(entry);
-        if !is_operand(op.operand(), d) {
+        if !op.operand().suits(d) {
             return self.halt(word, Why::Operand, x);
         }
         let card = feed.take_card(op);
@@ -194,7 +192,7 @@ impl Machine {
 
     /// The words that an operation punches.
     fn punched(&self, op: Op, d: u16) -> Option<[Word; 10]>
-        requires { is_operand_of (operand_of op) d ≡ true }
+        requires { is_operand (operand_of op) d ≡ true }
         ensures { (s : State) (cards : List Card)
             → s.contents ≡ contents_with self.now.registers cards → (instruction_in s).d ≡ d
             → result ≡ punched_by op s }
@@ -205,7 +203,8 @@ impl Machine {
         }
     }
 
-    /// Takes a step. A machine that has stopped answers the same again, and nothing changes.
+    /// Takes a step, of 92,000,099 word times at most; one that goes on takes some. A machine that has
+    /// stopped answers the same again, and nothing changes.
     pub fn step(&mut self, times: &Times, feed: &mut Feed) -> Step
         requires { used_by self.old ≤ 2 ^ 62 }
         ensures goes { GoesOn self.old
@@ -216,7 +215,7 @@ impl Machine {
         ensures ends { GoesOn self.old
             → EndsByAWay (state_in self.old (cards_left feed.old)) result }
         ensures advances { GoesOn self.new → used_by self.old < used_by self.new }
-        ensures near { used_by self.new ≤ used_by self.old + 92000099 }
+        ensures near { used_by self.new ≤ used_by self.old + longest_step }
         ensures rests { (word : WordType) (why : WhyType) → HasStopped self.old word why
             → (result ≡ Step.Stopped (sought_by self.old) word why (used_by self.old))
             × (self.new ≡ self.old) × (feed.new ≡ feed.old) }
@@ -230,7 +229,7 @@ impl Machine {
             };
         }
         let word = self.registers.word_at(self.sought);
-        match Op::of(instruction_of(word).op) {
+        match Op::of(Instruction::of(word).op) {
             Some(op) => self.take(op, word, times, feed),
             None => {
                 let clock = found(self.sought, self.clock());

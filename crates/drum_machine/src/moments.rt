@@ -4,8 +4,7 @@
 ghost use Rattle.std.specs.Prelude.{◌≡◌, ◌^◌, ◌<◌, ◌≤◌, ◌+◌, ◌*◌, true};
 ghost use Rattle.drum_core.specs.Available.{has_parity};
 ghost use Rattle.drum_core.specs.Moment.{first};
-ghost use Rattle.drum_core.specs.Op.{operand_of};
-ghost use Rattle.drum_machine.specs.Step.{is_operand};
+ghost use Rattle.drum_core.specs.Op.{operand_of, is_operand};
 ghost use Rattle.drum_machine.specs.Timing.{found as found_at, reached as reached_at};
 
 use crate::chain::{from_ready, to_operand};

@@ -1,26 +1,24 @@
 ghost use Rattle.std.specs.Prelude.{◌≡◌, ◌≤◌, ◌∷◌, [], ◌++◌, length, List, Some, None, MatchOption, MatchBool, IsTrue, Contains, take};
 ghost use Rattle.drum_machine.specs.Keeps.{IsAsDeclared};
-ghost use Rattle.drum_core.specs.Instruction.{instruction_of as instruction_in};
+ghost use Rattle.drum_core.specs.Instruction.{instruction_of};
 ghost use Rattle.drum_core.specs.Loads.{loads_in};
 ghost use Rattle.drum_times.specs.Allowed.{is_listed, allowed as allowed_at};
 ghost use Rattle.drum_machine.specs.declared.left.Left.TheVariants as Left;
 
 mod allowed;
 
-use crate::fetch::instruction_of;
+use crate::counts::Counts;
 use crate::left::Left;
-use crate::passes::{MOST_MARKS, count_pass, mark_on};
 use crate::setup::Setup;
 use crate::step::Step;
 use allowed::is_allowed;
-use drum_core::{Deck, Location, Word};
+use drum_core::{Deck, Instruction, Location, Word};
 use drum_times::{Mark, Notes, Programmed};
 
 /// Watches the steps of a run, and tells how the run leaves the notes.
 #[derive(Debug, Drop)]
 pub struct Monitor {
-    /// How often each mark was passed since the last pass of one that it stands inside of.
-    counts: [u16; MOST_MARKS],
+    counts: Counts,
     left: Option<Left>,
 }
 
@@ -39,13 +37,13 @@ fn is_as_declared(programmed: Programmed, stops: bool) -> bool
 fn unlisted(notes: &Notes, deck: &Deck, location: Location, word: Word) -> Option<Left>
     ensures { MatchOption result
         (IsTrue (is_listed notes.now location.number)
-        → Contains (allowed_at (loads_in deck.now) notes.now location.number) (instruction_in word))
+        → Contains (allowed_at (loads_in deck.now) notes.now location.number) (instruction_of word))
         (λ left. (left ≡ Left.Unlisted location word)
         × ¬ (IsTrue (is_listed notes.now location.number)
         → Contains (allowed_at (loads_in deck.now) notes.now location.number)
-        (instruction_in word))) }
+        (instruction_of word))) }
 {
-    if is_allowed(notes, deck, location, instruction_of(word)) {
+    if is_allowed(notes, deck, location, Instruction::of(word)) {
         None
     } else {
         Some(Left::Unlisted(location, word))
@@ -61,6 +59,7 @@ impl Monitor {
     ghost use Rattle.drum_machine.specs.Keeps.{IsKeptTurn, Leaves, counts_after};
     ghost use Rattle.drum_machine.specs.Run.{Turn};
     ghost use Rattle.drum_machine.specs.Counts.{after_pass, no_counts, AreWithin};
+    ghost use Rattle.drum_machine.specs.CountsIn.{counts_in as counts_of};
     ghost use Rattle.drum_machine.specs.Monitor.{answer_of, counts_in, counts_over, HasSeen, IsToldOf};
 
     /// A monitor of a run from this setup. It has answered where the programmed switch isn't as the
@@ -72,14 +71,14 @@ impl Monitor {
             × ¬ IsAsDeclared notes.now.programmed setup.now.programmed) }
         ensures seen { (loads : ℕ → Option Word) → HasSeen loads notes.now result [] }
     {
-        prove!(notes.marks().len() <= MOST_MARKS);
+        prove!(notes.marks().len() <= Mark::MOST);
         let left = if is_as_declared(notes.programmed(), setup.programmed) {
             None
         } else {
             Some(Left::Switch)
         };
         Monitor {
-            counts: [0; MOST_MARKS],
+            counts: Counts::none(),
             left,
         }
     }
@@ -94,21 +93,20 @@ impl Monitor {
     /// Counts a step from one location to another, where no count is above what its mark allows.
     fn pass(&mut self, marks: &[Mark], from: Location, onto: Location) -> Option<Left>
         requires { length marks.now ≤ 8 }
-        ensures { let counts = take (length marks.now) self.old.counts in
+        ensures { let counts = counts_of self.old.counts marks.now in
             let passed = after_pass marks.now from.number onto.number counts in
             MatchOption result
-            ((take (length marks.now) self.new.counts ≡ passed)
+            ((counts_of self.new.counts marks.now ≡ passed)
             × (AreWithin marks.now counts → AreWithin marks.now passed))
             (λ left. (left ≡ Left.TooOften from onto) × ¬ AreWithin marks.now passed) }
     {
-        let Some(passed) = mark_on(marks, from, onto) else {
-            return None;
-        };
-        if self.counts[passed] >= marks[passed].most {
-            return Some(Left::TooOften(from, onto));
+        match self.counts.passed(marks, from, onto) {
+            Some(counts) => {
+                self.counts = counts;
+                None
+            }
+            None => Some(Left::TooOften(from, onto)),
         }
-        count_pass(&mut self.counts, marks, passed);
-        None
     }
 
     /// How a step leaves the notes; where it doesn't, it is counted.

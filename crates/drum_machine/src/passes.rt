@@ -1,26 +1,9 @@
-//! How often marks are passed.
+//! What a pass of a mark does to the count of each.
 
 ghost use Rattle.std.specs.Prelude.{◌≡◌, ◌≤◌, ◌<◌, ◌+◌, length, take, slice_get, slice_index, IfSome, ◌==◌, if◌then◌else◌};
 ghost use Rattle.drum_machine.specs.Counts as counted;
 
-use drum_core::Location;
 use drum_times::Mark;
-
-/// How many marks notes have at most.
-pub const MOST_MARKS: usize = 8;
-
-/// The place of the mark on an edge; `None` where none is.
-pub fn mark_on(marks: &[Mark], from: Location, onto: Location) -> Option<usize>
-    ensures value { result ≡ counted.mark_on marks.now from.number onto.number }
-    ensures inside { IfSome result (λ place. place < length marks.now) }
-{
-    for (place, mark) in marks.iter().enumerate() {
-        if mark.from.number() == from.number() && mark.onto.number() == onto.number() {
-            return Some(place);
-        }
-    }
-    None
-}
 
 /// The place of the mark that the one at a place stands inside of.
 fn outer_of(marks: &[Mark], place: usize) -> Option<usize>
@@ -65,7 +48,7 @@ fn count_after(marks: &[Mark], passed: usize, place: usize, count: u16) -> u16
 }
 
 /// Counts a pass of the mark at a place.
-pub fn count_pass(counts: &mut [u16; MOST_MARKS], marks: &[Mark], passed: usize)
+pub fn count_pass(counts: &mut [u16; Mark::MOST], marks: &[Mark], passed: usize)
     requires few { length marks.now ≤ 8 }
     requires inside { passed < length marks.now }
     requires short { slice_index counts.old passed ≤ 9999 }

@@ -37,8 +37,8 @@ pub struct Registers {
 impl Registers {
     ghost use Rattle.std.specs.Prelude.{ℕ, List, ◌∷◌, true, is_some};
     ghost use Rattle.drum_core.specs.Location.{is_location};
-    ghost use Rattle.drum_core.specs.Op.{operand_of};
-    ghost use Rattle.drum_machine.specs.Step.{is_operand, is_read};
+    ghost use Rattle.drum_core.specs.Op.{operand_of, is_operand};
+    ghost use Rattle.drum_machine.specs.Step.{is_read};
     ghost use Rattle.drum_machine.specs.declared.card.Card.{Card};
     ghost use Rattle.drum_machine.specs.Contents.{word_at as word_in, lower_word as lower_in, upper_word as upper_in};
     ghost use Rattle.drum_machine.specs.Effect.{keeps as keeps_in, stored as stored_in, holds as holds_in, punched as punched_in, goes, effect};
@@ -140,7 +140,7 @@ impl Registers {
         self.keep(number, i)
     }
 
-    /// Stops a division whose quotient has more than ten digits: the latch goes on.
+    /// Stops a division whose quotient has more than ten digits, or that is by 0: the latch goes on.
     fn stop_division(&mut self) -> Why
         ensures why { result ≡ Why.Quotient }
         ensures held { self.new ≡ record self.old { latch = true } }
@@ -149,7 +149,8 @@ impl Registers {
         Why::Quotient
     }
 
-    /// 14: divides, and leaves the quotient in the lower half and the remainder in the upper.
+    /// 14: divides, and leaves the quotient in the lower half and the remainder in the upper; it stops
+    /// where the quotient is too large.
     pub fn divide(&mut self, d: u16, i: u16) -> Result<u16, Why>
         requires { is_location d ≡ true }
         ensures { HasEffect (λ c. effect c Op.Divide d i) self.old self.new result }
@@ -166,7 +167,8 @@ impl Registers {
         Ok(i)
     }
 
-    /// 64: divides, and leaves the quotient in the lower half and 0 in the upper.
+    /// 64: divides, and leaves the quotient in the lower half and 0 in the upper; it stops where the
+    /// quotient is too large.
     pub fn divide_reset(&mut self, d: u16, i: u16) -> Result<u16, Why>
         requires { is_location d ≡ true }
         ensures { HasEffect (λ c. effect c Op.DivideReset d i) self.old self.new result }
@@ -308,8 +310,8 @@ impl Registers {
         words
     }
 
-    /// The units of an operation's work: the places of a shift, the digit sum of the multiplier or
-    /// of the quotient.
+    /// The units of an operation's work, 90 at most: the places of a shift, the digit sum of the
+    /// multiplier or of the quotient; 0 for the others, and where a quotient is too large.
     pub fn units(&self, op: Op, d: u16) -> u64
         requires { is_operand (operand_of op) d ≡ true }
         ensures value { (cards : List Card)

@@ -3,7 +3,7 @@ ghost use Rattle.std.specs.List.{Any, All};
 ghost use Rattle.drum_machine.specs.Setup.{HaveOwnLocations, IsSetup, first_loaded, given_to};
 
 use crate::arithmetic::WHOLE;
-use drum_core::{Deck, Location, Word};
+use drum_core::{Deck, Location, REVOLUTION, Word};
 
 /// What a machine is set up with beside its deck.
 #[derive(Debug, Drop)]
@@ -48,7 +48,7 @@ fn have_own_locations(words: &[(Location, Word)]) -> bool
     ensures { IsTrue result ↔ HaveOwnLocations words.now }
 {
     for (place, given) in words.iter().enumerate() {
-        if given.0.number() >= 2000 {
+        if given.0.number() >= Location::DRUM {
             return false;
         }
         if is_given(&words[..place], given.0) {
@@ -85,7 +85,7 @@ impl Setup {
         ensures on_overflow { IfSome result (λ setup. setup.on_overflow ≡ on_overflow) }
         ensures words { IfSome result (λ setup. setup.words ≡ words) }
     {
-        if angle >= 50 || accumulator.unsigned_abs() >= WHOLE {
+        if u64::from(angle) >= REVOLUTION || accumulator.unsigned_abs() >= WHOLE {
             return None;
         }
         if !have_own_locations(&words) {

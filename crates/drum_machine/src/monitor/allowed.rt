@@ -4,7 +4,6 @@ ghost use Rattle.std.specs.Prelude.{◌≡◌, flat_map, Contains, IsTrue, Match
 ghost use Rattle.drum_core.specs.Loads.{loads_in};
 ghost use Rattle.drum_times.specs.Allowed.{matching, loaded, is_listed, allowed};
 
-use crate::fetch::instruction_of;
 use drum_core::{Deck, Instruction, Location};
 use drum_times::{Notes, Pattern};
 
@@ -29,7 +28,7 @@ fn is_loaded(deck: &Deck, location: Location, instruction: Instruction) -> bool
         (¬ Contains (loaded (loads_in deck.now location.number)) instruction) }
 {
     match deck.word(location) {
-        Some(word) => instruction_of(word) == instruction,
+        Some(word) => Instruction::of(word) == instruction,
         None => false,
     }
 }

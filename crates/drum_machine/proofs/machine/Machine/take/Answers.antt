@@ -2,7 +2,7 @@ use Rattle.std.proofs.Common.{◌≡◌, ◌+◌, ◌≤◌, ◌*◌, ℕ, Optio
 use Rattle.std.proofs.Common.{refl}
 use Rattle.drum_core.specs.declared.instruction.Instruction.{Instruction}
 use Rattle.drum_core.specs.Instruction.{instruction_of}
-use Rattle.drum_core.specs.Op.{operand_of}
+use Rattle.drum_core.specs.Op.{operand_of, is_operand}
 use Rattle.drum_times.specs.declared.entry.Entry.{Entry}
 use Rattle.drum_times.specs.Entries.{entry_in}
 use Rattle.drum_machine.specs.Feed.{cards_left, waits_left, wait_for, cards_after, waits_after, is_load}
@@ -12,8 +12,8 @@ use Rattle.drum_machine.specs.Effect.{effect}
 use Rattle.drum_machine.specs.Timing.{ready, ended, units_of, IsWait}
 use Rattle.drum_machine.specs.Machine.{state_in, op_in, wait_with, punched_with, cards_with, waits_with}
 use Rattle.drum_machine.specs.Registers.{contents_with, cards_before, outcome_of}
-use Rattle.drum_machine.specs.Step.{step, leaves, fetched, clock_of, MayWait, instruction_in, is_operand, is_read}
-use Rattle.drum_machine.specs.Step.{has_cards, lacks_card}
+use Rattle.drum_machine.specs.Step.{step, leaves, fetched, clock_of, MayWait, instruction_in, is_read, has_cards}
+use Rattle.drum_machine.specs.Step.{lacks_card}
 use Rattle.drum_machine.proofs.Stepping.{short_work, step_past_x, not_lacking, load_read, same_end, same_effect}
 use Rattle.drum_machine.proofs.Stepping.{same_told, same_left, taken_past_x}
 use Rattle.drum_machine.proofs.machine.Machine.take.Goals as goal
@@ -23,7 +23,7 @@ ended-end-requires-clause-work c =
     let before = contents_with c.args.self.now.registers (cards_left c.args.feed.now) in
     let units = c.units-units.ensures.value (cards_left c.args.feed.now) in
     subst (λ (n : ℕ). c.entry-entry.result.per * n + c.take_wait-wait.result ≤ 90000000) (sym units)
-    (short_work c.args.op c.entry-entry.result c.instruction_of-instruction.result.d c.take_wait-wait.result before
+    (short_work c.args.op c.entry-entry.result c.of-instruction.result.d c.take_wait-wait.result before
     (omega (arith, units, c.units-units.ensures.ninety)) c.take_wait-wait.ensures.may)
 
 pub returns-clause-takes : goal.returns-clause-takes
@@ -35,12 +35,12 @@ returns-clause-takes c =
     let op = c.args.op in
     let entry = c.entry-entry.result in
     let card = c.take_card-card.result in
-    let ins = c.instruction_of-instruction.result in
+    let ins = c.of-instruction.result in
     let s = state_in before (cards_left fed) in
     let wait = wait_for op (times op) (waits_left fed) in
     let outcome = outcome_of c.act-acted.result (contents_with c.act-acted.new.self (cards_left left)) in
     let same_ins : ins ≡ instruction_in s =
-    c.instruction_of-instruction.ensures ∙ ap instruction_of c.requires.fetched in
+    c.of-instruction.ensures.is ∙ ap instruction_of c.requires.fetched in
     let same_d : ins.d ≡ (instruction_in s).d = ap (λ (v : Instruction). v.d) same_ins in
     let same_i : ins.i ≡ (instruction_in s).i = ap (λ (v : Instruction). v.i) same_ins in
     let same_entry : entry ≡ times op = c.entry-entry.ensures in

@@ -13,5 +13,5 @@ returns-in-Some c =
     subst (λ (o : Option Word). MatchBool c.eq.result (Contains (loaded o) ins) (¬ Contains (loaded o) ins))
     c.in-Some.ensures.held
     (subst (λ (held : Instruction). MatchBool c.eq.result (Contains (held ∷ []) ins) (¬ Contains (held ∷ []) ins))
-    c.instruction_of.ensures
-    (loaded_test c.instruction_of.result ins c.eq.result c.eq.ensures))
+    c.of.ensures.is
+    (loaded_test c.of.result ins c.eq.result c.eq.ensures))

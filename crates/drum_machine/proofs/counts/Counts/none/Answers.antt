@@ -1,0 +1,5 @@
+use Rattle.drum_machine.proofs.Watching.{zeros}
+use Rattle.drum_machine.proofs.counts.Counts.none.Goals as goal
+
+pub returns : goal.returns
+returns c = λ marks few. zeros marks 8 few

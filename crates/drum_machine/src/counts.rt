@@ -1,0 +1,50 @@
+//! How often marks are passed, and that a full mark isn't passed again.
+
+ghost use Rattle.std.specs.Prelude.{◌≡◌, ◌≤◌, List, length, IfSome, MatchOption};
+ghost use Rattle.drum_machine.specs.Counts.{after_pass, no_counts, AreWithin};
+ghost use Rattle.drum_machine.specs.CountsIn.{counts_in};
+
+use crate::passes::count_pass;
+use drum_core::Location;
+use drum_times::Mark;
+
+/// How often each mark was passed since the last pass of one that it stands inside of, by the
+/// marks' places. The counts past the last mark mean nothing.
+#[derive(Clone, Copy, Debug)]
+pub struct Counts {
+    pub passes: [u16; Mark::MOST],
+}
+
+impl Counts {
+    /// No mark passed yet.
+    pub fn none() -> Counts
+        ensures { (marks : List Mark) → length marks ≤ 8
+            → counts_in result marks ≡ no_counts marks }
+    {
+        Counts {
+            passes: [0; Mark::MOST],
+        }
+    }
+
+    /// The counts after a step from one location to another; `None` where that passes a mark more
+    /// often than it may be.
+    pub fn passed(self, marks: &[Mark], from: Location, onto: Location) -> Option<Counts>
+        requires few { length marks.now ≤ 8 }
+        ensures counted { let after =
+            after_pass marks.now from.number onto.number (counts_in self marks.now) in
+            MatchOption result (¬ AreWithin marks.now after)
+            (λ counts. counts_in counts marks.now ≡ after) }
+        ensures within { AreWithin marks.now (counts_in self marks.now)
+            → IfSome result (λ counts. AreWithin marks.now (counts_in counts marks.now)) }
+    {
+        let Some(place) = Mark::on_edge(marks, from, onto) else {
+            return Some(self);
+        };
+        if self.passes[place] >= marks[place].most {
+            return None;
+        }
+        let mut counts = self;
+        count_pass(&mut counts.passes, marks, place);
+        Some(counts)
+    }
+}
