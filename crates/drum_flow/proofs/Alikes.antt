@@ -14,9 +14,8 @@ use Rattle.drum_core.specs.declared.op.store.Store as stores
 use Rattle.drum_core.specs.declared.op.Operand.{Operand}
 use Rattle.drum_core.specs.declared.op.Operand.TheVariants.{Any, Drum, Unused}
 use Rattle.drum_core.specs.Location.{is_location}
-use Rattle.drum_core.specs.Op.{op_of, operand_of}
+use Rattle.drum_core.specs.Op.{op_of, operand_of, is_operand}
 use Rattle.drum_times.specs.Allowed.{Notes}
-use Rattle.drum_machine.specs.Step.{is_operand}
 use Rattle.drum_machine.specs.Ways.{Way, early, to, late, in_order, ways_of, ways_with, ways}
 use Rattle.drum_machine.specs.Writes.{written_by, writes_with, writes}
 use Rattle.drum_flow.specs.Alike.{with_d, branches, branches_with}

@@ -10,7 +10,7 @@ use Rattle.std.proofs.lemmas.List.Elements.{Contains-append_left, Contains-push,
 use Rattle.drum_core.specs.declared.word.Word.{Word}
 use Rattle.drum_times.specs.Allowed.{Notes}
 use Rattle.drum_times.specs.declared.notes.mark.Mark.{Mark}
-use Rattle.drum_machine.specs.Counts.{mark_on}
+use Rattle.drum_times.specs.Marks.{mark_on}
 use Rattle.drum_flow.specs.Executed.{successors, with_new}
 use Rattle.drum_flow.specs.Free.{IsFreeRow, IsUnmarkedRow, AreFreeRows}
 use Rattle.drum_flow.specs.Rows.{row_in, AreWithin}

@@ -1,5 +1,5 @@
 -- The instructions that are allowed at a location, from those that are left of a pattern.
-use Rattle.std.proofs.Common.{◌≡◌, ℕ, zero, suc, ◌+◌, ◌-◌, ◌*◌, ◌/◌, ◌%◌, ◌^◌, ◌<◌, ◌≤◌, List, [], ◌∷◌, ◌++◌, length}
+use Rattle.std.proofs.Common.{◌≡◌, ℕ, zero, suc, ◌+◌, ◌-◌, ◌^◌, ◌<◌, ◌≤◌, List, [], ◌∷◌, ◌++◌, length}
 use Rattle.std.proofs.Common.{get_or, drop, Some, None, refl, ap, sym, ◌∙◌, inl, inr, arith}
 use Rattle.std.proofs.lemmas.Bool.{cases_lt}
 use Rattle.std.proofs.lemmas.List.{length-map, drop_more, drop_all}
@@ -8,33 +8,10 @@ use Rattle.std.proofs.lemmas.List.FromFn.{length-range_with_len}
 use Rattle.std.specs.List.{range_with_len}
 use Rattle.std.specs.Prelude.{slice_get, flat_map}
 use Rattle.drum_core.specs.declared.instruction.Instruction.{Instruction}
-use Rattle.drum_core.specs.declared.word.Word.{Word}
-use Rattle.drum_core.specs.Instruction.{IsInstructionOf, instruction, instruction_of}
-use Rattle.drum_core.proofs.Same.{same_instruction}
+use Rattle.drum_core.specs.Instruction.{instruction}
 use Rattle.drum_times.specs.declared.notes.pattern.Pattern.{Pattern}
 use Rattle.drum_times.specs.Allowed.{matching}
 use Rattle.drum_flow.specs.Instructions.{listed_from}
-
--- the parts of ten digits
-op_part : (digits op d i : ℕ) → digits ≡ op * 10 ^ 8 + d * 10 ^ 4 + i → op < 100 → d < 10 ^ 4 → i < 10 ^ 4
-    → op ≡ (digits / 10 ^ 8) % 100
-op_part digits op d i e two four next_four = omega arith
-
-d_part : (digits op d i : ℕ) → digits ≡ op * 10 ^ 8 + d * 10 ^ 4 + i → op < 100 → d < 10 ^ 4 → i < 10 ^ 4
-    → d ≡ (digits / 10 ^ 4) % 10 ^ 4
-d_part digits op d i e two four next_four = omega arith
-
-i_part : (digits op d i : ℕ) → digits ≡ op * 10 ^ 8 + d * 10 ^ 4 + i → op < 100 → d < 10 ^ 4 → i < 10 ^ 4
-    → i ≡ digits % 10 ^ 4
-i_part digits op d i e two four next_four = omega arith
-
--- a word has one instruction
-pub one_instruction : (word : Word) (ins : Instruction) → IsInstructionOf word.digits ins → ins ≡ instruction_of word
-one_instruction word ins e =
-    same_instruction ins (instruction_of word)
-    (op_part word.digits ins.op ins.d ins.i e ins.two ins.four ins.next_four)
-    (d_part word.digits ins.op ins.d ins.i e ins.two ins.four ins.next_four)
-    (i_part word.digits ins.op ins.d ins.i e ins.two ins.four ins.next_four)
 
 -- no more instructions match a pattern than there are addresses
 pub few_match : (pattern : Pattern) → length (matching pattern) ≤ 10 ^ 4

@@ -5,7 +5,7 @@ use Rattle.drum_core.specs.declared.word.Word.{Word}
 use Rattle.drum_core.specs.Op.{op_of}
 use Rattle.drum_times.specs.declared.notes.mark.Mark.{Mark}
 use Rattle.drum_times.specs.Allowed.{Notes, is_listed, allowed}
-use Rattle.drum_machine.specs.Counts.{mark_on}
+use Rattle.drum_times.specs.Marks.{mark_on}
 use Rattle.drum_machine.specs.Writes.{writes}
 use Rattle.drum_flow.specs.Executed.{IsOrder, found_after}
 use Rattle.drum_flow.specs.Graph.{AreDifferent}

@@ -5,7 +5,7 @@ use Rattle.drum_machine.specs.Ways.{Way}
 use Rattle.drum_flow.specs.declared.hops.Hops.{Hops}
 use Rattle.drum_flow.specs.Hops.{Hop, hops_of}
 use Rattle.drum_flow.specs.Instructions.{instructions_left}
-use Rattle.drum_flow.specs.Seen.{ways_left}
+use Rattle.drum_machine.specs.WaysLeft.{ways_left}
 
 -- the hops of an instruction, if there is one, of which these ways are left
 abbrev pub hops_by : Option Instruction → List Way → List Hop

@@ -6,7 +6,8 @@ use borrow.Author.Tests.{eqb-true, ne_eqb}
 use Rattle.std.specs.Prelude.{◌==◌, ◌||◌, slice_get}
 use Rattle.drum_times.specs.declared.notes.mark.Mark.{Mark}
 use Rattle.drum_times.specs.Allowed.{IsEarlier, StandInEarlier}
-use Rattle.drum_machine.specs.Counts.{outer_of, is_inside_by, is_inside, mark_from, mark_on, passed_from, after_pass, AreWithin, is_on}
+use Rattle.drum_times.specs.Marks.{mark_from, mark_on, is_on}
+use Rattle.drum_machine.specs.Counts.{outer_of, is_inside_by, is_inside, passed_from, after_pass, AreWithin}
 use Rattle.drum_flow.specs.Accepted.{counts_of}
 
 either : (a b : Bool) → (a || b) ≡ true → (a ≡ true) ⊎ (b ≡ true)

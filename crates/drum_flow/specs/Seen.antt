@@ -1,24 +1,7 @@
--- The ways and hops that the code has, as the definitions have them.
-use Rattle.std.specs.Prelude.{ℕ, List, ◌++◌, option_to_list}
-use Rattle.drum_machine.specs.Ways.{Way, early, to, late, in_order}
-use Rattle.drum_flow.specs.declared.hop.Hop as held
-use Rattle.drum_flow.specs.declared.way.Way as code
-use Rattle.drum_flow.specs.declared.way.Way.TheVariants as way
-use Rattle.drum_flow.specs.declared.ways.Ways.{Ways}
+-- The hops that the code has, as the definitions have them.
+use Rattle.drum_machine.specs.WaysLeft.{seen_way}
+use Rattle.drum_flow.specs.declared.hops.Hop as held
 use Rattle.drum_flow.specs.Hops.{Hop}
-
-abbrev pub seen_way : code.Way → Way
-seen_way way.Early = early
-seen_way (way.To location) = to location.number
-seen_way way.Late = late
 
 abbrev pub seen_hop : held.Hop → Hop
 seen_hop hop = record { ins = hop.instruction; way = seen_way hop.way }
-
--- the addresses that are left to go on at
-abbrev pub addresses_left : Ways → List ℕ
-addresses_left ways = option_to_list ways.branch ++ option_to_list ways.next
-
--- the ways that are left
-abbrev pub ways_left : Ways → List Way
-ways_left ways = in_order ways.stops_early (addresses_left ways) ways.stops_late

@@ -8,7 +8,8 @@ use Rattle.drum_core.specs.Op.{op_of}
 use Rattle.drum_times.specs.declared.entry.Entry.{Entry}
 use Rattle.drum_times.specs.declared.notes.mark.Mark.{Mark}
 use Rattle.drum_times.specs.Allowed.{Notes, AreSound}
-use Rattle.drum_machine.specs.Counts.{after_pass, no_counts, AreWithin, is_on}
+use Rattle.drum_times.specs.Marks.{is_on}
+use Rattle.drum_machine.specs.Counts.{after_pass, no_counts, AreWithin}
 use Rattle.drum_machine.specs.Effect.{places}
 use Rattle.drum_machine.specs.Timing.{ready, ended, IsWait}
 use Rattle.drum_machine.specs.Ways.{Way, early, to, late}

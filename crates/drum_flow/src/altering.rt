@@ -7,12 +7,13 @@ ghost use Rattle.drum_flow.specs.Accepted as said;
 ghost use Rattle.drum_flow.specs.Altering.{FlagsFixed, IsLowestAltered, IsFirstAltered, NoneAlters, AltersNone, IsAlteredBy};
 ghost use Rattle.drum_flow.specs.Flow.{executed_in, of_flow, AreExecuted};
 
+use crate::alike::same_writes_end;
 use crate::fixed::Fixed;
 use crate::flow_graph::Flow;
 use crate::patterns::{Patterns, instruction_of};
 use crate::refusal::Refusal;
-use crate::writes::{same_writes_end, writes};
 use drum_core::{Instruction, Location};
+use drum_machine::writes;
 use drum_times::Pattern;
 
 /// The lowest word that the instruction alters.

@@ -45,7 +45,7 @@ impl<'a> Flow<'a> {
         self.notes
     }
 
-    /// The place of a location in that order; `None` for one that isn't executed.
+    /// The place of a location in the order of discovery; `None` for one that isn't executed.
     pub fn place_of(&self, location: Location) -> Option<usize>
         ensures found { IfSome result (λ place.
             slice_get (executed_in self.now) place ≡ Some location.number) }

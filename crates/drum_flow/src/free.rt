@@ -12,7 +12,7 @@ use crate::executed::Executed;
 use crate::flow_graph::Flow;
 use crate::graph::Graph;
 use drum_core::Location;
-use drum_machine::passes::mark_on;
+use drum_times::Mark;
 use std::alloc::{AllocError, Global};
 
 /// The places of the executed locations that edges free of marks lead to from a location.
@@ -37,7 +37,7 @@ fn unmarked_row(
 {
     let mut row = Vec::new(alloc);
     for onto in targets {
-        if mark_on(flow.notes.marks(), from, *onto).is_some() {
+        if Mark::on_edge(flow.notes.marks(), from, *onto).is_some() {
             continue;
         }
         let Some(place) = flow.place_of(*onto) else {

@@ -1,3 +1,5 @@
+//! The hops of a location, one after the other.
+
 ghost use Rattle.std.specs.Prelude.{◌≡◌, [], flat_map};
 ghost use Rattle.std.specs.Iterator.{YieldsFirstBy, item_count};
 ghost use Rattle.drum_core.specs.Loads.{loads_in};
@@ -7,11 +9,17 @@ ghost use Rattle.drum_flow.specs.HopsLeft.{hops_here, hops_left};
 ghost use Rattle.drum_flow.specs.Instructions.{instructions_left};
 ghost use Rattle.drum_flow.specs.Seen.{seen_hop};
 
-use crate::hop::Hop;
 use crate::instructions::Instructions;
-use crate::ways::Ways;
 use drum_core::{Deck, Instruction, Location};
+use drum_machine::{Way, Ways};
 use drum_times::Notes;
+
+/// An instruction that is allowed at a location, and one of its ways.
+#[derive(Clone, Copy, Debug, PartialEq, Eq)]
+pub struct Hop {
+    pub instruction: Instruction,
+    pub way: Way,
+}
 
 /// The hops of a location, in order: each instruction that is allowed there, with each of its ways.
 #[derive(Clone, Copy, Debug)]
@@ -27,7 +35,7 @@ pub struct Hops<'a> {
 
 impl<'a> Hops<'a> {
     /// The hops of the location, whether or not it is executed.
-    pub fn at(deck: &Deck, notes: &'a Notes, location: Location) -> Hops<'a>
+    pub(crate) fn at(deck: &Deck, notes: &'a Notes, location: Location) -> Hops<'a>
         ensures { hops_left result ≡ said.hops (loads_in deck.now) notes.now location.number }
     {
         Hops::of(notes, Instructions::at(deck, notes, location))

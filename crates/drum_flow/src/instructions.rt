@@ -1,3 +1,5 @@
+//! The instructions that are allowed at a location, one after the other.
+
 ghost use Rattle.std.specs.Prelude.{◌≡◌, [], flat_map, option_to_list};
 ghost use Rattle.std.specs.Iterator.{YieldsFirst, item_count};
 ghost use Rattle.drum_core.specs.Loads.{loads_in};

@@ -3,6 +3,7 @@
 #![tactic(auto)]
 
 mod acceptance;
+mod alike;
 mod altering;
 pub mod counts;
 mod cycle;
@@ -12,8 +13,7 @@ mod fixed;
 mod flow_graph;
 mod free;
 mod free_order;
-mod graph;
-mod hop;
+pub mod graph;
 mod hops;
 mod instructions;
 pub mod laws;
@@ -22,15 +22,10 @@ mod place;
 mod refusal;
 mod size;
 mod successors;
-mod way;
-mod ways;
-mod writes;
 
 pub use acceptance::accept;
 pub use cycle::Cycle;
 pub use discovery::flow;
 pub use flow_graph::Flow;
-pub use hop::Hop;
-pub use hops::Hops;
+pub use hops::{Hop, Hops};
 pub use refusal::Refusal;
-pub use way::Way;

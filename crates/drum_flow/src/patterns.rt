@@ -1,3 +1,5 @@
+//! The patterns of a location, with the deck's own instruction as one.
+
 ghost use Rattle.std.specs.Prelude.{◌≡◌, ◌≤◌, [], ◌∷◌, flat_map, option_to_list};
 ghost use Rattle.std.specs.Iterator.{YieldsFirst, item_count};
 ghost use Rattle.drum_core.specs.Instruction as digits;

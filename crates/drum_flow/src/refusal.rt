@@ -6,7 +6,7 @@ use thiserror::Error;
 /// Why a deck with its notes isn't accepted.
 #[derive(Debug, Drop, PartialEq, Eq, Error)]
 pub enum Refusal {
-    /// There is no memory for the analysis.
+    /// There is no memory for the analysis, or for what is made of it.
     #[error("there is no memory for the analysis")]
     Memory,
     /// An operation that is allowed at an executed location, of these two digits, is outside the

@@ -5,13 +5,13 @@ ghost use Rattle.drum_core.specs.Loads.{loads_in};
 ghost use Rattle.drum_times.specs.Allowed.{matching};
 ghost use Rattle.drum_flow.specs.Executed.{with_new, successors};
 ghost use Rattle.drum_flow.specs.Found.{places_of, targets_of, targets_by};
-ghost use Rattle.drum_flow.specs.Seen.{ways_left};
+ghost use Rattle.drum_machine.specs.WaysLeft.{ways_left};
 
+use crate::alike::same_ways_end;
 use crate::executed::Executed;
 use crate::patterns::{Patterns, instruction_of};
-use crate::way::Way;
-use crate::ways::{Ways, same_ways_end};
 use drum_core::{Deck, Location};
+use drum_machine::{Way, Ways};
 use drum_times::{Notes, Pattern};
 use std::alloc::AllocError;
 

@@ -3,7 +3,7 @@ use Rattle.std.specs.Prelude.{is_some}
 use Rattle.std.proofs.lemmas.List.{take_all}
 use Rattle.drum_core.specs.declared.location.Location.{Location}
 use Rattle.drum_times.specs.declared.notes.mark.Mark.{Mark}
-use Rattle.drum_machine.specs.Counts.{mark_on}
+use Rattle.drum_times.specs.Marks.{mark_on}
 use Rattle.drum_flow.specs.Flow.{executed_in}
 use Rattle.drum_flow.specs.Free.{IsUnmarkedRow}
 use Rattle.drum_flow.proofs.Founds.{numbers, numbers_more}
@@ -18,7 +18,7 @@ loop-onto-preserved-then-is_some c =
     let onto = c.onto-item.result in
     let marked : is_some (mark_on flow.notes.now.marks c.args.from.number onto.number) ≡ true =
     sym (ap (λ (found : Option ℕ). is_some found)
-    (c.mark_on.ensures.value
+    (c.on_edge.ensures.value
     ∙ ap (λ (marks : List Mark). mark_on marks c.args.from.number onto.number) c.marks.ensures.all))
     ∙ sym c.is_some.ensures ∙ c.if-is_some.true in
     subst (λ (all : List ℕ). IsUnmarkedRow flow.notes.now.marks (executed_in flow) all c.args.from.number
@@ -45,7 +45,7 @@ loop-onto-preserved c =
     let onto = c.onto-item.result in
     let unmarked : is_some (mark_on flow.notes.now.marks c.args.from.number onto.number) ≡ false =
     sym (ap (λ (found : Option ℕ). is_some found)
-    (c.mark_on.ensures.value
+    (c.on_edge.ensures.value
     ∙ ap (λ (marks : List Mark). mark_on marks c.args.from.number onto.number) c.marks.ensures.all))
     ∙ sym c.is_some.ensures ∙ c.if-is_some.false in
     subst (λ (row : List ℕ). IsUnmarkedRow flow.notes.now.marks (executed_in flow) (numbers (take (k + 1) targets))

@@ -1,7 +1,7 @@
 use Rattle.std.proofs.Common.{◌≡◌}
 use Rattle.drum_flow.specs.Executed.{with_new}
 use Rattle.drum_flow.specs.Found.{places_of, targets_of}
-use Rattle.drum_flow.specs.Seen.{ways_left}
+use Rattle.drum_machine.specs.WaysLeft.{ways_left}
 use Rattle.drum_flow.proofs.executed.Executed.add_ways.Given as goal
 
 -- what is there, and what the ways that are left will add, is what all of them add

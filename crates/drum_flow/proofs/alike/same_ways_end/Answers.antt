@@ -3,7 +3,7 @@ use Rattle.drum_core.specs.Location.{is_location}
 use Rattle.drum_core.specs.Op.{op_of}
 use Rattle.drum_flow.specs.Alike.{branches_with}
 use Rattle.drum_flow.proofs.Alikes.{ways_at, same_part, one_false}
-use Rattle.drum_flow.proofs.ways.same_ways_end.Goals as goal
+use Rattle.drum_flow.proofs.alike.same_ways_end.Goals as goal
 
 pub returns-clause-same : goal.returns-clause-same
 returns-clause-same c d low high =

@@ -3,13 +3,13 @@ use Rattle.drum_core.specs.declared.op.Op.{Op}
 use Rattle.drum_core.specs.Op.{op_of}
 use Rattle.drum_machine.specs.Writes.{writes_with}
 use Rattle.drum_flow.proofs.Alikes.{writes_at, none_written, none_other}
-use Rattle.drum_flow.proofs.writes.same_writes_end.Goals as goal
+use Rattle.drum_flow.proofs.alike.same_writes_end.Goals as goal
 
-pub returns-then-d-ge2000-clause-same : goal.returns-then-d-ge2000-clause-same
-returns-then-d-ge2000-clause-same c d low high =
+pub returns-then-d-ge-DRUM-clause-same : goal.returns-then-d-ge-DRUM-clause-same
+returns-then-d-ge-DRUM-clause-same c d low high =
     let ins = c.args.instruction in
-    writes_at ins d high ∙ none_written (op_of ins.op) d (omega (arith, low, c.if-d-ge2000.true))
-    ∙ sym (none_written (op_of ins.op) ins.d c.if-d-ge2000.true)
+    writes_at ins d high ∙ none_written (op_of ins.op) d (omega (arith, low, c.if-d-ge-DRUM.true))
+    ∙ sym (none_written (op_of ins.op) ins.d c.if-d-ge-DRUM.true)
 
 pub returns-in_default-clause-same : goal.returns-in_default-clause-same
 returns-in_default-clause-same c d low high =

@@ -1,0 +1,83 @@
+//! How far data addresses are alike: up to where an instruction with them writes the same words,
+//! and has the same ways.
+
+ghost use Rattle.std.specs.Prelude.{◌≡◌, ℕ, ◌^◌, ◌<◌, ◌≤◌, ◌&&◌, nat_lt};
+ghost use Rattle.drum_core.specs.Location.{is_location};
+ghost use Rattle.drum_core.specs.Op.{op_of};
+ghost use Rattle.drum_machine.specs.Ways.{ways};
+ghost use Rattle.drum_machine.specs.Writes.{writes};
+ghost use Rattle.drum_flow.specs.Alike.{with_d, branches_with};
+
+use drum_core::{Instruction, Location, Op, Operand};
+use drum_times::Notes;
+
+/// The end of the data addresses, from the instruction's own on, with which it writes the same
+/// words.
+pub fn same_writes_end(instruction: Instruction) -> u16
+    ensures past { instruction.d < result }
+    ensures same { (d : ℕ) → instruction.d ≤ d → d < result
+        → writes (with_d instruction d) ≡ writes instruction }
+{
+    let d = instruction.d;
+    if d >= Location::DRUM {
+        return 10_000;
+    }
+    let Some(op) = Op::of(instruction.op) else {
+        return 10_000;
+    };
+    match op {
+        Op::Store(_) => d + 1,
+        Op::Read => (d / 50 + 1) * 50,
+        _ => 10_000,
+    }
+}
+
+/// The end of the data addresses, from the instruction's own on, with which it has the same ways.
+pub fn same_ways_end(notes: &Notes, instruction: Instruction) -> u16
+    ensures past { instruction.d < result }
+    ensures same { (d : ℕ) → instruction.d ≤ d → d < result
+        → ways notes.now (with_d instruction d) ≡ ways notes.now instruction }
+{
+    if may_go_on_at_d(notes, instruction) {
+        return instruction.d + 1;
+    }
+    part_end(instruction.d)
+}
+
+/// Whether the instruction may branch, and its D is a location.
+fn may_go_on_at_d(notes: &Notes, instruction: Instruction) -> bool
+    ensures { result
+        ≡ (branches_with notes.now (op_of instruction.op) && is_location instruction.d) }
+{
+    may_branch(notes, instruction.op) && Operand::Any.suits(instruction.d)
+}
+
+/// Whether an operation of this number may branch: 44 to 47, 90 to 99, and 70 with load cards.
+fn may_branch(notes: &Notes, number: u8) -> bool
+    ensures { result ≡ branches_with notes.now (op_of number) }
+{
+    match Op::of(number) {
+        Some(Op::Branch(_) | Op::BranchOnDigit(_)) => true,
+        Some(Op::Read) => notes.load_cards(),
+        _ => false,
+    }
+}
+
+/// The end of the addresses, from this one on, that are in the same part: the drum, those behind
+/// it, the locations beside it, the rest.
+fn part_end(address: u16) -> u16
+    requires { address < 10 ^ 4 }
+    ensures past { address < result }
+    ensures few { result ≤ 10 ^ 4 }
+    ensures drum { (other : ℕ) → address ≤ other → other < result
+        → nat_lt other 2000 ≡ nat_lt address 2000 }
+    ensures locations { (other : ℕ) → address ≤ other → other < result
+        → is_location other ≡ is_location address }
+{
+    match address {
+        0..2000 => 2000,
+        2000..8000 => 8000,
+        8000..8004 => 8004,
+        _ => 10_000,
+    }
+}
