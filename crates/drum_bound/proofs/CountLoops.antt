@@ -1,6 +1,6 @@
 -- Counts of marks taken from a number and put into one, a mark at a time.
 use Rattle.std.proofs.Common.{◌≡◌, ℕ, zero, suc, ◌+◌, ◌*◌, ◌/◌, ◌%◌, ◌<◌, ◌≤◌, List, [], ◌∷◌, length, take, drop}
-use Rattle.std.proofs.Common.{get_or, replicate, refl, ap, sym, subst, ◌∙◌, inl, inr, ◌⊎◌, arith}
+use Rattle.std.proofs.Common.{get_or, ap, sym, subst, ◌∙◌, inl, inr, ◌⊎◌, arith}
 use Rattle.std.specs.Prelude.{slice_set}
 use Rattle.std.proofs.Math.Nat.{mul-le-mul_left, mul-le-mul_right}
 use Rattle.std.proofs.Math.Seq.{take-set-lt}
@@ -9,7 +9,7 @@ use Rattle.std.proofs.lemmas.Grind.{common_steps}
 use Rattle.std.proofs.lemmas.List.{drop_more, drop_all, drop-set, length-take-le}
 use Rattle.std.proofs.lemmas.Nat.{div-add-mod', mod_below}
 use Rattle.drum_times.specs.declared.notes.mark.Mark.{Mark}
-use Rattle.drum_machine.specs.Counts.{no_counts, AreWithin}
+use Rattle.drum_machine.specs.Counts.{AreWithin}
 use Rattle.drum_flow.specs.Accepted.{counts_of}
 use Rattle.drum_flow.specs.Passes.{leading, leading-<}
 use Rattle.drum_bound.specs.Digits.{digits}
@@ -207,10 +207,3 @@ number_small marks place later d counts number next inside long within same =
     let left = number_within (drop place marks) (counts_from marks place counts)
     (within_from marks (take (length marks) counts) place within) in
     omega (arith, more, left, counts_fewer marks place)
-
--- no pass is held at first
-pub none_held : (marks : List Mark) (most : ℕ) → length marks ≤ most
-    → take (length marks) (replicate most 0) ≡ no_counts marks
-none_held [] most few = refl
-none_held (mark ∷ marks) zero few = absurd (omega arith)
-none_held (mark ∷ marks) (suc most) few = ap (λ (counts : List ℕ). 0 ∷ counts) (none_held marks most (omega arith))

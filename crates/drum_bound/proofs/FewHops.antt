@@ -12,12 +12,11 @@ use Rattle.drum_core.specs.declared.op.Op.TheVariants.{Store, Shift, Branch, Loa
 use Rattle.drum_core.specs.declared.op.Op.TheVariants.{BranchOnDigit}
 use Rattle.drum_core.specs.declared.word.Word.{Word}
 use Rattle.drum_core.specs.Location.{is_location}
-use Rattle.drum_core.specs.Op.{op_of, operand_of}
+use Rattle.drum_core.specs.Op.{op_of, operand_of, is_operand}
 use Rattle.drum_times.specs.declared.notes.programmed.Programmed as switches
 use Rattle.drum_times.specs.declared.notes.programmed.Programmed.TheVariants as switch
 use Rattle.drum_times.specs.Allowed.{Listed, Notes, AreSound, matching, patterns_in, patterns_of, loaded, listed}
 use Rattle.drum_times.specs.Allowed.{allowed}
-use Rattle.drum_machine.specs.Step.{is_operand}
 use Rattle.drum_machine.specs.Ways.{Way, early, to, late, in_order, ways_of_stop, ways_of, ways_with, ways}
 use Rattle.drum_flow.proofs.Instructed.{few_match}
 use Rattle.drum_flow.specs.Hops.{Hop, hops_of, hops}

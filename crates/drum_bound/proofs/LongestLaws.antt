@@ -16,7 +16,7 @@ use Rattle.drum_core.proofs.Clockworks.{KeepsTime, keeps_time, seek_clockworks, 
 use Rattle.drum_core.proofs.Waited.{at_angle, angles_apart, longest_behind, drum_at_angle}
 use Rattle.drum_times.specs.declared.entry.Entry.{Entry}
 use Rattle.drum_machine.specs.Effect.{places}
-use Rattle.drum_machine.specs.Timing.{found, IsWait}
+use Rattle.drum_machine.specs.Timing.{found, IsWait, longest_step}
 use Rattle.drum_machine.specs.Ways.{Way, early, to, late}
 use Rattle.drum_machine.proofs.Chained.{found_keeps_time, ready_keeps_time, ready_from_found, ended_keeps_time}
 use Rattle.drum_machine.proofs.Chained.{ended_from_found, ended_grows}
@@ -46,7 +46,7 @@ most_work _ d entry = omega arith
 module _ (entry : Entry) (op : Op) (d place units wait : ℕ) where
   -- the ends of a hop whose work is short keep to the laws of a clockwork
   end_keeps_time : (way : Way) → entry.per * units + wait ≤ 90000000
-      → KeepsTime (end_by way entry op d place units wait) 92000099
+      → KeepsTime (end_by way entry op d place units wait) longest_step
   end_keeps_time early work = ready_keeps_time entry place
   end_keeps_time (to next) work = ended_keeps_time entry place op d units wait work
   end_keeps_time late work = ended_keeps_time entry place op d units wait work
@@ -102,12 +102,12 @@ may_wait_longest _ entry = refl
 
 -- The latest ends of a hop keep to the laws of a clockwork; of no operation, to those of nothing.
 longest_keeps_time : (times : Op → Entry) (place : ℕ) (ins : Instruction) (way : Way)
-    → KeepsTime (longest times place ins way) 92000099
+    → KeepsTime (longest times place ins way) longest_step
 unfolding longest
 longest_keeps_time times place ins way = go (op_of ins.op)
   where
-    go : (found_op : Option Op) → KeepsTime (λ t. longest_by times place ins way t found_op) 92000099
-    go None = keeps_time (optional_clockworks seek_clockworks) None (λ t. t) 92000099 (λ t. refl) (omega arith)
+    go : (found_op : Option Op) → KeepsTime (λ t. longest_by times place ins way t found_op) longest_step
+    go None = keeps_time (optional_clockworks seek_clockworks) None (λ t. t) longest_step (λ t. refl) (omega arith)
     go (Some op) = end_keeps_time (times op) op ins.d place (most_units op ins.d) (most_wait op (times op)) way
         (most_work op ins.d (times op))
 
@@ -128,7 +128,7 @@ longest_later times place ins way = (longest_keeps_time times place ins way).nev
 
 -- A hop takes this many word times at most.
 pub longest_near : (times : Op → Entry) (place : ℕ) (ins : Instruction) (way : Way) (t : ℕ)
-    → longest times place ins way t ≤ t + 92000099
+    → longest times place ins way t ≤ t + longest_step
 longest_near times place ins way = (longest_keeps_time times place ins way).within_span
 
 -- what it is of an operation of the profile

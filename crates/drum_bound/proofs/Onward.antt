@@ -3,7 +3,8 @@ use Rattle.std.proofs.Common.{◌≡◌, ℕ, zero, suc, ◌*◌, ◌/◌, ◌%�
 use Rattle.std.proofs.Common.{◌∙◌, subst, Option, Some, None, arith}
 use Rattle.std.specs.Prelude.{IsNone, Contains}
 use Rattle.std.proofs.Math.Nat.{mul-le-mul_left, div-add-mod, mod-lt}
-use Rattle.drum_machine.specs.Counts.{after_pass, AreWithin, mark_on}
+use Rattle.drum_times.specs.Marks.{mark_on}
+use Rattle.drum_machine.specs.Counts.{after_pass, AreWithin}
 use Rattle.drum_machine.specs.Ways.{Way, to}
 use Rattle.drum_flow.specs.Accepted.{IsFree}
 use Rattle.drum_flow.specs.Graph.{AreDifferent, GoOn}

@@ -6,9 +6,8 @@ use Rattle.std.proofs.lemmas.List.Elements.{Contains-append_cases}
 use Rattle.drum_core.specs.declared.instruction.Instruction.{Instruction}
 use Rattle.drum_core.specs.declared.op.Op.{Op}
 use Rattle.drum_core.specs.declared.word.Word.{Word}
-use Rattle.drum_core.specs.Op.{op_of, operand_of}
+use Rattle.drum_core.specs.Op.{op_of, operand_of, is_operand}
 use Rattle.drum_times.specs.Allowed.{Notes, allowed}
-use Rattle.drum_machine.specs.Step.{is_operand}
 use Rattle.drum_machine.specs.Ways.{Way, early, ways, ways_of, ways_with}
 use Rattle.drum_flow.specs.Hops.{Hop, hops, hops_of}
 use Rattle.drum_flow.proofs.Lists.{contains_cases}

@@ -5,7 +5,8 @@ use Rattle.std.specs.Prelude.{◌==◌, ◌&&◌, if◌then◌else◌, slice_get
 use Rattle.std.proofs.lemmas.Bool.{eqb-true}
 use Rattle.std.proofs.lemmas.Option.{slice_get_within}
 use Rattle.drum_times.specs.declared.notes.mark.Mark.{Mark}
-use Rattle.drum_machine.specs.Counts.{after_pass, is_on, mark_from, mark_on, AreWithin}
+use Rattle.drum_times.specs.Marks.{is_on, mark_from, mark_on}
+use Rattle.drum_machine.specs.Counts.{after_pass, AreWithin}
 use Rattle.drum_flow.specs.declared.flow_graph.Flow.{Flow}
 use Rattle.drum_flow.specs.Flow.{notes_of, order_in}
 use Rattle.drum_bound.specs.declared.round.Counted.{Counted}

@@ -12,8 +12,9 @@ use Rattle.drum_bound.specs.declared.latest.Latest.{Latest}
 use Rattle.drum_bound.specs.declared.key_hop.KeyHop.{KeyHop}
 use Rattle.drum_bound.specs.Keys.{place_at, counts_at}
 use Rattle.drum_bound.proofs.LongestLaws.{longest_near}
-use Rattle.drum_bound.specs.Scanned.{longest_step, cell_at, later, raised, Begins, end_from, LeadsOn, IsOpen, IsEndOf}
-use Rattle.drum_bound.specs.Scanned.{IsBackedBy, IsLastBy, IsTakenBy, IsTaken, Scanned, Taking}
+use Rattle.drum_machine.specs.Timing.{longest_step}
+use Rattle.drum_bound.specs.Scanned.{cell_at, later, raised, Begins, end_from, LeadsOn, IsOpen, IsEndOf, IsBackedBy}
+use Rattle.drum_bound.specs.Scanned.{IsLastBy, IsTakenBy, IsTaken, Scanned, Taking}
 use Rattle.drum_bound.proofs.Raises.{later_either, later_old, later_new, Grows, Agree, grows_same, raised_length}
 use Rattle.drum_bound.proofs.Raises.{raised_agree, raised_grows, raised_new, raised_each, arrives_grows}
 

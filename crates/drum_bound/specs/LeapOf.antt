@@ -2,10 +2,11 @@
 -- where it goes on.
 use Rattle.std.specs.Prelude.{◌≡◌, ℕ, ◌+◌, ◌%◌, ◌<◌, List, length, map, slice_get, Option, Some, Contains}
 use Rattle.std.proofs.Common.{Vec, Global}
-use Rattle.drum_machine.specs.Counts.{mark_on}
+use Rattle.drum_times.specs.Marks.{mark_on}
 use Rattle.drum_machine.specs.Ways.{to}
 use Rattle.drum_flow.specs.Hops.{Hop, hops}
-use Rattle.drum_flow.specs.Seen.{seen_hop, seen_way}
+use Rattle.drum_machine.specs.WaysLeft.{seen_way}
+use Rattle.drum_flow.specs.Seen.{seen_hop}
 use Rattle.drum_flow.specs.Walk.{Setting}
 use Rattle.drum_bound.specs.declared.leap.Leap.{Leap}
 use Rattle.drum_bound.specs.Longest.{longest}

@@ -1,5 +1,4 @@
 pub mod AnalysisOf
-pub mod CountsIn
 pub mod Digits
 pub mod EndOf
 pub mod Ends

@@ -2,8 +2,7 @@
 use Rattle.std.specs.Prelude.{◌≡◌, true, Some, ◌⊎◌}
 use Rattle.drum_core.specs.declared.instruction.Instruction.{Instruction}
 use Rattle.drum_core.specs.declared.op.Op.{Op}
-use Rattle.drum_core.specs.Op.{op_of, operand_of}
-use Rattle.drum_machine.specs.Step.{is_operand}
+use Rattle.drum_core.specs.Op.{op_of, operand_of, is_operand}
 use Rattle.drum_machine.specs.Ways.{Way, early}
 
 -- The instruction may end by the way: the profile has its operation, and where its D isn't what the

@@ -2,6 +2,7 @@
 -- key, and of all.
 use Rattle.std.specs.Prelude.{◌≡◌, ℕ, zero, suc, ◌+◌, ◌*◌, ◌%◌, ◌<◌, ◌≤◌, nat_lt, if◌then◌else◌, List, length, slice_get, slice_index_or, slice_set, Option, Some, None, Contains, ◌⊎◌}
 use Rattle.drum_times.specs.declared.notes.mark.Mark.{Mark}
+use Rattle.drum_machine.specs.Timing.{longest_step}
 use Rattle.drum_machine.specs.Counts.{after_pass, no_counts, AreWithin}
 use Rattle.drum_machine.specs.Ways.{Way, early, to, late}
 use Rattle.drum_flow.specs.Hops.{Hop, hops}
@@ -10,10 +11,6 @@ use Rattle.drum_bound.specs.declared.latest.Latest.{Latest}
 use Rattle.drum_bound.specs.declared.key_hop.KeyHop.{KeyHop}
 use Rattle.drum_bound.specs.Keys.{keys_of, place_at, counts_at, IsKey}
 use Rattle.drum_bound.specs.Longest.{longest}
-
--- the most word times that a step takes
-abbrev pub longest_step : ℕ
-longest_step = 92000099
 
 -- the one start angle, that behind the start's
 abbrev pub start_angle : ℕ → ℕ

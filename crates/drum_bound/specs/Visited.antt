@@ -4,7 +4,7 @@ use Rattle.std.proofs.Common.{refl, ap}
 use Rattle.drum_core.specs.declared.instruction.Instruction.{Instruction}
 use Rattle.drum_times.specs.declared.notes.mark.Mark.{Mark}
 use Rattle.drum_machine.specs.Ways.{Way}
-use Rattle.drum_flow.specs.Seen.{seen_way}
+use Rattle.drum_machine.specs.WaysLeft.{seen_way}
 use Rattle.drum_flow.specs.Walk.{Setting, Taken, IsWalk, time_of, passes_by, passes_of}
 use Rattle.drum_bound.specs.declared.visit.Visit.{Visit}
 

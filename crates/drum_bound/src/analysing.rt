@@ -1,3 +1,5 @@
+//! The analysis: what it promises of the bound, the walk and the table, and the way to them.
+
 ghost use Rattle.std.specs.Prelude.{◌≡◌, ℕ, ◌*◌, ◌^◌, ◌<◌, ◌≤◌, List, length, map, sum, slice_get, slice_index, Some, IfOk, IfErr};
 ghost use Rattle.drum_core.specs.Loads.{loads_in, start_in};
 ghost use Rattle.drum_times.specs.Entries.{entry_in};
@@ -27,17 +29,16 @@ use crate::scan::Scan;
 use crate::visit::Visit;
 use drum_core::Deck;
 use drum_flow::{Flow, Refusal, accept};
-use drum_machine::passes::MOST_MARKS;
 use drum_times::{Mark, Notes, Times};
 use std::alloc::{AllocError, Global};
 
 /// How often a walk passes each mark, by the marks' places.
-fn passes_of_marks(walk: &[Visit], marks: &[Mark]) -> [u64; MOST_MARKS]
+fn passes_of_marks(walk: &[Visit], marks: &[Mark]) -> [u64; Mark::MOST]
     requires { length marks.now ≤ 8 }
     ensures passed { ArePasses marks.now (map seen_visit walk.now) result }
     ensures places { length result ≡ 8 }
 {
-    let mut passed = [0; MOST_MARKS];
+    let mut passed = [0; Mark::MOST];
     for place in 0..marks.len() {
         passed[place] = passes(walk, &marks[place]);
     }
@@ -101,13 +102,13 @@ pub fn analyse(
         IsWalkOf (setting deck.now times.now notes.now) (angle_of analysis) (bound_of analysis)
         (visits_of analysis)) }
     ensures kept { IfOk result (λ analysis. (s : State) (steps : List Turn)
-        → IsFirstState (loads_in deck.now) (IsFixed (loads_in deck.now) notes.now (start_in
-        deck.now)) (start_in deck.now) s
+        → IsFirstState (loads_in deck.now)
+        (IsFixed (loads_in deck.now) notes.now (start_in deck.now)) (start_in deck.now) s
         → IsRun (entry_in times.now) s steps → IsKept (loads_in deck.now) notes.now s steps
         → used_from 0 steps ≤ bound_of analysis) }
     ensures under { IfOk result (λ analysis. (s : State) (steps : List Turn)
-        → IsFirstState (loads_in deck.now) (IsFixed (loads_in deck.now) notes.now (start_in
-        deck.now)) (start_in deck.now) s
+        → IsFirstState (loads_in deck.now)
+        (IsFixed (loads_in deck.now) notes.now (start_in deck.now)) (start_in deck.now) s
         → IsRun (entry_in times.now) s steps → IsKept (loads_in deck.now) notes.now s steps
         → ArriveUnder notes.now (rows_of analysis) (no_counts notes.now.marks) steps) }
     ensures table { IfOk result (λ analysis.

@@ -6,7 +6,7 @@ ghost use Rattle.drum_bound.specs.Visited.{AreInTime, seen_visit};
 use crate::cells::Cells;
 use crate::visit::Visit;
 use crate::worst::Worst;
-use drum_machine::passes::MOST_MARKS;
+use drum_times::Mark;
 
 /// What [`analyse`](crate::analyse) finds for a deck with its timing table and notes. The hops of
 /// its walk follow one another in time, from 0 to the bound, and are 4,000,000 at most.
@@ -18,7 +18,7 @@ pub struct Analysis {
     cells: Cells,
     walk: Vec<Visit>,
     /// By the marks' places in the notes; what stands past the last mark means nothing.
-    passed: [u64; MOST_MARKS],
+    passed: [u64; Mark::MOST],
     ghost in_time: { ∥ AreInTime 0 (map seen_visit walk.items)
         (cells.last.clock - cells.angle) ∥₁ },
     ghost after: { cells.angle ≤ cells.last.clock },
@@ -35,7 +35,7 @@ impl Analysis {
     /// The analysis of a table, which it keeps as it was raised, with a walk that takes as long as
     /// its latest end, and how often that passes each mark. (That the table is finished and the
     /// walk is one is said by who calls this.)
-    pub(crate) fn of(cells: Cells, walk: Vec<Visit>, passed: [u64; MOST_MARKS]) -> Analysis
+    pub(crate) fn of(cells: Cells, walk: Vec<Visit>, passed: [u64; Mark::MOST]) -> Analysis
         requires in_time { AreInTime 0 (map seen_visit walk.items) (cells.last.clock -
             cells.angle) }
         requires after { cells.angle ≤ cells.last.clock }

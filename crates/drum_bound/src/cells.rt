@@ -45,7 +45,7 @@ impl Cells {
     ghost use Rattle.std.specs.Prelude.{ℕ, ◌+◌, ◌%◌, ◌^◌, ◌<◌, suc, List, MatchOption, true, false, replicate, set, Some, None, IfOk};
     ghost use Rattle.drum_core.specs.Available.{is_available};
     ghost use Rattle.drum_core.specs.Moment.{first};
-    ghost use Rattle.drum_flow.specs.Seen.{seen_way};
+    ghost use Rattle.drum_machine.specs.WaysLeft.{seen_way};
     ghost use Rattle.drum_flow.specs.Walk.{Setting};
     ghost use Rattle.drum_bound.specs.EndOf.{latest_in};
     ghost use Rattle.drum_bound.specs.Held.{AreHeld, HaveEntries, entry_of, kept_in};

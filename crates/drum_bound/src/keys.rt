@@ -8,17 +8,18 @@ ghost use Rattle.drum_flow.specs.Flow.{deck_of, notes_of, executed_in, order_in}
 ghost use Rattle.drum_flow.specs.Graph.{AreDifferent};
 ghost use Rattle.drum_flow.specs.Hops as said;
 ghost use Rattle.drum_flow.specs.HopsLeft.{hops_left};
-ghost use Rattle.drum_bound.specs.CountsIn.{counts_in};
+ghost use Rattle.drum_machine.specs.CountsIn.{counts_in};
 ghost use Rattle.drum_bound.specs.Keys as numbered;
 ghost use Rattle.drum_bound.specs.Keys.{place_at, IsKey};
 ghost use Rattle.drum_bound.specs.RowOf.{counts_number};
 ghost use Rattle.drum_bound.specs.Scanned.{start_angle as start_angle_of};
 ghost use Rattle.drum_bound.specs.KeysOf.{AreKeys, CanHaveKeys, HaveHops, HaveIndices, numbers, sites_in};
 
-use crate::counts::Counts;
-use drum_core::Location;
+use crate::numbers::leading;
+use drum_core::{Location, REVOLUTION};
 use drum_flow::counts::counts_of;
 use drum_flow::{Flow, Hops};
+use drum_machine::Counts;
 use drum_times::Mark;
 use std::alloc::{AllocError, Global};
 
@@ -99,7 +100,7 @@ impl<'a> Keys<'a> {
     pub fn start_angle(&self) -> u64
         ensures { result ≡ start_angle_of (start_in (deck_of self.now.flow.now)) }
     {
-        (u64::from(self.flow.deck().start().number()) + 1) % 50
+        (u64::from(self.flow.deck().start().number()) + 1) % REVOLUTION
     }
 
     /// The start's key, with no mark passed.
@@ -161,6 +162,6 @@ impl<'a> Keys<'a> {
         ensures { IsKey (notes_of self.now.flow.now).marks (order_in self.now.flow.now) result
             location.number (counts_in counts (notes_of self.now.flow.now).marks) }
     {
-        counts.leading(self.marks()) * self.sites.len() + self.index_of(location)
+        leading(self.marks(), counts) * self.sites.len() + self.index_of(location)
     }
 }

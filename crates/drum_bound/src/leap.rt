@@ -2,7 +2,7 @@
 
 ghost use Rattle.std.specs.Prelude.{◌≡◌, ◌<◌, ◌≤◌, Contains, IfOk, IfSome, vec_len};
 ghost use Rattle.drum_core.specs.Loads.{loads_in};
-ghost use Rattle.drum_machine.specs.Counts as counted;
+ghost use Rattle.drum_times.specs.Marks.{mark_on};
 ghost use Rattle.drum_flow.specs.Flow.{deck_of, notes_of, order_in};
 ghost use Rattle.drum_flow.specs.Hops as said;
 ghost use Rattle.drum_flow.specs.HopsLeft.{hops_left};
@@ -12,10 +12,10 @@ ghost use Rattle.drum_bound.specs.LeapOf.{AreLeaps, HaveLeaps, IsLeap};
 
 use crate::keys::{Keys, Site};
 use crate::longest::longest;
-use drum_core::Location;
-use drum_flow::{Hop, Way};
-use drum_machine::passes::mark_on;
-use drum_times::Times;
+use drum_core::{Location, REVOLUTION};
+use drum_flow::Hop;
+use drum_machine::Way;
+use drum_times::{Mark, Times};
 use std::alloc::{AllocError, Global};
 
 /// How many leaps are kept at most. A location that has more hops than there is room for has its
@@ -39,10 +39,10 @@ impl Keys<'_> {
     /// The place of the mark on an edge.
     fn mark_between(&self, from: Location, onto: Location) -> Option<u8>
         requires { AreKeys self.now }
-        ensures { counted.mark_on (notes_of self.now.flow.now).marks from.number onto.number
+        ensures { mark_on (notes_of self.now.flow.now).marks from.number onto.number
             ≡ result }
     {
-        match mark_on(self.marks(), from, onto) {
+        match Mark::on_edge(self.marks(), from, onto) {
             Some(place) => Some(place as u8),
             None => None,
         }
@@ -95,10 +95,10 @@ impl Keys<'_> {
         ensures few { IfOk result (λ made. IfSome made (λ leaps. vec_len leaps ≤ room)) }
     {
         let location = site.location;
-        if location.number() >= 2000 {
+        if location.number() >= Location::DRUM {
             return Ok(None);
         }
-        let angle = u64::from(location.number() % 50);
+        let angle = u64::from(location.number()) % REVOLUTION;
         let mut leaps = Vec::new(alloc);
         for hop in site.hops {
             if leaps.len() >= room {

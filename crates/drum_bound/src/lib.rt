@@ -5,12 +5,12 @@
 mod analysing;
 mod analysis;
 mod cells;
-mod counts;
 mod key_hop;
 mod keys;
 mod latest;
 mod leap;
 mod longest;
+mod numbers;
 mod passed;
 mod round;
 mod scan;
@@ -21,6 +21,7 @@ mod worst;
 
 pub use analysing::analyse;
 pub use analysis::Analysis;
-pub use drum_flow::{Cycle, Flow, Hop, Hops, Refusal, Way, accept, flow};
+pub use drum_flow::{Cycle, Flow, Hop, Hops, Refusal, accept, flow};
+pub use drum_machine::Way;
 pub use visit::Visit;
 pub use worst::Worst;

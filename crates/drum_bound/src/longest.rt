@@ -2,14 +2,15 @@
 
 ghost use Rattle.std.specs.Prelude.{◌≡◌, ◌^◌, ◌≤◌, ◌+◌};
 ghost use Rattle.drum_times.specs.Entries.{entry_in};
-ghost use Rattle.drum_flow.specs.Seen.{seen_way};
+ghost use Rattle.drum_machine.specs.Timing.{longest_step};
+ghost use Rattle.drum_machine.specs.WaysLeft.{seen_way};
 ghost use Rattle.drum_bound.specs.Longest as defined;
 ghost use Rattle.drum_bound.specs.Profile.{MayEnd};
 
 use drum_core::{Clockwork, Location, Op};
-use drum_flow::{Hop, Way};
+use drum_flow::Hop;
 use drum_machine::chain::{to_end, to_ready};
-use drum_machine::places;
+use drum_machine::{Way, places};
 use drum_times::{Entry, Times};
 
 /// The most units of work that the operation may have at this D, whatever the data; at most 90.
@@ -45,7 +46,7 @@ pub fn longest(times: &Times, place: Location, hop: Hop, clock: u64) -> u64
     ensures value { result ≡ defined.longest (entry_in times.now) place.number hop.instruction
         (seen_way hop.way) clock }
     ensures later { clock ≤ result }
-    ensures near { result ≤ clock + 92000099 }
+    ensures near { result ≤ clock + longest_step }
 {
     let Some(op) = Op::of(hop.instruction.op()) else {
         return clock;

@@ -3,14 +3,14 @@
 ghost use Rattle.std.specs.Prelude.{◌≡◌, ◌<◌, ℕ, Some};
 ghost use Rattle.drum_machine.specs.Counts.{AreWithin};
 ghost use Rattle.drum_flow.specs.Flow.{notes_of};
-ghost use Rattle.drum_bound.specs.CountsIn.{counts_in};
+ghost use Rattle.drum_machine.specs.CountsIn.{counts_in};
 ghost use Rattle.drum_bound.specs.KeysOf.{AreKeys};
 ghost use Rattle.drum_bound.specs.RoundOf.{IsCounted, IsPassed, IsRound, counted_after};
 
-use crate::counts::Counts;
 use crate::keys::Keys;
 use crate::leap::Leap;
-use drum_machine::passes::MOST_MARKS;
+use crate::numbers::{counts_at, leading, table_number};
+use drum_machine::Counts;
 use drum_times::Mark;
 
 /// Counts of the marks, as the keys and the table of worst times have them.
@@ -28,7 +28,7 @@ pub struct Round {
     /// Their own counts.
     pub own: Counted,
     /// The counts after a pass of each mark, by the marks' places; `None` where it is full.
-    passed: [Option<Counted>; MOST_MARKS],
+    passed: [Option<Counted>; Mark::MOST],
 }
 
 impl Round {
@@ -54,8 +54,8 @@ impl Keys<'_> {
             self.now.flow.now).marks) result }
     {
         Counted {
-            first: counts.leading(self.marks()) * self.sites.len(),
-            number: counts.number(self.marks()),
+            first: leading(self.marks(), counts) * self.sites.len(),
+            number: table_number(self.marks(), counts),
         }
     }
 
@@ -80,8 +80,8 @@ impl Keys<'_> {
         ensures { IsRound self.now.flow.now leading result }
     {
         let marks = self.marks();
-        let counts = Counts::of(marks, leading);
-        let mut passed = [None; MOST_MARKS];
+        let counts = counts_at(marks, leading);
+        let mut passed = [None; Mark::MOST];
         for place in 0..marks.len() {
             passed[place] = self.counted_after(counts, &marks[place]);
         }

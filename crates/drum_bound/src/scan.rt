@@ -7,8 +7,9 @@ use crate::keys::Keys;
 use crate::leap::Leap;
 use crate::round::Round;
 use crate::search::Search;
-use drum_core::Location;
-use drum_flow::{Hops, Way};
+use drum_core::{Location, REVOLUTION};
+use drum_flow::Hops;
+use drum_machine::Way;
 use drum_machine::moments::found;
 use drum_times::Times;
 use std::alloc::{AllocError, Global};
@@ -27,7 +28,7 @@ impl<'a> Scan<'a> {
     ghost use Rattle.drum_core.specs.Available.{is_available};
     ghost use Rattle.drum_core.specs.Moment.{first};
     ghost use Rattle.drum_machine.specs.Ways.{to};
-    ghost use Rattle.drum_flow.specs.Seen.{seen_way};
+    ghost use Rattle.drum_machine.specs.WaysLeft.{seen_way};
     ghost use Rattle.drum_flow.specs.Hops.{Hop as HopOf, IsEdge, hops};
     ghost use Rattle.drum_flow.specs.HopsLeft.{hops_left};
     ghost use Rattle.drum_bound.specs.EndOf.{latest_in};
@@ -184,7 +185,7 @@ impl<'a> Scan<'a> {
         ensures same { self.new ≡ record self.old { cells = self.new.cells } }
     {
         let (keys, times) = (self.keys, self.times);
-        let angle = search.found % 50;
+        let angle = search.found % REVOLUTION;
         for (number, hop) in left.enumerate() {
             let leap = keys.leap(times, search.location, hop, angle);
             self.take_leap(round, search, number, &leap);

@@ -1,11 +1,11 @@
 //! The hops of a walk, as they are handed out.
 
 ghost use Rattle.std.specs.Prelude.{◌≡◌};
-ghost use Rattle.drum_flow.specs.Seen.{seen_way};
+ghost use Rattle.drum_machine.specs.WaysLeft.{seen_way};
 ghost use Rattle.drum_flow.specs.Walk.{passes_by};
 
 use drum_core::{Instruction, Location};
-use drum_flow::Way;
+use drum_machine::Way;
 use drum_times::Mark;
 
 /// A hop of a walk, and when it was taken.
@@ -28,14 +28,9 @@ impl Visit {
     pub fn passes(&self, mark: &Mark) -> u64
         ensures { result ≡ passes_by mark.now self.now.place.number (seen_way self.now.way) }
     {
-        let Way::To(onto) = self.way else {
-            return 0;
-        };
-        let from = self.place;
-        if mark.from.number() == from.number() && mark.onto.number() == onto.number() {
-            1
-        } else {
-            0
+        match self.way {
+            Way::To(onto) if mark.is_on(self.place, onto) => 1,
+            _ => 0,
         }
     }
 }

@@ -5,6 +5,7 @@ ghost use Rattle.std.specs.Prelude.{◌≡◌, ◌+◌, ◌%◌, ◌<◌, ◌≤
 use crate::key_hop::KeyHop;
 use crate::latest::Latest;
 use crate::leap::Leap;
+use drum_core::REVOLUTION;
 
 /// The latest end of a hop from a key. It is made by [`Made::end`] alone, which counts it.
 #[derive(Debug, Drop)]
@@ -27,7 +28,7 @@ impl End {
     pub fn angle(&self) -> u8
         ensures { result ≡ self.now.clock % 50 }
     {
-        (self.clock % 50) as u8
+        (self.clock % REVOLUTION) as u8
     }
 
     /// The hop of a key that it is of.

@@ -1,7 +1,7 @@
 use Rattle.std.proofs.Common.{◌≡◌, ℕ, ap, sym, ◌∙◌, inl, inr, arith, Some}
 use Rattle.drum_core.specs.Op.{op_of}
-use Rattle.drum_flow.specs.declared.way.Way as ways
-use Rattle.drum_flow.specs.Seen.{seen_way}
+use Rattle.drum_machine.specs.declared.ways.Way as ways
+use Rattle.drum_machine.specs.WaysLeft.{seen_way}
 use Rattle.drum_times.specs.declared.entry.Entry.{Entry}
 use Rattle.drum_times.specs.Entries.{entry_in}
 use Rattle.drum_machine.specs.Timing.{ready, ended}

@@ -1,7 +1,7 @@
 use Rattle.std.proofs.Common.{refl, ap, sym, ◌∙◌, arith}
 use Rattle.drum_core.specs.Recurs.{never_earlier}
 use Rattle.drum_core.specs.Waits.{available_recurs}
-use Rattle.drum_flow.specs.Seen.{seen_way}
+use Rattle.drum_machine.specs.WaysLeft.{seen_way}
 use Rattle.drum_bound.specs.Longest.{longest}
 use Rattle.drum_bound.proofs.LongestLaws.{longest_from_found}
 use Rattle.drum_bound.proofs.cells.Cells.end.Goals as goal

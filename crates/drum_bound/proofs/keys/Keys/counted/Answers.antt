@@ -2,7 +2,7 @@ use Rattle.std.proofs.Common.{◌≡◌, ℕ, ◌*◌, List, length, ap, ◌∙�
 use Rattle.drum_times.specs.declared.notes.mark.Mark.{Mark}
 use Rattle.drum_flow.specs.Flow.{notes_of, order_in}
 use Rattle.drum_flow.specs.Passes.{leading}
-use Rattle.drum_bound.specs.CountsIn.{counts_in}
+use Rattle.drum_machine.specs.CountsIn.{counts_in}
 use Rattle.drum_bound.specs.Table.{number_of}
 use Rattle.drum_bound.proofs.Sites.{same_length, small_product}
 use Rattle.drum_bound.proofs.keys.Keys.counted.Goals as goal
@@ -31,6 +31,6 @@ returns c =
     omega (arith, c.len.ensures, c.args.self.now.sites.ok.0, same_length c.args.self.now c.requires.keys) in
     record {
       first = ap (λ (n : ℕ). n * c.len.result) lead ∙ ap (λ (n : ℕ). leading marks counts * n) words;
-      number = c.number.ensures
+      number = c.table_number.ensures
           ∙ ap (λ (all : List Mark). number_of all (counts_in c.args.counts all)) c.marks-2.ensures.all;
     }

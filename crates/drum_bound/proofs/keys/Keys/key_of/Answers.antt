@@ -3,7 +3,7 @@ use Rattle.drum_times.specs.declared.notes.mark.Mark.{Mark}
 use Rattle.drum_machine.specs.Counts.{AreWithin}
 use Rattle.drum_flow.specs.Flow.{notes_of, order_in}
 use Rattle.drum_flow.specs.Passes.{leading}
-use Rattle.drum_bound.specs.CountsIn.{counts_in}
+use Rattle.drum_machine.specs.CountsIn.{counts_in}
 use Rattle.drum_bound.specs.Keys.{IsKey}
 use Rattle.drum_bound.proofs.Sites.{key_of_place, same_length, small_number, small_product}
 use Rattle.drum_bound.proofs.keys.Keys.key_of.Goals as goal

@@ -3,13 +3,14 @@ use Rattle.std.specs.Prelude.{Contains}
 use Rattle.drum_core.specs.Loads.{loads_in}
 use Rattle.drum_times.specs.Entries.{entry_in}
 use Rattle.drum_machine.specs.Ways.{Way, early, to, late}
-use Rattle.drum_flow.specs.declared.way.Way as code
-use Rattle.drum_flow.specs.declared.way.Way.TheVariants as way
+use Rattle.drum_machine.specs.declared.ways.Way as code
+use Rattle.drum_machine.specs.declared.ways.Way.TheVariants as way
 use Rattle.drum_flow.specs.Flow.{deck_of, notes_of, order_in}
 use Rattle.drum_flow.specs.Hops.{hops}
-use Rattle.drum_flow.specs.Seen.{seen_way}
+use Rattle.drum_machine.specs.WaysLeft.{seen_way}
 use Rattle.drum_bound.proofs.DigitsLaws.{no_counts_within}
-use Rattle.drum_machine.specs.Counts.{mark_on, no_counts}
+use Rattle.drum_times.specs.Marks.{mark_on}
+use Rattle.drum_machine.specs.Counts.{no_counts}
 use Rattle.drum_bound.proofs.LeapLaws.{leap_time}
 use Rattle.drum_bound.proofs.Profiles.{hop_may_end}
 use Rattle.drum_bound.proofs.Sites.{small_number}

@@ -2,7 +2,7 @@ use Rattle.std.proofs.Common.{◌≡◌, ◌%◌, ℕ, List, [], ◌∷◌, ◌+
 use Rattle.std.specs.Prelude.{Contains}
 use Rattle.std.proofs.lemmas.List.{append_assoc, map-append}
 use Rattle.std.proofs.lemmas.List.Elements.{Contains-push_cases}
-use Rattle.drum_flow.specs.declared.hop.Hop as code
+use Rattle.drum_flow.specs.declared.hops.Hop as code
 use Rattle.drum_flow.specs.Flow.{order_in}
 use Rattle.drum_flow.specs.Hops.{Hop}
 use Rattle.drum_flow.specs.HopsLeft.{hops_left}
@@ -26,7 +26,8 @@ loop-hop-preserved c =
     let rest = hops_left c.next.new.self in
     let leaps = c.loop-hop.leaps.items in
     let leap = c.leap.result in
-    let angle : c.from-angle.result ≡ place % 50 = c.from-angle.ensures ∙ ap (λ (n : ℕ). n % 50) c.number-2.ensures in
+    let angle : c.from-angle.result % 50 ≡ place % 50 =
+    ap (λ (n : ℕ). n % 50) (c.from-angle.ensures ∙ c.number-2.ensures) in
     let hop : leap_hop leap ≡ seen_hop c.in-Some.hop = ap (λ (h : code.Hop). seen_hop h) c.leap.ensures.hop in
     let pushed : c.push.new.self.items ≡ leaps ++ leap ∷ [] = c.in_ok-push.ensures.items in
     record {

@@ -8,10 +8,10 @@ use Rattle.drum_times.specs.declared.notes.mark.Mark.{Mark}
 use Rattle.drum_machine.specs.Counts.{AreWithin}
 use Rattle.drum_flow.specs.declared.flow_graph.Flow.{Flow}
 use Rattle.drum_flow.specs.Flow.{notes_of}
-use Rattle.drum_bound.specs.declared.counts.Counts.{Counts}
+use Rattle.drum_machine.specs.declared.counts.Counts.{Counts}
 use Rattle.drum_bound.specs.declared.keys.Keys.{Keys}
 use Rattle.drum_bound.specs.declared.round.Counted.{Counted}
-use Rattle.drum_bound.specs.CountsIn.{counts_in}
+use Rattle.drum_machine.specs.CountsIn.{counts_in}
 use Rattle.drum_bound.specs.Digits.{digits}
 use Rattle.drum_bound.specs.KeysOf.{AreKeys}
 use Rattle.drum_bound.specs.RoundOf.{IsCounted, IsPassed}
@@ -58,18 +58,18 @@ passed_more flow number place passed mark after inside here right before k one b
 pub counted_after-requires-clause-within : goal.counted_after-requires-clause-within
 counted_after-requires-clause-within c =
     let keys = c.args.self.now in
-    within keys c.args.leading c.of-counts.result c.requires.keys c.requires.below
-    (counted (notes_of keys.flow.now).marks c.args.leading c.of-counts.result c.marks-marks.result.now
-    c.marks-marks.ensures.all c.of-counts.ensures)
+    within keys c.args.leading c.counts_at-counts.result c.requires.keys c.requires.below
+    (counted (notes_of keys.flow.now).marks c.args.leading c.counts_at-counts.result c.marks-marks.result.now
+    c.marks-marks.ensures.all c.counts_at-counts.ensures)
 
 pub loop-place-preserved : goal.loop-place-preserved
 loop-place-preserved c =
     let keys = c.args.self.now in
     let marks = (notes_of keys.flow.now).marks in
     let place = c.loop-place.place in
-    let is : counts_in c.of-counts.result marks ≡ digits marks c.args.leading =
-    counted marks c.args.leading c.of-counts.result c.marks-marks.result.now c.marks-marks.ensures.all
-    c.of-counts.ensures in
+    let is : counts_in c.counts_at-counts.result marks ≡ digits marks c.args.leading =
+    counted marks c.args.leading c.counts_at-counts.result c.marks-marks.result.now c.marks-marks.ensures.all
+    c.counts_at-counts.ensures in
     let here : slice_get marks place ≡ Some c.index-marks-place.result =
     ap (λ (all : List Mark). slice_get all place) (sym c.marks-marks.ensures.all)
     ∙ slice_get_read c.marks-marks.result.now (length c.marks-marks.result.now) place c.index-marks-place.result refl
@@ -87,17 +87,17 @@ loop-place-preserved c =
 pub counted-requires-clause-within : goal.counted-requires-clause-within
 counted-requires-clause-within c =
     let keys = c.args.self.now in
-    within keys c.args.leading c.of-counts.result c.requires.keys c.requires.below
-    (counted (notes_of keys.flow.now).marks c.args.leading c.of-counts.result c.marks-marks.result.now
-    c.marks-marks.ensures.all c.of-counts.ensures)
+    within keys c.args.leading c.counts_at-counts.result c.requires.keys c.requires.below
+    (counted (notes_of keys.flow.now).marks c.args.leading c.counts_at-counts.result c.marks-marks.result.now
+    c.marks-marks.ensures.all c.counts_at-counts.ensures)
 
 pub returns : goal.returns
 returns c =
     let keys = c.args.self.now in
     let marks = (notes_of keys.flow.now).marks in
-    let is : counts_in c.of-counts.result marks ≡ digits marks c.args.leading =
-    counted marks c.args.leading c.of-counts.result c.marks-marks.result.now c.marks-marks.ensures.all
-    c.of-counts.ensures in
+    let is : counts_in c.counts_at-counts.result marks ≡ digits marks c.args.leading =
+    counted marks c.args.leading c.counts_at-counts.result c.marks-marks.result.now c.marks-marks.ensures.all
+    c.counts_at-counts.ensures in
     record {
       own = subst (λ (counts : List ℕ). IsCounted keys.flow.now counts c.counted.result) is c.counted.ensures;
       passed = λ k mark at. c.loop-place.invariant.passed k mark

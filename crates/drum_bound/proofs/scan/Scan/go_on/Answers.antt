@@ -2,13 +2,14 @@ use Rattle.std.proofs.Common.{◌≡◌, ℕ, ◌+◌, ◌/◌, ◌%◌, ◌<◌
 use Rattle.std.proofs.Common.{subst, arith}
 use Rattle.std.specs.Prelude.{slice_get}
 use Rattle.drum_machine.specs.Ways.{to}
-use Rattle.drum_machine.specs.Counts.{after_pass, mark_on, AreWithin}
+use Rattle.drum_times.specs.Marks.{mark_on}
+use Rattle.drum_machine.specs.Counts.{after_pass, AreWithin}
 use Rattle.drum_bound.specs.declared.round.Counted.{Counted}
 use Rattle.drum_bound.specs.declared.round.Round.{Round}
 use Rattle.drum_bound.specs.declared.leap.Leap.{Leap}
 use Rattle.drum_bound.specs.declared.scan.Scan.{Scan}
 use Rattle.drum_flow.specs.Hops.{IsEdge}
-use Rattle.drum_flow.specs.Seen.{seen_way}
+use Rattle.drum_machine.specs.WaysLeft.{seen_way}
 use Rattle.drum_bound.specs.LeapOf.{IsLeap}
 use Rattle.drum_bound.proofs.KeyLaws.{counts_within}
 use Rattle.drum_bound.proofs.Onward.{leads_on}

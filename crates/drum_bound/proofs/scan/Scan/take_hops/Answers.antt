@@ -4,7 +4,7 @@ use Rattle.std.specs.declared.iter.Enumerate.{Enumerate}
 use Rattle.std.specs.Iterator.Adapters.{enumerate_count, enumerate_source}
 use Rattle.std.specs.Prelude.{slice_get, Contains}
 use Rattle.std.proofs.lemmas.Option.{slice_get_within}
-use Rattle.drum_flow.specs.declared.hop.Hop as code
+use Rattle.drum_flow.specs.declared.hops.Hop as code
 use Rattle.drum_flow.specs.declared.hops.Hops.{Hops}
 use Rattle.drum_flow.specs.Hops.{Hop, hops}
 use Rattle.drum_flow.specs.HopsLeft.{hops_left}

@@ -1,8 +1,9 @@
 use Rattle.std.proofs.Common.{◌≡◌, ◌⊎◌, ℕ, List, Option, Some, ap, ◌∙◌, sym, subst, inl, inr, refl, arith}
 use Rattle.drum_machine.specs.Ways.{early, late}
-use Rattle.drum_flow.specs.declared.way.Way as code
-use Rattle.drum_flow.specs.declared.way.Way.TheVariants as way
-use Rattle.drum_flow.specs.Seen.{seen_hop, seen_way}
+use Rattle.drum_machine.specs.declared.ways.Way as code
+use Rattle.drum_machine.specs.declared.ways.Way.TheVariants as way
+use Rattle.drum_machine.specs.WaysLeft.{seen_way}
+use Rattle.drum_flow.specs.Seen.{seen_hop}
 use Rattle.drum_flow.specs.Walk.{Setting}
 use Rattle.drum_bound.specs.declared.cells.Cells.{Cells}
 use Rattle.drum_bound.specs.declared.cells.end.Made.{Made}

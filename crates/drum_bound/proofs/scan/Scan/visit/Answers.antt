@@ -4,7 +4,8 @@ use Rattle.std.proofs.Math.Nat.{mod-lt}
 use Rattle.std.proofs.lemmas.List.{length-map}
 use Rattle.std.proofs.lemmas.Option.{slice_get-get_or}
 use Rattle.drum_flow.specs.Hops.{Hop}
-use Rattle.drum_flow.specs.Seen.{seen_hop, seen_way}
+use Rattle.drum_machine.specs.WaysLeft.{seen_way}
+use Rattle.drum_flow.specs.Seen.{seen_hop}
 use Rattle.drum_flow.specs.Walk.{Setting}
 use Rattle.drum_bound.specs.declared.keys.Site.{Site}
 use Rattle.drum_bound.specs.declared.scan.Scan.{Scan}

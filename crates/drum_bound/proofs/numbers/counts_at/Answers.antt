@@ -1,7 +1,7 @@
 use Rattle.std.proofs.Common.{◌-◌, ◌+◌, ◌%◌, ◌∙◌, get_or, replicate, refl, arith}
 use Rattle.std.proofs.lemmas.List.{length-set}
 use Rattle.drum_bound.proofs.CountLoops.{leads_none, leads_more, leads_all}
-use Rattle.drum_bound.proofs.counts.Counts.of.Goals as goal
+use Rattle.drum_bound.proofs.numbers.counts_at.Goals as goal
 
 pub loop-place-init : goal.loop-place-init
 loop-place-init c = record {
@@ -17,11 +17,11 @@ loop-place-preserved c =
     let d = c.index-marks-place.result in
     let eight = c.loop-place.invariant.eight in
     record {
-      taken = leads_more marks place c.loop-place.place d c.loop-place.counts c.loop-place.rest c.args.number
+      taken = leads_more marks place c.loop-place.place d c.loop-place.passes c.loop-place.rest c.args.number
           (omega arith) (omega arith) (omega (arith, eight)) c.loop-place.invariant.taken;
-      eight = length-set c.loop-place.counts place (c.loop-place.rest % ((get_or marks place d).most + 1)) ∙ eight;
+      eight = length-set c.loop-place.passes place (c.loop-place.rest % ((get_or marks place d).most + 1)) ∙ eight;
     }
 
 pub returns : goal.returns
-returns c = leads_all c.args.marks.now c.loop-place.place c.loop-place.counts c.loop-place.rest c.args.number
+returns c = leads_all c.args.marks.now c.loop-place.place c.loop-place.passes c.loop-place.rest c.args.number
     c.loop-place-test.false c.loop-place.invariant.taken c.requires.below
