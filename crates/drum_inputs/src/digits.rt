@@ -5,13 +5,9 @@ ghost use Rattle.drum_core.specs.Numeral.{digits_of};
 ghost use Rattle.drum_inputs.specs.InputsText as text;
 
 use crate::key::behind;
+use drum_core::REVOLUTION;
 use drum_core::numeral::read_digits;
-
-/// How many angles the drum has.
-const ANGLES: u64 = 50;
-
-/// The longest wait.
-const LONGEST: u64 = 1_000_000;
+use drum_times::Entry;
 
 /// The angle of a line that states the start angle.
 pub fn read_angle(line: &[u8]) -> Option<u8>
@@ -25,7 +21,7 @@ pub fn read_angle(line: &[u8]) -> Option<u8>
         return None;
     }
     match read_digits(digits) {
-        Some(angle) if angle < ANGLES => Some(angle as u8),
+        Some(angle) if angle < REVOLUTION => Some(angle as u8),
         _ => None,
     }
 }
@@ -42,7 +38,7 @@ pub fn read_wait(line: &[u8]) -> Option<u32>
         return None;
     }
     match read_digits(digits) {
-        Some(wait) if wait <= LONGEST => Some(wait as u32),
+        Some(wait) if wait <= Entry::LONGEST => Some(wait as u32),
         _ => None,
     }
 }

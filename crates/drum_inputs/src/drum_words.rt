@@ -3,9 +3,6 @@ ghost use Rattle.std.specs.Prelude.{◌≡◌, vec_len};
 use drum_core::{Location, Word};
 use std::alloc::{AllocError, Global};
 
-/// How many words the drum has.
-pub const DRUM: usize = 2000;
-
 /// Words for drum locations.
 #[derive(Drop)]
 pub struct DrumWords {
@@ -27,7 +24,7 @@ impl DrumWords {
     {
         Ok(DrumWords {
             words: Vec::new(alloc),
-            marks: vec![in alloc; false; DRUM]?,
+            marks: vec![in alloc; false; usize::from(Location::DRUM)]?,
         })
     }
 

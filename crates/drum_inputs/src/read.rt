@@ -1,3 +1,5 @@
+//! Reading the inputs of a replay from their device, line by line.
+
 ghost use Rattle.std.specs.Prelude.{◌≡◌, ◌≢◌, ◌+◌, ◌^◌, ◌≤◌, ◌↔◌, List, IsErrOf, IfOk, IfErr, IfSome};
 ghost use Rattle.drum_inputs.specs.Inputs.{AreInputsOf};
 ghost use Rattle.drum_inputs.specs.InputsText.{Line, IsTooLong, AreInputs, IsRefused};

@@ -3,12 +3,12 @@ ghost use Rattle.drum_inputs.specs.Holds.{HoldsLines};
 ghost use Rattle.drum_inputs.specs.Inputs.{AreInputsOf};
 ghost use Rattle.drum_inputs.specs.InputsText as text;
 
-use crate::drum_words::{DRUM, DrumWords};
+use crate::drum_words::DrumWords;
 use crate::fault::InputFault;
 use crate::inputs::Inputs;
 use crate::line::Line;
 use crate::settings::Settings;
-use drum_core::{DeckCard, Word};
+use drum_core::{DeckCard, Location, Word};
 use drum_machine::{Card, Feed, Setup};
 use std::alloc::{AllocError, Global};
 
@@ -69,7 +69,7 @@ impl Stating {
             → text.IsFaultOfLine lines line bytes fault) }
     {
         let words = card.words();
-        if usize::from(card.address) + words.len() > DRUM {
+        if usize::from(card.address) + words.len() > usize::from(Location::DRUM) {
             return Err(InputFault::PastDrum(line));
         }
         if self.drum.has_any(card.address, words.len()) {

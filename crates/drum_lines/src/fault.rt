@@ -8,7 +8,7 @@ use drum_flow::Refusal;
 use drum_inputs::InputFault;
 use drum_times::NoteFault;
 
-/// Why there is no bound, no report or no replay.
+/// Why a command has no answer.
 #[derive(Debug, Drop)]
 pub enum Fault {
     /// A line that ends a part is missing.
@@ -25,7 +25,7 @@ pub enum Fault {
     Notes(NoteFault),
     /// The inputs are refused.
     Inputs(InputFault),
-    /// The analysis refuses the deck.
+    /// The analysis refuses the deck, or there is no memory for it or for a picture of it.
     Refused(Refusal),
     /// The inputs give a word to a location that the deck loads too.
     Loaded(Location),

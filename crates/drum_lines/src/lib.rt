@@ -14,6 +14,6 @@ pub use fault::Fault;
 pub use part::{Part, PartFault};
 pub use print::fault_line::write_fault;
 pub use print::verdict_line::{spelling_of, write_verdict};
-pub use print::{four_digits, send, two_digits, write_bound, write_text};
+pub use print::{four_digits, send, send_bound, two_digits, write_bound, write_text};
 pub use status::Status;
 pub use verdict::Verdict;

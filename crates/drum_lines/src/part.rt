@@ -1,3 +1,5 @@
+//! The parts that the program is given, and why one can't be had.
+
 /// What the program is given, part by part.
 #[derive(Clone, Copy, Debug, PartialEq, Eq)]
 pub enum Part {

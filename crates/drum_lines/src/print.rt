@@ -70,6 +70,20 @@ pub fn send<O: Output>(output: &mut O, sent: usize, pieces: &[&[u8]]) -> Result<
     }
 }
 
+/// Writes the line of a bound behind so many bytes, and tells how many have gone out then.
+pub fn send_bound<O: Output>(output: &mut O, sent: usize, bound: u64) -> Result<usize, WriteFault>
+    requires called { O.called output.old ≤ 2 ^ 62 + 2 ^ 40 }
+    requires few { sent ≤ 2 ^ 40 }
+    ensures sent { IsSent (O.written output.old) (O.written output.new) sent result
+        (bound_text bound) }
+    ensures failures { O.failed output.new ≡ O.failed output.old + fails_by result }
+    ensures calls { O.called output.new ≤ O.called output.old + 120 }
+{
+    let mut number = Buffer::new();
+    let pieces: [&[u8]; 3] = [b"bound ", number.format(bound).as_bytes(), b"\n"];
+    send(output, sent, &pieces)
+}
+
 /// Writes a line of a text and a number.
 fn write_numbered<O: Output>(output: &mut O, text: &[u8], number: u64) -> Result<(), WriteFault>
     requires called { O.called output.old ≤ 2 ^ 62 }

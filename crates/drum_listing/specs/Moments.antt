@@ -3,9 +3,8 @@
 use Rattle.std.specs.Prelude.{ℕ, ◌+◌, ◌-◌, Bool, true, false, ◌||◌, not, if◌then◌else◌, Option, Some, None}
 use Rattle.drum_core.specs.declared.instruction.Instruction.{Instruction}
 use Rattle.drum_core.specs.declared.op.Op.{Op}
-use Rattle.drum_core.specs.Op.{op_of, operand_of}
+use Rattle.drum_core.specs.Op.{op_of, operand_of, is_operand}
 use Rattle.drum_times.specs.declared.entry.Entry.{Entry}
-use Rattle.drum_machine.specs.Step.{is_operand}
 use Rattle.drum_machine.specs.Timing.{found, ready, reached}
 use Rattle.drum_machine.specs.Ways.{Way, early, to, late}
 use Rattle.drum_listing.specs.declared.moments.Moments.{Moments}

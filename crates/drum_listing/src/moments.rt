@@ -2,7 +2,6 @@
 
 use drum_bound::{Visit, Way};
 use drum_core::Op;
-use drum_machine::is_operand;
 use drum_machine::moments::{found, reached};
 use drum_times::Times;
 
@@ -19,11 +18,10 @@ pub struct Moments {
 
 impl Moments {
     ghost use Rattle.std.specs.Prelude.{◌≡◌, ◌+◌, ◌-◌, ◌^◌, ◌≤◌, ◌||◌, Some, None, not, if◌then◌else◌};
-    ghost use Rattle.drum_core.specs.Op.{operand_of};
+    ghost use Rattle.drum_core.specs.Op.{operand_of, is_operand};
     ghost use Rattle.drum_times.specs.Entries.{entry_in};
-    ghost use Rattle.drum_machine.specs.Step.{is_operand as operand_is};
     ghost use Rattle.drum_machine.specs.Timing.{reached as reached_at};
-    ghost use Rattle.drum_flow.specs.Seen.{seen_way};
+    ghost use Rattle.drum_machine.specs.WaysLeft.{seen_way};
     ghost use Rattle.drum_listing.specs.Moments.{is_early, moments_of};
 
     /// The moments of a visit, on a drum with this angle at time 0.
@@ -54,11 +52,11 @@ impl Moments {
         requires soon { x ≤ 2 ^ 62 + 2 ^ 39 }
         requires later { start ≤ x }
         ensures { let d = visit.now.instruction.d in result
-            ≡ (if is_early (seen_way visit.now.way) || not (operand_is (operand_of op) d) then None
+            ≡ (if is_early (seen_way visit.now.way) || not (is_operand (operand_of op) d) then None
             else Some (reached_at op d x - start)) }
     {
         let d = visit.instruction.d();
-        if matches!(visit.way, Way::Early) || !is_operand(op.operand(), d) {
+        if matches!(visit.way, Way::Early) || !op.operand().suits(d) {
             None
         } else {
             Some(reached(op, d, x) - start)

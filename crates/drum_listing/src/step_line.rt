@@ -9,7 +9,7 @@ ghost use Rattle.drum_machine.specs.Monitor.{IsToldOf};
 ghost use Rattle.drum_machine.specs.Run.{Turn};
 ghost use Rattle.drum_machine.specs.Step.{fetched};
 ghost use Rattle.drum_flow.specs.RunHops.{hop_of};
-ghost use Rattle.drum_flow.specs.Seen.{seen_way};
+ghost use Rattle.drum_machine.specs.WaysLeft.{seen_way};
 ghost use Rattle.drum_bound.specs.Visited.{seen_visit, visited};
 ghost use Rattle.drum_lines.specs.Sent.{IsSent, fails_by};
 ghost use Rattle.drum_listing.specs.Pieces.{fetch_text};

@@ -2,7 +2,7 @@
 
 ghost use Rattle.std.specs.Prelude.{◌≡◌, ◌+◌, ◌^◌, ◌≤◌, IfOk, length};
 ghost use Rattle.drum_times.specs.Entries.{entry_in};
-ghost use Rattle.drum_flow.specs.Seen.{seen_way};
+ghost use Rattle.drum_machine.specs.WaysLeft.{seen_way};
 ghost use Rattle.drum_bound.specs.Visited.{seen_visit};
 ghost use Rattle.drum_lines.specs.Sent.{IsSent, fails_by};
 ghost use Rattle.drum_listing.specs.Pieces.{onto_digits, way_name as name_of};

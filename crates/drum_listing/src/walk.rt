@@ -4,16 +4,14 @@ ghost use Rattle.std.specs.Prelude.{◌≡◌, ◌+◌, ◌^◌, ◌≤◌, All,
 ghost use Rattle.drum_times.specs.Entries.{entry_in};
 ghost use Rattle.drum_bound.specs.AnalysisOf.{angle_of, bound_of, visits_of};
 ghost use Rattle.drum_bound.specs.Visited.{seen_visit};
-ghost use Rattle.drum_lines.specs.BoundText.{bound_text};
 ghost use Rattle.drum_lines.specs.Sent.{IsSent, IsWritten, fails_by};
 ghost use Rattle.drum_listing.specs.WalkText.{visit_line, walk_text};
 
 use crate::visit_line::send_visit;
 use drum_bound::{Analysis, Visit};
 use drum_core::Output;
-use drum_lines::{WriteFault, send};
+use drum_lines::{WriteFault, send_bound};
 use drum_times::Times;
-use itoa::Buffer;
 
 /// Writes the lines of a walk.
 fn send_visits<O: Output>(
@@ -36,19 +34,6 @@ fn send_visits<O: Output>(
         sent = send_visit(writer, sent, visit, times, angle)?;
     }
     Ok(sent)
-}
-
-/// Writes the line of the bound behind so many bytes.
-fn send_bound<O: Output>(writer: &mut O, sent: usize, bound: u64) -> Result<usize, WriteFault>
-    requires called { O.called writer.old ≤ 2 ^ 62 + 2 ^ 40 }
-    requires few { sent ≤ 2 ^ 40 }
-    ensures sent { IsSent (O.written writer.old) (O.written writer.new) sent result
-        (bound_text bound) }
-    ensures failures { O.failed writer.new ≡ O.failed writer.old + fails_by result }
-{
-    let mut number = Buffer::new();
-    let pieces: [&[u8]; 3] = [b"bound ", number.format(bound).as_bytes(), b"\n"];
-    send(writer, sent, &pieces)
 }
 
 /// Writes the worst walk of an analysis, visit by visit, and the bound. The timing table is the one

@@ -1,3 +1,5 @@
+//! The bar of the cards' shares.
+
 use crate::scale::scaled;
 use crate::shares::Shares;
 use std::alloc::AllocError;

@@ -1,3 +1,5 @@
+//! The words beside the drum.
+
 use crate::point::Point;
 use crate::tallies::Tallies;
 use crate::word::Word;

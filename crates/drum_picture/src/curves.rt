@@ -1,3 +1,5 @@
+//! The ways from word to word.
+
 use crate::beside::{beside_top, is_beside};
 use crate::hops::{MOST_HOPS, TakenHop};
 use crate::point::Point;

@@ -1,3 +1,5 @@
+//! The whole picture.
+
 use crate::bar::draw_bar;
 use crate::beside::draw_beside;
 use crate::curves::draw_curves;

@@ -1,3 +1,5 @@
+//! The drum, ring by ring.
+
 use crate::point::Point;
 use crate::rings::{RIM, Ring};
 use crate::tallies::Tallies;

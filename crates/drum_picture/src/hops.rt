@@ -1,3 +1,5 @@
+//! Which ways between words the walk takes, and how often.
+
 use crate::walk::Walk;
 use drum_bound::Way;
 use std::alloc::{AllocError, Global};

@@ -1,3 +1,5 @@
+//! What is written on words.
+
 use crate::rings::Ring;
 use crate::tallies::Tallies;
 use crate::word::Word;

@@ -1,3 +1,5 @@
+//! What stands around the drawings: how the picture begins and ends, and its keys.
+
 use crate::hops::MOST_HOPS;
 use crate::rings::Ring;
 use crate::walk::Walk;

@@ -1,6 +1,8 @@
+//! When the parts of a hop begin and end.
+
 use drum_bound::{Visit, Way};
 use drum_core::{Location, Op};
-use drum_machine::{is_operand, moments};
+use drum_machine::moments;
 use drum_times::{Entry, Times};
 
 /// The latest clock that is looked at: a walk takes fewer word times.
@@ -36,7 +38,7 @@ pub fn data_of(visit: &Visit) -> Option<Location> {
         | Op::Multiply
         | Op::Store(_)
         | Op::LoadDistributor
-            if is_operand(op.operand(), d) => Location::new(d),
+            if op.operand().suits(d) => Location::new(d),
         _ => None,
     }
 }
@@ -84,7 +86,7 @@ impl Parts {
         let [begun, found, ended] = known;
         let ready = found.saturating_add(u64::from(entry.before)).min(ended);
         let d = visit.instruction.d();
-        let reached = if is_operand(op.operand(), d) && ready <= LATEST {
+        let reached = if op.operand().suits(d) && ready <= LATEST {
             moments::reached(op, d, ready).min(ended)
         } else {
             ready

@@ -1,3 +1,5 @@
+//! The walk, a revolution a row.
+
 use crate::parts::Parts;
 use crate::rows::{MOST_ROWS, MOST_VISITS, Rows};
 use crate::spans::{COLUMN, draw_visit, top_of};

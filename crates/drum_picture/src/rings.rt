@@ -1,3 +1,5 @@
+//! The rings of the drum.
+
 use crate::tallies::Tallies;
 use std::alloc::{AllocError, Global};
 

@@ -1,3 +1,5 @@
+//! The parts of a hop, each a span of a row.
+
 use crate::parts::{Parts, next_found};
 use crate::rows::{MOST_ROWS, Rows};
 use drum_bound::Visit;

@@ -1,3 +1,5 @@
+//! How often each location is visited, and for how long.
+
 use crate::parts::data_of;
 use crate::walk::Walk;
 use drum_bound::{Visit, Worst};
@@ -47,7 +49,7 @@ pub struct Tallies {
 /// The place of a location's tally.
 fn place_of(location: Location) -> usize {
     let number = usize::from(location.number());
-    if number < 2000 {
+    if number < usize::from(Location::DRUM) {
         number
     } else {
         number.saturating_sub(6000)

@@ -13,7 +13,7 @@ use Rattle.drum_core.specs.declared.deck.Deck.{Deck}
 use Rattle.drum_core.specs.Loads.{card_in}
 use Rattle.drum_core.proofs.Puts.{slice_get-set_same, slice_get-set_other}
 use Rattle.drum_times.specs.declared.notes.mark.Mark.{Mark}
-use Rattle.drum_flow.specs.Seen.{seen_way}
+use Rattle.drum_machine.specs.WaysLeft.{seen_way}
 use Rattle.drum_flow.specs.Walk.{passes_by}
 use Rattle.drum_bound.specs.declared.visit.Visit.{Visit}
 use Rattle.drum_bound.specs.Visited.{Visited, seen_visit, passes_in}

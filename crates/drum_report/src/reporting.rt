@@ -11,9 +11,9 @@ mod tally;
 
 use drum_bound::Analysis;
 use drum_core::{Deck, Output};
-use drum_lines::WriteFault;
+use drum_lines::{WriteFault, send_bound};
 use drum_times::Notes;
-use sending::{send_bound, send_cards, send_marks, send_other};
+use sending::{send_cards, send_marks, send_other};
 use tallies::Tallies;
 
 /// Writes the report of an analysis: for each data card of the deck how often the walk visits its

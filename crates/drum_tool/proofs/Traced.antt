@@ -9,13 +9,13 @@ use Rattle.drum_core.specs.declared.op.Op.{Op}
 use Rattle.drum_times.specs.declared.entry.Entry.{Entry}
 use Rattle.drum_machine.specs.Machine.{op_in, waits_with}
 use Rattle.drum_machine.specs.Run.{Turn}
-use Rattle.drum_machine.specs.Step.{State, Stepped, on, stopped, clock_of, instruction_in, is_operand, lacks_card}
-use Rattle.drum_machine.specs.Step.{leaves, step, step_with}
+use Rattle.drum_machine.specs.Step.{State, Stepped, on, stopped, clock_of, instruction_in, lacks_card, leaves, step}
+use Rattle.drum_machine.specs.Step.{step_with}
 use Rattle.drum_machine.specs.declared.why.Why.TheVariants as why
 use Rattle.drum_machine.specs.Effect.{Outcome, effect, goes, stops}
 use Rattle.drum_machine.specs.Timing.{ended, ready, units_of}
 use Rattle.drum_core.specs.Location.{is_location}
-use Rattle.drum_core.specs.Op.{op_of, operand_of}
+use Rattle.drum_core.specs.Op.{op_of, operand_of, is_operand}
 use Rattle.drum_flow.specs.Walk.{Setting}
 use Rattle.drum_lines.specs.declared.status.Status.{Status}
 use Rattle.drum_lines.specs.declared.verdict.Verdict.{Verdict}

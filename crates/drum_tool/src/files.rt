@@ -16,8 +16,8 @@ use std::alloc::Global;
 /// The most bytes of a timing table and of notes.
 const BYTES: usize = 8_388_608;
 
-/// The bytes of a part, one past the limit at most. That reading it failed is told exactly where a
-/// read did.
+/// The bytes of a timing table or of notes, 8,388,608 at most. That reading failed is told exactly
+/// where a read did.
 fn bytes_of<I: Input>(alloc: Global, part: Part, text: &mut I) -> Result<Vec<u8>, Fault>
     requires { I.called text.old ≤ 2 ^ 62 }
     ensures bytes { IfOk result (λ bytes. IfSome (I.left text.old) (λ all.

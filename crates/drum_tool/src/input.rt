@@ -42,7 +42,7 @@ impl Documents {
         }
     }
 
-    /// The documents of the joined form that an input gives, of 16,777,217 bytes at most.
+    /// The documents of the joined form that an input gives, of 16,777,216 bytes at most.
     ///
     /// # Errors
     ///

@@ -1,3 +1,5 @@
+//! The replay of a run, up to its verdict.
+
 ghost use Rattle.std.specs.Prelude.{◌≡◌, ℕ, List, IfErr, IfOk, option_map};
 ghost use Rattle.drum_core.specs.Loads.{loads_in, start_in};
 ghost use Rattle.drum_flow.specs.Accepted.{IsAccepted};

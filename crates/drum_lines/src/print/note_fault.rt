@@ -1,3 +1,5 @@
+//! The line of a fault in the timing table or in the notes.
+
 ghost use Rattle.std.specs.Prelude.{◌≡◌, ◌+◌, ◌^◌, ◌≤◌, ◌++◌, codes, length, string_bytes};
 ghost use Rattle.drum_times.specs.declared.fault.NoteFault.TheVariants.{TwoMarks};
 ghost use Rattle.drum_lines.specs.FaultText.{note_text, part_name};

@@ -1,3 +1,5 @@
+//! The line of a part that can't be had.
+
 ghost use Rattle.std.specs.Prelude.{◌≡◌, ◌+◌, ◌^◌, ◌≤◌, length};
 ghost use Rattle.drum_lines.specs.FaultText.{part_name, part_text};
 ghost use Rattle.drum_lines.specs.Sent.{IsWritten, fails_by};

@@ -1,3 +1,5 @@
+//! The line of a deck that the analysis refuses.
+
 ghost use Rattle.std.specs.Prelude.{◌≡◌, ◌+◌, ◌*◌, ◌^◌, ◌≤◌, IfOk, flat_map, length};
 ghost use Rattle.drum_flow.specs.declared.refusal.Refusal.TheVariants.{Unbounded};
 ghost use Rattle.drum_lines.specs.FaultText.{next_location, refusal_text};

@@ -1,3 +1,5 @@
+//! The line of a replay's verdict.
+
 ghost use Rattle.std.specs.Prelude.{◌≡◌, ◌+◌, ◌^◌, ◌≤◌, ◌++◌, codes, decimal, length};
 ghost use Rattle.drum_core.specs.Word.{spelling};
 ghost use Rattle.drum_machine.specs.declared.left.Left.TheVariants.{Unlisted, TooOften};

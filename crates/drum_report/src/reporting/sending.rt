@@ -3,7 +3,6 @@
 ghost use Rattle.std.specs.Prelude.{◌≡◌, ℕ, ◌+◌, ◌*◌, ◌^◌, ◌<◌, ◌≤◌, ◌++◌, List, IfOk, length, codes, decimal, flat_map};
 ghost use Rattle.drum_core.specs.Loads.{cards_in};
 ghost use Rattle.drum_bound.specs.Visited.{Visited};
-ghost use Rattle.drum_lines.specs.BoundText.{bound_text};
 ghost use Rattle.drum_report.specs.Report.{card_line, mark_line};
 ghost use Rattle.drum_lines.specs.Sent.{IsSent, fails_by};
 ghost use Rattle.drum_report.specs.TalliesOf.{AreByLine, ArePasses, told_of_card, told_of_mark, told_of_others};
@@ -12,7 +11,6 @@ use super::tallies::LINES;
 use super::tally::Tally;
 use drum_core::{Deck, Output};
 use drum_lines::{WriteFault, four_digits, send};
-use drum_machine::passes::MOST_MARKS;
 use drum_times::Mark;
 use itoa::Buffer;
 
@@ -106,20 +104,6 @@ fn send_mark<O: Output>(
     send(writer, sent, &pieces)
 }
 
-/// Writes the line of the bound.
-pub fn send_bound<O: Output>(writer: &mut O, sent: usize, bound: u64) -> Result<usize, WriteFault>
-    requires called { O.called writer.old ≤ 2 ^ 62 + 2 ^ 40 }
-    requires few { sent ≤ 2 ^ 40 }
-    ensures sent { IsSent (O.written writer.old) (O.written writer.new) sent result
-        (bound_text bound) }
-    ensures failures { O.failed writer.new ≡ O.failed writer.old + fails_by result }
-    ensures calls { O.called writer.new ≤ O.called writer.old + 120 }
-{
-    let mut number = Buffer::new();
-    let pieces: [&[u8]; 3] = [b"bound ", number.format(bound).as_bytes(), b"\n"];
-    send(writer, sent, &pieces)
-}
-
 /// Writes the lines of a deck's cards.
 pub fn send_cards<O: Output>(
     writer: &mut O,
@@ -146,7 +130,7 @@ pub fn send_marks<O: Output>(
     writer: &mut O,
     mut sent: usize,
     marks: &[Mark],
-    passed: &[u64; MOST_MARKS],
+    passed: &[u64; Mark::MOST],
 ) -> Result<usize, WriteFault>
     requires called { O.called writer.old ≤ 2 ^ 62 + 2 ^ 30 }
     requires few { sent ≤ 2 ^ 30 }

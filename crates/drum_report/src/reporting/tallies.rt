@@ -1,7 +1,7 @@
 ghost use Rattle.std.specs.Prelude.{◌≡◌, [], ℕ, ◌+◌, ◌^◌, ◌<◌, ◌≤◌, length, map, slice_get, slice_index, Some};
 ghost use Rattle.std.specs.List.{All};
 ghost use Rattle.drum_times.specs.declared.notes.mark.Mark.{Mark};
-ghost use Rattle.drum_flow.specs.Seen.{seen_way};
+ghost use Rattle.drum_machine.specs.WaysLeft.{seen_way};
 ghost use Rattle.drum_flow.specs.Walk.{passes_by};
 ghost use Rattle.drum_bound.specs.Visited.{seen_visit};
 ghost use Rattle.drum_report.specs.Report.{time_in};
@@ -10,7 +10,6 @@ ghost use Rattle.drum_report.specs.TalliesOf.{AreTallies, tally_of};
 use super::tally::Tally;
 use drum_bound::Visit;
 use drum_core::Deck;
-use drum_machine::passes::MOST_MARKS;
 use drum_times::Mark as NotedMark;
 
 /// One more than a deck has lines at most.
@@ -25,7 +24,7 @@ pub struct Tallies {
     /// At locations that no card gives a word.
     pub other: Tally,
     /// By the marks' places in the notes; what stands past the last mark means nothing.
-    pub passed: [u64; MOST_MARKS],
+    pub passed: [u64; NotedMark::MOST],
 }
 
 /// No hops at any card.
@@ -37,7 +36,7 @@ fn no_hops() -> [Tally; LINES]
 }
 
 /// Counts the marks that a hop passes.
-fn count_passes(passed: &mut [u64; MOST_MARKS], marks: &[NotedMark], visit: &Visit)
+fn count_passes(passed: &mut [u64; NotedMark::MOST], marks: &[NotedMark], visit: &Visit)
     requires marks { length marks.now ≤ 8 }
     requires few { (k : ℕ) → slice_index passed.old k < 2 ^ 62 }
     ensures counted { (k : ℕ) (mark : Mark) → slice_get marks.now k ≡ Some mark
@@ -62,7 +61,7 @@ impl Tallies {
     {
         let mut cards = no_hops();
         let mut other = Tally::NONE;
-        let mut passed = [0; MOST_MARKS];
+        let mut passed = [0; NotedMark::MOST];
         for visit in walk {
             match deck.card_of(visit.place) {
                 Some(line) => {

@@ -2,8 +2,7 @@ use Rattle.std.proofs.Common.{refl, subst}
 use Rattle.drum_machine.specs.Keeps.{reads_load}
 use Rattle.drum_machine.specs.Machine.{Tells}
 use Rattle.drum_machine.specs.Step.{fetched}
-use Rattle.drum_flow.specs.Seen.{seen_way}
-use Rattle.drum_flow.proofs.Instructed.{one_instruction}
+use Rattle.drum_machine.specs.WaysLeft.{seen_way}
 use Rattle.drum_listing.proofs.Turns.{went_on, stopped_there}
 use Rattle.drum_listing.proofs.step_line.visit_of.Goals as goal
 
@@ -13,7 +12,7 @@ returns-in-Went-clause-visit c times turn told time =
     went_on turn turn.outcome told.origin w.origin w.next w.word (reads_load turn.origin) w.load told.punched w.punched
     w.used c.args.before c.of.result refl
     (subst (Tells turn.outcome told.origin (fetched turn.origin) (reads_load turn.origin) told.punched) w.is told.tells)
-    told.sought time (one_instruction w.word c.of.result c.of.ensures)
+    told.sought time c.of.ensures.is
 
 pub returns-in-Stopped-clause-visit : goal.returns-in-Stopped-clause-visit
 returns-in-Stopped-clause-visit c times turn told time =
@@ -21,4 +20,4 @@ returns-in-Stopped-clause-visit c times turn told time =
     stopped_there turn turn.outcome told.origin w.origin w.word (reads_load turn.origin) told.punched w.why w.used
     c.args.before c.of-in-Stopped.result (seen_way c.way_of.result) refl
     (subst (Tells turn.outcome told.origin (fetched turn.origin) (reads_load turn.origin) told.punched) w.is told.tells)
-    told.sought time (one_instruction w.word c.of-in-Stopped.result c.of-in-Stopped.ensures) c.way_of.ensures
+    told.sought time c.of-in-Stopped.ensures.is c.way_of.ensures

@@ -128,7 +128,7 @@ returns-in_err-send_bound-clause-written g c =
     let first = g.O.Output.written c.send_cards.new.writer in
     let second = g.O.Output.written c.send_other.new.writer in
     let third = g.O.Output.written c.send_marks.new.writer in
-    let new = g.O.Output.written c.send_bound.new.writer in
+    let new = g.O.Output.written c.send_bound.new.output in
     let fault = c.in_err-send_bound.field-0.0 in
     let p = err_from_is_err_and c.from_residual-in_err-send_bound.result c.from_residual-in_err-send_bound.ensures.1 in
     let other : IsSent first second c.in_ok-sent.sent (Ok c.in_ok-sent-2.sent) (other_line deck walk) =
@@ -163,7 +163,7 @@ returns-clause-written g c =
     let first = g.O.Output.written c.send_cards.new.writer in
     let second = g.O.Output.written c.send_other.new.writer in
     let third = g.O.Output.written c.send_marks.new.writer in
-    let new = g.O.Output.written c.send_bound.new.writer in
+    let new = g.O.Output.written c.send_bound.new.output in
     let total = c.in_ok-send_bound.field-0 in
     let other : IsSent first second c.in_ok-sent.sent (Ok c.in_ok-sent-2.sent) (other_line deck walk) =
     subst (λ (tally : Tally). IsSent first second c.in_ok-sent.sent (Ok c.in_ok-sent-2.sent) (told_of_others tally))

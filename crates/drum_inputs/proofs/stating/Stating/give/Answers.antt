@@ -7,16 +7,17 @@ use Rattle.drum_inputs.proofs.Marks.{marked_given, given_marked}
 use Rattle.drum_inputs.proofs.Steps.{holds_words}
 use Rattle.drum_inputs.proofs.stating.Stating.give.Goals as goal
 
-pub returns-then-from-words-gt-DRUM-clause-err : goal.returns-then-from-words-gt-DRUM-clause-err
-returns-then-from-words-gt-DRUM-clause-err c not_memory lines bytes holds is_line = (
+pub returns-then-from-words-clause-err : goal.returns-then-from-words-clause-err
+returns-then-from-words-clause-err c not_memory lines bytes holds is_line = (
   refl,
   (
     text.words c.args.card.now.address (take c.args.card.now.len c.args.card.now.words),
     is_line,
     omega (
       arith,
-      c.if-from-words-gt-DRUM.true,
+      c.if-from-words.true,
       c.from.ensures,
+      c.from-2.ensures,
       ap (λ (ws : List Word). length ws)
           c.words-words.ensures,
     ),
@@ -30,7 +31,7 @@ returns-then-has_any-clause-err c not_memory lines bytes holds is_line =
     let same : c.words-words.result.now ≡ ws = c.words-words.ensures in
     let count : length c.words-words.result.now ≡ length ws = ap (λ (vs : List Word). length vs) same in
     let fits : first + length c.words-words.result.now ≤ 2000 =
-    omega (arith, c.if-from-words-gt-DRUM.false, c.from.ensures) in
+    omega (arith, c.if-from-words.false, c.from.ensures, c.from-2.ensures) in
     let some =
     marked_given c.args.self.now.drum (text.given_in lines) first (length c.words-words.result.now) fits holds.words
     (c.has_any.ensures.0 c.if-has_any.true) in (
@@ -50,7 +51,7 @@ returns-clause-ok c lines holds =
     let same : c.words-words.result.now ≡ ws = c.words-words.ensures in
     let count : length c.words-words.result.now ≡ length ws = ap (λ (vs : List Word). length vs) same in
     let fits : first + length c.words-words.result.now ≤ 2000 =
-    omega (arith, c.if-from-words-gt-DRUM.false, c.from.ensures) in
+    omega (arith, c.if-from-words.false, c.from.ensures, c.from-2.ensures) in
     let long : length c.args.self.now.drum.marks.items ≡ 2000 =
     omega (arith, c.args.self.now.drum.marks.ok.0, c.args.self.now.drum.whole) in
     let given =

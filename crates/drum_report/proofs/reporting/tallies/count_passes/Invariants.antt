@@ -1,7 +1,7 @@
 use Rattle.std.proofs.Common.{◌≡◌, ℕ, ◌+◌, ◌<◌, ◌≤◌, length, Some}
 use Rattle.std.specs.Prelude.{slice_get, slice_index}
 use Rattle.drum_times.specs.declared.notes.mark.Mark.{Mark}
-use Rattle.drum_flow.specs.Seen.{seen_way}
+use Rattle.drum_machine.specs.WaysLeft.{seen_way}
 use Rattle.drum_flow.specs.Walk.{passes_by}
 use Rattle.drum_report.proofs.reporting.tallies.count_passes.Given as goal
 
