@@ -114,7 +114,7 @@ impl<'a> Reader<'a> {
 }
 
 /// The pieces of a page, in order.
-pub fn pieces_of(alloc: Global, page: &str) -> Result<Vec<Piece<'_>>, AllocError> {
+pub(crate) fn pieces_of(alloc: Global, page: &str) -> Result<Vec<Piece<'_>>, AllocError> {
     let mut reader = Reader {
         alloc,
         pieces: Vec::new(alloc),

@@ -40,7 +40,11 @@ fn parts_of(command: &str) -> Option<(&str, Option<&str>)> {
 }
 
 /// What a command puts on both outputs, where a page has shown these pieces before.
-pub fn output_of(rt: &HostRuntime, shown: &[Piece<'_>], command: &str) -> Result<Vec<u8>, NotRun> {
+pub(crate) fn output_of(
+    rt: &HostRuntime,
+    shown: &[Piece<'_>],
+    command: &str,
+) -> Result<Vec<u8>, NotRun> {
     let (words, input) = parts_of(command).ok_or(NotRun::Other)?;
     let words: Vec<&str> = words.split_whitespace().collect(rt.alloc())?;
     let mut shelf = Shelf {

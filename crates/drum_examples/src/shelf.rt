@@ -40,7 +40,7 @@ pub struct Shelf<'a> {
 
 impl<'a> Shelf<'a> {
     /// The file of this name, where there is one that can be opened.
-    pub fn open(&self, name: &str) -> Option<Text<'a>> {
+    pub(crate) fn open(&self, name: &str) -> Option<Text<'a>> {
         let is_named = |piece: &&Piece<'_>| piece.shows == Shows::File && piece.name == name;
         if let Some(piece) = self.shown.iter().rev().find(is_named) {
             return Some(Text::Written(piece.text.as_bytes()));

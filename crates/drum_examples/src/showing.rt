@@ -21,7 +21,7 @@ fn print_output(rt: &impl Print, output: Result<&[u8], NotRun>) -> io::Result<()
 }
 
 /// Runs a command over the examples' files, and prints both as a page shows them.
-pub fn show(rt: &HostRuntime, command: &str) -> io::Result<()> {
+pub(crate) fn show(rt: &HostRuntime, command: &str) -> io::Result<()> {
     println!(rt; "$ {command}")?;
     match output_of(rt, &[], command) {
         Ok(output) => print_output(rt, Ok(&output)),
@@ -30,7 +30,7 @@ pub fn show(rt: &HostRuntime, command: &str) -> io::Result<()> {
 }
 
 /// Shows each command over the files of an example.
-pub fn show_example(rt: &HostRuntime, example: &Example) -> io::Result<()> {
+pub(crate) fn show_example(rt: &HostRuntime, example: &Example) -> io::Result<()> {
     let Example(folder, deck, notes, inputs) = example;
     let files = format!(in rt.alloc();
         "examples/{folder}/{deck} examples/times.toml examples/{folder}/{notes}"
@@ -72,7 +72,7 @@ fn is_as_shown(
 }
 
 /// Runs the commands that a page shows, tells how many are as it shows them, and whether all are.
-pub fn hold_page(rt: &HostRuntime, name: &str) -> io::Result<bool> {
+pub(crate) fn hold_page(rt: &HostRuntime, name: &str) -> io::Result<bool> {
     let page = fs::read_to_string(rt, name.strip_prefix(FOLDER).unwrap_or(name))?;
     let pieces = pieces_of(rt.alloc(), &page)?;
     let (mut right, mut wrong) = (0u64, 0u64);

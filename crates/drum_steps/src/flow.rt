@@ -1,7 +1,8 @@
 //! The flow graph of a deck: its hops, and why decks aren't accepted.
 
 use drum_core::{Location, Reading, read_deck};
-use drum_flow::{Refusal, Way, accept, flow};
+use drum_flow::{Refusal, accept, flow};
+use drum_machine::Way;
 use drum_texts::{BRANCH_BACK, EITHER, NOTES, ROADS, STORES, TWO_ROADS, TWO_WORDS};
 use drum_times::read_notes;
 use std::alloc::{AllocError, Global};
