@@ -1,5 +1,5 @@
-//! Benchmarks, run by hand by the scripts of bench/. The first argument names one, which prints its
-//! figure; without an argument it prints which there are.
+//! Benchmarks, run by hand by bench/run. The first argument names one, which prints its figure;
+//! without an argument it prints which there are.
 #![tactic(auto)]
 
 mod acceptance;

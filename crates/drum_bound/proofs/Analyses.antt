@@ -12,7 +12,7 @@ use Rattle.std.specs.Option.{option_map}
 use Rattle.drum_times.specs.declared.times.Times.{Times}
 use Rattle.drum_times.specs.Allowed.{Notes, AreSound}
 use Rattle.drum_flow.specs.Accepted.{counts_of}
-use Rattle.drum_flow.specs.Flow.{order_in}
+use Rattle.drum_flow.specs.AcceptedFlow.{in_order}
 use Rattle.drum_flow.specs.Hops.{hops}
 use Rattle.drum_flow.specs.Walk.{Setting, IsProper}
 use Rattle.drum_bound.specs.declared.analysis.Analysis.{Analysis}
@@ -53,14 +53,15 @@ is_proper deck times notes sound = record { on_drum = loaded_on_drum deck; start
 
 -- What a finished scan and its walk are, of these keys and this timing table.
 pub record IsFound (keys : Keys) (times : Times) (cells : Cells) (visits : List Visited) : Type 0 where
-  pub are : AreCells (setting_of keys.flow.now times) (order_in keys.flow.now) cells
-  pub scanned : Scanned (setting_of keys.flow.now times) (order_in keys.flow.now)
-      (keys_of (setting_of keys.flow.now times).notes.marks (order_in keys.flow.now))
-      (keys_of (setting_of keys.flow.now times).notes.marks (order_in keys.flow.now)) (kept_in cells) cells.last
-  pub turns : cells.made.count ≡ turns_below (setting_of keys.flow.now times) (order_in keys.flow.now) (kept_in cells)
-      (keys_of (setting_of keys.flow.now times).notes.marks (order_in keys.flow.now))
-  pub walk : IsWalkOf (setting_of keys.flow.now times) (start_angle (setting_of keys.flow.now times).start)
-      (cells.last.clock - start_angle (setting_of keys.flow.now times).start) visits
+  pub are : AreCells (setting_of keys.accepted.now times) (in_order keys.accepted.now) cells
+  pub scanned : Scanned (setting_of keys.accepted.now times) (in_order keys.accepted.now)
+      (keys_of (setting_of keys.accepted.now times).notes.marks (in_order keys.accepted.now))
+      (keys_of (setting_of keys.accepted.now times).notes.marks (in_order keys.accepted.now)) (kept_in cells) cells.last
+  pub turns : cells.made.count
+      ≡ turns_below (setting_of keys.accepted.now times) (in_order keys.accepted.now) (kept_in cells)
+      (keys_of (setting_of keys.accepted.now times).notes.marks (in_order keys.accepted.now))
+  pub walk : IsWalkOf (setting_of keys.accepted.now times) (start_angle (setting_of keys.accepted.now times).start)
+      (cells.last.clock - start_angle (setting_of keys.accepted.now times).start) visits
 
 -- They are of the keys and the timing table that the scan was given.
 pub is_found : (keys : Keys) (times : Times) (scan : Scan) (visits : List Visited) → scan.keys.now ≡ keys

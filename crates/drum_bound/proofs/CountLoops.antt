@@ -17,8 +17,8 @@ use Rattle.drum_bound.proofs.DigitsLaws.{counts_some, digits_leading, number_wit
 use Rattle.drum_bound.specs.Table.{number_of}
 
 -- A number is so many times the counts that these marks can have, and the number of these counts.
-pub record Leads (marks : List Mark) (counts : List ℕ) (front number : ℕ) : Type 0 where
-  pub same : front * counts_of marks + leading marks counts ≡ number
+pub record Leads (marks : List Mark) (counts : List ℕ) (prefix number : ℕ) : Type 0 where
+  pub same : prefix * counts_of marks + leading marks counts ≡ number
   pub within : AreWithin marks counts
 
 -- the counts of the marks from a place on
@@ -57,64 +57,64 @@ take_apart quotient remainder many whole size others number parts same =
     omega (arith, ap (λ (n : ℕ). n * size + others) parts, same)
 
 -- and put into one
-put_together : (front count many size others number : ℕ) → front * (many * size) + (count * size + others) ≡ number
-    → (front * many + count) * size + others ≡ number
-put_together front count many size others number same = omega (arith, same)
+put_together : (prefix count many size others number : ℕ) → prefix * (many * size) + (count * size + others) ≡ number
+    → (prefix * many + count) * size + others ≡ number
+put_together prefix count many size others number same = omega (arith, same)
 
 -- a mark's count is taken
-leads_first : (mark : Mark) (marks : List Mark) (counts : List ℕ) (front number : ℕ) → Leads marks counts front number
-    → Leads (mark ∷ marks) (front % (mark.most + 1) ∷ counts) (front / (mark.most + 1)) number
-leads_first mark marks counts front number h =
+leads_first : (mark : Mark) (marks : List Mark) (counts : List ℕ) (prefix number : ℕ) → Leads marks counts prefix number
+    → Leads (mark ∷ marks) (prefix % (mark.most + 1) ∷ counts) (prefix / (mark.most + 1)) number
+leads_first mark marks counts prefix number h =
     let many = mark.most + 1 in
-    let below : front % (mark.most + 1) < mark.most + 1 = mod_below front (mark.most + 1) (omega arith) in
+    let below : prefix % (mark.most + 1) < mark.most + 1 = mod_below prefix (mark.most + 1) (omega arith) in
     record {
-      same = take_apart (front / many) (front % many) many front (counts_of marks) (leading marks counts) number
-          (div-add-mod' front many) h.same;
+      same = take_apart (prefix / many) (prefix % many) many prefix (counts_of marks) (leading marks counts) number
+          (div-add-mod' prefix many) h.same;
       within = (omega (arith, below), h.within);
     }
 
 -- in a loop: the count of the mark at a place, where those behind it are taken
-pub leads_more : (marks : List Mark) (place later : ℕ) (d : Mark) (counts : List ℕ) (front number : ℕ)
+pub leads_more : (marks : List Mark) (place later : ℕ) (d : Mark) (counts : List ℕ) (prefix number : ℕ)
     → later ≡ place + 1 → place < length marks → length marks ≤ length counts
-    → Leads (drop later marks) (counts_from marks later counts) front number
+    → Leads (drop later marks) (counts_from marks later counts) prefix number
     → Leads (drop place marks)
-    (counts_from marks place (slice_set counts place (front % ((get_or marks place d).most + 1))))
-    (front / ((get_or marks place d).most + 1)) number
-leads_more marks place later d counts front number next inside long h =
+    (counts_from marks place (slice_set counts place (prefix % ((get_or marks place d).most + 1))))
+    (prefix / ((get_or marks place d).most + 1)) number
+leads_more marks place later d counts prefix number next inside long h =
     let mark = get_or marks place d in
     let many = (get_or marks place d).most + 1 in
     subst (λ (ms : List Mark).
-    Leads ms (counts_from marks place (slice_set counts place (front % many))) (front / many) number)
+    Leads ms (counts_from marks place (slice_set counts place (prefix % many))) (prefix / many) number)
     (sym (drop_more marks place d inside))
-    (subst (λ (cs : List ℕ). Leads (mark ∷ drop (place + 1) marks) cs (front / many) number)
-    (sym (written_of counts (length marks) place (front % many) inside long))
-    (leads_first mark (drop (place + 1) marks) (counts_from marks (place + 1) counts) front number
-    (subst (λ (k : ℕ). Leads (drop k marks) (counts_from marks k counts) front number) next h)))
+    (subst (λ (cs : List ℕ). Leads (mark ∷ drop (place + 1) marks) cs (prefix / many) number)
+    (sym (written_of counts (length marks) place (prefix % many) inside long))
+    (leads_first mark (drop (place + 1) marks) (counts_from marks (place + 1) counts) prefix number
+    (subst (λ (k : ℕ). Leads (drop k marks) (counts_from marks k counts) prefix number) next h)))
 
 -- all counts are taken: they are those that the number stands for
-leads_whole : (marks : List Mark) (counts : List ℕ) (front number : ℕ) → Leads marks counts front number
+leads_whole : (marks : List Mark) (counts : List ℕ) (prefix number : ℕ) → Leads marks counts prefix number
     → number < counts_of marks → counts ≡ digits marks number
-leads_whole marks counts front number h below =
-    sym (digits_leading marks counts h.within) ∙ ap (digits marks) (go (cases_lt 0 front))
+leads_whole marks counts prefix number h below =
+    sym (digits_leading marks counts h.within) ∙ ap (digits marks) (go (cases_lt 0 prefix))
   where
-    go : (0 < front) ⊎ (front ≤ 0) → leading marks counts ≡ number
+    go : (0 < prefix) ⊎ (prefix ≤ 0) → leading marks counts ≡ number
     go (inl more) =
-        let one : 1 * counts_of marks ≤ front * counts_of marks = mul-le-mul_right (counts_of marks) more in
+        let one : 1 * counts_of marks ≤ prefix * counts_of marks = mul-le-mul_right (counts_of marks) more in
         omega (arith, one, h.same, below)
     go (inr nothing) =
-        let zero_is : front ≡ 0 = omega arith in
+        let zero_is : prefix ≡ 0 = omega arith in
         let same : 0 * counts_of marks + leading marks counts ≡ number =
         ap (λ (n : ℕ). n * counts_of marks + leading marks counts) (sym zero_is) ∙ h.same in
         omega (arith, same)
 
 -- and the loop is at the first mark
-pub leads_all : (marks : List Mark) (place : ℕ) (counts : List ℕ) (front number : ℕ) → place ≤ 0
-    → Leads (drop place marks) (counts_from marks place counts) front number → number < counts_of marks
+pub leads_all : (marks : List Mark) (place : ℕ) (counts : List ℕ) (prefix number : ℕ) → place ≤ 0
+    → Leads (drop place marks) (counts_from marks place counts) prefix number → number < counts_of marks
     → take (length marks) counts ≡ digits marks number
-leads_all marks place counts front number first h below =
+leads_all marks place counts prefix number first h below =
     let none_left : place ≡ 0 = omega arith in
-    leads_whole marks (take (length marks) counts) front number
-    (subst (λ (k : ℕ). Leads (drop k marks) (counts_from marks k counts) front number) none_left h) below
+    leads_whole marks (take (length marks) counts) prefix number
+    (subst (λ (k : ℕ). Leads (drop k marks) (counts_from marks k counts) prefix number) none_left h) below
 
 -- counts within their limits are so from each mark on
 within_from : (marks : List Mark) (counts : List ℕ) (place : ℕ) → AreWithin marks counts
@@ -135,45 +135,46 @@ counts_fewer (mark ∷ marks) (suc place) =
     omega (arith, one, counts_fewer marks place)
 
 -- a mark's count is put into the number
-pub leading_more : (marks : List Mark) (place : ℕ) (d : Mark) (counts : List ℕ) (front number : ℕ)
+pub leading_more : (marks : List Mark) (place : ℕ) (d : Mark) (counts : List ℕ) (prefix number : ℕ)
     → place < length marks → length marks ≤ length counts
-    → front * counts_of (drop place marks) + leading (drop place marks) (counts_from marks place counts) ≡ number
-    → (front * ((get_or marks place d).most + 1) + get_or counts place 0) * counts_of (drop (place + 1) marks) + leading
+    → prefix * counts_of (drop place marks) + leading (drop place marks) (counts_from marks place counts) ≡ number
+    → (prefix * ((get_or marks place d).most + 1) + get_or counts place 0) * counts_of (drop (place + 1) marks)
+    + leading
     (drop (place + 1) marks) (counts_from marks (place + 1) counts) ≡ number
-leading_more marks place d counts front number inside long same =
+leading_more marks place d counts prefix number inside long same =
     let left = drop (place + 1) marks in
     let mark = get_or marks place d in
     let count = get_or counts place 0 in
-    let one : front * counts_of (mark ∷ left) + leading (mark ∷ left) (counts_from marks place counts) ≡ number =
-    subst (λ (ms : List Mark). front * counts_of ms + leading ms (counts_from marks place counts) ≡ number)
+    let one : prefix * counts_of (mark ∷ left) + leading (mark ∷ left) (counts_from marks place counts) ≡ number =
+    subst (λ (ms : List Mark). prefix * counts_of ms + leading ms (counts_from marks place counts) ≡ number)
     (drop_more marks place d inside) same in
-    let both : front * counts_of (mark ∷ left) + leading (mark ∷ left) (count ∷ counts_from marks (place + 1) counts)
+    let both : prefix * counts_of (mark ∷ left) + leading (mark ∷ left) (count ∷ counts_from marks (place + 1) counts)
     ≡ number =
-    subst (λ (cs : List ℕ). front * counts_of (mark ∷ left) + leading (mark ∷ left) cs ≡ number)
+    subst (λ (cs : List ℕ). prefix * counts_of (mark ∷ left) + leading (mark ∷ left) cs ≡ number)
     (next_of counts (length marks) place inside (omega arith)) one in
-    put_together front count (mark.most + 1) (counts_of left) (leading left (counts_from marks (place + 1) counts))
+    put_together prefix count (mark.most + 1) (counts_of left) (leading left (counts_from marks (place + 1) counts))
     number both
 
 -- so far it is no more than the whole number
-front_small : (marks : List Mark) (counts : List ℕ) (front number : ℕ)
-    → front * counts_of marks + leading marks counts ≡ number → front ≤ number
-front_small marks counts front number same =
-    let one : front * 1 ≤ front * counts_of marks = mul-le-mul_left front (counts_some marks) in
+prefix_small : (marks : List Mark) (counts : List ℕ) (prefix number : ℕ)
+    → prefix * counts_of marks + leading marks counts ≡ number → prefix ≤ number
+prefix_small marks counts prefix number same =
+    let one : prefix * 1 ≤ prefix * counts_of marks = mul-le-mul_left prefix (counts_some marks) in
     omega (arith, one, same)
 
 -- which is small
-pub leading_small : (marks : List Mark) (place : ℕ) (d : Mark) (counts : List ℕ) (front : ℕ) → place < length marks
+pub leading_small : (marks : List Mark) (place : ℕ) (d : Mark) (counts : List ℕ) (prefix : ℕ) → place < length marks
     → length marks ≤ length counts
     → AreWithin marks (take (length marks) counts)
-    → front * counts_of (drop place marks) + leading (drop place marks) (counts_from marks place counts)
+    → prefix * counts_of (drop place marks) + leading (drop place marks) (counts_from marks place counts)
     ≡ leading marks (take (length marks) counts)
-    → front * ((get_or marks place d).most + 1) + get_or counts place 0 < counts_of marks
-leading_small marks place d counts front inside long within same =
+    → prefix * ((get_or marks place d).most + 1) + get_or counts place 0 < counts_of marks
+leading_small marks place d counts prefix inside long within same =
     let number = leading marks (take (length marks) counts) in
-    let next = front * ((get_or marks place d).most + 1) + get_or counts place 0 in
-    let more = leading_more marks place d counts front number inside long same in
+    let next = prefix * ((get_or marks place d).most + 1) + get_or counts place 0 in
+    let more = leading_more marks place d counts prefix number inside long same in
     let below : next ≤ number =
-    front_small (drop (place + 1) marks) (counts_from marks (place + 1) counts) next number more in
+    prefix_small (drop (place + 1) marks) (counts_from marks (place + 1) counts) next number more in
     omega (arith, below, leading-< marks (take (length marks) counts) within)
 
 -- a mark's count is put before the others' number

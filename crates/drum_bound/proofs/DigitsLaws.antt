@@ -1,8 +1,7 @@
 -- Laws of counts read as numbers: each number below how many counts there are stands for one list of counts.
-use Rattle.std.proofs.Common.{◌≡◌, ℕ, ◌+◌, ◌*◌, ◌/◌, ◌%◌, ◌<◌, ◌≤◌, List, [], ◌∷◌, length, None, refl, ap, ◌∙◌, inl}
-use Rattle.std.proofs.Common.{inr, ◌⊎◌, arith}
+use Rattle.std.proofs.Common.{◌≡◌, ℕ, ◌+◌, ◌*◌, ◌/◌, ◌%◌, ◌<◌, ◌≤◌, List, [], ◌∷◌, None, refl, ap, ◌∙◌}
+use Rattle.std.proofs.Common.{arith}
 use Rattle.std.proofs.Math.Nat.{mul-le-mul_left}
-use Rattle.std.proofs.lemmas.Bool.{cases_lt}
 use Rattle.std.proofs.lemmas.Nat.{div-add-mod', div-mul-add, mod-mul-add, div_below, mod_below, same_from_place}
 use Rattle.drum_times.specs.declared.notes.mark.Mark.{Mark}
 use Rattle.drum_times.specs.Marks.{mark_on}
@@ -55,11 +54,6 @@ pub no_counts_within : (marks : List Mark) → AreWithin marks (no_counts marks)
 no_counts_within [] = tt
 no_counts_within (mark ∷ marks) = (omega arith, no_counts_within marks)
 
--- and has the number 0
-pub leading_none : (marks : List Mark) → leading marks (no_counts marks) ≡ 0
-leading_none [] = refl
-leading_none (mark ∷ marks) = omega (arith, leading_none marks)
-
 -- with the first mark's last, it is one of as many numbers too
 pub number_within : (marks : List Mark) (counts : List ℕ) → AreWithin marks counts
     → number_of marks counts < counts_of marks
@@ -94,16 +88,3 @@ number_injective (mark ∷ marks) (x ∷ a) (y ∷ b) within_a within_b same =
 pub unmarked_stays : (marks : List Mark) (from onto : ℕ) (counts : List ℕ) → mark_on marks from onto ≡ None
     → after_pass marks from onto counts ≡ counts
 unmarked_stays marks from onto counts unmarked = rw (unmarked, after_pass) refl
-
--- as many counts as marks are within their limits or not
-pub within_or_not : (marks : List Mark) (counts : List ℕ) → length counts ≡ length marks → AreWithin marks counts
-    ⊎ (¬ AreWithin marks counts)
-within_or_not [] [] same = inl tt
-within_or_not [] (count ∷ counts) same = inr (λ within. within)
-within_or_not (mark ∷ marks) [] same = inr (λ within. within)
-within_or_not (mark ∷ marks) (count ∷ counts) same =
-    elim (cases_lt mark.most count) [
-      | inl over ↦ inr (λ within. omega (arith, over, within.0))
-      | inr below ↦ (elim (within_or_not marks counts (omega (arith, same)))
-          [ inl rest ↦ inl (below, rest) | inr rest ↦ inr (λ within. rest within.1) ])
-    ]

@@ -42,13 +42,13 @@ one_or_none false x = omega arith
 few_in_order : (stops_early stops_late : Bool) (nexts : List ℕ)
     → length (in_order stops_early nexts stops_late) ≤ 2 + length nexts
 few_in_order stops_early stops_late nexts =
-    let front = cond stops_early (early ∷ []) [] in
+    let prefix = cond stops_early (early ∷ []) [] in
     let middle = map to (filter is_location nexts) in
     let back = cond (stops_late || list_any (λ next. not (is_location next)) nexts) (late ∷ []) [] in
     omega (
       arith,
-      length-append (front ++ middle) back,
-      length-append front middle,
+      length-append (prefix ++ middle) back,
+      length-append prefix middle,
       one_or_none stops_early early,
       one_or_none (stops_late || list_any (λ next. not (is_location next)) nexts) late,
       length-map (filter is_location nexts) to,

@@ -17,7 +17,7 @@ starts_there deck = deck.on_drum
 
 -- and so does what its walks are in
 pub starts_on_drum : (scan : Scan) → (setting_in scan).start < 2000
-starts_on_drum scan = starts_there (deck_of scan.keys.now.flow.now)
+starts_on_drum scan = starts_there (deck_of scan.keys.now.accepted.now.flow)
 
 -- the order of its locations is one that keys can be made of
 pub is_ordered : (scan : Scan) → IsDone scan

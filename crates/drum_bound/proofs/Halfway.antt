@@ -105,7 +105,7 @@ half_all b key clock number cells is kept half all =
 -- the next can be
 pub half_ready : (b s : Scan) (round : Round) (search : Search) (number : ℕ) (leap : Leap)
     → s ≡ record b { cells = s.cells } → IsScanned b search.key → IsHalfway b search.key search.begun number s.cells
-    → search.key < b.keys.now.size → IsRound b.keys.now.flow.now (search.key / length (order_of b)) round
+    → search.key < b.keys.now.size → IsRound b.keys.now.accepted.now (search.key / length (order_of b)) round
     → IsSearch (order_of b) (kept_in b.cells) search
     → slice_get (hops_at b search.key) number ≡ Some (leap_hop leap)
     → IsLeap (setting_in b) (order_of b) (place_at (order_of b) search.key) (search.found % 50) leap

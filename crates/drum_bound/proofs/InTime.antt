@@ -4,7 +4,7 @@ use Rattle.drum_core.specs.declared.op.Op.{Op}
 use Rattle.drum_core.specs.Op.{op_of}
 use Rattle.drum_machine.specs.Counts.{after_pass, AreWithin}
 use Rattle.drum_machine.specs.Ways.{Way, early, to, late}
-use Rattle.drum_flow.specs.Walk.{Setting, Taken, IsTimed, Follow, IsWalkFrom, time_from}
+use Rattle.drum_flow.specs.Walk.{Setting, Taken, IsTimed, FollowHop, IsWalkFrom, time_from}
 use Rattle.drum_bound.specs.Visited.{Visited, visited, IsWalkOf, AreInTime}
 use Rattle.drum_bound.proofs.LongestLaws.{end_later}
 
@@ -16,7 +16,7 @@ ends_later g angle hop (Some op) timed =
     omega (arith, timed.2, end_later (g.times op) op hop.ins.d hop.place hop.units hop.wait hop.way (angle + hop.begun))
 
 -- what follows a hop is in time
-follow_in_time : (way : Way) (ended used : ℕ) (Right : ℕ → Type 0) (hops : List Taken) → Follow way Right hops
+follow_in_time : (way : Way) (ended used : ℕ) (Right : ℕ → Type 0) (hops : List Taken) → FollowHop way Right hops
     → ((next : ℕ) → Right next → AreInTime ended (map visited hops) used) → time_from ended hops ≡ used
     → AreInTime ended (map visited hops) used
 follow_in_time early ended used Right hops none next time =

@@ -8,7 +8,7 @@ use Rattle.drum_flow.proofs.Lists.{contains_from_get}
 use Rattle.drum_flow.specs.Walk.{Setting}
 use Rattle.drum_bound.proofs.FewHops.{few_hops}
 use Rattle.drum_bound.specs.declared.cells.Cells.{Cells}
-use Rattle.drum_bound.specs.declared.cells.end.Made.{Made}
+use Rattle.drum_bound.specs.declared.cells.end.Ends.{Ends}
 use Rattle.drum_bound.specs.declared.latest.Latest.{Latest}
 use Rattle.drum_bound.specs.declared.scan.Scan.{Scan}
 use Rattle.drum_bound.specs.Keys.{place_at}
@@ -97,7 +97,7 @@ few_turns scan key count left is below so_far =
     )
 
 -- cells where nothing that is held changes
-pub cells_made : (g : Setting) (order : List ℕ) (cells : Cells) (made : Made) → AreCells g order cells
+pub cells_made : (g : Setting) (order : List ℕ) (cells : Cells) (made : Ends) → AreCells g order cells
     → AreCells g order (record cells { made = made })
 cells_made g order cells made are = record {
   held = record {

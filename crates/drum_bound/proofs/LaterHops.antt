@@ -1,5 +1,5 @@
 -- Which hops of keys come after which, while a key is taken.
-use Rattle.std.proofs.Common.{◌≡◌, ℕ, zero, suc, ◌+◌, ◌<◌, List, [], ◌∷◌, drop, refl, ap, subst, sym, ◌∙◌, Option, Some}
+use Rattle.std.proofs.Common.{◌≡◌, ℕ, zero, suc, ◌+◌, List, [], ◌∷◌, drop, refl, ap, subst, sym, ◌∙◌, Option, Some}
 use Rattle.std.proofs.Common.{None, inl, inr, arith}
 use Rattle.std.specs.Prelude.{slice_get}
 use Rattle.std.proofs.lemmas.List.{drop-drop}
@@ -43,8 +43,3 @@ pub before_end : (last : Option KeyHop) (key hop : ℕ) → IsLater last (record
 before_end None key hop later = tt
 before_end (Some last) key hop (inl less) = omega (arith, less)
 before_end (Some last) key hop (inr same) = omega (arith, same.0)
-
--- where none is of a later key than one, none is of a key after that
-pub before_later : (last : Option KeyHop) (key next : ℕ) → IsBefore last (key + 1) → key < next → IsBefore last next
-before_later None key next before less = tt
-before_later (Some last) key next before less = omega (arith, before, less)

@@ -24,8 +24,8 @@ pub mod Rows
 pub mod RowsHeld
 pub mod Scans
 mod ShortWalks
-pub mod Sites
-pub mod Taken
+pub mod Nodes
+pub mod GoingOn
 mod Traces
 pub mod Unders
 pub mod Unpassed

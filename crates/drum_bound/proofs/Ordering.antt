@@ -7,9 +7,10 @@ use Rattle.std.proofs.lemmas.List.Elements.{Contains-append_left, Contains-appen
 use Rattle.drum_core.specs.declared.word.Word.{Word}
 use Rattle.drum_core.specs.Loads.{loads_in, start_in}
 use Rattle.drum_times.specs.Allowed.{Notes, AreSound}
-use Rattle.drum_flow.specs.declared.flow_graph.Flow.{Flow}
+use Rattle.drum_flow.specs.declared.accepted_flow.AcceptedFlow.{AcceptedFlow}
 use Rattle.drum_flow.specs.Accepted.{counts_of, IsGood, IsAccepted}
-use Rattle.drum_flow.specs.Flow.{deck_of, notes_of, executed_in, order_in, AreExecuted}
+use Rattle.drum_flow.specs.Flow.{deck_of, notes_of, executed_in, AreExecuted}
+use Rattle.drum_flow.specs.AcceptedFlow.{in_order}
 use Rattle.drum_flow.specs.Free.{IsFreeOrder}
 use Rattle.drum_flow.specs.Graph.{AreDifferent}
 use Rattle.drum_flow.proofs.Lists.{contains_here, contains_there, contains_cases, contains_none, contains_from_get}
@@ -100,24 +101,28 @@ module _ (loads : ℕ → Option Word) (notes : Notes) (start : ℕ) (executed :
             ap (λ (n : ℕ). counts_of notes.marks * n) as_many_places in
             omega (arith, same, accepted.small)
 
--- The order of a flow of an accepted deck has as many locations as are executed.
-pub as_many : (flow : Flow)
-    → IsAccepted (loads_in (deck_of flow)) (notes_of flow) (start_in (deck_of flow)) (executed_in flow)
-    → IsFreeOrder (loads_in (deck_of flow)) (notes_of flow) (executed_in flow) (order_in flow)
-    → AreDifferent (executed_in flow)
-    → length (order_in flow) ≡ length (executed_in flow)
-as_many flow accepted free different =
-    as_many_places (loads_in (deck_of flow)) (notes_of flow) (start_in (deck_of flow)) (executed_in flow) accepted
-    (order_in flow) free different
+-- The order of an accepted flow has as many locations as are executed.
+pub as_many : (accepted : AcceptedFlow)
+    → IsAccepted (loads_in (deck_of accepted.flow)) (notes_of accepted.flow) (start_in (deck_of accepted.flow))
+    (executed_in accepted.flow)
+    → IsFreeOrder (loads_in (deck_of accepted.flow)) (notes_of accepted.flow) (executed_in accepted.flow)
+    (in_order accepted)
+    → AreDifferent (executed_in accepted.flow)
+    → length (in_order accepted) ≡ length (executed_in accepted.flow)
+as_many accepted is free different =
+    as_many_places (loads_in (deck_of accepted.flow)) (notes_of accepted.flow) (start_in (deck_of accepted.flow))
+    (executed_in accepted.flow) is (in_order accepted) free different
 
--- Keys can be made of a flow of an accepted deck.
-pub can_have_keys : (flow : Flow)
-    → IsAccepted (loads_in (deck_of flow)) (notes_of flow) (start_in (deck_of flow)) (executed_in flow)
-    → IsFreeOrder (loads_in (deck_of flow)) (notes_of flow) (executed_in flow) (order_in flow)
-    → AreSound (notes_of flow) → AreDifferent (executed_in flow)
-    → CanHaveKeys flow
-can_have_keys flow accepted free sound different = (
-  is_ordered (loads_in (deck_of flow)) (notes_of flow) (start_in (deck_of flow)) (executed_in flow) accepted
-      (order_in flow) free different sound,
+-- Keys can be made of an accepted flow.
+pub can_have_keys : (accepted : AcceptedFlow)
+    → IsAccepted (loads_in (deck_of accepted.flow)) (notes_of accepted.flow) (start_in (deck_of accepted.flow))
+    (executed_in accepted.flow)
+    → IsFreeOrder (loads_in (deck_of accepted.flow)) (notes_of accepted.flow) (executed_in accepted.flow)
+    (in_order accepted)
+    → AreSound (notes_of accepted.flow) → AreDifferent (executed_in accepted.flow)
+    → CanHaveKeys accepted
+can_have_keys accepted is free sound different = (
+  is_ordered (loads_in (deck_of accepted.flow)) (notes_of accepted.flow) (start_in (deck_of accepted.flow))
+      (executed_in accepted.flow) is (in_order accepted) free different sound,
   free.only,
 )

@@ -7,8 +7,9 @@ use Rattle.std.proofs.lemmas.Option.{slice_get_within}
 use Rattle.drum_times.specs.declared.notes.mark.Mark.{Mark}
 use Rattle.drum_times.specs.Marks.{is_on, mark_from, mark_on}
 use Rattle.drum_machine.specs.Counts.{after_pass, AreWithin}
-use Rattle.drum_flow.specs.declared.flow_graph.Flow.{Flow}
-use Rattle.drum_flow.specs.Flow.{notes_of, order_in}
+use Rattle.drum_flow.specs.declared.accepted_flow.AcceptedFlow.{AcceptedFlow}
+use Rattle.drum_flow.specs.Flow.{notes_of}
+use Rattle.drum_flow.specs.AcceptedFlow.{in_order}
 use Rattle.drum_bound.specs.declared.round.Counted.{Counted}
 use Rattle.drum_bound.specs.declared.round.Round.{Round}
 use Rattle.drum_bound.specs.Digits.{digits}
@@ -16,7 +17,7 @@ use Rattle.drum_bound.specs.Keys.{IsKey}
 use Rattle.drum_bound.specs.RoundOf.{IsCounted, IsPassed, IsRound, counted_after}
 use Rattle.drum_flow.specs.Accepted.{counts_of}
 use Rattle.drum_bound.proofs.DigitsLaws.{leading_digits, unmarked_stays}
-use Rattle.drum_bound.proofs.Sites.{key_of_place}
+use Rattle.drum_bound.proofs.Nodes.{key_of_place}
 
 -- both of two
 both : (a b : Bool) → (a && b) ≡ true → (a ≡ true) × (b ≡ true)
@@ -80,38 +81,46 @@ mark_inside marks from onto found e =
     slice_get_within marks found (mark_there marks from onto found e).0 (mark_there marks from onto found e).1
 
 -- what a hop along an edge leads to, from the counts of this number
-abbrev pub IsLed : Flow → ℕ → ℕ → ℕ → Option Counted → Type 0
-IsLed flow number place next counted =
-    let marks = (notes_of flow).marks in
+abbrev pub IsLed : AcceptedFlow → ℕ → ℕ → ℕ → Option Counted → Type 0
+IsLed accepted number place next counted =
+    let marks = (notes_of accepted.flow).marks in
     let after = after_pass marks place next (digits marks number) in
-    MatchOption counted (¬ AreWithin marks after) (λ c. IsCounted flow after c × AreWithin marks after)
+    MatchOption counted (¬ AreWithin marks after) (λ c. IsCounted accepted after c × AreWithin marks after)
 
-pub round_leads : (flow : Flow) (number place next : ℕ) (round : Round) (mark : Option ℕ) → IsRound flow number round
-    → AreWithin (notes_of flow).marks (digits (notes_of flow).marks number)
-    → mark_on (notes_of flow).marks place next ≡ mark → IsLed flow number place next (counted_after round mark)
-round_leads flow number place next round None is within on =
-    let marks = (notes_of flow).marks in
+pub round_leads : (accepted : AcceptedFlow) (number place next : ℕ) (round : Round) (mark : Option ℕ)
+    → IsRound accepted number round
+    → AreWithin (notes_of accepted.flow).marks (digits (notes_of accepted.flow).marks number)
+    → mark_on (notes_of accepted.flow).marks place next ≡ mark
+    → IsLed accepted number place next (counted_after round mark)
+round_leads accepted number place next round None is within on =
+    let marks = (notes_of accepted.flow).marks in
     let stays : digits marks number ≡ after_pass marks place next (digits marks number) =
-    sym (unmarked_stays marks place next (digits marks number) on) in
-    (subst (λ (counts : List ℕ). IsCounted flow counts round.own) stays is.own, subst (AreWithin marks) stays within)
-round_leads flow number place next round (Some m) is within on =
-    let marks = (notes_of flow).marks in
+    sym (unmarked_stays marks place next (digits marks number) on) in (
+      subst (λ (counts : List ℕ). IsCounted accepted counts round.own) stays is.own,
+      subst (AreWithin marks) stays
+          within,
+    )
+round_leads accepted number place next round (Some m) is within on =
+    let marks = (notes_of accepted.flow).marks in
     let mark = mark_there marks place next m on in
-    let passed : IsPassed flow (digits marks number) mark.0 (slice_index_or round.passed m None) =
+    let passed : IsPassed accepted (digits marks number) mark.0 (slice_index_or round.passed m None) =
     is.passed m mark.0 mark.1 in
-    subst (λ (n : ℕ). IsLed flow number place n (slice_index_or round.passed m None)) mark.3
-    (subst (λ (n : ℕ). IsLed flow number n mark.0.onto.number (slice_index_or round.passed m None)) mark.2 passed)
+    subst (λ (n : ℕ). IsLed accepted number place n (slice_index_or round.passed m None)) mark.3
+    (subst (λ (n : ℕ). IsLed accepted number n mark.0.onto.number (slice_index_or round.passed m None)) mark.2 passed)
 
 -- the key that it leads to
-pub led_key : (flow : Flow) (counts : List ℕ) (counted : Counted) (index next : ℕ) → IsCounted flow counts counted
-    → AreWithin (notes_of flow).marks counts → slice_get (order_in flow) index ≡ Some next
-    → IsKey (notes_of flow).marks (order_in flow) (counted.first + index) next counts
-led_key flow counts counted index next is within at =
-    subst (λ (first : ℕ). IsKey (notes_of flow).marks (order_in flow) (first + index) next counts) (sym is.first)
-    (key_of_place (notes_of flow).marks (order_in flow) counts index next within at)
+pub led_key : (accepted : AcceptedFlow) (counts : List ℕ) (counted : Counted) (index next : ℕ)
+    → IsCounted accepted counts counted
+    → AreWithin (notes_of accepted.flow).marks counts → slice_get (in_order accepted) index ≡ Some next
+    → IsKey (notes_of accepted.flow).marks (in_order accepted) (counted.first + index) next counts
+led_key accepted counts counted index next is within at =
+    subst (λ (first : ℕ). IsKey (notes_of accepted.flow).marks (in_order accepted) (first + index) next counts)
+    (sym is.first)
+    (key_of_place (notes_of accepted.flow).marks (in_order accepted) counts index next within at)
 
 -- the first key of a round
-pub round_first : (flow : Flow) (number : ℕ) (round : Round) → IsRound flow number round
-    → number < counts_of (notes_of flow).marks → round.own.first ≡ number * length (order_in flow)
-round_first flow number round is small =
-    is.own.first ∙ ap (λ (n : ℕ). n * length (order_in flow)) (leading_digits (notes_of flow).marks number small)
+pub round_first : (accepted : AcceptedFlow) (number : ℕ) (round : Round) → IsRound accepted number round
+    → number < counts_of (notes_of accepted.flow).marks → round.own.first ≡ number * length (in_order accepted)
+round_first accepted number round is small =
+    is.own.first ∙ ap (λ (n : ℕ). n * length (in_order accepted))
+    (leading_digits (notes_of accepted.flow).marks number small)

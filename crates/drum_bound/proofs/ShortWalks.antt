@@ -7,12 +7,12 @@ use Rattle.drum_machine.specs.Ways.{Way, early, to, late}
 use Rattle.drum_flow.specs.Hops.{hops, IsEdge}
 use Rattle.drum_flow.proofs.Lists.{contains_at}
 use Rattle.drum_flow.specs.Passes.{leading}
-use Rattle.drum_flow.specs.Walk.{Setting, Taken, Follow, IsWalkFrom, IsWalk}
+use Rattle.drum_flow.specs.Walk.{Setting, Taken, FollowHop, IsWalkFrom, IsWalk}
 use Rattle.drum_bound.proofs.DigitsLaws.{no_counts_within}
 use Rattle.drum_bound.proofs.KeyLaws.{place_there}
 use Rattle.drum_bound.specs.Keys.{keys_of, place_at, counts_at, IsKey, IsOrdered}
 use Rattle.drum_bound.proofs.Onward.{leads_on}
-use Rattle.drum_bound.proofs.Sites.{key_of_place}
+use Rattle.drum_bound.proofs.Nodes.{key_of_place}
 use Rattle.drum_bound.proofs.Unpassed.{hop_of}
 
 -- a location of the order and counts within what the marks allow have a key
@@ -40,7 +40,7 @@ module _ (g : Setting) (order : List ℕ) (ordered : IsOrdered g.loads g.notes g
       passed next = after_pass g.notes.marks (place_at order key) next (counts_at g.notes.marks order key)
 
       go : (way : Way) → hop.way ≡ way
-          → Follow way (λ next. AreWithin g.notes.marks (passed next)
+          → FollowHop way (λ next. AreWithin g.notes.marks (passed next)
           × IsWalkFrom g angle next hop.ended (passed next) more) more
           → key + length (hop ∷ more) ≤ keys_of g.notes.marks order
       go early way none = omega (arith, below, ap length none)

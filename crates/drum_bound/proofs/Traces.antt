@@ -1,5 +1,5 @@
 -- The walk that is followed back from the latest of all that a finished scan keeps.
-use Rattle.std.proofs.Common.{◌≡◌, ℕ, ◌+◌, ◌-◌, ◌<◌, ◌≤◌, List, [], ◌∷◌, ◌++◌, map, reverse, refl, ap, sym, ◌∙◌, subst}
+use Rattle.std.proofs.Common.{◌≡◌, ℕ, ◌+◌, ◌-◌, ◌<◌, ◌≤◌, List, [], ◌∷◌, ◌++◌, map, reverse, ap, sym, ◌∙◌, subst}
 use Rattle.std.proofs.Common.{inl, inr, ◌⊎◌, Option, Some, None, arith}
 use Rattle.std.proofs.lemmas.List.{reverse-append}
 use Rattle.drum_machine.specs.Counts.{no_counts}
@@ -44,11 +44,6 @@ visits_more hop hops visits visit same is =
     ap (λ (others : List Visited). visited hop ∷ others) same
     ∙ ap (λ (first : Visited). first ∷ map seen_visit (reverse visits)) (sym is)
     ∙ sym (ap (map seen_visit) (reverse-append visits (visit ∷ [])))
-
--- no hop has been followed at the latest of all
-pub trace_none : (g : Setting) (order : List ℕ) (cells : List (Option Latest)) (last : Latest)
-    → IsTraced g order cells last last []
-trace_none g order cells last = record { hops = []; same = refl; from = inl (refl, refl) }
 
 module _ (g : Setting) (order : List ℕ) (cells : List (Option Latest)) (last : Latest)
     (ordered : IsOrdered g.loads g.notes g.start order) (starts : g.start < 2000)

@@ -11,13 +11,13 @@ use Rattle.drum_machine.specs.Step.{State, Stepped, on, stopped}
 use Rattle.drum_machine.specs.Ways.{Way, early, to, late}
 use Rattle.drum_flow.specs.Accepted.{IsAccepted, IsFixed}
 use Rattle.drum_flow.specs.RunHops.{hop_of, hops_taken}
-use Rattle.drum_flow.specs.Walk.{Setting, Taken, IsProper, Follow, IsWalkFrom, IsWalk}
+use Rattle.drum_flow.specs.Walk.{Setting, Taken, IsProper, FollowHop, IsWalkFrom, IsWalk}
 use Rattle.drum_flow.proofs.KeptWalk.{kept_walk}
 use Rattle.drum_bound.specs.Table.{number_of, GoesOn, Arrive, IsReached, Row, IsTable}
 use Rattle.drum_bound.specs.Under.{IsUnder, ArriveUnder}
 
 -- nothing is taken after a stop
-stop_follows : (because : whys.Why) (Right : ℕ → Type 0) (hops : List Taken) → Follow (stops_by because) Right hops
+stop_follows : (because : whys.Why) (Right : ℕ → Type 0) (hops : List Taken) → FollowHop (stops_by because) Right hops
     → hops ≡ []
 stop_follows why.Operation Right hops none = none
 stop_follows why.Operand Right hops none = none
@@ -35,10 +35,10 @@ module _ (g : Setting) where
 
   -- a walk from the deck's start, and where it arrives
   abbrev Walks : ℕ → List Taken → Type 0
-  Walks angle front = IsWalkFrom g angle g.start 0 (no_counts g.notes.marks) front
+  Walks angle prefix = IsWalkFrom g angle g.start 0 (no_counts g.notes.marks) prefix
 
   abbrev Arrives : List Taken → ℕ → ℕ → List ℕ → Type 0
-  Arrives front from used passes = Arrive g g.start 0 (no_counts g.notes.marks) front from used passes
+  Arrives prefix from used passes = Arrive g g.start 0 (no_counts g.notes.marks) prefix from used passes
 
   -- one hop that goes on arrives where it goes on to
   arrive_one : (place time : ℕ) (counts : List ℕ) (next : ℕ) (hop : Taken) → hop.way ≡ to next
@@ -50,26 +50,26 @@ module _ (g : Setting) where
       (sym onto) (refl, refl, refl)
 
   -- hops that arrive somewhere, and one more that goes on from there, arrive where it goes on to
-  arrive_more : (front : List Taken) (place time : ℕ) (counts : List ℕ) (from used next : ℕ) (passes : List ℕ)
+  arrive_more : (prefix : List Taken) (place time : ℕ) (counts : List ℕ) (from used next : ℕ) (passes : List ℕ)
       (hop : Taken)
-      → Arrive g place time counts front from used passes → hop.way ≡ to next
-      → Arrive g place time counts (front ++ hop ∷ []) next hop.ended (after from next passes)
+      → Arrive g place time counts prefix from used passes → hop.way ≡ to next
+      → Arrive g place time counts (prefix ++ hop ∷ []) next hop.ended (after from next passes)
   arrive_more [] place time counts from used next passes hop arrives onto =
       let Right : ℕ → List ℕ → Type 0 =
       λ at passed. Arrive g place time counts (hop ∷ []) next hop.ended (after at next passed) in
       subst (Right from) arrives.2
       (subst (λ (at : ℕ). Right at counts) arrives.0 (arrive_one place time counts next hop onto))
-  arrive_more (first ∷ front) place time counts from used next passes hop arrives onto =
+  arrive_more (first ∷ prefix) place time counts from used next passes hop arrives onto =
       go first.way arrives
-      (λ target goes. arrive_more front target first.ended (after place target counts) from used next passes hop goes
+      (λ target goes. arrive_more prefix target first.ended (after place target counts) from used next passes hop goes
       onto)
     where
       Goes : ℕ → Type 0
-      Goes target = Arrive g target first.ended (after place target counts) front from used passes
+      Goes target = Arrive g target first.ended (after place target counts) prefix from used passes
 
       GoesFurther : ℕ → Type 0
       GoesFurther target =
-          Arrive g target first.ended (after place target counts) (front ++ hop ∷ []) next hop.ended
+          Arrive g target first.ended (after place target counts) (prefix ++ hop ∷ []) next hop.ended
           (after from next passes)
 
       go : (way : Way) → GoesOn way Goes → ((target : ℕ) → Goes target → GoesFurther target) → GoesOn way GoesFurther
@@ -78,22 +78,22 @@ module _ (g : Setting) where
       go late goes further = absurd goes
 
   -- a walk that arrives somewhere, and one hop from there, are a walk
-  walk_more : (angle : ℕ) (front : List Taken) (place time : ℕ) (counts : List ℕ) (from used : ℕ) (passes : List ℕ)
+  walk_more : (angle : ℕ) (prefix : List Taken) (place time : ℕ) (counts : List ℕ) (from used : ℕ) (passes : List ℕ)
       (hop : Taken)
-      → IsWalkFrom g angle place time counts front → Arrive g place time counts front from used passes
-      → IsWalkFrom g angle from used passes (hop ∷ []) → IsWalkFrom g angle place time counts (front ++ hop ∷ [])
+      → IsWalkFrom g angle place time counts prefix → Arrive g place time counts prefix from used passes
+      → IsWalkFrom g angle from used passes (hop ∷ []) → IsWalkFrom g angle place time counts (prefix ++ hop ∷ [])
   walk_more angle [] place time counts from used passes hop walk arrives last =
       subst (λ (at : ℕ). IsWalkFrom g angle at time counts (hop ∷ [])) (sym arrives.0)
       (subst (λ (moment : ℕ). IsWalkFrom g angle from moment counts (hop ∷ [])) (sym arrives.1)
       (subst (λ (passed : List ℕ). IsWalkFrom g angle from used passed (hop ∷ [])) (sym arrives.2) last))
-  walk_more angle (first ∷ front) place time counts from used passes hop walk arrives last = (
+  walk_more angle (first ∷ prefix) place time counts from used passes hop walk arrives last = (
     walk.0,
     go first.way walk.1 arrives (λ target walks goes.
-        walk_more angle front target first.ended (after place target counts) from used passes hop walks goes last),
+        walk_more angle prefix target first.ended (after place target counts) from used passes hop walks goes last),
   )
     where
       Goes : ℕ → Type 0
-      Goes target = Arrive g target first.ended (after place target counts) front from used passes
+      Goes target = Arrive g target first.ended (after place target counts) prefix from used passes
 
       WalksOn : List Taken → ℕ → Type 0
       WalksOn hops target = IsWalkFrom g angle target first.ended (after place target counts) hops
@@ -101,9 +101,9 @@ module _ (g : Setting) where
       Right : List Taken → ℕ → Type 0
       Right hops target = AreWithin g.notes.marks (after place target counts) × WalksOn hops target
 
-      go : (way : Way) → Follow way (Right front) front → GoesOn way Goes
-          → ((target : ℕ) → WalksOn front target → Goes target → WalksOn (front ++ hop ∷ []) target)
-          → Follow way (Right (front ++ hop ∷ [])) (front ++ hop ∷ [])
+      go : (way : Way) → FollowHop way (Right prefix) prefix → GoesOn way Goes
+          → ((target : ℕ) → WalksOn prefix target → Goes target → WalksOn (prefix ++ hop ∷ []) target)
+          → FollowHop way (Right (prefix ++ hop ∷ [])) (prefix ++ hop ∷ [])
       go early walks goes further = absurd goes
       go (to target) walks goes further = (walks.0, further target walks.1 goes)
       go late walks goes further = absurd goes
@@ -123,29 +123,29 @@ module _ (g : Setting) where
         (row, entry.1, entry.2, entry.3, (table.right row entry.1).most angle time at_entry)
 
     -- a hop that goes on, behind a walk that arrives where it begins, arrives under an entry
-    hop_under : (front : List Taken) (from used next : ℕ) (passes : List ℕ) (hop : Taken) → Walks angle front
-        → Arrives front from used passes
+    hop_under : (prefix : List Taken) (from used next : ℕ) (passes : List ℕ) (hop : Taken) → Walks angle prefix
+        → Arrives prefix from used passes
         → IsWalkFrom g angle from used passes (hop ∷ []) → hop.way ≡ to next
         → IsUnder g.notes.marks rows next (after from next passes) hop.ended
-    hop_under front from used next passes hop walk arrives last onto =
+    hop_under prefix from used next passes hop walk arrives last onto =
         let none : List ℕ = no_counts g.notes.marks in
         reached_under next hop.ended (after from next passes)
         (record {
-          hops = front ++ hop ∷ [];
+          hops = prefix ++ hop ∷ [];
           walk = record {
             on_drum = on_drum;
             from_start =
-                walk_more angle front g.start 0 none from used passes hop walk arrives last;
+                walk_more angle prefix g.start 0 none from used passes hop walk arrives last;
           };
           passes = after from next passes;
           number = refl;
-          arrives = arrive_more front g.start 0 none from used next passes hop arrives onto;
+          arrives = arrive_more prefix g.start 0 none from used next passes hop arrives onto;
         })
 
     -- of these turns, behind a walk that arrives where they begin, each that goes on arrives under an entry
     abbrev UnderBehind : List Turn → Type 0
-    UnderBehind turns = (front : List Taken) (from used : ℕ) (passes : List ℕ) → Walks angle front
-        → Arrives front from used passes
+    UnderBehind turns = (prefix : List Taken) (from used : ℕ) (passes : List ℕ) → Walks angle prefix
+        → Arrives prefix from used passes
         → IsWalkFrom g angle from used passes (hops_taken turns) → ArriveUnder g.notes rows passes turns
 
     -- turns without hops are none
@@ -159,29 +159,29 @@ module _ (g : Setting) where
 
     -- a turn from where a walk arrives, and what follows it
     turn_under : (s : State) (wait : ℕ) (outcome : Stepped) (turns : List Turn) → UnderBehind turns
-        → (front : List Taken) (used : ℕ) (passes : List ℕ) → Walks angle front → Arrives front s.sought used passes
+        → (prefix : List Taken) (used : ℕ) (passes : List ℕ) → Walks angle prefix → Arrives prefix s.sought used passes
         → IsWalkFrom g angle s.sought used passes (hops_taken (turn_of s wait outcome ∷ turns))
         → ArriveUnder g.notes rows passes (turn_of s wait outcome ∷ turns)
-    turn_under s wait (on next) turns behind front used passes walk arrives left =
+    turn_under s wait (on next) turns behind prefix used passes walk arrives left =
         let none : List ℕ = no_counts g.notes.marks in
         let hop : Taken = hop_of (turn_of s wait (on next)) in
         let last : IsWalkFrom g angle s.sought used passes (hop ∷ []) = (left.0, (left.1.0, tt)) in (
-          hop_under front s.sought used next.sought passes hop walk arrives last refl,
-          behind (front ++ hop ∷ []) next.sought next.time (after s.sought next.sought passes)
-              (walk_more angle front g.start 0 none s.sought used passes hop walk arrives last)
-              (arrive_more front g.start 0 none s.sought used next.sought passes hop arrives refl)
+          hop_under prefix s.sought used next.sought passes hop walk arrives last refl,
+          behind (prefix ++ hop ∷ []) next.sought next.time (after s.sought next.sought passes)
+              (walk_more angle prefix g.start 0 none s.sought used passes hop walk arrives last)
+              (arrive_more prefix g.start 0 none s.sought used next.sought passes hop arrives refl)
               left.1.1,
         )
-    turn_under s wait (stopped held because moment) turns behind front used passes walk arrives left =
+    turn_under s wait (stopped held because moment) turns behind prefix used passes walk arrives left =
         (tt, none_under turns passes (stop_follows because _ (hops_taken turns) left.1))
 
     -- turns from where a walk arrives, one after the other
     turns_under : (turns : List Turn) → UnderBehind turns
-    turns_under [] front from used passes walk arrives left = tt
-    turns_under (turn ∷ turns) front from used passes walk arrives left =
+    turns_under [] prefix from used passes walk arrives left = tt
+    turns_under (turn ∷ turns) prefix from used passes walk arrives left =
         let here : from ≡ turn.origin.sought = sym left.0.here in
-        turn_under turn.origin turn.wait turn.outcome turns (turns_under turns) front used passes walk
-        (subst (λ (at : ℕ). Arrives front at used passes) here arrives)
+        turn_under turn.origin turn.wait turn.outcome turns (turns_under turns) prefix used passes walk
+        (subst (λ (at : ℕ). Arrives prefix at used passes) here arrives)
         (subst (λ (at : ℕ). IsWalkFrom g angle at used passes (hops_taken (turn ∷ turns))) here left)
 
 -- Each step of a kept run that goes on arrives under an entry of the table.

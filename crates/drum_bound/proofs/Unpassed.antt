@@ -10,7 +10,7 @@ use Rattle.drum_times.specs.declared.entry.Entry.{Entry}
 use Rattle.drum_machine.specs.Counts.{after_pass, no_counts, AreWithin}
 use Rattle.drum_machine.specs.Ways.{Way, early, to, late}
 use Rattle.drum_flow.specs.Hops.{Hop, hops}
-use Rattle.drum_flow.specs.Walk.{Setting, Taken, IsHopAt, Follow, IsWalkFrom, IsWalk, time_from, time_of}
+use Rattle.drum_flow.specs.Walk.{Setting, Taken, IsHopAt, FollowHop, IsWalkFrom, IsWalk, time_from, time_of}
 use Rattle.drum_bound.specs.declared.latest.Latest.{Latest}
 use Rattle.drum_bound.specs.Keys.{keys_of, place_at, counts_at, IsKey, IsOrdered}
 use Rattle.drum_bound.specs.Longest.{longest}
@@ -91,7 +91,7 @@ module _ (g : Setting) (order : List ℕ) (cells : List (Option Latest)) (last :
   -- the hops that follow a hop, from where it leads to
   abbrev FollowFrom : ℕ → ℕ → Taken → Way → List Taken → Type 0
   FollowFrom angle key hop way more =
-      Follow way (λ next.
+      FollowHop way (λ next.
       let passed = after_pass g.notes.marks (place_at order key) next (counts_at g.notes.marks order key) in
       AreWithin g.notes.marks passed × IsWalkFrom g angle next hop.ended passed more) more
 

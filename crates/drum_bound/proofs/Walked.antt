@@ -7,7 +7,7 @@ use Rattle.drum_machine.specs.Counts.{after_pass, no_counts, AreWithin}
 use Rattle.drum_machine.specs.Ways.{Way, early, to, late}
 use Rattle.drum_flow.proofs.Lists.{contains_from_get}
 use Rattle.drum_flow.specs.Hops.{Hop, hops}
-use Rattle.drum_flow.specs.Walk.{Setting, Taken, IsTimed, IsHopAt, Follow, IsWalkFrom, time_from}
+use Rattle.drum_flow.specs.Walk.{Setting, Taken, IsTimed, IsHopAt, FollowHop, IsWalkFrom, time_from}
 use Rattle.drum_bound.specs.declared.latest.Latest.{Latest}
 use Rattle.drum_bound.specs.declared.key_hop.KeyHop.{KeyHop}
 use Rattle.drum_bound.specs.Keys.{keys_of, place_at, counts_at, IsKey, IsOrdered}
@@ -127,7 +127,7 @@ module _ (g : Setting) (order : List ℕ) (cells : List (Option Latest)) (last :
             IsWalkFrom g (start_angle g.start) (place_at order key) (clock - start_angle g.start) counts more)
             leads.passed walk,
       ) in
-      (hop_at origin clock e, subst (λ (way : Way). Follow way Right more) (sym leads.onto) right)
+      (hop_at origin clock e, subst (λ (way : Way). FollowHop way Right more) (sym leads.onto) right)
 
   -- A hop that no full mark bars is a walk from its key on.
   pub hop_last : (origin : KeyHop) (clock : ℕ) → (e : IsEndOf g order (keys_of g.notes.marks order) cells origin clock)
@@ -138,7 +138,7 @@ module _ (g : Setting) (order : List ℕ) (cells : List (Option Latest)) (last :
   hop_last origin clock e passes = (hop_at origin clock e, go e.hop.way passes)
     where
       go : (way : Way) → IsOpen g order origin.key way
-          → Follow way (λ next.
+          → FollowHop way (λ next.
           let passed = after_pass g.notes.marks (place_at order origin.key) next
           (counts_at g.notes.marks order origin.key) in
           AreWithin g.notes.marks passed

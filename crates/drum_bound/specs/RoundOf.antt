@@ -2,8 +2,9 @@
 use Rattle.std.specs.Prelude.{◌≡◌, ℕ, ◌*◌, List, length, slice_get, slice_index_or, Option, Some, None, MatchOption}
 use Rattle.drum_times.specs.declared.notes.mark.Mark.{Mark}
 use Rattle.drum_machine.specs.Counts.{after_pass, AreWithin}
-use Rattle.drum_flow.specs.declared.flow_graph.Flow.{Flow}
-use Rattle.drum_flow.specs.Flow.{notes_of, order_in}
+use Rattle.drum_flow.specs.declared.accepted_flow.AcceptedFlow.{AcceptedFlow}
+use Rattle.drum_flow.specs.Flow.{notes_of}
+use Rattle.drum_flow.specs.AcceptedFlow.{in_order}
 use Rattle.drum_flow.specs.Passes.{leading}
 use Rattle.drum_bound.specs.declared.round.Counted.{Counted}
 use Rattle.drum_bound.specs.declared.round.Round.{Round}
@@ -11,23 +12,24 @@ use Rattle.drum_bound.specs.Digits.{digits}
 use Rattle.drum_bound.specs.Table.{number_of}
 
 -- counts with the key of the first location, and with their number in the table
-pub record IsCounted (flow : Flow) (counts : List ℕ) (counted : Counted) : Type 0 where
-  pub first : counted.first ≡ leading (notes_of flow).marks counts * length (order_in flow)
-  pub number : counted.number ≡ number_of (notes_of flow).marks counts
+pub record IsCounted (accepted : AcceptedFlow) (counts : List ℕ) (counted : Counted) : Type 0 where
+  pub first : counted.first
+      ≡ leading (notes_of accepted.flow).marks counts * length (in_order accepted)
+  pub number : counted.number ≡ number_of (notes_of accepted.flow).marks counts
 
 -- what a pass of a mark leads to from some counts: nothing where the mark is full
-abbrev pub IsPassed : Flow → List ℕ → Mark → Option Counted → Type 0
-IsPassed flow counts mark passed =
-    let marks = (notes_of flow).marks in
+abbrev pub IsPassed : AcceptedFlow → List ℕ → Mark → Option Counted → Type 0
+IsPassed accepted counts mark passed =
+    let marks = (notes_of accepted.flow).marks in
     let after = after_pass marks mark.from.number mark.onto.number counts in
     MatchOption passed (¬ AreWithin marks after)
-    (λ counted. IsCounted flow after counted × AreWithin marks after)
+    (λ counted. IsCounted accepted after counted × AreWithin marks after)
 
 -- The keys with the counts of this number, with the first mark's leading.
-pub record IsRound (flow : Flow) (number : ℕ) (round : Round) : Type 0 where
-  pub own : IsCounted flow (digits (notes_of flow).marks number) round.own
-  pub passed : (k : ℕ) (mark : Mark) → slice_get (notes_of flow).marks k ≡ Some mark
-      → IsPassed flow (digits (notes_of flow).marks number) mark
+pub record IsRound (accepted : AcceptedFlow) (number : ℕ) (round : Round) : Type 0 where
+  pub own : IsCounted accepted (digits (notes_of accepted.flow).marks number) round.own
+  pub passed : (k : ℕ) (mark : Mark) → slice_get (notes_of accepted.flow).marks k ≡ Some mark
+      → IsPassed accepted (digits (notes_of accepted.flow).marks number) mark
       (slice_index_or round.passed k None)
 
 -- the counts after a hop along an edge with this mark, or with none

@@ -2,8 +2,7 @@
 use Rattle.std.specs.Prelude.{◌≡◌, ℕ, suc, ◌/◌, ◌%◌, ◌<◌, List, length, slice_get, Option, Some, ◌⊎◌}
 use Rattle.drum_machine.specs.Counts.{after_pass, AreWithin}
 use Rattle.drum_flow.specs.Accepted.{counts_of}
-use Rattle.drum_flow.specs.Flow.{order_in}
-use Rattle.drum_flow.specs.Hops.{hops}
+use Rattle.drum_flow.specs.Hops.{Hop, hops}
 use Rattle.drum_flow.specs.Walk.{Setting}
 use Rattle.drum_bound.specs.declared.cells.Cells.{Cells}
 use Rattle.drum_bound.specs.declared.latest.Latest.{Latest}
@@ -13,7 +12,7 @@ use Rattle.drum_bound.specs.declared.scan.Scan.{Scan}
 use Rattle.drum_bound.specs.declared.search.Search.{Search}
 use Rattle.drum_bound.specs.Keys.{keys_of, place_at, counts_at, IsKey}
 use Rattle.drum_bound.specs.RowOf.{counts_number}
-use Rattle.drum_bound.specs.KeysOf.{AreKeys, setting_of}
+use Rattle.drum_bound.specs.KeysOf.{AreKeys, order_in, setting_with}
 use Rattle.drum_bound.specs.LeapOf.{HaveLeaps, IsLeap, leap_hop}
 use Rattle.drum_bound.specs.RoundOf.{IsRound}
 use Rattle.drum_bound.specs.SearchOf.{IsSearch}
@@ -23,15 +22,26 @@ use Rattle.drum_bound.specs.KeyHops.{IsBefore}
 
 -- what its walks are in
 abbrev pub setting_in : Scan → Setting
-setting_in scan = setting_of scan.keys.now.flow.now scan.times.now
+setting_in scan = setting_with scan.keys.now scan.times.now
 
 -- the order of its locations
 abbrev pub order_of : Scan → List ℕ
-order_of scan = order_in scan.keys.now.flow.now
+order_of scan = order_in scan.keys.now
 
 -- how many keys it has
 abbrev pub size_in : Scan → ℕ
 size_in scan = keys_of (setting_in scan).notes.marks (order_of scan)
+
+-- the location of a key, and its hops
+abbrev pub place_in : Scan → ℕ → ℕ
+place_in scan key = place_at (order_of scan) key
+
+abbrev pub hops_of : Scan → ℕ → List Hop
+hops_of scan key = hops (setting_in scan).loads (setting_in scan).notes (place_in scan key)
+
+-- the round is that of a key's counts
+abbrev pub HasRound : Scan → ℕ → Round → Type 0
+HasRound scan key round = IsRound scan.keys.now.accepted.now (key / length (order_of scan)) round
 
 -- The cells are in order, and are those of these locations and counts.
 pub record AreCells (g : Setting) (order : List ℕ) (cells : Cells) : Type 0 where
@@ -62,11 +72,10 @@ pub record IsReady (scan : Scan) (own_round : Round) (own_search : Search) (numb
   pub keys : AreKeys scan.keys.now
   pub cells : AreCells (setting_in scan) (order_of scan) scan.cells
   pub below : own_search.key < scan.keys.now.size
-  pub round : IsRound scan.keys.now.flow.now (own_search.key / length (order_of scan)) own_round
+  pub round : HasRound scan own_search.key own_round
   pub search : IsSearch (order_of scan) (kept_in scan.cells) own_search
-  pub hop : slice_get (hops (setting_in scan).loads (setting_in scan).notes
-      (place_at (order_of scan) own_search.key)) number ≡ Some (leap_hop own_leap)
-  pub leap : IsLeap (setting_in scan) (order_of scan) (place_at (order_of scan) own_search.key)
+  pub hop : slice_get (hops_of scan own_search.key) number ≡ Some (leap_hop own_leap)
+  pub leap : IsLeap (setting_in scan) (order_of scan) (place_in scan own_search.key)
       (own_search.found % 50) own_leap
 
 -- the cells up to a key are the same

@@ -1,11 +1,10 @@
 -- The hops of a walk as they are handed out: without their units and their waits.
 use Rattle.std.specs.Prelude.{◌≡◌, ℕ, ◌+◌, ◌≤◌, List, [], ◌∷◌, map}
-use Rattle.std.proofs.Common.{refl, ap}
 use Rattle.drum_core.specs.declared.instruction.Instruction.{Instruction}
 use Rattle.drum_times.specs.declared.notes.mark.Mark.{Mark}
 use Rattle.drum_machine.specs.Ways.{Way}
 use Rattle.drum_machine.specs.WaysLeft.{seen_way}
-use Rattle.drum_flow.specs.Walk.{Setting, Taken, IsWalk, time_of, passes_by, passes_of}
+use Rattle.drum_flow.specs.Walk.{Setting, Taken, IsWalk, time_of, passes_by}
 use Rattle.drum_bound.specs.declared.visit.Visit.{Visit}
 
 -- a hop of a walk without its units and its wait
@@ -48,10 +47,3 @@ AreInTime time (visit ∷ visits) used =
 abbrev pub passes_in : Mark → List Visited → ℕ
 passes_in mark [] = 0
 passes_in mark (visit ∷ visits) = passes_by mark visit.place visit.way + passes_in mark visits
-
--- A walk passes a mark as often as its hops, however they are handed out.
-pub passes_of_visited : (mark : Mark) (hops : List Taken)
-    → passes_of mark hops ≡ passes_in mark (map visited hops)
-passes_of_visited mark [] = refl
-passes_of_visited mark (hop ∷ hops) =
-    ap (λ (passes : ℕ). passes_by mark hop.place hop.way + passes) (passes_of_visited mark hops)

@@ -11,12 +11,12 @@ ghost use Rattle.drum_machine.specs.Step.{State};
 ghost use Rattle.drum_flow.specs.Acceptance.{IsRefusal};
 ghost use Rattle.drum_flow.specs.Accepted as said;
 ghost use Rattle.drum_flow.specs.Accepted.{IsAccepted, IsFixed};
-ghost use Rattle.drum_flow.specs.Flow.{order_in};
+ghost use Rattle.drum_flow.specs.AcceptedFlow.{in_order};
 ghost use Rattle.drum_flow.specs.Hops as flows;
 ghost use Rattle.drum_flow.specs.Walk.{Taken, IsWalk};
 ghost use Rattle.drum_bound.specs.AnalysisOf.{IsAnalysis, ArePasses, setting, angle_of, bound_of, counts_in_all, passed_of, rows_of, turns_of, visits_of, words_of};
 ghost use Rattle.drum_bound.specs.Ends.{HopEnd, AreEnds, AreRaised};
-ghost use Rattle.drum_bound.specs.KeysOf.{AreKeys, CanHaveKeys, setting_of};
+ghost use Rattle.drum_bound.specs.KeysOf.{AreKeys, CanHaveKeys, order_in, setting_of, setting_with};
 ghost use Rattle.drum_bound.specs.Table.{IsTable};
 ghost use Rattle.drum_bound.specs.Under.{ArriveUnder};
 ghost use Rattle.drum_bound.specs.Visited.{IsWalkOf, passes_in, seen_visit};
@@ -28,7 +28,7 @@ use crate::passed::passes;
 use crate::scan::Scan;
 use crate::visit::Visit;
 use drum_core::Deck;
-use drum_flow::{Flow, Refusal, accept};
+use drum_flow::{AcceptedFlow, Refusal};
 use drum_times::{Mark, Notes, Times};
 use std::alloc::{AllocError, Global};
 
@@ -52,28 +52,28 @@ fn analysis_by<'a>(
     keys: &'a Keys<'a>,
 ) -> Result<Analysis, AllocError>
     requires { AreKeys keys.now }
-    ensures { IfOk result (IsAnalysis (setting_of keys.now.flow.now times.now) (length (order_in
-        keys.now.flow.now))) }
+    ensures { IfOk result (IsAnalysis (setting_with keys.now times.now)
+        (length (order_in keys.now))) }
 {
     let leaps = keys.leaps(alloc, times)?;
     let scan = Scan::of(alloc, times, keys, &leaps)?;
     let walk = scan.walk(alloc)?;
-    let passed = passes_of_marks(&walk, keys.flow.notes().marks());
+    let passed = passes_of_marks(&walk, keys.marks());
     Ok(Analysis::of(scan.cells, walk, passed))
 }
 
-/// The analysis of an accepted deck, of its flow graph.
+/// The analysis of an accepted flow.
 fn analysis_of<'a>(
     alloc: Global,
-    flow: &'a Flow<'a>,
+    accepted: &'a AcceptedFlow<'a>,
     times: &'a Times,
 ) -> Result<Analysis, AllocError>
-    requires { CanHaveKeys flow.now }
-    ensures { IfOk result (IsAnalysis (setting_of flow.now times.now) (length (order_in
-        flow.now))) }
+    requires { CanHaveKeys accepted.now }
+    ensures { IfOk result (IsAnalysis (setting_of accepted.now times.now)
+        (length (in_order accepted.now))) }
 {
     // by match: the checker has no proof yet for `?` on what borrows and is dropped here
-    let keys: Result<Keys<'a>, AllocError> = Keys::of(alloc, flow);
+    let keys: Result<Keys<'a>, AllocError> = Keys::of(alloc, accepted);
     let Ok(keys) = keys else {
         return Err(AllocError);
     };
@@ -85,8 +85,8 @@ fn analysis_of<'a>(
 ///
 /// # Errors
 ///
-/// Where the deck with its notes isn't accepted, why ([`accept`]); [`Refusal::Memory`] where memory
-/// is wanting.
+/// Where the deck with its notes isn't accepted, why ([`accept`](crate::accept));
+/// [`Refusal::Memory`] where memory is wanting.
 pub fn analyse(
     alloc: Global,
     deck: &Deck,
@@ -135,10 +135,10 @@ pub fn analyse(
 {
     // `mark`'s facts: the marks are eight at most.
     let _marks = notes.marks();
-    let flow = accept(alloc, deck, notes)?;
-    // `accepted` names these.
-    let _executed = flow.executed();
-    let Ok(analysis) = analysis_of(alloc, &flow, times) else {
+    let accepted = AcceptedFlow::of(alloc, deck, notes)?;
+    // The clause `accepted` names these.
+    let _executed = accepted.flow().executed();
+    let Ok(analysis) = analysis_of(alloc, &accepted, times) else {
         return Err(Refusal::Memory);
     };
     Ok(analysis)

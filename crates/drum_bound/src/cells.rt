@@ -11,7 +11,7 @@ use crate::search::Search;
 use crate::worst::Worst;
 use drum_core::Location;
 pub use end::End;
-use end::Made;
+use end::Ends;
 use std::alloc::{AllocError, Global};
 
 /// The latest end at each key, of the hops that lead there, or the moment of the start; and the
@@ -30,7 +30,7 @@ pub struct Cells {
     /// Where each entry's time comes from. The start's comes from its own key, which no hop does.
     origins: Vec<KeyHop>,
     last: Latest,
-    made: Made,
+    made: Ends,
     /// The start angle: an entry's clock is its time from there on.
     angle: u64,
     /// How many executed locations there are, and how many counts the marks can have.
@@ -109,7 +109,7 @@ impl Cells {
             entries,
             origins,
             last,
-            made: Made::none(),
+            made: Ends::none(),
             angle,
             words,
             counts,

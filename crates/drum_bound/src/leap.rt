@@ -1,16 +1,13 @@
 //! Hops with what can be known of them before the scan.
 
 ghost use Rattle.std.specs.Prelude.{◌≡◌, ◌<◌, ◌≤◌, Contains, IfOk, IfSome, vec_len};
-ghost use Rattle.drum_core.specs.Loads.{loads_in};
 ghost use Rattle.drum_times.specs.Marks.{mark_on};
-ghost use Rattle.drum_flow.specs.Flow.{deck_of, notes_of, order_in};
-ghost use Rattle.drum_flow.specs.Hops as said;
 ghost use Rattle.drum_flow.specs.HopsLeft.{hops_left};
 ghost use Rattle.drum_flow.specs.Seen.{seen_hop};
-ghost use Rattle.drum_bound.specs.KeysOf.{AreKeys, setting_of};
+ghost use Rattle.drum_bound.specs.KeysOf.{AreKeys, hops_in, marks_in, order_in, setting_with};
 ghost use Rattle.drum_bound.specs.LeapOf.{AreLeaps, HaveLeaps, IsLeap};
 
-use crate::keys::{Keys, Site};
+use crate::keys::{Keys, Node};
 use crate::longest::longest;
 use drum_core::{Location, REVOLUTION};
 use drum_flow::Hop;
@@ -39,8 +36,7 @@ impl Keys<'_> {
     /// The place of the mark on an edge.
     fn mark_between(&self, from: Location, onto: Location) -> Option<u8>
         requires { AreKeys self.now }
-        ensures { mark_on (notes_of self.now.flow.now).marks from.number onto.number
-            ≡ result }
+        ensures { mark_on (marks_in self.now) from.number onto.number ≡ result }
     {
         match Mark::on_edge(self.marks(), from, onto) {
             Some(place) => Some(place as u8),
@@ -51,12 +47,11 @@ impl Keys<'_> {
     /// A hop of an executed location, from when its instruction is found at this angle.
     pub fn leap(&self, times: &Times, location: Location, hop: Hop, angle: u64) -> Leap
         requires keys { AreKeys self.now }
-        requires there { Contains (order_in self.now.flow.now) location.number }
-        requires hop { Contains (said.hops (loads_in (deck_of self.now.flow.now)) (notes_of
-            self.now.flow.now) location.number) (seen_hop hop) }
+        requires there { Contains (order_in self.now) location.number }
+        requires hop { Contains (hops_in self.now location.number) (seen_hop hop) }
         requires on_drum { angle < 50 }
-        ensures leap { IsLeap (setting_of self.now.flow.now times.now) (order_in
-            self.now.flow.now) location.number angle result }
+        ensures leap { IsLeap (setting_with self.now times.now) (order_in self.now)
+            location.number angle result }
         ensures hop { result.hop ≡ hop }
     {
         let time = (longest(times, location, hop, angle) - angle) as u32;
@@ -81,26 +76,24 @@ impl Keys<'_> {
         &self,
         alloc: Global,
         times: &Times,
-        site: &Site<'_>,
+        node: &Node<'_>,
         room: usize,
     ) -> Result<Option<Vec<Leap>>, AllocError>
         requires keys { AreKeys self.now }
-        requires there { Contains (order_in self.now.flow.now) site.now.location.number }
-        requires hops { hops_left site.now.hops
-            ≡ said.hops (loads_in (deck_of self.now.flow.now)) (notes_of self.now.flow.now)
-            site.now.location.number }
+        requires there { Contains (order_in self.now) node.now.location.number }
+        requires hops { hops_left node.now.hops ≡ hops_in self.now node.now.location.number }
         ensures leaps { IfOk result (λ made. IfSome made (λ leaps.
-            AreLeaps (setting_of self.now.flow.now times.now) (order_in self.now.flow.now)
-            site.now.location.number leaps.items)) }
+            AreLeaps (setting_with self.now times.now) (order_in self.now)
+            node.now.location.number leaps.items)) }
         ensures few { IfOk result (λ made. IfSome made (λ leaps. vec_len leaps ≤ room)) }
     {
-        let location = site.location;
+        let location = node.location;
         if location.number() >= Location::DRUM {
             return Ok(None);
         }
         let angle = u64::from(location.number()) % REVOLUTION;
         let mut leaps = Vec::new(alloc);
-        for hop in site.hops {
+        for hop in node.hops {
             if leaps.len() >= room {
                 return Ok(None);
             }
@@ -113,13 +106,13 @@ impl Keys<'_> {
     /// is halved, so that few are made and thrown away.
     pub fn leaps(&self, alloc: Global, times: &Times) -> Result<Vec<Option<Vec<Leap>>>, AllocError>
         requires { AreKeys self.now }
-        ensures { IfOk result (λ all. HaveLeaps (setting_of self.now.flow.now times.now)
-            (order_in self.now.flow.now) all.items) }
+        ensures { IfOk result (λ all. HaveLeaps (setting_with self.now times.now)
+            (order_in self.now) all.items) }
     {
         let mut room = MOST_LEAPS;
         let mut all = Vec::new(alloc);
-        for site in &self.sites {
-            let leaps = self.leaps_at(alloc, times, site, room)?;
+        for node in &self.nodes {
+            let leaps = self.leaps_at(alloc, times, node, room)?;
             match &leaps {
                 Some(leaps) => room -= leaps.len(),
                 None => room /= 2,

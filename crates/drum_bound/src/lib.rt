@@ -8,6 +8,7 @@ mod cells;
 mod key_hop;
 mod keys;
 mod latest;
+pub mod laws;
 mod leap;
 mod longest;
 mod numbers;

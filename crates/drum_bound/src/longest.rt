@@ -49,7 +49,7 @@ pub fn longest(times: &Times, place: Location, hop: Hop, clock: u64) -> u64
     ensures near { result ≤ clock + longest_step }
 {
     let Some(op) = Op::of(hop.instruction.op()) else {
-        return clock;
+        unreachable!()
     };
     let entry = times.entry(op);
     match hop.way {

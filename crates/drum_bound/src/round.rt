@@ -2,9 +2,8 @@
 
 ghost use Rattle.std.specs.Prelude.{◌≡◌, ◌<◌, ℕ, Some};
 ghost use Rattle.drum_machine.specs.Counts.{AreWithin};
-ghost use Rattle.drum_flow.specs.Flow.{notes_of};
 ghost use Rattle.drum_machine.specs.CountsIn.{counts_in};
-ghost use Rattle.drum_bound.specs.KeysOf.{AreKeys};
+ghost use Rattle.drum_bound.specs.KeysOf.{AreKeys, marks_in};
 ghost use Rattle.drum_bound.specs.RoundOf.{IsCounted, IsPassed, IsRound, counted_after};
 
 use crate::keys::Keys;
@@ -48,13 +47,11 @@ impl Keys<'_> {
     /// Counts as the keys and the table have them.
     fn counted(&self, counts: Counts) -> Counted
         requires keys { AreKeys self.now }
-        requires within { AreWithin (notes_of self.now.flow.now).marks (counts_in counts
-            (notes_of self.now.flow.now).marks) }
-        ensures { IsCounted self.now.flow.now (counts_in counts (notes_of
-            self.now.flow.now).marks) result }
+        requires within { AreWithin (marks_in self.now) (counts_in counts (marks_in self.now)) }
+        ensures { IsCounted self.now.accepted.now (counts_in counts (marks_in self.now)) result }
     {
         Counted {
-            first: leading(self.marks(), counts) * self.sites.len(),
+            first: leading(self.marks(), counts) * self.nodes.len(),
             number: table_number(self.marks(), counts),
         }
     }
@@ -62,10 +59,9 @@ impl Keys<'_> {
     /// The counts after a pass of a mark; `None` where it is full.
     fn counted_after(&self, counts: Counts, mark: &Mark) -> Option<Counted>
         requires keys { AreKeys self.now }
-        requires within { AreWithin (notes_of self.now.flow.now).marks (counts_in counts
-            (notes_of self.now.flow.now).marks) }
-        ensures { IsPassed self.now.flow.now (counts_in counts (notes_of
-            self.now.flow.now).marks) mark.now result }
+        requires within { AreWithin (marks_in self.now) (counts_in counts (marks_in self.now)) }
+        ensures { IsPassed self.now.accepted.now (counts_in counts (marks_in self.now)) mark.now
+            result }
     {
         let Some(passed) = counts.passed(self.marks(), mark.from, mark.onto) else {
             return None;
@@ -77,7 +73,7 @@ impl Keys<'_> {
     pub fn round(&self, leading: usize) -> Round
         requires keys { AreKeys self.now }
         requires below { leading < self.now.counts }
-        ensures { IsRound self.now.flow.now leading result }
+        ensures { IsRound self.now.accepted.now leading result }
     {
         let marks = self.marks();
         let counts = counts_at(marks, leading);

@@ -29,19 +29,16 @@ impl<'a> Scan<'a> {
     ghost use Rattle.drum_core.specs.Moment.{first};
     ghost use Rattle.drum_machine.specs.Ways.{to};
     ghost use Rattle.drum_machine.specs.WaysLeft.{seen_way};
-    ghost use Rattle.drum_flow.specs.Hops.{Hop as HopOf, IsEdge, hops};
+    ghost use Rattle.drum_flow.specs.Hops.{Hop as HopOf, IsEdge};
     ghost use Rattle.drum_flow.specs.HopsLeft.{hops_left};
     ghost use Rattle.drum_bound.specs.EndOf.{latest_in};
     ghost use Rattle.drum_bound.specs.Held.{kept_in};
-    ghost use Rattle.drum_bound.specs.Keys.{place_at};
-    ghost use Rattle.drum_bound.specs.KeysOf.{AreKeys, setting_of};
+    ghost use Rattle.drum_bound.specs.KeysOf.{AreKeys, order_in, setting_with};
     ghost use Rattle.drum_bound.specs.LeapOf.{AreLeaps, HaveLeaps, IsLeap, leap_hop};
-    ghost use Rattle.drum_bound.specs.RoundOf.{IsRound};
     ghost use Rattle.drum_bound.specs.Scanned.{start_angle, Taking};
-    ghost use Rattle.drum_bound.specs.ScanOf.{setting_in, order_of, AreCells, IsScanned, IsDone, IsReady, Goes, IsAgreed};
+    ghost use Rattle.drum_bound.specs.ScanOf.{AreCells, Goes, HasRound, IsAgreed, IsDone, IsReady, IsScanned, hops_of, order_of, place_in, setting_in};
     ghost use Rattle.drum_bound.specs.SearchOf.{IsSearch};
     ghost use Rattle.drum_bound.specs.KeyHops.{IsLater};
-    ghost use Rattle.drum_flow.specs.Flow.{order_in};
 
     /// The latest ends at all keys, and of all: each key is taken once, after all that can raise
     /// what is kept there.
@@ -52,8 +49,7 @@ impl<'a> Scan<'a> {
         leaps: &'a [Option<Vec<Leap>>],
     ) -> Result<Scan<'a>, AllocError>
         requires keys { AreKeys keys.now }
-        requires leaps { HaveLeaps (setting_of keys.now.flow.now times.now) (order_in
-            keys.now.flow.now) leaps.now }
+        requires leaps { HaveLeaps (setting_with keys.now times.now) (order_in keys.now) leaps.now }
         ensures done { IfOk result IsDone }
         ensures times { IfOk result (λ scan. scan.times.now ≡ times.now) }
         ensures keys { IfOk result (λ scan. scan.keys.now ≡ keys.now) }
@@ -80,14 +76,13 @@ impl<'a> Scan<'a> {
         leaps: &'a [Option<Vec<Leap>>],
     ) -> Result<Scan<'a>, AllocError>
         requires keys { AreKeys keys.now }
-        requires leaps { HaveLeaps (setting_of keys.now.flow.now times.now) (order_in
-            keys.now.flow.now) leaps.now }
+        requires leaps { HaveLeaps (setting_with keys.now times.now) (order_in keys.now) leaps.now }
         ensures scanned { IfOk result (λ scan. IsScanned scan 0) }
         ensures times { IfOk result (λ scan. scan.times.now ≡ times.now) }
         ensures keys { IfOk result (λ scan. scan.keys.now ≡ keys.now) }
     {
-        let (key, start) = (keys.start_key(), keys.flow.deck().start());
-        let (words, angle) = (keys.sites.len(), keys.start_angle());
+        let (key, start) = (keys.start_key(), keys.start());
+        let (words, angle) = (keys.nodes.len(), keys.start_angle());
         let cells = Cells::new(alloc, words, keys.counts, key, start, angle)?;
         Ok(Scan {
             times,
@@ -103,19 +98,18 @@ impl<'a> Scan<'a> {
         requires keys { AreKeys self.old.keys.now }
         requires cells { AreCells (setting_in self.old) (order_of self.old) self.old.cells }
         requires below { search.now.key < self.old.keys.now.size }
-        requires round { IsRound self.old.keys.now.flow.now (search.now.key / length (order_of
-            self.old)) round.now }
-        requires leap { IsLeap (setting_in self.old) (order_of self.old) (place_at (order_of
-            self.old) search.now.key) (search.now.found % 50) leap.now }
+        requires round { HasRound self.old search.now.key round.now }
+        requires leap { IsLeap (setting_in self.old) (order_of self.old)
+            (place_in self.old search.now.key) (search.now.found % 50) leap.now }
         requires next { seen_way leap.now.hop.way ≡ to next.number }
-        requires edge { IsEdge (setting_in self.old).loads (setting_in self.old).notes (place_at
-            (order_of self.old) search.now.key) next.number }
+        requires edge { IsEdge (setting_in self.old).loads (setting_in self.old).notes
+            (place_in self.old search.now.key) next.number }
         requires made { self.old.cells.made.last ≡ Some end.now.origin }
         requires from { end.now.origin.key ≡ search.now.key }
         requires after { self.old.cells.angle ≤ end.now.clock }
         ensures goes { Goes (setting_in self.old) (order_of self.old) search.now.key next.number
-            (latest_in end.now) (kept_in self.old.cells) self.old.cells.last (kept_in
-            self.new.cells) self.new.cells.last }
+            (latest_in end.now) (kept_in self.old.cells) self.old.cells.last
+            (kept_in self.new.cells) self.new.cells.last }
         ensures same { self.new ≡ record self.old { cells = self.new.cells } }
         ensures made { self.new.cells.made ≡ self.old.cells.made }
         ensures cells { AreCells (setting_in self.old) (order_of self.old) self.new.cells }
@@ -158,11 +152,10 @@ impl<'a> Scan<'a> {
     fn take_leaps(&mut self, round: &Round, search: &Search, leaps: &[Leap])
         requires scanned { IsScanned self.old search.now.key }
         requires below { search.now.key < self.old.keys.now.size }
-        requires round { IsRound self.old.keys.now.flow.now (search.now.key / length (order_of
-            self.old)) round.now }
+        requires round { HasRound self.old search.now.key round.now }
         requires search { IsSearch (order_of self.old) (kept_in self.old.cells) search.now }
-        requires leaps { AreLeaps (setting_in self.old) (order_of self.old) (place_at (order_of
-            self.old) search.now.key) leaps.now }
+        requires leaps { AreLeaps (setting_in self.old) (order_of self.old)
+            (place_in self.old search.now.key) leaps.now }
         ensures scanned { IsScanned self.new (search.now.key + 1) }
         ensures same { self.new ≡ record self.old { cells = self.new.cells } }
     {
@@ -176,11 +169,9 @@ impl<'a> Scan<'a> {
     fn take_hops(&mut self, round: &Round, search: &Search, left: Hops<'_>)
         requires scanned { IsScanned self.old search.now.key }
         requires below { search.now.key < self.old.keys.now.size }
-        requires round { IsRound self.old.keys.now.flow.now (search.now.key / length (order_of
-            self.old)) round.now }
+        requires round { HasRound self.old search.now.key round.now }
         requires search { IsSearch (order_of self.old) (kept_in self.old.cells) search.now }
-        requires hops { hops_left left ≡ hops (setting_in self.old).loads (setting_in
-            self.old).notes (place_at (order_of self.old) search.now.key) }
+        requires hops { hops_left left ≡ hops_of self.old search.now.key }
         ensures scanned { IsScanned self.new (search.now.key + 1) }
         ensures same { self.new ≡ record self.old { cells = self.new.cells } }
     {
@@ -198,8 +189,7 @@ impl<'a> Scan<'a> {
         requires scanned { IsScanned self.old (round.now.own.first + index) }
         requires index { index < length (order_of self.old) }
         requires below { round.now.own.first + index < self.old.keys.now.size }
-        requires round { IsRound self.old.keys.now.flow.now ((round.now.own.first + index) /
-            length (order_of self.old)) round.now }
+        requires round { HasRound self.old (round.now.own.first + index) round.now }
         requires rest { (round.now.own.first + index) % length (order_of self.old) ≡ index }
         ensures scanned { IsScanned self.new (round.now.own.first + index + 1) }
         ensures same { self.new ≡ record self.old { cells = self.new.cells } }
@@ -208,17 +198,17 @@ impl<'a> Scan<'a> {
         let Some(begun) = self.cells.clock_at(key) else {
             return;
         };
-        let site = self.keys.site(index);
+        let node = self.keys.node(index);
         let search = Search {
             key,
-            location: site.location,
+            location: node.location,
             begun,
-            found: found(site.location, begun),
+            found: found(node.location, begun),
         };
         let leaps: &'a [Option<Vec<Leap>>] = self.leaps;
         match &leaps[index] {
             Some(leaps) => self.take_leaps(round, &search, leaps),
-            None => self.take_hops(round, &search, site.hops),
+            None => self.take_hops(round, &search, node.hops),
         }
     }
 
@@ -229,7 +219,7 @@ impl<'a> Scan<'a> {
         ensures scanned { IsScanned self.new ((counts + 1) * length (order_of self.old)) }
         ensures same { self.new ≡ record self.old { cells = self.new.cells } }
     {
-        let words = self.keys.sites.len();
+        let words = self.keys.nodes.len();
         let first = counts * words;
         if !self.cells.keeps_any(first, first + words) {
             return;

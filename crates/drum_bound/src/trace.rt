@@ -29,7 +29,7 @@ impl Scan<'_> {
     {
         match &self.leaps[index] {
             Some(leaps) => Some(leaps.get(number)?.hop),
-            None => self.keys.site(index).hops.nth(number),
+            None => self.keys.node(index).hops.nth(number),
         }
     }
 
@@ -47,7 +47,7 @@ impl Scan<'_> {
     {
         let angle = self.start_angle();
         let key = origin.key as usize;
-        let index = key % self.keys.sites.len();
+        let index = key % self.keys.nodes.len();
         let Some(hop) = self.hop_at(index, origin.hop as usize) else {
             unreachable!()
         };

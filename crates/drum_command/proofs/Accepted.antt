@@ -44,9 +44,6 @@ leaf verb = record (new_shape verb.name) {
 abbrev pub leaves : List Shape
 leaves = leaf line.bound ∷ leaf line.report ∷ leaf line.walk ∷ leaf line.draw ∷ leaf line.replay ∷ leaf line.trace ∷ []
 
-pub built_subs : (built drum650).subs ≡ leaves
-built_subs = refl
-
 -- ---- one command
 
 rules_pass : (files : List Text) (i : ℕ)

@@ -6,12 +6,12 @@ use Rattle.std.proofs.lemmas.Grind.{flat_map-append}
 use Rattle.std.proofs.lemmas.List.{append-nil, take-append-le, take-take, take-append-drop, take_more, drop-take}
 use Rattle.std.specs.Io.KnownBytes.{Appends}
 
--- a front is a shorter front and what follows it
+-- a prefix is a shorter prefix and what follows it
 pub take-add : (n m : ℕ) (xs : List ℕ) → take (n + m) xs ≡ take n xs ++ take m (drop n xs)
 take-add n m xs =
     let shorter : n ≤ n + m = omega arith in
     sym (take-append-drop n (take (n + m) xs))
-    ∙ ap (λ front. front ++ drop n (take (n + m) xs)) (take-take n (n + m) xs shorter)
+    ∙ ap (λ prefix. prefix ++ drop n (take (n + m) xs)) (take-take n (n + m) xs shorter)
     ∙ ap (λ rest. take n xs ++ rest) (drop-take n m xs)
 
 -- a write of what follows the bytes so far
@@ -23,7 +23,7 @@ Appends-more (Some a) None new n m xs within p q = absurd p
 Appends-more (Some a) (Some b) None n m xs within p q = absurd q
 Appends-more (Some a) (Some b) (Some c) n m xs within p q =
     let fits : m ≤ length xs - n = omega arith in
-    q ∙ ap (λ front. front ++ take m (take (length xs - n) (drop n xs))) p
+    q ∙ ap (λ prefix. prefix ++ take m (take (length xs - n) (drop n xs))) p
     ∙ append_assoc a (take n xs) (take m (take (length xs - n) (drop n xs)))
     ∙ ap (λ rest. a ++ (take n xs ++ rest)) (take-take m (length xs - n) (drop n xs) fits)
     ∙ ap (λ all. a ++ all) (sym (take-add n m xs))
@@ -34,13 +34,13 @@ pub Appends-then : (old between new : Option (List ℕ)) (xs ys : List ℕ) → 
 Appends-then None between new xs ys p q = tt
 Appends-then (Some a) None new xs ys p q = absurd p
 Appends-then (Some a) (Some b) None xs ys p q = absurd q
-Appends-then (Some a) (Some b) (Some c) xs ys p q = q ∙ ap (λ front. front ++ ys) p ∙ append_assoc a xs ys
+Appends-then (Some a) (Some b) (Some c) xs ys p q = q ∙ ap (λ prefix. prefix ++ ys) p ∙ append_assoc a xs ys
 
--- some bytes, and a front of those behind them
+-- some bytes, and a prefix of those behind them
 pub take_behind : (n : ℕ) (xs ys : List ℕ) → take (length xs + n) (xs ++ ys) ≡ xs ++ take n ys
 take_behind n xs ys =
     take-add (length xs) n (xs ++ ys)
-    ∙ ap (λ front. front ++ take n (drop (length xs) (xs ++ ys))) (take-append_seam xs ys)
+    ∙ ap (λ prefix. prefix ++ take n (drop (length xs) (xs ++ ys))) (take-append_seam xs ys)
     ∙ ap (λ rest. xs ++ take n rest) (drop-append_seam xs ys)
 
 -- one piece more
@@ -50,17 +50,17 @@ pieces_more f xs i d within =
     ap (flat_map f) (take_more xs i d within) ∙ flat_map-append f (take i xs) (get_or xs i d ∷ [])
     ∙ ap (λ rest. flat_map f (take i xs) ++ rest) (append-nil (f (get_or xs i d)))
 
--- a front of pieces that ends within one of them
-pub front_of_pieces : {X : Type 0} (f : X → List ℕ) (xs : List X) (i n : ℕ) (d : X) → i < length xs
+-- a prefix of pieces that ends within one of them
+pub prefix_of_pieces : {X : Type 0} (f : X → List ℕ) (xs : List X) (i n : ℕ) (d : X) → i < length xs
     → n < length (f (get_or xs i d))
     → take (length (flat_map f (take i xs)) + n) (flat_map f xs) ≡ flat_map f (take i xs) ++ take n (f (get_or xs i d))
-front_of_pieces f xs i n d within some =
+prefix_of_pieces f xs i n d within some =
     let before = flat_map f (take i xs) in
     let piece = f (get_or xs i d) in
     let behind = flat_map f (drop (i + 1) xs) in
     let whole : flat_map f xs ≡ (before ++ piece) ++ behind =
     sym (ap (flat_map f) (take-append-drop (i + 1) xs)) ∙ flat_map-append f (take (i + 1) xs) (drop (i + 1) xs)
-    ∙ ap (λ front. front ++ behind) (pieces_more f xs i d within) in
+    ∙ ap (λ prefix. prefix ++ behind) (pieces_more f xs i d within) in
     let fits : length before + n ≤ length (before ++ piece) = omega (arith, length-append before piece) in
     ap (take (length before + n)) whole ∙ take-append-le (length before + n) (before ++ piece) behind fits
     ∙ take_behind n before piece

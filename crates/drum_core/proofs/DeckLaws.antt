@@ -11,9 +11,10 @@ use Rattle.drum_core.specs.Numeral.{digits_of}
 use Rattle.drum_core.specs.Word.{spelling, spaced}
 use Rattle.drum_core.proofs.Numerals.{length-digits_of, digit_at}
 
--- fronts of one length
-pub same_front : (xs xs' ys ys' : List ℕ) → length xs ≡ length xs' → xs ++ ys ≡ xs' ++ ys' → (xs ≡ xs') × (ys ≡ ys')
-same_front xs xs' ys ys' long e = (
+-- prefixes of one length
+pub same_prefix : {A : Type 0} (xs xs' ys ys' : List A) → length xs ≡ length xs' → xs ++ ys ≡ xs' ++ ys'
+    → (xs ≡ xs') × (ys ≡ ys')
+same_prefix xs xs' ys ys' long e = (
   sym (take-append_seam xs ys) ∙ ap (take (length xs)) e ∙ ap (λ n. take n (xs' ++ ys')) long
       ∙ take-append_seam xs' ys',
   sym (drop-append_seam xs ys) ∙ ap (drop (length xs)) e ∙ ap (λ n. drop n (xs' ++ ys')) long
@@ -25,14 +26,14 @@ pub digits_of-one : (k a b : ℕ) → a < 10 ^ k → b < 10 ^ k → digits_of k 
 digits_of-one zero a b h h' e = omega arith
 digits_of-one (suc k) a b h h' e =
     let parts =
-    same_front (digits_of k (a / 10)) (digits_of k (b / 10)) ((48 + a % 10) ∷ []) ((48 + b % 10) ∷ [])
+    same_prefix (digits_of k (a / 10)) (digits_of k (b / 10)) ((48 + a % 10) ∷ []) ((48 + b % 10) ∷ [])
     (length-digits_of k (a / 10) ∙ sym (length-digits_of k (b / 10))) e in
     let last : 48 + a % 10 ≡ 48 + b % 10 = ap (λ xs. get_or xs 0 0) parts.1 in
     let power : 10 ^ (k + 1) ≡ 10 ^ k * 10 = pow_more 10 k in
     let next : suc k ≡ k + 1 = omega arith in
     let h1 : a < 10 ^ (k + 1) = subst (λ (n : ℕ). a < 10 ^ n) next h in
     let h2 : b < 10 ^ (k + 1) = subst (λ (n : ℕ). b < 10 ^ n) next h' in
-    let front : a / 10 ≡ b / 10 = digits_of-one k (a / 10) (b / 10) (omega arith) (omega arith) parts.0 in
+    let prefix : a / 10 ≡ b / 10 = digits_of-one k (a / 10) (b / 10) (omega arith) (omega arith) parts.0 in
     omega arith
 
 abbrev sign_of : Bool → ℕ
@@ -62,7 +63,7 @@ spaced-one (v ∷ vs) [] e = cc
 spaced-one (v ∷ vs) (w ∷ ws) e =
     let long : length (32 ∷ spelling v) ≡ length (32 ∷ spelling w) =
     ap suc (length-spelling v ∙ sym (length-spelling w)) in
-    let parts = same_front (32 ∷ spelling v) (32 ∷ spelling w) (spaced vs) (spaced ws) long e in
+    let parts = same_prefix (32 ∷ spelling v) (32 ∷ spelling w) (spaced vs) (spaced ws) long e in
     let here : v ≡ w = spelling-one v w (ap (drop 1) parts.0) in
     let further : vs ≡ ws = spaced-one vs ws parts.1 in
     cc
@@ -82,7 +83,7 @@ line_one text (start n) (start m) p q =
     ap start (digits_of-one 4 n m p.0 q.0 same)
 line_one text (card n vs) (card m ws) p q =
     let parts =
-    same_front (digits_of 4 n) (digits_of 4 m) (spaced vs) (spaced ws)
+    same_prefix (digits_of 4 n) (digits_of 4 m) (spaced vs) (spaced ws)
     (length-digits_of 4 n ∙ sym (length-digits_of 4 m)) (sym p.3 ∙ q.3) in
     let at : n ≡ m = digits_of-one 4 n m p.0 q.0 parts.0 in
     let words : vs ≡ ws = spaced-one vs ws parts.1 in

@@ -1,7 +1,6 @@
 -- Laws of deck text: what is given is found, and a text has one fault.
-use Rattle.std.proofs.Common.{◌≡◌, ℕ, zero, suc, ◌+◌, ◌<◌, ◌≤◌, List, [], ◌∷◌, ◌++◌, length, take, drop, refl, ap, sym}
+use Rattle.std.proofs.Common.{◌≡◌, ℕ, zero, suc, ◌+◌, ◌<◌, ◌≤◌, List, [], ◌∷◌, ◌++◌, length, refl, ap, sym}
 use Rattle.std.proofs.Common.{◌∙◌, subst, arith, length-append, append_assoc, inl, inr, Some}
-use Rattle.std.proofs.Math.Seq.{take-append_seam, drop-append_seam}
 use Rattle.std.proofs.lemmas.Bool.{cases_lt, eq-eqb}
 use Rattle.std.specs.List.{AllByRecursion}
 use Rattle.std.specs.Prelude.{Contains, slice_index_or}
@@ -15,7 +14,7 @@ use Rattle.drum_core.specs.Lines.{lines_of}
 use Rattle.drum_core.specs.DeckText.{Line, comment, start, card, IsLine, Say, Given, given_by_card, given_by}
 use Rattle.drum_core.specs.DeckText.{given_from, given_at, starts, IsPastDrum, IsGiven, AreDistinct, AreSound}
 use Rattle.drum_core.specs.DeckText.{IsFaultOfLine, IsFirstFault, LacksStart, IsRefused, IsDeck}
-use Rattle.drum_core.proofs.DeckLaws.{line_one}
+use Rattle.drum_core.proofs.DeckLaws.{line_one, same_prefix}
 
 -- what is given to distinct locations is found there
 given_is_found : (given : List Given) (one : Given) (k : ℕ) → AreDistinct given → k < length given
@@ -48,23 +47,23 @@ say_one (text ∷ texts) (a ∷ lines) (b ∷ others) p q =
 
 -- what a text among others says
 pub record Parts (texts : List (List ℕ)) (text : List ℕ) (lines : List Line) : Type 0 where
-  pub front : List Line
+  pub prefix : List Line
   pub line : Line
   pub behind : List Line
-  pub split : lines ≡ front ++ line ∷ behind
-  pub said : Say texts front
+  pub split : lines ≡ prefix ++ line ∷ behind
+  pub said : Say texts prefix
   pub says : IsLine text line
 
 parts_of : (texts : List (List ℕ)) (text : List ℕ) (others : List (List ℕ)) (lines : List Line)
     → Say (texts ++ text ∷ others) lines → Parts texts text lines
 parts_of [] text others [] p = absurd p
 parts_of [] text others (line ∷ lines) p =
-    record { front = []; line = line; behind = lines; split = refl; said = tt; says = p.0 }
+    record { prefix = []; line = line; behind = lines; split = refl; said = tt; says = p.0 }
 parts_of (first ∷ texts) text others [] p = absurd p
 parts_of (first ∷ texts) text others (line ∷ lines) p =
     let rest = parts_of texts text others lines p.1 in
     record {
-      front = line ∷ rest.front;
+      prefix = line ∷ rest.prefix;
       line = rest.line;
       behind = rest.behind;
       split = ap (λ (xs : List Line). line ∷ xs) rest.split;
@@ -73,54 +72,55 @@ parts_of (first ∷ texts) text others (line ∷ lines) p =
     }
 
 -- a list of lines with one behind others
-on_drum_behind : (front : List Line) (line : Line) (behind : List Line)
-    → AllByRecursion (λ one. ¬ IsPastDrum one) (front ++ line ∷ behind) → ¬ IsPastDrum line
+on_drum_behind : (prefix : List Line) (line : Line) (behind : List Line)
+    → AllByRecursion (λ one. ¬ IsPastDrum one) (prefix ++ line ∷ behind) → ¬ IsPastDrum line
 on_drum_behind [] line behind all = all.0
-on_drum_behind (first ∷ front) line behind all = on_drum_behind front line behind all.1
+on_drum_behind (first ∷ prefix) line behind all = on_drum_behind prefix line behind all.1
 
-pub starts-append : (front others : List Line) → starts (front ++ others) ≡ starts front ++ starts others
+pub starts-append : (prefix others : List Line) → starts (prefix ++ others) ≡ starts prefix ++ starts others
 starts-append [] others = refl
-starts-append (comment ∷ front) others = starts-append front others
-starts-append (start n ∷ front) others = ap (λ (xs : List ℕ). n ∷ xs) (starts-append front others)
-starts-append (card n words ∷ front) others = starts-append front others
+starts-append (comment ∷ prefix) others = starts-append prefix others
+starts-append (start n ∷ prefix) others = ap (λ (xs : List ℕ). n ∷ xs) (starts-append prefix others)
+starts-append (card n words ∷ prefix) others = starts-append prefix others
 
-pub given_from-append : (number : ℕ) (front others : List Line)
-    → given_from number (front ++ others) ≡ given_from number front ++ given_from (number + length front) others
+pub given_from-append : (number : ℕ) (prefix others : List Line)
+    → given_from number (prefix ++ others) ≡ given_from number prefix ++ given_from (number + length prefix) others
 given_from-append number [] others =
     let same : number ≡ number + 0 = omega arith in
     ap (λ (n : ℕ). given_from n others) same
-given_from-append number (line ∷ front) others =
-    let same : number + 1 + length front ≡ number + suc (length front) = omega arith in
+given_from-append number (line ∷ prefix) others =
+    let same : number + 1 + length prefix ≡ number + suc (length prefix) = omega arith in
     ap (λ (xs : List Given). given_by number line ++ xs)
-    (given_from-append (number + 1) front others
-    ∙ ap (λ (n : ℕ). given_from (number + 1) front ++ given_from n others) same)
-    ∙ sym (append_assoc (given_by number line) (given_from (number + 1) front)
-    (given_from (number + suc (length front)) others))
+    (given_from-append (number + 1) prefix others
+    ∙ ap (λ (n : ℕ). given_from (number + 1) prefix ++ given_from n others) same)
+    ∙ sym (append_assoc (given_by number line) (given_from (number + 1) prefix)
+    (given_from (number + suc (length prefix)) others))
 
--- what is given in a front or behind it is given
-given_in_front : (front others : List Given) (location : ℕ) → IsGiven front location
-    → IsGiven (front ++ others) location
+-- what is given in a prefix or behind it is given
+given_in_front : (prefix others : List Given) (location : ℕ) → IsGiven prefix location
+    → IsGiven (prefix ++ others) location
 given_in_front [] others location (k, one, within, here, at) = absurd (omega arith)
-given_in_front (first ∷ front) others location (zero, one, within, here, at) = (0, one, omega arith, here, at)
-given_in_front (first ∷ front) others location (suc k, one, within, here, at) =
-    let rest = given_in_front front others location (k, one, omega arith, here, at) in
+given_in_front (first ∷ prefix) others location (zero, one, within, here, at) = (0, one, omega arith, here, at)
+given_in_front (first ∷ prefix) others location (suc k, one, within, here, at) =
+    let rest = given_in_front prefix others location (k, one, omega arith, here, at) in
     (suc rest.0, rest.1, omega (arith, rest.2), rest.3, rest.4)
 
-given_behind : (front others : List Given) (location : ℕ) → IsGiven others location → IsGiven (front ++ others) location
+given_behind : (prefix others : List Given) (location : ℕ) → IsGiven others location
+    → IsGiven (prefix ++ others) location
 given_behind [] others location given = given
-given_behind (first ∷ front) others location given =
-    let rest = given_behind front others location given in
+given_behind (first ∷ prefix) others location given =
+    let rest = given_behind prefix others location given in
     (suc rest.0, rest.1, omega (arith, rest.2), rest.3, rest.4)
 
--- distinct locations aren't given in a front and behind it
-given_once : (front others : List Given) (location : ℕ) → AreDistinct (front ++ others) → IsGiven front location
+-- distinct locations aren't given in a prefix and behind it
+given_once : (prefix others : List Given) (location : ℕ) → AreDistinct (prefix ++ others) → IsGiven prefix location
     → IsGiven others location → ⊥
 given_once [] others location distinct (k, one, within, here, at) later = omega arith
-given_once (first ∷ front) others location distinct (zero, one, within, here, at) later =
+given_once (first ∷ prefix) others location distinct (zero, one, within, here, at) later =
     let same : first.location ≡ location = ap (λ (g : Given). g.location) here ∙ at in
-    distinct.0 (subst (λ (l : ℕ). IsGiven (front ++ others) l) (sym same) (given_behind front others location later))
-given_once (first ∷ front) others location distinct (suc k, one, within, here, at) later =
-    given_once front others location distinct.1 (k, one, omega arith, here, at) later
+    distinct.0 (subst (λ (l : ℕ). IsGiven (prefix ++ others) l) (sym same) (given_behind prefix others location later))
+given_once (first ∷ prefix) others location distinct (suc k, one, within, here, at) later =
+    given_once prefix others location distinct.1 (k, one, omega arith, here, at) later
 
 -- a card gives each location from its first on
 card_gives : (number n : ℕ) (words : List Word) (location : ℕ) → n ≤ location → location < n + length words
@@ -137,37 +137,38 @@ card_gives number n (word ∷ words) location low high =
     ]
 
 -- a line of sound lines has no fault
-no_fault_among : (front : List Line) (line : Line) (behind : List Line) (number : ℕ) (text : List ℕ) (fault : DeckFault)
-    → AreSound (front ++ line ∷ behind) → IsLine text line
-    → IsFaultOfLine front number text fault → ⊥
-no_fault_among front line behind number text (Card n) sound says p = p.1 line says
-no_fault_among front line behind number text (PastDrum n) sound says p =
+no_fault_among : (prefix : List Line) (line : Line) (behind : List Line) (number : ℕ) (text : List ℕ)
+    (fault : DeckFault)
+    → AreSound (prefix ++ line ∷ behind) → IsLine text line
+    → IsFaultOfLine prefix number text fault → ⊥
+no_fault_among prefix line behind number text (Card n) sound says p = p.1 line says
+no_fault_among prefix line behind number text (PastDrum n) sound says p =
     let one = line_one text line p.1.0 says p.1.1 in
-    on_drum_behind front line behind sound.on_drum (subst IsPastDrum (sym one) p.1.2)
-no_fault_among front line behind number text (TwoStarts n) sound says p =
+    on_drum_behind prefix line behind sound.on_drum (subst IsPastDrum (sym one) p.1.2)
+no_fault_among prefix line behind number text (TwoStarts n) sound says p =
     let one = line_one text line (start p.1.0) says p.1.1 in
-    let split : starts (front ++ line ∷ behind) ≡ starts front ++ p.1.0 ∷ starts behind =
-    starts-append front (line ∷ behind) ∙ ap (λ (l : Line). starts front ++ starts (l ∷ behind)) one in
-    let long : length (starts (front ++ line ∷ behind)) ≡ length (starts front) + length (p.1.0 ∷ starts behind) =
-    ap length split ∙ length-append (starts front) (p.1.0 ∷ starts behind) in
+    let split : starts (prefix ++ line ∷ behind) ≡ starts prefix ++ p.1.0 ∷ starts behind =
+    starts-append prefix (line ∷ behind) ∙ ap (λ (l : Line). starts prefix ++ starts (l ∷ behind)) one in
+    let long : length (starts (prefix ++ line ∷ behind)) ≡ length (starts prefix) + length (p.1.0 ∷ starts behind) =
+    ap length split ∙ length-append (starts prefix) (p.1.0 ∷ starts behind) in
     omega (arith, long, sound.one_start, p.1.3)
-no_fault_among front line behind number text (Twice location) sound says
+no_fault_among prefix line behind number text (Twice location) sound says
     (n, words, is_card, short, low, high, before, least) =
     let one = line_one text line (card n words) says is_card in
-    let split : given_from 1 (front ++ line ∷ behind) ≡ given_from 1 front
-    ++ given_from (1 + length front) (line ∷ behind) = given_from-append 1 front (line ∷ behind) in
-    let split' : given_from 1 (front ++ line ∷ behind) ≡ given_from 1 front
-    ++ given_from (1 + length front) (card n words ∷ behind) =
-    split ∙ ap (λ (l : Line). given_from 1 front ++ given_from (1 + length front) (l ∷ behind)) one in
+    let split : given_from 1 (prefix ++ line ∷ behind) ≡ given_from 1 prefix
+    ++ given_from (1 + length prefix) (line ∷ behind) = given_from-append 1 prefix (line ∷ behind) in
+    let split' : given_from 1 (prefix ++ line ∷ behind) ≡ given_from 1 prefix
+    ++ given_from (1 + length prefix) (card n words ∷ behind) =
+    split ∙ ap (λ (l : Line). given_from 1 prefix ++ given_from (1 + length prefix) (l ∷ behind)) one in
     let here =
-    given_in_front (given_by_card (1 + length front) n words) (given_from (1 + length front + 1) behind)
-    location.number (card_gives (1 + length front) n words location.number low high) in
-    given_once (given_from 1 front) (given_from (1 + length front) (card n words ∷ behind)) location.number
+    given_in_front (given_by_card (1 + length prefix) n words) (given_from (1 + length prefix + 1) behind)
+    location.number (card_gives (1 + length prefix) n words location.number low high) in
+    given_once (given_from 1 prefix) (given_from (1 + length prefix) (card n words ∷ behind)) location.number
     (subst AreDistinct split' sound.once) before here
-no_fault_among front line behind number text Read sound says p = p
-no_fault_among front line behind number text Memory sound says p = p
-no_fault_among front line behind number text NoStart sound says p = p
-no_fault_among front line behind number text TooLong sound says p = p
+no_fault_among prefix line behind number text Read sound says p = p
+no_fault_among prefix line behind number text Memory sound says p = p
+no_fault_among prefix line behind number text NoStart sound says p = p
+no_fault_among prefix line behind number text TooLong sound says p = p
 
 -- a line behind sound ones has one fault
 fault_of_line_one : (before : List Line) (number : ℕ) (text : List ℕ) (fault other : DeckFault)
@@ -217,34 +218,34 @@ fault_of_line_one before number text (Twice l) (Twice m) p q =
     let same : l.number ≡ m.number = omega arith in
     ap Twice (same_location l m same)
 
--- of two fronts of one list, the longer has the shorter and what stands behind it
-longer_front : (texts others : List (List ℕ)) (text other : List ℕ) (behind behind' : List (List ℕ))
+-- of two prefixes of one list, the longer has the shorter and what stands behind it
+longer_prefix : (texts others : List (List ℕ)) (text other : List ℕ) (behind behind' : List (List ℕ))
     → length texts < length others
     → texts ++ text ∷ behind ≡ others ++ other ∷ behind' → (between : List (List ℕ))
     × (others ≡ texts ++ text ∷ between)
-longer_front [] [] text other behind behind' less e = absurd (omega arith)
-longer_front [] (first ∷ others) text other behind behind' less e =
+longer_prefix [] [] text other behind behind' less e = absurd (omega arith)
+longer_prefix [] (first ∷ others) text other behind behind' less e =
     let head : text ≡ first = cc in
     (others, ap (λ (t : List ℕ). t ∷ others) (sym head))
-longer_front (first ∷ texts) [] text other behind behind' less e = absurd (omega arith)
-longer_front (first ∷ texts) (first' ∷ others) text other behind behind' less e =
+longer_prefix (first ∷ texts) [] text other behind behind' less e = absurd (omega arith)
+longer_prefix (first ∷ texts) (first' ∷ others) text other behind behind' less e =
     let head : first ≡ first' = cc in
     let tail : texts ++ text ∷ behind ≡ others ++ other ∷ behind' = cc in
-    let rest = longer_front texts others text other behind behind' (omega arith) tail in
+    let rest = longer_prefix texts others text other behind behind' (omega arith) tail in
     (rest.0, ap (λ (t : List ℕ). t ∷ others) (sym head) ∙ ap (λ (ts : List (List ℕ)). first ∷ ts) rest.1)
 
 -- the first fault of a text isn't behind that of an earlier line
 not_behind : (text : List ℕ) (fault other : DeckFault) (p : IsFirstFault text fault) (q : IsFirstFault text other)
     → length p.texts < length q.texts → ⊥
 not_behind text fault other p q less =
-    let longer = longer_front p.texts q.texts p.line q.line p.others q.others less (sym p.split ∙ q.split) in
+    let longer = longer_prefix p.texts q.texts p.line q.line p.others q.others less (sym p.split ∙ q.split) in
     let said : Say (p.texts ++ p.line ∷ longer.0) q.before =
     subst (λ (ts : List (List ℕ)). Say ts q.before) longer.1 q.said in
     let parts = parts_of p.texts p.line longer.0 q.before said in
-    let front : p.before ≡ parts.front = say_one p.texts p.before parts.front p.said parts.said in
-    no_fault_among parts.front parts.line parts.behind (length p.texts + 1) p.line fault
+    let prefix : p.before ≡ parts.prefix = say_one p.texts p.before parts.prefix p.said parts.said in
+    no_fault_among parts.prefix parts.line parts.behind (length p.texts + 1) p.line fault
     (subst AreSound parts.split q.sound) parts.says
-    (subst (λ (ls : List Line). IsFaultOfLine ls (length p.texts + 1) p.line fault) front p.first)
+    (subst (λ (ls : List Line). IsFaultOfLine ls (length p.texts + 1) p.line fault) prefix p.first)
 
 pub first_fault_one : (text : List ℕ) (fault other : DeckFault) → IsFirstFault text fault → IsFirstFault text other
     → fault ≡ other
@@ -256,7 +257,7 @@ first_fault_one text fault other p q =
         | inr upto' ↦
             let long : length p.texts ≡ length q.texts = omega arith in
             let parts =
-            same_texts p.texts q.texts (p.line ∷ p.others) (q.line ∷ q.others) long (sym p.split ∙ q.split) in
+            same_prefix p.texts q.texts (p.line ∷ p.others) (q.line ∷ q.others) long (sym p.split ∙ q.split) in
             let line : p.line ≡ q.line = cc in
             let said : Say p.texts q.before = subst (λ (ts : List (List ℕ)). Say ts q.before) (sym parts.0) q.said in
             let before : p.before ≡ q.before = say_one p.texts p.before q.before p.said said in
@@ -267,15 +268,6 @@ first_fault_one text fault other p q =
             fault_of_line_one q.before (length q.texts + 1) q.line fault other here q.first
       ]
     ]
-  where
-    same_texts : (xs xs' ys ys' : List (List ℕ)) → length xs ≡ length xs' → xs ++ ys ≡ xs' ++ ys' → (xs ≡ xs')
-        × (ys ≡ ys')
-    same_texts xs xs' ys ys' long e = (
-      sym (take-append_seam xs ys) ∙ ap (take (length xs)) e ∙ ap (λ n. take n (xs' ++ ys')) long
-          ∙ take-append_seam xs' ys',
-      sym (drop-append_seam xs ys) ∙ ap (drop (length xs)) e ∙ ap (λ n. drop n (xs' ++ ys')) long
-          ∙ drop-append_seam xs' ys',
-    )
 
 -- a text whose lines are sound has no faulty line
 sound_not_faulty : (text : List ℕ) (lines : List Line) (fault : DeckFault) → Say (lines_of text) lines → AreSound lines
@@ -284,10 +276,10 @@ sound_not_faulty text lines fault all_said sound p =
     let said : Say (p.texts ++ p.line ∷ p.others) lines =
     subst (λ (ts : List (List ℕ)). Say ts lines) p.split all_said in
     let parts = parts_of p.texts p.line p.others lines said in
-    let front : p.before ≡ parts.front = say_one p.texts p.before parts.front p.said parts.said in
-    no_fault_among parts.front parts.line parts.behind (length p.texts + 1) p.line fault
+    let prefix : p.before ≡ parts.prefix = say_one p.texts p.before parts.prefix p.said parts.said in
+    no_fault_among parts.prefix parts.line parts.behind (length p.texts + 1) p.line fault
     (subst AreSound parts.split sound) parts.says
-    (subst (λ (ls : List Line). IsFaultOfLine ls (length p.texts + 1) p.line fault) front p.first)
+    (subst (λ (ls : List Line). IsFaultOfLine ls (length p.texts + 1) p.line fault) prefix p.first)
 
 not_both : (text : List ℕ) (fault : DeckFault) → LacksStart text → IsFirstFault text fault → ⊥
 not_both text fault lacks p = sound_not_faulty text lacks.lines fault lacks.said lacks.sound p

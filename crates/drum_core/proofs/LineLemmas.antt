@@ -60,9 +60,9 @@ abbrev total : List (List ℕ) → ℕ
 total [] = 0
 total (line ∷ lines) = length line + 1 + total lines
 
-front_counts : (byte : ℕ) (lines : List (List ℕ)) → 1 + total lines ≤ total (with_front byte lines)
-front_counts byte [] = omega arith
-front_counts byte (line ∷ lines) = omega arith
+prefix_counts : (byte : ℕ) (lines : List (List ℕ)) → 1 + total lines ≤ total (with_front byte lines)
+prefix_counts byte [] = omega arith
+prefix_counts byte (line ∷ lines) = omega arith
 
 all_count : (text : List ℕ) → length text ≤ total (lines_of text)
 all_count [] = omega arith
@@ -71,7 +71,7 @@ all_count (byte ∷ bytes) = go (byte == 10) (all_count bytes)
     go : (ends : Bool) → length bytes ≤ total (lines_of bytes)
         → suc (length bytes) ≤ total (cond ends ([] ∷ lines_of bytes) (with_front byte (lines_of bytes)))
     go true rest = omega (arith, rest)
-    go false rest = omega (arith, rest, front_counts byte (lines_of bytes))
+    go false rest = omega (arith, rest, prefix_counts byte (lines_of bytes))
 
 some_long : (longest : ℕ) (lines : List (List ℕ)) → (longest + 1) * length lines < total lines
     → Any (λ line. longest < length line) lines

@@ -17,7 +17,7 @@ use Rattle.drum_core.specs.DeckText.{Line, IsLine, IsFaultOfLine, comment, start
 use Rattle.drum_core.specs.DeckText.{given_from, given_at, loads_of, cards_from, starts, IsPastDrum, IsGiven}
 use Rattle.drum_core.specs.DeckText.{AreDistinct, AreSound}
 use Rattle.drum_core.specs.declared.deck.fault.DeckFault.TheVariants.{Twice}
-use Rattle.drum_core.specs.Taken.{IsFirstTaken}
+use Rattle.drum_core.specs.Loaded.{IsFirstLoaded}
 use Rattle.drum_core.specs.Held.{seen, started, Holds}
 use Rattle.drum_core.specs.Loads.{found_in}
 use Rattle.drum_core.proofs.FaultLaws.{starts-append, given_from-append}
@@ -308,7 +308,7 @@ holds_card image image' cards begun lines first words holds within free put othe
 pub twice_fault : (image : List (Option held.Given)) (cards : List ℕ) (begun : Option Location) (lines : List Line)
     (number : ℕ) (text : List ℕ) (first : ℕ) (words : List Word) (location : Location)
     → Holds image cards begun lines → IsLine text (card first words) → first + length words ≤ 2000
-    → IsFirstTaken image first (length words) location.number
+    → IsFirstLoaded image first (length words) location.number
     → IsFaultOfLine lines number text (Twice location)
 twice_fault image cards begun lines number text first words location holds is_card within taken = (
   first,

@@ -3,7 +3,7 @@ use Rattle.std.proofs.Common.{◌≡◌, ℕ, zero, suc, ◌+◌, ◌-◌, ◌<�
 use Rattle.std.proofs.Common.{sym, ◌∙◌, subst, arith, inl, inr, ◌⊎◌, Option, Some, None}
 use Rattle.std.proofs.lemmas.Bool.{cases_lt}
 use Rattle.std.specs.Prelude.{slice_get, is_some}
-use Rattle.drum_core.specs.Taken.{IsFirstTaken}
+use Rattle.drum_core.specs.Loaded.{IsFirstLoaded}
 
 -- what is put in a place is there
 pub slice_get-set_same : {A : Type 0} (xs : List A) (i : ℕ) (x : A) → i < length xs → slice_get (set xs i x) i ≡ Some x
@@ -40,7 +40,7 @@ pub record ArePut {A B : Type 0} (put_as : B → A) (old image : List (Option A)
 pub taken_here : {A B : Type 0} (put_as : B → A) (old image : List (Option A)) (first place count : ℕ) (words : List B)
     (slot : Option A) → ArePut put_as old image first place words
     → place < count → slice_get image (first + place) ≡ Some slot → is_some slot ≡ true
-    → IsFirstTaken old first count (first + place)
+    → IsFirstLoaded old first count (first + place)
 taken_here put_as old image first place count words slot puts within here full =
     let one = some_is slot full in
     let was : slice_get image (first + place) ≡ slice_get old (first + place) =

@@ -19,6 +19,6 @@ pub mod Recurs
 pub mod Shift
 pub mod Span
 pub mod Store
-pub mod Taken
+pub mod Loaded
 pub mod Waits
 pub mod Word

@@ -67,8 +67,8 @@ fn names_a_line(number: &str, text: &[u8], begin: &[u8]) -> bool {
 /// Whether a line is that of words for this location, among others.
 fn gives(line: &[u8], place: u16) -> bool {
     let words = line.len().saturating_sub(4) / 12;
-    let front = std::str::from_utf8(line.get(..4).unwrap_or(&[])).unwrap_or("");
-    match four_digits(front) {
+    let prefix = std::str::from_utf8(line.get(..4).unwrap_or(&[])).unwrap_or("");
+    match four_digits(prefix) {
         Some(first) => first <= place
             && usize::from(place) < usize::from(first).saturating_add(words),
         None => false,

@@ -13,7 +13,7 @@ use Rattle.drum_times.specs.declared.notes.mark.Mark.{Mark}
 use Rattle.drum_times.specs.Marks.{mark_on}
 use Rattle.drum_flow.specs.Executed.{successors, with_new}
 use Rattle.drum_flow.specs.Free.{IsFreeRow, IsUnmarkedRow, AreFreeRows}
-use Rattle.drum_flow.specs.Rows.{row_in, AreWithin}
+use Rattle.drum_flow.specs.Rows.{targets_in, AreWithin}
 use Rattle.drum_flow.specs.Graph.{AreDifferent}
 use Rattle.drum_flow.specs.Hops.{hops}
 use Rattle.drum_flow.proofs.Lists.{contains_none, contains_from_get}
@@ -95,26 +95,27 @@ row_free loads notes executed targets from row all unmarked = record {
   where
     successor : (onto : ℕ) → Contains targets onto → Contains (successors loads notes from) onto
     successor onto there =
-        elim (with_new_only [] (successors loads notes from) onto (subst (λ (xs : List ℕ). Contains xs onto) all there)) [
+        elim (with_new_only [] (successors loads notes from) onto
+        (subst (λ (xs : List ℕ). Contains xs onto) all there)) [
           | inl none ↦ absurd (contains_none onto none)
           | inr one ↦ one
         ]
 
 -- the rows with one more
 row_of_more : (rows : List (Vec ℕ Global)) (more : Vec ℕ Global) (place : ℕ) → place < length rows
-    → row_in (rows ++ more ∷ []) place ≡ row_in rows place
+    → targets_in (rows ++ more ∷ []) place ≡ targets_in rows place
 row_of_more [] more place inside = absurd (omega (arith, inside))
 row_of_more (one ∷ rows) more zero inside = refl
 row_of_more (one ∷ rows) more (suc place) inside = row_of_more rows more place (omega (arith, inside))
 
 row_of_last : (rows : List (Vec ℕ Global)) (more : Vec ℕ Global) (place : ℕ) → place ≡ length rows
-    → row_in (rows ++ more ∷ []) place ≡ more.items
+    → targets_in (rows ++ more ∷ []) place ≡ more.items
 row_of_last [] more zero last = refl
 row_of_last [] more (suc place) last = absurd (omega (arith, last))
 row_of_last (one ∷ rows) more zero last = absurd (omega (arith, last))
 row_of_last (one ∷ rows) more (suc place) last = row_of_last rows more place (omega (arith, last))
 
-row_past : (rows : List (Vec ℕ Global)) (place : ℕ) → length rows ≤ place → row_in rows place ≡ []
+row_past : (rows : List (Vec ℕ Global)) (place : ℕ) → length rows ≤ place → targets_in rows place ≡ []
 row_past [] place past = refl
 row_past (one ∷ rows) zero past = absurd (omega (arith, past))
 row_past (one ∷ rows) (suc place) past = row_past rows place (omega (arith, past))
@@ -123,10 +124,10 @@ row_past (one ∷ rows) (suc place) past = row_past rows place (omega (arith, pa
 pub rows_more : (loads : ℕ → Option Word) (notes : Notes) (executed : List ℕ) (rows : List (Vec ℕ Global))
     (more : Vec ℕ Global) (k location : ℕ) → length rows ≡ k
     → ((place from : ℕ) → place < k → slice_get executed place ≡ Some from
-    → IsFreeRow loads notes executed from (row_in rows place))
+    → IsFreeRow loads notes executed from (targets_in rows place))
     → slice_get executed k ≡ Some location → IsFreeRow loads notes executed location more.items
     → (place from : ℕ) → place < k + 1 → slice_get executed place ≡ Some from
-    → IsFreeRow loads notes executed from (row_in (rows ++ more ∷ []) place)
+    → IsFreeRow loads notes executed from (targets_in (rows ++ more ∷ []) place)
 rows_more loads notes executed rows more k location long before here last place from lt at = elim (cases_lt place k) [
   | inl earlier ↦ subst (IsFreeRow loads notes executed from)
       (sym (row_of_more rows more place (omega (arith, earlier, long)))) (before place from earlier at)
@@ -140,7 +141,7 @@ rows_more loads notes executed rows more k location long before here last place 
 -- the rows lead to places that have rows
 pub rows_within : (loads : ℕ → Option Word) (notes : Notes) (executed : List ℕ) (rows : List (Vec ℕ Global))
     → length rows ≡ length executed
-    → AreFreeRows loads notes executed (row_in rows) → AreWithin rows
+    → AreFreeRows loads notes executed (targets_in rows) → AreWithin rows
 rows_within loads notes executed rows long free node next there = elim (cases_lt node (length rows)) [
   | inl inside ↦ (let at : slice_get executed node ≡ Some (get_or executed node 0) =
       slice_get-get_or executed node 0 (omega (arith, inside, long)) in

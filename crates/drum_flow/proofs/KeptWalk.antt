@@ -37,13 +37,13 @@ use Rattle.drum_flow.specs.Accepted.{IsAccepted, IsFixed, IsThere}
 use Rattle.drum_flow.specs.Hops.{Hop, hops_of, hops, IsEdge, Lead, IsExecuted}
 use Rattle.drum_flow.proofs.Lists.{contains_here, contains_there, contains_cases}
 use Rattle.drum_flow.specs.RunHops.{units_with, hop_of, hops_taken}
-use Rattle.drum_flow.specs.Walk.{Setting, IsProper, Taken, MayHaveUnits, end_by, IsTimed, IsHopAt, Follow, IsWalkFrom}
-use Rattle.drum_flow.specs.Walk.{IsWalk, time_from, time_of}
+use Rattle.drum_flow.specs.Walk.{Setting, IsProper, Taken, MayHaveUnits, end_by, IsTimed, IsHopAt, FollowHop}
+use Rattle.drum_flow.specs.Walk.{IsWalkFrom, IsWalk, time_from, time_of}
 
 -- their time is what the run uses
 pub same_time : (time : ℕ) (turns : List Turn) → time_from time (hops_taken turns) ≡ used_from time turns
 same_time time [] = refl
-same_time time (turn ∷ turns) = same_time (run.time_of turn.outcome) turns
+same_time time (turn ∷ turns) = same_time (run.time_after turn.outcome) turns
 
 -- ten digits sum up to 90 at most
 digits_below : (count n : ℕ) → digit_sum count n ≤ 9 * count
@@ -124,7 +124,7 @@ drum_word c place below = rw (lt-ltb place 2000 below) (sym (unwrap_or-slice_get
 
 -- what a stop leaves to follow
 nothing_follows : (because : whys.Why) (Right : ℕ → Type 0) (hops : List Taken) → hops ≡ []
-    → Follow (stops_by because) Right hops
+    → FollowHop (stops_by because) Right hops
 nothing_follows why.Operation Right hops none = none
 nothing_follows why.Operand Right hops none = none
 nothing_follows why.Card Right hops none = none
@@ -220,7 +220,7 @@ module _ (g : Setting) (executed : List ℕ) (angle : ℕ) (proper : IsProper g)
         let waits : IsWait op (g.times op) turn.wait =
         subst (λ (found : Option Op). MayWait g.times found turn.wait) is may_wait in
         let Right : ℕ → ℕ → Type 0 = λ begin units. MayHaveUnits op ins.d units × IsWait op (g.times op) turn.wait
-        × (begin + run.time_of turn.outcome
+        × (begin + run.time_after turn.outcome
         ≡ end_by way (g.times op) op ins.d turn.origin.sought units turn.wait (begin + turn.origin.time)) in
         let at : Right turn.origin.start (units_of op ins.d turn.origin.contents) = (
           units_right op ins.d turn.origin.contents,
@@ -248,15 +248,15 @@ module _ (g : Setting) (executed : List ℕ) (angle : ℕ) (proper : IsProper g)
   follows : (s : State) (wait : ℕ) (counts : List ℕ) (turns : List Turn) (outcome : Stepped) → Stays g angle s
       → Contains (allowed g.loads g.notes s.sought) (instruction_in s) → outcome ≡ step g.times s wait
       → Contains (ways g.notes (instruction_in s)) (ended_by outcome) → KeepsStart s.start outcome
-      → run.Follow outcome (λ next. IsRun g.times next turns) turns
+      → run.FollowStep outcome (λ next. IsRun g.times next turns) turns
       → AreWithin g.notes.marks (counts_by g.notes counts s.sought outcome)
       → ((next : State) → Stays g angle next → IsRun g.times next turns
       → counts_by g.notes counts s.sought outcome ≡ after_pass g.notes.marks s.sought next.sought counts
       → IsWalkFrom g angle next.sought next.time (after_pass g.notes.marks s.sought next.sought counts)
       (hops_taken turns))
-      → Follow (ended_by outcome) (λ next.
+      → FollowHop (ended_by outcome) (λ next.
       AreWithin g.notes.marks (after_pass g.notes.marks s.sought next counts)
-      × IsWalkFrom g angle next (run.time_of outcome) (after_pass g.notes.marks s.sought next counts)
+      × IsWalkFrom g angle next (run.time_after outcome) (after_pass g.notes.marks s.sought next counts)
       (hops_taken turns)) (hops_taken turns)
   follows s wait counts turns (on next) stays may_be stepped by from run within rest =
       (within, rest next (next_stays s next wait stays may_be (sym stepped) by from) run refl)
@@ -266,7 +266,7 @@ module _ (g : Setting) (executed : List ℕ) (angle : ℕ) (proper : IsProper g)
   -- a turn and what follows it
   turn_walks : (turn : Turn) (turns : List Turn) (counts : List ℕ) → Stays g angle turn.origin
       → IsTurn g.times turn.origin turn
-      → run.Follow turn.outcome (λ next. IsRun g.times next turns) turns → IsKeptTurn g.loads g.notes counts turn
+      → run.FollowStep turn.outcome (λ next. IsRun g.times next turns) turns → IsKeptTurn g.loads g.notes counts turn
       → ((next : State) → Stays g angle next → IsRun g.times next turns
       → counts_after g.notes counts turn ≡ after_pass g.notes.marks turn.origin.sought next.sought counts
       → IsWalkFrom g angle next.sought next.time (after_pass g.notes.marks turn.origin.sought next.sought counts)

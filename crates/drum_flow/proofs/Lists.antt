@@ -84,9 +84,9 @@ distinct_push (x ∷ xs) y d new = (
 )
 
 -- and with one less there
-pub distinct_front : (xs : List ℕ) (y : ℕ) → AreDifferent (xs ++ y ∷ []) → AreDifferent xs
-distinct_front [] y d = tt
-distinct_front (x ∷ xs) y d = (λ there. d.0 (Contains-append_left xs (y ∷ []) x there), distinct_front xs y d.1)
+pub distinct_prefix : (xs : List ℕ) (y : ℕ) → AreDifferent (xs ++ y ∷ []) → AreDifferent xs
+distinct_prefix [] y d = tt
+distinct_prefix (x ∷ xs) y d = (λ there. d.0 (Contains-append_left xs (y ∷ []) x there), distinct_prefix xs y d.1)
 
 pub distinct_last : (xs : List ℕ) (y : ℕ) → AreDifferent (xs ++ y ∷ []) → ¬ Contains xs y
 distinct_last [] y d h = contains_none y h

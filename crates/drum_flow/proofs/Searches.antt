@@ -12,7 +12,7 @@ use Rattle.drum_flow.specs.declared.graph.progress.Progress.TheVariants.{New, Op
 use Rattle.drum_flow.specs.Graph.{AreDifferent, GoOn, Leads, LeadRound, IsClosed, IsCycle, IsTopologicalOrder}
 use Rattle.drum_flow.specs.Search.{LeadAlong, AreLinked, last_of, IsSearch, steps_left, ForgetsNone}
 use Rattle.drum_flow.proofs.Lists.{contains_at, contains_from_get, contains_cases, contains_none, contains_reverse}
-use Rattle.drum_flow.proofs.Lists.{contains_reversed, contains_dropped, distinct_push, distinct_front, distinct_last}
+use Rattle.drum_flow.proofs.Lists.{contains_reversed, contains_dropped, distinct_push, distinct_prefix, distinct_last}
 use Rattle.drum_flow.proofs.Lists.{distinct_dropped, distinct_reversed, get_written, get_other, get_replicated}
 
 last_cons : (a b : ℕ) (bs : List ℕ) → last_of (a ∷ b ∷ bs) ≡ last_of (b ∷ bs)
@@ -37,14 +37,14 @@ linked_push : (row : ℕ → List ℕ) (xs : List ℕ) (y : ℕ) → AreLinked r
 linked_push row [] y linked edge = tt
 linked_push row (a ∷ xs) y linked edge = along_push row a xs y linked edge
 
-along_front : (row : ℕ → List ℕ) (node : ℕ) (xs : List ℕ) (y : ℕ) → LeadAlong row node (xs ++ y ∷ [])
+along_prefix : (row : ℕ → List ℕ) (node : ℕ) (xs : List ℕ) (y : ℕ) → LeadAlong row node (xs ++ y ∷ [])
     → LeadAlong row node xs
-along_front row node [] y along = tt
-along_front row node (b ∷ bs) y along = (along.0, along_front row b bs y along.1)
+along_prefix row node [] y along = tt
+along_prefix row node (b ∷ bs) y along = (along.0, along_prefix row b bs y along.1)
 
-linked_front : (row : ℕ → List ℕ) (xs : List ℕ) (y : ℕ) → AreLinked row (xs ++ y ∷ []) → AreLinked row xs
-linked_front row [] y linked = tt
-linked_front row (a ∷ xs) y linked = along_front row a xs y linked
+linked_prefix : (row : ℕ → List ℕ) (xs : List ℕ) (y : ℕ) → AreLinked row (xs ++ y ∷ []) → AreLinked row xs
+linked_prefix row [] y linked = tt
+linked_prefix row (a ∷ xs) y linked = along_prefix row a xs y linked
 
 module _ (row : ℕ → List ℕ) (size : ℕ) (states : List Progress) (passed path finished : List ℕ) (node : ℕ) where
   pub enter_sound : IsSearch row size states passed path finished → slice_get states node ≡ Some New
@@ -99,29 +99,29 @@ module _ (row : ℕ → List ℕ) (size : ℕ) (states : List Progress) (passed 
           sym e ∙ ap (slice_get (set states node Open)) same ∙ here in
           cc
 
-  pub leave_sound : (front : List ℕ) → IsSearch row size states passed path finished → path ≡ front ++ node ∷ []
+  pub leave_sound : (prefix : List ℕ) → IsSearch row size states passed path finished → path ≡ prefix ++ node ∷ []
       → ((next : ℕ) → Contains (row node) next → slice_get states next ≡ Some Finished)
-      → IsSearch row size (set states node Finished) passed front (finished ++ node ∷ [])
-  leave_sound front s split all =
-      let path_distinct : AreDifferent (front ++ node ∷ []) = subst AreDifferent split s.path_distinct in
+      → IsSearch row size (set states node Finished) passed prefix (finished ++ node ∷ [])
+  leave_sound prefix s split all =
+      let path_distinct : AreDifferent (prefix ++ node ∷ []) = subst AreDifferent split s.path_distinct in
       let on_path : Contains path node =
-      subst (λ (xs : List ℕ). Contains xs node) (sym split) (Contains-push front node) in
+      subst (λ (xs : List ℕ). Contains xs node) (sym split) (Contains-push prefix node) in
       let opened : slice_get states node ≡ Some Open = s.path_open node on_path in
       let long : node < length states = slice_get_within states node Open opened in
       let here : slice_get (set states node Finished) node ≡ Some Finished = get_written states node Finished long in
       let not_finished : (other : ℕ) → slice_get states other ≡ Some Finished → other ≢ node = λ other done e.
       let clash : ◌≡◌ {A = Option Progress} (Some Finished) (Some Open) = sym done ∙ ap (slice_get states) e ∙ opened in
       cc in
-      let in_front : (other : ℕ) → Contains front other → Contains path other = λ other there.
-      subst (λ (xs : List ℕ). Contains xs other) (sym split) (Contains-append_left front (node ∷ []) other there) in
-      let not_in_front : (other : ℕ) → Contains front other → other ≢ node = λ other there e.
-      distinct_last front node path_distinct (subst (λ (z : ℕ). Contains front z) e there) in
+      let in_prefix : (other : ℕ) → Contains prefix other → Contains path other = λ other there.
+      subst (λ (xs : List ℕ). Contains xs other) (sym split) (Contains-append_left prefix (node ∷ []) other there) in
+      let not_in_front : (other : ℕ) → Contains prefix other → other ≢ node = λ other there e.
+      distinct_last prefix node path_distinct (subst (λ (z : ℕ). Contains prefix z) e there) in
       record {
         states_long = length-set states node Finished ∙ s.states_long;
         passed_long = s.passed_long;
         open_on_path = λ other e. elim (cases_eq other node) [
           | inl same ↦ absurd (clash_here other same e here)
-          | inr ne ↦ (elim (Contains-append_cases front (node ∷ []) other
+          | inr ne ↦ (elim (Contains-append_cases prefix (node ∷ []) other
               (subst (λ (xs : List ℕ). Contains xs other) split
               (s.open_on_path other (sym (get_other states node other Finished ne) ∙ e)))) [
                 | inl there ↦ there
@@ -131,7 +131,7 @@ module _ (row : ℕ → List ℕ) (size : ℕ) (states : List Progress) (passed 
         ];
         path_open =
             λ other there. get_other states node other Finished (not_in_front other there)
-            ∙ s.path_open other (in_front other there);
+            ∙ s.path_open other (in_prefix other there);
         finished_there = λ other e. elim (cases_eq other node) [
           | inl same ↦ subst (λ (z : ℕ). Contains (finished ++ node ∷ []) z) (sym same) (Contains-push finished node)
           | inr ne ↦ Contains-append_left finished (node ∷ []) other
@@ -149,8 +149,8 @@ module _ (row : ℕ → List ℕ) (size : ℕ) (states : List Progress) (passed 
         behind =
             λ from k next lt at. get_other states node next Finished (not_finished next (s.behind from k next lt at))
             ∙ s.behind from k next lt at;
-        linked = linked_front row front node (subst (AreLinked row) split s.linked);
-        path_distinct = distinct_front front node path_distinct;
+        linked = linked_prefix row prefix node (subst (AreLinked row) split s.linked);
+        path_distinct = distinct_prefix prefix node path_distinct;
         finished_distinct =
             distinct_push finished node s.finished_distinct
             (λ there. not_finished node (s.there_finished node there) refl);
@@ -223,17 +223,17 @@ new_sound row size = record {
         long past = omega (arith, past, length-replicate {A = ℕ} size 0)
 
 -- what is taken from the end of a path that ends with a node
-pub popped : (path front : List ℕ) (taken : Option ℕ) (node : ℕ) → path ≡ front ++ option_to_list taken
+pub popped : (path prefix : List ℕ) (taken : Option ℕ) (node : ℕ) → path ≡ prefix ++ option_to_list taken
     → (0 < length path → IsSome taken) → last_of path ≡ Some node
-    → path ≡ front ++ node ∷ []
-popped path front None node split some last =
+    → path ≡ prefix ++ node ∷ []
+popped path prefix None node split some last =
     let long : length path - 1 < length path = slice_get_within path (length path - 1) node last in
     let clash : false ≡ true = some (omega (arith, long)) in
     cc
-popped path front (Some one) node split some last =
-    let same : ◌≡◌ {A = Option ℕ} (Some one) (Some node) = sym (last_push front one) ∙ sym (ap last_of split) ∙ last in
+popped path prefix (Some one) node split some last =
+    let same : ◌≡◌ {A = Option ℕ} (Some one) (Some node) = sym (last_push prefix one) ∙ sym (ap last_of split) ∙ last in
     let equal : one ≡ node = cc in
-    subst (λ (z : ℕ). path ≡ front ++ z ∷ []) equal split
+    subst (λ (z : ℕ). path ≡ prefix ++ z ∷ []) equal split
 
 -- the path's last node is open
 pub last_open : (row : ℕ → List ℕ) (size : ℕ) (states : List Progress) (passed path finished : List ℕ) (node : ℕ)

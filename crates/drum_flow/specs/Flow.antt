@@ -1,5 +1,5 @@
 -- What a flow is of: a deck, its notes, and the executed locations.
-use Rattle.std.specs.Prelude.{ℕ, List, Option, Contains, map}
+use Rattle.std.specs.Prelude.{ℕ, List, Option, Contains}
 use Rattle.drum_core.specs.declared.deck.Deck.{Deck}
 use Rattle.drum_core.specs.declared.word.Word.{Word}
 use Rattle.drum_core.specs.Loads.{loads_in, start_in}
@@ -25,10 +25,6 @@ of_flow says flow = says (loads_in flow.deck.now) flow.notes.now (start_in flow.
 -- the executed locations, in the order of discovery
 abbrev pub executed_in : Flow → List ℕ
 executed_in flow = places_of flow.executed
-
--- the locations that are kept in an order of their own
-abbrev pub order_in : Flow → List ℕ
-order_in flow = map (λ location. location.number) flow.order.items
 
 -- These are the executed locations in the order of discovery, all of them loaded or listed, with
 -- operations in the profile alone.

@@ -4,11 +4,11 @@ use Rattle.std.specs.Prelude.{ℕ, ◌<◌, List, [], ◌∷◌, length, Contain
 use Rattle.drum_flow.specs.declared.graph.Graph.{Graph}
 use Rattle.drum_flow.specs.declared.graph.sorted.Sorted.{Sorted}
 use Rattle.drum_flow.specs.declared.graph.sorted.Sorted.TheVariants.{Ordered, Cyclic}
-use Rattle.drum_flow.specs.Rows.{row_in}
+use Rattle.drum_flow.specs.Rows.{targets_in}
 
 -- the nodes that the edges of a node lead to
 abbrev pub row : Graph → ℕ → List ℕ
-row graph node = row_in graph.rows.items node
+row graph node = targets_in graph.rows.items node
 
 -- how many nodes a graph has
 abbrev pub size : Graph → ℕ

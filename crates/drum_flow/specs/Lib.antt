@@ -1,5 +1,6 @@
 pub mod Acceptance
 pub mod Accepted
+pub mod AcceptedFlow
 pub mod Alike
 pub mod Altering
 pub mod Executed

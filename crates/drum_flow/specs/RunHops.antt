@@ -25,7 +25,7 @@ hop_of turn = record {
       turn.origin.contents;
   wait = turn.wait;
   begun = turn.origin.time;
-  ended = run.time_of turn.outcome;
+  ended = run.time_after turn.outcome;
 }
 
 -- those of a run, in order: of the empty run none

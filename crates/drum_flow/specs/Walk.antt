@@ -74,10 +74,10 @@ pub record IsHopAt (g : Setting) (angle place time : ℕ) (hop : Taken) : Type 0
   pub timed : IsTimed g.times angle hop (op_of hop.ins.op)
 
 -- nothing follows a hop that stops, and what follows one that goes on is right for its target
-abbrev pub Follow : Way → (ℕ → Type 0) → List Taken → Type 0
-Follow early Right hops = hops ≡ []
-Follow (to next) Right hops = Right next
-Follow late Right hops = hops ≡ []
+abbrev pub FollowHop : Way → (ℕ → Type 0) → List Taken → Type 0
+FollowHop early Right hops = hops ≡ []
+FollowHop (to next) Right hops = Right next
+FollowHop late Right hops = hops ≡ []
 
 -- Hops one after the other, from a place, a time and counts on: each but the last is a To, and the
 -- next is a hop of its target. No mark is passed more often than it may be.
@@ -85,7 +85,7 @@ abbrev pub IsWalkFrom : Setting → ℕ → ℕ → ℕ → List ℕ → List Ta
 IsWalkFrom g angle place time counts [] = Unit {0}
 IsWalkFrom g angle place time counts (hop ∷ hops) =
     IsHopAt g angle place time hop
-    × Follow hop.way (λ next.
+    × FollowHop hop.way (λ next.
     let passed = after_pass g.notes.marks place next counts in
     AreWithin g.notes.marks passed × IsWalkFrom g angle next hop.ended passed hops) hops
 
@@ -108,9 +108,3 @@ abbrev pub passes_by : Mark → ℕ → Way → ℕ
 passes_by mark place early = 0
 passes_by mark place (to next) = if is_on mark place next then 1 else 0
 passes_by mark place late = 0
-
--- how often a walk passes a mark, whatever it stands inside of
-abbrev pub passes_of : Mark → List Taken → ℕ
-passes_of mark [] = 0
-passes_of mark (hop ∷ hops) =
-    passes_by mark hop.place hop.way + passes_of mark hops

@@ -5,7 +5,7 @@ use Rattle.drum_core.specs.declared.op.Op.{Op}
 use Rattle.drum_core.specs.Op.{op_of}
 use Rattle.drum_machine.specs.Counts.{after_pass, AreWithin}
 use Rattle.drum_machine.specs.Ways.{Way, early, to, late}
-use Rattle.drum_flow.specs.Walk.{Setting, Taken, IsTimed, IsWalkFrom, IsWalk, Follow, end_by, time_from, time_of}
+use Rattle.drum_flow.specs.Walk.{Setting, Taken, IsTimed, IsWalkFrom, IsWalk, FollowHop, end_by, time_from, time_of}
 
 -- two hops are alike but for their times
 pub record Alike (a b : Taken) : Type 0 where
@@ -35,7 +35,7 @@ ended_alike g angle a b alike begun (Some op) p q =
 follow_alike : (way : Way) (ended ended' : ℕ) (Right Right' : ℕ → Type 0) (more others : List Taken)
     → ended ≡ ended'
     → ((next : ℕ) → Right next → Right' next → time_from ended more ≡ time_from ended' others)
-    → Follow way Right more → Follow way Right' others
+    → FollowHop way Right more → FollowHop way Right' others
     → time_from ended more ≡ time_from ended' others
 follow_alike early ended ended' Right Right' more others same next p q = ap (time_from ended) p
     ∙ same ∙ sym (ap (time_from ended') q)
@@ -67,7 +67,7 @@ time_alike g angle place time counts (a ∷ more) (b ∷ others) alike p q =
     (after_pass g.notes.marks place next counts) others) (sym same) pb.1 in
     time_alike g angle next a.ended (after_pass g.notes.marks place next counts) more others alike.1
     pa.1 moved ∙ ap (λ (t : ℕ). time_from t others) same)
-    (subst (λ (w : Way). Follow w (RightOf a more) more) alike.0.way p.1) q.1
+    (subst (λ (w : Way). FollowHop w (RightOf a more) more) alike.0.way p.1) q.1
 
 -- the time of a walk follows from its hops, its units and its waits
 pub time_of_alike : (g : Setting) (angle : ℕ) (hops others : List Taken) → AreAlike hops others

@@ -1,17 +1,14 @@
+//! When a deck with its notes is accepted.
+
 ghost use Rattle.std.specs.Prelude.{◌≡◌, IfOk, IfErr};
 ghost use Rattle.drum_core.specs.Loads.{loads_in, start_in};
 ghost use Rattle.drum_flow.specs.Acceptance.{IsRefusal};
 ghost use Rattle.drum_flow.specs.Accepted.{IsAccepted};
-ghost use Rattle.drum_flow.specs.Flow.{deck_of, notes_of, executed_in, order_in};
-ghost use Rattle.drum_flow.specs.Free.{IsFreeOrder};
+ghost use Rattle.drum_flow.specs.Flow.{deck_of, notes_of, executed_in};
 
-use crate::altering::check_unaltered;
-use crate::discovery::flow;
-use crate::fixed::Fixed;
+use crate::accepted_flow::AcceptedFlow;
 use crate::flow_graph::Flow;
-use crate::free_order::free_order;
 use crate::refusal::Refusal;
-use crate::size::check_small;
 use drum_core::Deck;
 use drum_times::Notes;
 use std::alloc::Global;
@@ -28,15 +25,7 @@ pub fn accept<'a>(alloc: Global, deck: &'a Deck, notes: &'a Notes) -> Result<Flo
     ensures notes { IfOk result (λ flow. notes_of flow ≡ notes.now) }
     ensures accepted { IfOk result (λ flow. IsAccepted (loads_in deck.now) notes.now
         (start_in deck.now) (executed_in flow)) }
-    ensures order { IfOk result (λ flow. IsFreeOrder (loads_in deck.now) notes.now
-        (executed_in flow) (order_in flow)) }
     ensures refused { IfErr result (IsRefusal (loads_in deck.now) notes.now (start_in deck.now)) }
 {
-    let mut flow = flow(alloc, deck, notes)?;
-    let fixed = Fixed::of(alloc, flow.executed(), notes)?;
-    check_unaltered(&flow, &fixed)?;
-    check_small(&flow)?;
-    let order = free_order(alloc, &flow)?;
-    flow.order = order;
-    Ok(flow)
+    Ok(AcceptedFlow::of(alloc, deck, notes)?.into_flow())
 }

@@ -37,6 +37,5 @@ pub fn flow<'a>(alloc: Global, deck: &'a Deck, notes: &'a Notes) -> Result<Flow<
         deck,
         notes,
         executed,
-        order: Vec::new(alloc),
     })
 }

@@ -2,7 +2,7 @@ ghost use Rattle.std.specs.Prelude.{◌≡◌, ◌≤◌, [], map, length, slice
 ghost use Rattle.drum_core.specs.Loads.{loads_in};
 ghost use Rattle.drum_flow.specs.Hops as said;
 ghost use Rattle.drum_flow.specs.HopsLeft.{hops_left};
-ghost use Rattle.drum_flow.specs.Flow.{deck_of, notes_of, executed_in, order_in};
+ghost use Rattle.drum_flow.specs.Flow.{deck_of, notes_of, executed_in};
 ghost use Rattle.drum_flow.specs.Graph.{AreDifferent};
 
 use crate::executed::Executed;
@@ -16,9 +16,6 @@ pub struct Flow<'a> {
     pub(crate) deck: &'a Deck,
     pub(crate) notes: &'a Notes,
     pub(crate) executed: Executed,
-    /// An order in which every edge free of marks goes on, once the deck is accepted; nothing
-    /// before.
-    pub(crate) order: Vec<Location>,
 }
 
 impl<'a> Flow<'a> {
@@ -55,14 +52,6 @@ impl<'a> Flow<'a> {
         // What `locations` ensures of them: they differ.
         let _executed = self.executed.locations();
         self.executed.place_of(location)
-    }
-
-    /// Of an accepted deck, the executed locations in an order in which every edge free of marks
-    /// goes on.
-    pub fn order(&self) -> &[Location]
-        ensures { map (λ location. location.number) result.now ≡ order_in self.now }
-    {
-        &self.order
     }
 
     /// The hops of a location, in order; none of one that isn't executed.

@@ -6,7 +6,7 @@ ghost use Rattle.drum_core.specs.Loads.{loads_in};
 ghost use Rattle.drum_flow.specs.Flow.{executed_in};
 ghost use Rattle.drum_flow.specs.Free.{IsFreeRow, IsUnmarkedRow, AreFreeRows};
 ghost use Rattle.drum_flow.specs.Graph.{row, size};
-ghost use Rattle.drum_flow.specs.Rows.{row_in};
+ghost use Rattle.drum_flow.specs.Rows.{targets_in};
 
 use crate::executed::Executed;
 use crate::flow_graph::Flow;
@@ -52,7 +52,7 @@ fn unmarked_row(
 fn free_rows(alloc: Global, flow: &Flow<'_>) -> Result<Vec<Vec<usize>>, AllocError>
     ensures long { IfOk result (λ rows. length rows.items ≡ length (executed_in flow.now)) }
     ensures rows { IfOk result (λ rows. AreFreeRows (loads_in flow.now.deck.now) flow.now.notes.now
-        (executed_in flow.now) (row_in rows.items)) }
+        (executed_in flow.now) (targets_in rows.items)) }
 {
     let mut rows = Vec::new(alloc);
     for from in flow.executed() {

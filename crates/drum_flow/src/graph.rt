@@ -17,13 +17,13 @@ pub struct Graph {
 
 impl Graph {
     ghost use Rattle.drum_flow.specs.Graph.{row, size};
-    ghost use Rattle.drum_flow.specs.Rows.{row_in};
+    ghost use Rattle.drum_flow.specs.Rows.{targets_in};
 
     /// The graph of these rows.
     pub fn new(rows: Vec<Vec<usize>>) -> Graph
         requires { AreWithin rows.items }
         ensures size { size result ≡ length rows.items }
-        ensures rows { (node : ℕ) → row result node ≡ row_in rows.items node }
+        ensures rows { (node : ℕ) → row result node ≡ targets_in rows.items node }
     {
         Graph { rows }
     }

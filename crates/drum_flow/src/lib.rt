@@ -3,6 +3,7 @@
 #![tactic(auto)]
 
 mod acceptance;
+mod accepted_flow;
 mod alike;
 mod altering;
 pub mod counts;
@@ -24,6 +25,7 @@ mod size;
 mod successors;
 
 pub use acceptance::accept;
+pub use accepted_flow::AcceptedFlow;
 pub use cycle::Cycle;
 pub use discovery::flow;
 pub use flow_graph::Flow;

@@ -206,66 +206,69 @@ fn at_the_ends_of_ranges(rt: HostRuntime) -> Result<(), Fail> {
     Ok(())
 }
 
+/// An operation, its entry, and the line that it gets.
+const ENTRIES: [(&str, &str, &str); 11] = [
+    (
+        "69",
+        "{ before = 0, after = 3, parity = \"any\" }",
+        "fault 15 times range op.69.before\n",
+    ),
+    (
+        "69",
+        "{ before = 1000001, after = 3, parity = \"any\" }",
+        "fault 15 times range op.69.before\n",
+    ),
+    (
+        "69",
+        "{ before = 3, after = -1, parity = \"any\" }",
+        "fault 15 times range op.69.after\n",
+    ),
+    (
+        "69",
+        "{ before = 3, after = 1000001, parity = \"any\" }",
+        "fault 15 times range op.69.after\n",
+    ),
+    // Only some operations have `per`, even where it is 0.
+    (
+        "69",
+        "{ before = 3, after = 3, parity = \"any\", per = 0 }",
+        "fault 14 times unknown op.69.per\n",
+    ),
+    (
+        "19",
+        "{ before = 3, after = 1, parity = \"odd\", per = -1 }",
+        "fault 15 times range op.19.per\n",
+    ),
+    (
+        "19",
+        "{ before = 3, after = 1, parity = \"odd\", per = 1000001 }",
+        "fault 15 times range op.19.per\n",
+    ),
+    (
+        "70",
+        "{ before = 1, after = 1, parity = \"any\", wait_min = -1, wait_max = 1 }",
+        "fault 15 times range op.70.wait_min\n",
+    ),
+    (
+        "70",
+        "{ before = 1, after = 1, parity = \"any\", wait_min = 1000001, wait_max = 1000001 }",
+        "fault 15 times range op.70.wait_min\n",
+    ),
+    (
+        "71",
+        "{ before = 1, after = 1, parity = \"any\", wait_min = 0, wait_max = 1000001 }",
+        "fault 15 times range op.71.wait_max\n",
+    ),
+    (
+        "71",
+        "{ before = 1, after = 1, parity = \"any\", wait_min = 1000000, wait_max = 999999 }",
+        "fault 15 times range op.71.wait_max\n",
+    ),
+];
+
 #[test]
 fn past_the_ends_of_ranges(rt: HostRuntime) -> Result<(), Fail> {
-    for (op, entry, line) in [
-        (
-            "69",
-            "{ before = 0, after = 3, parity = \"any\" }",
-            "fault 15 times range op.69.before\n",
-        ),
-        (
-            "69",
-            "{ before = 1000001, after = 3, parity = \"any\" }",
-            "fault 15 times range op.69.before\n",
-        ),
-        (
-            "69",
-            "{ before = 3, after = -1, parity = \"any\" }",
-            "fault 15 times range op.69.after\n",
-        ),
-        (
-            "69",
-            "{ before = 3, after = 1000001, parity = \"any\" }",
-            "fault 15 times range op.69.after\n",
-        ),
-        // Only some operations have `per`, even where it is 0.
-        (
-            "69",
-            "{ before = 3, after = 3, parity = \"any\", per = 0 }",
-            "fault 14 times unknown op.69.per\n",
-        ),
-        (
-            "19",
-            "{ before = 3, after = 1, parity = \"odd\", per = -1 }",
-            "fault 15 times range op.19.per\n",
-        ),
-        (
-            "19",
-            "{ before = 3, after = 1, parity = \"odd\", per = 1000001 }",
-            "fault 15 times range op.19.per\n",
-        ),
-        (
-            "70",
-            "{ before = 1, after = 1, parity = \"any\", wait_min = -1, wait_max = 1 }",
-            "fault 15 times range op.70.wait_min\n",
-        ),
-        (
-            "70",
-            "{ before = 1, after = 1, parity = \"any\", wait_min = 1000001, wait_max = 1000001 }",
-            "fault 15 times range op.70.wait_min\n",
-        ),
-        (
-            "71",
-            "{ before = 1, after = 1, parity = \"any\", wait_min = 0, wait_max = 1000001 }",
-            "fault 15 times range op.71.wait_max\n",
-        ),
-        (
-            "71",
-            "{ before = 1, after = 1, parity = \"any\", wait_min = 1000000, wait_max = 999999 }",
-            "fault 15 times range op.71.wait_max\n",
-        ),
-    ] {
+    for (op, entry, line) in ENTRIES {
         let times = times_with(rt.alloc(), op, entry)?;
         give(&rt, TWO_WORDS, times.as_str(), NOTES, line)?;
     }

@@ -147,7 +147,7 @@ fn run_to(
     (status, Outputs { out, err })
 }
 
-/// That an output got a front of this text: what it has the room for.
+/// That an output got a prefix of this text: what it has the room for.
 fn got(
     rt: &impl Abort,
     output: &Writing<Full>,
@@ -156,19 +156,19 @@ fn got(
     most: usize,
 ) -> Result<(), Fail> {
     let sent = if most == 0 { 0 } else { room.min(text.len()) };
-    let front = text.get(..sent).ok_or("a front")?;
+    let prefix = text.get(..sent).ok_or("a prefix")?;
     assert_eq!(rt;
         output.writer.taken.as_slice(),
-        front,
+        prefix,
         "with {room} bytes, {most} a call"
     );
     assert_eq!(rt; output.failures(), u64::from(sent < text.len()));
     Ok(())
 }
 
-/// That words put fronts of these texts on outputs of so much room that take so many bytes a call,
-/// and end so where the whole goes out. A failed write of a result is a failure; one of a complaint
-/// changes nothing.
+/// That words put prefixes of these texts on outputs of so much room that take so many bytes a
+/// call, and end so where the whole goes out. A failed write of a result is a failure; one of a
+/// complaint changes nothing.
 fn ends(
     rt: &(impl AllocGlobal + Abort),
     words: &[&str],
@@ -234,7 +234,7 @@ fn of_files_that_cannot_be_opened(rt: HostRuntime) -> Result<(), Fail> {
 
 #[test]
 fn of_help(rt: HostRuntime) -> Result<(), Fail> {
-    // What help and a refused line say is `clap`'s: fronts of it are what matters here.
+    // What help and a refused line say is `clap`'s: prefixes of it are what matters here.
     let files = Shelf::of(TWO_WORDS, TIMES, NOTES);
     for (words, ended) in [
         (["--help"].as_slice(), Status::Done),

@@ -19,11 +19,11 @@ digits_join k (suc j) a b small =
     let next : suc j ≡ j + 1 = omega arith in
     let power : 10 ^ suc j ≡ 10 ^ j * 10 = ap (λ (i : ℕ). 10 ^ i) next ∙ pow_more 10 j in
     let all : a * 10 ^ suc j + b ≡ (a * 10 ^ j + b / 10) * 10 + b % 10 = ten_times a (10 ^ j) (10 ^ suc j) b power in
-    let front : (a * 10 ^ suc j + b) / 10 ≡ a * 10 ^ j + b / 10 = omega (arith, all) in
+    let prefix : (a * 10 ^ suc j + b) / 10 ≡ a * 10 ^ j + b / 10 = omega (arith, all) in
     let last : (a * 10 ^ suc j + b) % 10 ≡ b % 10 = omega (arith, all) in
     let count : k + suc j ≡ suc (k + j) = omega arith in
     ap (λ (i : ℕ). digits_of i (a * 10 ^ suc j + b)) count
-    ∙ ap (λ (n : ℕ). digits_of (k + j) n ++ (48 + (a * 10 ^ suc j + b) % 10) ∷ []) front
+    ∙ ap (λ (n : ℕ). digits_of (k + j) n ++ (48 + (a * 10 ^ suc j + b) % 10) ∷ []) prefix
     ∙ ap (λ (d : ℕ). digits_of (k + j) (a * 10 ^ j + b / 10) ++ (48 + d) ∷ []) last
     ∙ ap (λ (xs : List ℕ). xs ++ (48 + b % 10) ∷ []) (digits_join k j a (b / 10) (omega (arith, power)))
     ∙ append_assoc (digits_of k a) (digits_of j (b / 10)) ((48 + b % 10) ∷ [])
@@ -69,8 +69,8 @@ pub whole : (text behind : List ℕ) (a b : ℕ) → length text ≡ 20 → behi
 whole text behind a b long is_behind upper lower small =
     let ten : length (take 10 text) ≡ 10 = length-take-le 10 text (omega (arith, long)) in
     let ten' : length behind ≡ 10 = ap length is_behind ∙ omega (arith, length-drop 10 text, long) in
-    let front : take 10 text ≡ digits_of 10 a = upper ∙ ap (λ (i : ℕ). digits_of i a) ten in
+    let prefix : take 10 text ≡ digits_of 10 a = upper ∙ ap (λ (i : ℕ). digits_of i a) ten in
     let back : drop 10 text ≡ digits_of 10 b = sym is_behind ∙ lower ∙ ap (λ (i : ℕ). digits_of i b) ten' in
     let few : b < 10 ^ 10 = subst (λ (i : ℕ). b < 10 ^ i) ten' small in
-    sym (take-append-drop 10 text) ∙ ap (λ (xs : List ℕ). xs ++ drop 10 text) front
+    sym (take-append-drop 10 text) ∙ ap (λ (xs : List ℕ). xs ++ drop 10 text) prefix
     ∙ ap (λ (xs : List ℕ). digits_of 10 a ++ xs) back ∙ sym (digits_join 10 10 a b few)

@@ -1,7 +1,7 @@
 mod Checks
 pub mod Defaults
 pub mod Firsts
-pub mod Fronts
+pub mod Prefixes
 pub mod Halves
 pub mod Marks
 pub mod OneLine

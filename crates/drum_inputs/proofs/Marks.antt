@@ -15,17 +15,17 @@ use Rattle.drum_inputs.specs.InputsText.{placed}
 abbrev pub Given : List (ℕ × Word) → ℕ → Type 0
 Given given n = Any (λ one. one.0 ≡ n) given
 
-pub given_in_front : (front others : List (ℕ × Word)) (n : ℕ) → Given front n → Given (front ++ others) n
+pub given_in_front : (prefix others : List (ℕ × Word)) (n : ℕ) → Given prefix n → Given (prefix ++ others) n
 given_in_front [] others n (k, one, within, here, at) = absurd (omega arith)
-given_in_front (first ∷ front) others n (zero, one, within, here, at) = (0, one, omega arith, here, at)
-given_in_front (first ∷ front) others n (suc k, one, within, here, at) =
-    let rest = given_in_front front others n (k, one, omega arith, here, at) in
+given_in_front (first ∷ prefix) others n (zero, one, within, here, at) = (0, one, omega arith, here, at)
+given_in_front (first ∷ prefix) others n (suc k, one, within, here, at) =
+    let rest = given_in_front prefix others n (k, one, omega arith, here, at) in
     (suc rest.0, rest.1, omega (arith, rest.2), rest.3, rest.4)
 
-pub given_behind : (front others : List (ℕ × Word)) (n : ℕ) → Given others n → Given (front ++ others) n
+pub given_behind : (prefix others : List (ℕ × Word)) (n : ℕ) → Given others n → Given (prefix ++ others) n
 given_behind [] others n given = given
-given_behind (first ∷ front) others n given =
-    let rest = given_behind front others n given in
+given_behind (first ∷ prefix) others n given =
+    let rest = given_behind prefix others n given in
     (suc rest.0, rest.1, omega (arith, rest.2), rest.3, rest.4)
 
 pub given_by_either : (xs ys : List (ℕ × Word)) (n : ℕ) → Given (xs ++ ys) n → Given xs n ⊎ Given ys n

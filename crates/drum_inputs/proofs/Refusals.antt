@@ -1,9 +1,9 @@
 -- Laws of inputs: a text says one list of lines, and has one fault.
-use Rattle.std.proofs.Common.{◌≡◌, ℕ, ◌+◌, ◌<◌, List, [], ◌∷◌, ◌++◌, length, take, drop, refl, ap, sym, ◌∙◌, subst}
+use Rattle.std.proofs.Common.{◌≡◌, ℕ, ◌+◌, ◌<◌, List, [], ◌∷◌, ◌++◌, length, refl, ap, sym, ◌∙◌, subst}
 use Rattle.std.proofs.Common.{arith, append_assoc, inl, inr}
-use Rattle.std.proofs.Math.Seq.{take-append_seam, drop-append_seam}
 use Rattle.std.proofs.lemmas.Bool.{cases_lt}
 use Rattle.std.proofs.lemmas.List.{append-nil}
+use Rattle.drum_core.proofs.DeckLaws.{same_prefix}
 use Rattle.drum_core.specs.Lines.{lines_of}
 use Rattle.drum_inputs.specs.declared.fault.InputFault.{InputFault}
 use Rattle.drum_inputs.specs.declared.fault.InputFault.TheVariants as faults
@@ -25,23 +25,23 @@ say_one (text ∷ texts) (a ∷ lines) (b ∷ others) p q =
 
 -- what a text among others says
 record Parts (texts : List (List ℕ)) (text : List ℕ) (lines : List Line) : Type 0 where
-  front : List Line
+  prefix : List Line
   line : Line
   behind : List Line
-  split : lines ≡ front ++ line ∷ behind
-  said : Say texts front
+  split : lines ≡ prefix ++ line ∷ behind
+  said : Say texts prefix
   says : IsLine text line
 
 parts_of : (texts : List (List ℕ)) (text : List ℕ) (others : List (List ℕ)) (lines : List Line)
     → Say (texts ++ text ∷ others) lines → Parts texts text lines
 parts_of [] text others [] p = absurd p
 parts_of [] text others (line ∷ lines) p =
-    record { front = []; line = line; behind = lines; split = refl; said = tt; says = p.0 }
+    record { prefix = []; line = line; behind = lines; split = refl; said = tt; says = p.0 }
 parts_of (first ∷ texts) text others [] p = absurd p
 parts_of (first ∷ texts) text others (line ∷ lines) p =
     let rest = parts_of texts text others lines p.1 in
     record {
-      front = line ∷ rest.front;
+      prefix = line ∷ rest.prefix;
       line = rest.line;
       behind = rest.behind;
       split = ap (λ (xs : List Line). line ∷ xs) rest.split;
@@ -50,28 +50,28 @@ parts_of (first ∷ texts) text others (line ∷ lines) p =
     }
 
 -- a line among sound lines
-sound_among : (before front : List Line) (line : Line) (behind : List Line)
-    → AreSoundBehind before (front ++ line ∷ behind) → (¬ IsPastDrum line) × (¬ Repeats (before ++ front) line)
+sound_among : (before prefix : List Line) (line : Line) (behind : List Line)
+    → AreSoundBehind before (prefix ++ line ∷ behind) → (¬ IsPastDrum line) × (¬ Repeats (before ++ prefix) line)
 sound_among before [] line behind sound =
     (sound.0, subst (λ (ls : List Line). ¬ Repeats ls line) (sym (append-nil before)) sound.1)
-sound_among before (first ∷ front) line behind sound =
-    let rest = sound_among (before ++ first ∷ []) front line behind sound.2 in
-    (rest.0, subst (λ (ls : List Line). ¬ Repeats ls line) (append_assoc before (first ∷ []) front) rest.1)
+sound_among before (first ∷ prefix) line behind sound =
+    let rest = sound_among (before ++ first ∷ []) prefix line behind sound.2 in
+    (rest.0, subst (λ (ls : List Line). ¬ Repeats ls line) (append_assoc before (first ∷ []) prefix) rest.1)
 
 -- a line of sound lines has no fault
-no_fault_among : (front : List Line) (line : Line) (behind : List Line) (number : ℕ) (text : List ℕ)
-    (fault : InputFault) → AreSound (front ++ line ∷ behind) → IsLine text line
-    → IsFaultOfLine front number text fault → ⊥
-no_fault_among front line behind number text (faults.Line n) sound says p = p.1 line says
-no_fault_among front line behind number text (faults.PastDrum n) sound says p =
+no_fault_among : (prefix : List Line) (line : Line) (behind : List Line) (number : ℕ) (text : List ℕ)
+    (fault : InputFault) → AreSound (prefix ++ line ∷ behind) → IsLine text line
+    → IsFaultOfLine prefix number text fault → ⊥
+no_fault_among prefix line behind number text (faults.Line n) sound says p = p.1 line says
+no_fault_among prefix line behind number text (faults.PastDrum n) sound says p =
     let one = line_one text line p.1.0 says p.1.1 in
-    (sound_among [] front line behind sound).0 (subst IsPastDrum (sym one) p.1.2)
-no_fault_among front line behind number text (faults.Repeated n) sound says p =
+    (sound_among [] prefix line behind sound).0 (subst IsPastDrum (sym one) p.1.2)
+no_fault_among prefix line behind number text (faults.Repeated n) sound says p =
     let one = line_one text line p.1.0 says p.1.1 in
-    (sound_among [] front line behind sound).1 (subst (Repeats front) (sym one) p.1.3)
-no_fault_among front line behind number text faults.Read sound says p = p
-no_fault_among front line behind number text faults.Memory sound says p = p
-no_fault_among front line behind number text faults.TooLong sound says p = p
+    (sound_among [] prefix line behind sound).1 (subst (Repeats prefix) (sym one) p.1.3)
+no_fault_among prefix line behind number text faults.Read sound says p = p
+no_fault_among prefix line behind number text faults.Memory sound says p = p
+no_fault_among prefix line behind number text faults.TooLong sound says p = p
 
 -- a line has one fault
 fault_of_line_one : (before : List Line) (number : ℕ) (text : List ℕ) (fault other : InputFault)
@@ -94,34 +94,34 @@ fault_of_line_one before number text (faults.Repeated n) (faults.PastDrum m) p q
     absurd (p.1.2 (subst IsPastDrum (line_one text q.1.0 p.1.0 q.1.1 p.1.1) q.1.2))
 fault_of_line_one before number text (faults.Repeated n) (faults.Repeated m) p q = ap faults.Repeated (p.0 ∙ sym q.0)
 
--- of two fronts of one list, the longer has the shorter and what stands behind it
-longer_front : (texts others : List (List ℕ)) (text other : List ℕ) (behind behind' : List (List ℕ))
+-- of two prefixes of one list, the longer has the shorter and what stands behind it
+longer_prefix : (texts others : List (List ℕ)) (text other : List ℕ) (behind behind' : List (List ℕ))
     → length texts < length others
     → texts ++ text ∷ behind ≡ others ++ other ∷ behind' → (between : List (List ℕ))
     × (others ≡ texts ++ text ∷ between)
-longer_front [] [] text other behind behind' less e = absurd (omega arith)
-longer_front [] (first ∷ others) text other behind behind' less e =
+longer_prefix [] [] text other behind behind' less e = absurd (omega arith)
+longer_prefix [] (first ∷ others) text other behind behind' less e =
     let head : text ≡ first = cc in
     (others, ap (λ (t : List ℕ). t ∷ others) (sym head))
-longer_front (first ∷ texts) [] text other behind behind' less e = absurd (omega arith)
-longer_front (first ∷ texts) (first' ∷ others) text other behind behind' less e =
+longer_prefix (first ∷ texts) [] text other behind behind' less e = absurd (omega arith)
+longer_prefix (first ∷ texts) (first' ∷ others) text other behind behind' less e =
     let head : first ≡ first' = cc in
     let tail : texts ++ text ∷ behind ≡ others ++ other ∷ behind' = cc in
-    let rest = longer_front texts others text other behind behind' (omega arith) tail in
+    let rest = longer_prefix texts others text other behind behind' (omega arith) tail in
     (rest.0, ap (λ (t : List ℕ). t ∷ others) (sym head) ∙ ap (λ (ts : List (List ℕ)). first ∷ ts) rest.1)
 
 -- the first fault of a text isn't behind that of an earlier line
 not_behind : (text : List ℕ) (fault other : InputFault) (p : IsFirstFault text fault) (q : IsFirstFault text other)
     → length p.texts < length q.texts → ⊥
 not_behind text fault other p q less =
-    let longer = longer_front p.texts q.texts p.line q.line p.others q.others less (sym p.split ∙ q.split) in
+    let longer = longer_prefix p.texts q.texts p.line q.line p.others q.others less (sym p.split ∙ q.split) in
     let said : Say (p.texts ++ p.line ∷ longer.0) q.before =
     subst (λ (ts : List (List ℕ)). Say ts q.before) longer.1 q.said in
     let parts = parts_of p.texts p.line longer.0 q.before said in
-    let front : p.before ≡ parts.front = say_one p.texts p.before parts.front p.said parts.said in
-    no_fault_among parts.front parts.line parts.behind (length p.texts + 1) p.line fault
+    let prefix : p.before ≡ parts.prefix = say_one p.texts p.before parts.prefix p.said parts.said in
+    no_fault_among parts.prefix parts.line parts.behind (length p.texts + 1) p.line fault
     (subst AreSound parts.split q.sound) parts.says
-    (subst (λ (ls : List Line). IsFaultOfLine ls (length p.texts + 1) p.line fault) front p.first)
+    (subst (λ (ls : List Line). IsFaultOfLine ls (length p.texts + 1) p.line fault) prefix p.first)
 
 pub first_fault_one : (text : List ℕ) (fault other : InputFault) → IsFirstFault text fault → IsFirstFault text other
     → fault ≡ other
@@ -133,7 +133,7 @@ first_fault_one text fault other p q =
         | inr upto' ↦
             let long : length p.texts ≡ length q.texts = omega arith in
             let parts =
-            same_texts p.texts q.texts (p.line ∷ p.others) (q.line ∷ q.others) long (sym p.split ∙ q.split) in
+            same_prefix p.texts q.texts (p.line ∷ p.others) (q.line ∷ q.others) long (sym p.split ∙ q.split) in
             let line : p.line ≡ q.line = cc in
             let said : Say p.texts q.before = subst (λ (ts : List (List ℕ)). Say ts q.before) (sym parts.0) q.said in
             let before : p.before ≡ q.before = say_one p.texts p.before q.before p.said said in
@@ -144,15 +144,6 @@ first_fault_one text fault other p q =
             fault_of_line_one q.before (length q.texts + 1) q.line fault other here q.first
       ]
     ]
-  where
-    same_texts : (xs xs' ys ys' : List (List ℕ)) → length xs ≡ length xs' → xs ++ ys ≡ xs' ++ ys' → (xs ≡ xs')
-        × (ys ≡ ys')
-    same_texts xs xs' ys ys' long e = (
-      sym (take-append_seam xs ys) ∙ ap (take (length xs)) e ∙ ap (λ n. take n (xs' ++ ys')) long
-          ∙ take-append_seam xs' ys',
-      sym (drop-append_seam xs ys) ∙ ap (drop (length xs)) e ∙ ap (λ n. drop n (xs' ++ ys')) long
-          ∙ drop-append_seam xs' ys',
-    )
 
 -- a text whose lines are sound has no faulty line
 sound_not_faulty : (text : List ℕ) (lines : List Line) (fault : InputFault) → Say (lines_of text) lines → AreSound lines
@@ -161,10 +152,10 @@ sound_not_faulty text lines fault all_said sound p =
     let said : Say (p.texts ++ p.line ∷ p.others) lines =
     subst (λ (ts : List (List ℕ)). Say ts lines) p.split all_said in
     let parts = parts_of p.texts p.line p.others lines said in
-    let front : p.before ≡ parts.front = say_one p.texts p.before parts.front p.said parts.said in
-    no_fault_among parts.front parts.line parts.behind (length p.texts + 1) p.line fault
+    let prefix : p.before ≡ parts.prefix = say_one p.texts p.before parts.prefix p.said parts.said in
+    no_fault_among parts.prefix parts.line parts.behind (length p.texts + 1) p.line fault
     (subst AreSound parts.split sound) parts.says
-    (subst (λ (ls : List Line). IsFaultOfLine ls (length p.texts + 1) p.line fault) front p.first)
+    (subst (λ (ls : List Line). IsFaultOfLine ls (length p.texts + 1) p.line fault) prefix p.first)
 
 -- inputs aren't refused
 pub inputs_not_refused : (text : List ℕ) (lines : List Line) (fault : InputFault) → AreInputs text lines

@@ -39,15 +39,15 @@ not_said in_line lines held empty some =
     cc
 
 -- what an empty slot and its setting give
-abbrev pub Taken : Settings → Settings → Setting → List Line → Type 0
-Taken old new setting lines =
+abbrev pub HasTaken : Settings → Settings → Setting → List Line → Type 0
+HasTaken old new setting lines =
     HoldSettings old lines → HoldSettings new (lines ++ stated setting ∷ []) × (¬ Repeats lines (stated setting))
 
 pub took_angle : {A E : Type 0} (result : Result A E) (old : Settings) (slot : Option ℕ) (setting : Setting) (value : ℕ)
     → setting ≡ Angle value → CanBeStated setting
     → OnOk result (old.angle ≡ None) → OnOk result (slot ≡ Some value)
     → OnOk result ((lines : List Line)
-    → Taken old (record {
+    → HasTaken old (record {
       angle = slot;
       switches = old.switches;
       distributor = old.distributor;
@@ -89,7 +89,7 @@ pub took_switches : {A E : Type 0} (result : Result A E) (old : Settings) (slot 
     (value : Word) → setting ≡ Switches value → CanBeStated setting
     → OnOk result (old.switches ≡ None) → OnOk result (slot ≡ Some value)
     → OnOk result ((lines : List Line)
-    → Taken old (record {
+    → HasTaken old (record {
       angle = old.angle;
       switches = slot;
       distributor = old.distributor;
@@ -130,7 +130,7 @@ pub took_distributor : {A E : Type 0} (result : Result A E) (old : Settings) (sl
     (value : Word) → setting ≡ Distributor value → CanBeStated setting
     → OnOk result (old.distributor ≡ None) → OnOk result (slot ≡ Some value)
     → OnOk result ((lines : List Line)
-    → Taken old (record {
+    → HasTaken old (record {
       angle = old.angle;
       switches = old.switches;
       distributor = slot;
@@ -171,7 +171,7 @@ pub took_accumulator : {A E : Type 0} (result : Result A E) (old : Settings) (sl
     (value : ℤ) → setting ≡ Accumulator value → CanBeStated setting
     → OnOk result (old.accumulator ≡ None) → OnOk result (slot ≡ Some value)
     → OnOk result ((lines : List Line)
-    → Taken old (record {
+    → HasTaken old (record {
       angle = old.angle;
       switches = old.switches;
       distributor = old.distributor;
@@ -214,7 +214,7 @@ pub took_latch : {A E : Type 0} (result : Result A E) (old : Settings) (slot : O
     (value : Bool) → setting ≡ Latch value → CanBeStated setting
     → OnOk result (old.latch ≡ None) → OnOk result (slot ≡ Some value)
     → OnOk result ((lines : List Line)
-    → Taken old (record {
+    → HasTaken old (record {
       angle = old.angle;
       switches = old.switches;
       distributor = old.distributor;
@@ -255,7 +255,7 @@ pub took_programmed : {A E : Type 0} (result : Result A E) (old : Settings) (slo
     (value : Bool) → setting ≡ Programmed value → CanBeStated setting
     → OnOk result (old.programmed ≡ None) → OnOk result (slot ≡ Some value)
     → OnOk result ((lines : List Line)
-    → Taken old (record {
+    → HasTaken old (record {
       angle = old.angle;
       switches = old.switches;
       distributor = old.distributor;
@@ -296,7 +296,7 @@ pub took_on_overflow : {A E : Type 0} (result : Result A E) (old : Settings) (sl
     (value : Bool) → setting ≡ OnOverflow value → CanBeStated setting
     → OnOk result (old.on_overflow ≡ None) → OnOk result (slot ≡ Some value)
     → OnOk result ((lines : List Line)
-    → Taken old (record {
+    → HasTaken old (record {
       angle = old.angle;
       switches = old.switches;
       distributor = old.distributor;

@@ -16,11 +16,11 @@ IsSent-then old between new sent total (Ok all) xs ys p q =
     (omega (arith, p.0, q.0, length-append xs ys), Appends-then old between new xs ys p.1 q.1)
 IsSent-then old between new sent total (Err fault) xs ys p q =
     let part : length xs + (fault.sent - total) ≡ fault.sent - sent = omega (arith, p.0, q.0) in
-    let front : take (fault.sent - sent) (xs ++ ys) ≡ xs ++ take (fault.sent - total) ys =
+    let prefix : take (fault.sent - sent) (xs ++ ys) ≡ xs ++ take (fault.sent - total) ys =
     ap (λ (n : ℕ). take n (xs ++ ys)) (sym part) ∙ take_behind (fault.sent - total) xs ys in (
       omega (arith, p.0, q.0),
       omega (arith, p.0, q.1, length-append xs ys),
-      subst (Appends old new) (sym front) (Appends-then old between new xs (take (fault.sent - total) ys) p.1 q.2),
+      subst (Appends old new) (sym prefix) (Appends-then old between new xs (take (fault.sent - total) ys) p.1 q.2),
     )
 
 -- a text that didn't go out whole, and another behind it
@@ -83,7 +83,7 @@ sent_more f xs i d within old between new begun sent total p q =
     subst (IsSent old new begun (Ok total)) (sym (pieces_more f xs i d within))
     (IsSent-then old between new begun sent (Ok total) (flat_map f (take i xs)) (f (get_or xs i d)) p q)
 
--- and a front of it
+-- and a prefix of it
 pub sent_cut : {X : Type 0} (f : X → List ℕ) (xs : List X) (i : ℕ) (d : X) → i < length xs
     → (old between new : Option (List ℕ)) (begun sent : ℕ) (fault : WriteFault)
     → IsSent old between begun (Ok sent) (flat_map f (take i xs))
@@ -92,7 +92,7 @@ pub sent_cut : {X : Type 0} (f : X → List ℕ) (xs : List X) (i : ℕ) (d : X)
 sent_cut f xs i d within old between new begun sent fault p q =
     let whole : flat_map f xs ≡ (flat_map f (take i xs) ++ f (get_or xs i d)) ++ flat_map f (drop (i + 1) xs) =
     sym (ap (flat_map f) (take-append-drop (i + 1) xs)) ∙ flat_map-append f (take (i + 1) xs) (drop (i + 1) xs)
-    ∙ ap (λ (front : List ℕ). front ++ flat_map f (drop (i + 1) xs)) (pieces_more f xs i d within) in
+    ∙ ap (λ (prefix : List ℕ). prefix ++ flat_map f (drop (i + 1) xs)) (pieces_more f xs i d within) in
     subst (IsSent old new begun (Err fault)) (sym whole)
     (IsSent-cut old new begun fault (flat_map f (take i xs) ++ f (get_or xs i d)) (flat_map f (drop (i + 1) xs))
     (IsSent-then old between new begun sent (Err fault) (flat_map f (take i xs)) (f (get_or xs i d)) p q))

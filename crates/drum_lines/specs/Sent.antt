@@ -4,7 +4,7 @@ use Rattle.std.specs.Io.KnownBytes.{Appends}
 use Rattle.drum_lines.specs.declared.failed_write.WriteFault.{WriteFault}
 
 -- Behind so many bytes a text was written: all of it, and then so many have gone out in all; or a
--- write failed, and then a front of it has gone out, whose end the fault tells.
+-- write failed, and then a prefix of it has gone out, whose end the fault tells.
 abbrev pub IsSent : Option (List ℕ) → Option (List ℕ) → ℕ → Result ℕ WriteFault → List ℕ → Type 0
 IsSent before after sent (Ok total) text = (total ≡ sent + length text) × Appends before after text
 IsSent before after sent (Err fault) text =
@@ -16,7 +16,7 @@ abbrev pub fails_by : {A : Type 0} → Result A WriteFault → ℕ
 fails_by (Ok done) = 0
 fails_by (Err fault) = 1
 
--- A text was written: all of it; or a write failed, and a front of it has gone out, of so many
+-- A text was written: all of it; or a write failed, and a prefix of it has gone out, of so many
 -- bytes as the fault tells.
 abbrev pub IsWritten : {A : Type 0} → Option (List ℕ) → Option (List ℕ) → Result A WriteFault
     → List ℕ → Type 0

@@ -9,7 +9,7 @@ use Rattle.drum_core.specs.Numeral.{digits_of}
 use Rattle.drum_core.specs.Word.{spelling}
 use Rattle.drum_times.specs.declared.entry.Entry.{Entry}
 use Rattle.drum_machine.specs.Ending.{ended_by}
-use Rattle.drum_machine.specs.Run.{Turn, time_of}
+use Rattle.drum_machine.specs.Run.{Turn, time_after}
 use Rattle.drum_machine.specs.Step.{fetched, instruction_in}
 use Rattle.drum_machine.specs.Ways.{Way, early, to, late}
 use Rattle.drum_flow.specs.RunHops.{hop_of}
@@ -120,11 +120,12 @@ turn_told times number angle turn visit word moments same is start told =
     told ∙ ap (λ (v : Visited). moments_of times angle v.place v.ins v.way v.begun) same
     ∙ ap (λ (a : ℕ). moments_of times a s.sought (instruction_in s) (ended_by turn.outcome) s.time) (sym start) in
     ap (λ (v : Visited). fetch_text number v.place word ++ times_text moments v.ended) same
-    ∙ ap (λ (w : Word). fetch_text number s.sought w ++ times_text moments (time_of turn.outcome)) is
-    ∙ ap (λ (some : Moments). fetch_text number s.sought (fetched s) ++ times_text some (time_of turn.outcome)) at_start
+    ∙ ap (λ (w : Word). fetch_text number s.sought w ++ times_text moments (time_after turn.outcome)) is
+    ∙ ap (λ (some : Moments). fetch_text number s.sought (fetched s) ++ times_text some (time_after turn.outcome))
+    at_start
     ∙ line_grouped (codes "step ") (codes " ") (decimal number) (digits_of 4 s.sought) (spelling (fetched s))
     (moments_text (moments_of times s.start s.sought (instruction_in s) (ended_by turn.outcome) s.time))
-    (codes " ended ") (decimal (time_of turn.outcome)) (codes "\n")
+    (codes " ended ") (decimal (time_after turn.outcome)) (codes "\n")
 
 -- texts of things that are seen otherwise
 pub flat_map_map : {X Y : Type 0} (f : Y → List ℕ) (g : X → Y) (xs : List X)

@@ -8,7 +8,7 @@ use Rattle.drum_machine.specs.declared.step.Step.TheVariants.{Went, Stopped}
 use Rattle.drum_machine.specs.declared.why.Why as whys
 use Rattle.drum_machine.specs.Ending.{ended_by, stops_by}
 use Rattle.drum_machine.specs.Machine.{Tells}
-use Rattle.drum_machine.specs.Run.{Turn, time_of}
+use Rattle.drum_machine.specs.Run.{Turn, time_after}
 use Rattle.drum_machine.specs.Step.{Stepped, on, stopped, fetched, instruction_in}
 use Rattle.drum_machine.specs.Ways.{Way, to}
 use Rattle.drum_flow.specs.RunHops.{hop_of}
@@ -17,7 +17,7 @@ use Rattle.drum_bound.specs.Visited.{visited}
 -- a visit of the hop's parts is the hop
 same_visit : (turn : Turn) (place begun ended : ℕ) (ins : Instruction) (way : Way)
     → place ≡ turn.origin.sought → ins ≡ instruction_in turn.origin → way ≡ ended_by turn.outcome
-    → turn.origin.time ≡ begun → ended ≡ time_of turn.outcome
+    → turn.origin.time ≡ begun → ended ≡ time_after turn.outcome
     → record { place = place; ins = ins; way = way; begun = begun; ended = ended } ≡ visited (hop_of turn)
 same_visit turn place begun ended ins way p q r s t =
     let begins : begun ≡ turn.origin.time = sym s in
@@ -34,7 +34,7 @@ pub went_on : (turn : Turn) (outcome : Stepped) (origin from next : Location) (w
 went_on turn (on s) origin from next word load read words punch used before ins is tells sought time of =
     same_visit turn from.number before used ins (to next.number)
     (ap (λ (place : Location). place.number) tells.0 ∙ sought)
-    (of ∙ ap instruction_of tells.1) (ap to tells.2 ∙ sym (ap ended_by is)) time (tells.3 ∙ sym (ap time_of is))
+    (of ∙ ap instruction_of tells.1) (ap to tells.2 ∙ sym (ap ended_by is)) time (tells.3 ∙ sym (ap time_after is))
 went_on turn (stopped held because moment) origin from next word load read words punch used before ins is tells sought
     time of = cc
 
@@ -53,4 +53,4 @@ stopped_there turn (stopped held because moment) origin from word load words why
     let same : why ≡ because = cc in
     let late : used ≡ moment = cc in
     same_visit turn from.number before used ins way (ap (λ (place : Location). place.number) place ∙ sought)
-    (of ∙ ap instruction_of fetch) (ends ∙ ap stops_by same ∙ sym (ap ended_by is)) time (late ∙ sym (ap time_of is))
+    (of ∙ ap instruction_of fetch) (ends ∙ ap stops_by same ∙ sym (ap ended_by is)) time (late ∙ sym (ap time_after is))

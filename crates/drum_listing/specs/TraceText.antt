@@ -6,7 +6,7 @@ use Rattle.drum_core.specs.Numeral.{digits_of}
 use Rattle.drum_core.specs.Word.{spelling}
 use Rattle.drum_times.specs.declared.entry.Entry.{Entry}
 use Rattle.drum_machine.specs.Ending.{ended_by}
-use Rattle.drum_machine.specs.Run.{Turn, time_of}
+use Rattle.drum_machine.specs.Run.{Turn, time_after}
 use Rattle.drum_machine.specs.Step.{fetched, instruction_in}
 use Rattle.drum_listing.specs.Moments.{moments_of}
 use Rattle.drum_listing.specs.MomentsText.{moments_text}
@@ -19,7 +19,7 @@ turn_line times number turn =
     ++ codes " " ++ spelling (fetched s)
     ++ moments_text
     (moments_of times s.start s.sought (instruction_in s) (ended_by turn.outcome) s.time)
-    ++ codes " ended " ++ decimal (time_of turn.outcome) ++ codes "\n"
+    ++ codes " ended " ++ decimal (time_after turn.outcome) ++ codes "\n"
 
 -- the lines of turns, of which the first has this number
 abbrev pub turn_lines : (Op → Entry) → ℕ → List Turn → List ℕ

@@ -115,7 +115,7 @@ fn send_fetch<O: Output>(
 ///
 /// # Errors
 ///
-/// Where a write fails, or takes none of some bytes: then a front of the line has gone out, which
+/// Where a write fails, or takes none of some bytes: then a prefix of the line has gone out, which
 /// ends where it says.
 pub fn send_step<O: Output>(
     writer: &mut O,

@@ -42,7 +42,7 @@ fn send_visits<O: Output>(
 ///
 /// # Errors
 ///
-/// Where a write fails, or takes none of some bytes: then a front of the text has gone out, of so
+/// Where a write fails, or takes none of some bytes: then a prefix of the text has gone out, of so
 /// many bytes as it says.
 pub fn list_walk<O: Output>(
     analysis: &Analysis,

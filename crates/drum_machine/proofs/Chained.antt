@@ -126,7 +126,8 @@ module _ (entry : Entry) (place : ℕ) where
 
   module _ (op : Op) (d units wait : ℕ) where
     -- The moments e of a step, whose work is short.
-    pub ended_keeps_time : entry.per * units + wait ≤ 90000000 → KeepsTime (ended entry op d place units wait) longest_step
+    pub ended_keeps_time : entry.per * units + wait ≤ 90000000
+        → KeepsTime (ended entry op d place units wait) longest_step
     ended_keeps_time work =
         let acts = chained (operands op d) (parities entry.parity) (omega arith) in
         let last = delays (entry.after + (entry.per * units + wait)) (omega (arith, work, entry.short_after)) in

@@ -4,7 +4,7 @@ use Rattle.drum_core.specs.Moment.{first}
 use Rattle.drum_core.specs.Word.{word}
 use Rattle.drum_machine.specs.declared.why.Why.TheVariants as why
 use Rattle.drum_machine.specs.Contents.{Contents, lower_word, upper_word}
-use Rattle.drum_machine.specs.Run.{time_of}
+use Rattle.drum_machine.specs.Run.{time_after}
 use Rattle.drum_machine.specs.Step.{State, stopped, contents_after, step}
 use Rattle.drum_machine.proofs.Setting.{times, state, zero_word, word_in}
 
@@ -16,7 +16,7 @@ after s = contents_after (step times s 0)
 abbrev multiplied : State
 multiplied = state (word false 1901030106) (word true 4) zero_word (pos 30000000002) true
 
-product : (time_of (step times multiplied 0) ≡ 59) × (lower_word (after multiplied) ≡ word true 12)
+product : (time_after (step times multiplied 0) ≡ 59) × (lower_word (after multiplied) ≡ word true 12)
     × (upper_word (after multiplied) ≡ word true 2)
 unfolding first
 product = (refl, refl, refl)
@@ -25,7 +25,7 @@ product = (refl, refl, refl)
 abbrev divided : State
 divided = state (word false 1401030106) (word false 5) zero_word (negsuc 16) true
 
-quotient : (time_of (step times divided 0) ≡ 64) × (lower_word (after divided) ≡ word true 3)
+quotient : (time_after (step times divided 0) ≡ 64) × (lower_word (after divided) ≡ word true 3)
     × (upper_word (after divided) ≡ word true 2)
 unfolding first
 quotient = (refl, refl, refl)
@@ -33,7 +33,7 @@ quotient = (refl, refl, refl)
 abbrev divided_by_minus : State
 divided_by_minus = state (word false 1401030106) (word true 5) zero_word (negsuc 16) true
 
-positive_quotient : (time_of (step times divided_by_minus 0) ≡ 64)
+positive_quotient : (time_after (step times divided_by_minus 0) ≡ 64)
     × (lower_word (after divided_by_minus) ≡ word false 3) × (upper_word (after divided_by_minus) ≡ word true 2)
 unfolding first
 positive_quotient = (refl, refl, refl)
@@ -41,12 +41,14 @@ positive_quotient = (refl, refl, refl)
 abbrev divided_and_reset : State
 divided_and_reset = state (word false 6401030106) (word true 5) zero_word (negsuc 16) true
 
-quotient_alone : (time_of (step times divided_and_reset 0) ≡ 64) × (lower_word (after divided_and_reset) ≡ word false 3)
+quotient_alone : (time_after (step times divided_and_reset 0) ≡ 64)
+    × (lower_word (after divided_and_reset) ≡ word false 3)
     × (upper_word (after divided_and_reset) ≡ word false 0)
 unfolding first
 quotient_alone = (refl, refl, refl)
 
--- A quotient of more than ten digits: no units. The latch goes on, and the divisor into the distributor; the rest stays.
+-- A quotient of more than ten digits: no units. The latch goes on, and the divisor into the distributor; the rest
+-- stays.
 abbrev large_quotient : State
 large_quotient = state (word false 1401030106) (word true 1) zero_word (pos 10000000000) true
 
@@ -68,7 +70,7 @@ overflow_stops = refl
 abbrev overflowing : State
 overflowing = state (word false 1001030106) (word false 1) zero_word (pos 99999999990000000000) false
 
-overflow_goes_on : (time_of (step times overflowing 0) ≡ 55) × ((after overflowing).latch ≡ true)
+overflow_goes_on : (time_after (step times overflowing 0) ≡ 55) × ((after overflowing).latch ≡ true)
     × (lower_word (after overflowing) ≡ word false 0) × (upper_word (after overflowing) ≡ word false 0)
 unfolding first
 overflow_goes_on = (refl, refl, refl, refl)

@@ -24,7 +24,7 @@ use Rattle.drum_machine.specs.Effect.{Outcome, goes, stops, effect, reads, keeps
 use Rattle.drum_machine.specs.Effect.{is_too_large, amount_of, product, holds}
 use Rattle.drum_machine.specs.Ending.{ended_by, stops_by, clock_by, declared, own_notes}
 use Rattle.drum_machine.specs.Keeps.{IsAsDeclared, IsWithoutLoad, is_load, reads_load, reads_with}
-use Rattle.drum_machine.specs.Run.{time_of}
+use Rattle.drum_machine.specs.Run.{time_after}
 use Rattle.drum_machine.specs.Step.{State, Stepped, on, stopped, step, step_with, step_of, instruction_in, is_read}
 use Rattle.drum_machine.specs.Step.{has_cards, lacks_card, leaves, clock_of}
 use Rattle.drum_machine.specs.Timing.{found, ready, reached, ended, units_of, waits_for_operand}
@@ -174,7 +174,7 @@ KeepsStart start (stopped held because moment) = Unit {0}
 -- How a step ends: by one of these ways, at x if Early and else at e.
 pub record Ends (among : List Way) (start x e : ℕ) (outcome : Stepped) : Type 0 where
   pub by : Contains among (ended_by outcome)
-  pub at : start + time_of outcome ≡ clock_by (ended_by outcome) x e
+  pub at : start + time_after outcome ≡ clock_by (ended_by outcome) x e
   pub from : KeepsStart start outcome
 
 left_ends : (among : List Way) (s : State) (x e : ℕ) (outcome : Outcome) → s.start ≤ e → EndsIn among outcome
@@ -326,7 +326,7 @@ ends_by_its_own times s wait op is =
 
 -- and so it ends at x or at e
 pub ends_then : (times : Op → Entry) (s : State) (wait : ℕ) (op : Op) → op_of (instruction_in s).op ≡ Some op
-    → s.start + time_of (step times s wait)
+    → s.start + time_after (step times s wait)
     ≡ clock_by (ended_by (step times s wait)) (ready (times op) s.sought (clock_of s))
     (ended (times op) op (instruction_in s).d s.sought (units_of op (instruction_in s).d s.contents) wait (clock_of s))
 ends_then times s wait op is =

@@ -4,7 +4,7 @@ pub mod Chained
 mod Checks
 mod Effects
 pub mod Ends
-pub mod Fronts
+pub mod Prefixes
 pub mod Going
 pub mod Judging
 pub mod Keeping

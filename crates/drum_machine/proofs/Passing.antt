@@ -56,7 +56,7 @@ pub counted_more : (marks : List Mark) (passed place : ℕ) (counts before : Lis
     → CountedBelow marks passed place counts before
     → CountedBelow marks passed (place + 1) (slice_set counts place x) before
 counted_more marks passed place counts before x below few eight is h =
-    let front = take place counts in
+    let prefix = take place counts in
     let size = length marks in
     let left = drop (place + 1) (take (length marks) counts) in
     let next : drop place (take (length marks) counts) ≡ get_or counts place 0
@@ -65,11 +65,11 @@ counted_more marks passed place counts before x below few eight is h =
       counted =
           ap (λ (t : List ℕ). t ++ passed_from marks passed (place + 1)
           (drop (place + 1) (take size (slice_set counts place x)))) (taken_more counts place x (omega arith))
-          ∙ ap (λ (d : List ℕ). (front ++ x ∷ []) ++ passed_from marks passed (place + 1) d)
+          ∙ ap (λ (d : List ℕ). (prefix ++ x ∷ []) ++ passed_from marks passed (place + 1) d)
           (left_more counts size place x below)
-          ∙ append_assoc front (x ∷ []) (passed_from marks passed (place + 1) left)
-          ∙ ap (λ (v : ℕ). front ++ (v ∷ passed_from marks passed (place + 1) left)) is
-          ∙ ap (λ (d : List ℕ). front ++ passed_from marks passed place d) (sym next)
+          ∙ append_assoc prefix (x ∷ []) (passed_from marks passed (place + 1) left)
+          ∙ ap (λ (v : ℕ). prefix ++ (v ∷ passed_from marks passed (place + 1) left)) is
+          ∙ ap (λ (d : List ℕ). prefix ++ passed_from marks passed place d) (sym next)
           ∙ h.counted;
       short = λ later.
           let other : passed ≢ place = omega arith in

@@ -37,7 +37,8 @@ takes c w = record c { distributor = w }
 abbrev pub becomes : Contents → ℤ → Contents
 becomes c z = record c { accumulator = z; remainder = None }
 
--- the accumulator becomes what twenty digits hold of a number that wants more, and the latch goes on
+-- the accumulator becomes what twenty digits hold of a number that wants more, and the latch goes
+-- on
 abbrev pub overflows : Contents → ℤ → Contents
 overflows c z = record (becomes c (signed (is_minus z) (unsigned_abs z % 10 ^ 20))) { latch = true }
 

@@ -20,26 +20,26 @@ pub record IsTurn (times : Op → Entry) (s : State) (turn : Turn) : Type 0 wher
   pub stepped : turn.outcome ≡ step times s turn.wait
 
 -- nothing follows a stop, and what follows a step that goes on is right for the state that it left
-abbrev pub Follow : Stepped → (State → Type 0) → List Turn → Type 0
-Follow (on next) Right turns = Right next
-Follow (stopped held because moment) Right turns = turns ≡ []
+abbrev pub FollowStep : Stepped → (State → Type 0) → List Turn → Type 0
+FollowStep (on next) Right turns = Right next
+FollowStep (stopped held because moment) Right turns = turns ≡ []
 
 -- A run from a state: each turn is a step from the state that the one before left, and only the
 -- last may stop.
 abbrev pub IsRun : (Op → Entry) → State → List Turn → Type 0
 IsRun times s [] = Unit {0}
 IsRun times s (turn ∷ turns) =
-    IsTurn times s turn × Follow turn.outcome (λ next. IsRun times next turns) turns
+    IsTurn times s turn × FollowStep turn.outcome (λ next. IsRun times next turns) turns
 
 -- the word times used at the end of a step
-abbrev pub time_of : Stepped → ℕ
-time_of (on s) = s.time
-time_of (stopped held why moment) = moment
+abbrev pub time_after : Stepped → ℕ
+time_after (on s) = s.time
+time_after (stopped held why moment) = moment
 
 -- the word times used after a run that begins when so many are
 abbrev pub used_from : ℕ → List Turn → ℕ
 used_from time [] = time
-used_from time (turn ∷ turns) = used_from (time_of turn.outcome) turns
+used_from time (turn ∷ turns) = used_from (time_after turn.outcome) turns
 
 -- the contents are within their limits: 2000 words on the drum, twenty digits in the accumulator
 pub record IsWhole (c : Contents) : Type 0 where

@@ -8,7 +8,7 @@ ghost use Rattle.drum_times.specs.declared.entry.Entry.{Entry};
 ghost use Rattle.drum_times.specs.Allowed.{Notes};
 ghost use Rattle.drum_machine.specs.Ending.{ended_by, clock_by, own_notes};
 ghost use Rattle.drum_machine.specs.Keeps.{IsKept};
-ghost use Rattle.drum_machine.specs.Run.{Turn, IsRun, IsWhole, time_of};
+ghost use Rattle.drum_machine.specs.Run.{Turn, IsRun, IsWhole, time_after};
 ghost use Rattle.drum_machine.specs.Step.{State, contents_after, step, instruction_in, clock_of};
 ghost use Rattle.drum_machine.specs.Timing.{ready, ended, units_of};
 ghost use Rattle.drum_machine.specs.Ways.{ways};
@@ -36,7 +36,7 @@ pub fn ends_then()
     ensures { (times : Op → Entry) (s : State) (wait : ℕ) (op : Op)
         → op_of (instruction_in s).op ≡ Some op
         → let d = (instruction_in s).d in
-        s.start + time_of (step times s wait)
+        s.start + time_after (step times s wait)
         ≡ clock_by (ended_by (step times s wait)) (ready (times op) s.sought (clock_of s))
         (ended (times op) op d s.sought (units_of op d s.contents) wait (clock_of s)) }
 {}
@@ -48,14 +48,14 @@ pub fn stays_whole()
         → IsWhole (contents_after (step times s wait)) }
 {}
 
-/// Each front of a run is a run.
-pub fn fronts_are_runs()
+/// Each prefix of a run is a run.
+pub fn prefixes_are_runs()
     ensures { (times : Op → Entry) (s : State) (turns : List Turn) (n : ℕ)
         → IsRun times s turns → IsRun times s (take n turns) }
 {}
 
-/// Each front of a run that keeps to the notes keeps to them.
-pub fn fronts_are_kept()
+/// Each prefix of a run that keeps to the notes keeps to them.
+pub fn prefixes_are_kept()
     ensures { (loads : ℕ → Option Word) (notes : Notes) (s : State) (turns : List Turn) (n : ℕ)
         → IsKept loads notes s turns → IsKept loads notes s (take n turns) }
 {}

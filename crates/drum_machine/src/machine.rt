@@ -203,8 +203,8 @@ impl Machine {
         }
     }
 
-    /// Takes a step, of 92,000,099 word times at most; one that goes on takes some. A machine that has
-    /// stopped answers the same again, and nothing changes.
+    /// Takes a step, of 92,000,099 word times at most; one that goes on takes some. A machine that
+    /// has stopped answers the same again, and nothing changes.
     pub fn step(&mut self, times: &Times, feed: &mut Feed) -> Step
         requires { used_by self.old ≤ 2 ^ 62 }
         ensures goes { GoesOn self.old

@@ -140,7 +140,8 @@ impl Registers {
         self.keep(number, i)
     }
 
-    /// Stops a division whose quotient has more than ten digits, or that is by 0: the latch goes on.
+    /// Stops a division whose quotient has more than ten digits, or that is by 0: the latch goes
+    /// on.
     fn stop_division(&mut self) -> Why
         ensures why { result ≡ Why.Quotient }
         ensures held { self.new ≡ record self.old { latch = true } }
@@ -149,8 +150,8 @@ impl Registers {
         Why::Quotient
     }
 
-    /// 14: divides, and leaves the quotient in the lower half and the remainder in the upper; it stops
-    /// where the quotient is too large.
+    /// 14: divides, and leaves the quotient in the lower half and the remainder in the upper; it
+    /// stops where the quotient is too large.
     pub fn divide(&mut self, d: u16, i: u16) -> Result<u16, Why>
         requires { is_location d ≡ true }
         ensures { HasEffect (λ c. effect c Op.Divide d i) self.old self.new result }
@@ -167,8 +168,8 @@ impl Registers {
         Ok(i)
     }
 
-    /// 64: divides, and leaves the quotient in the lower half and 0 in the upper; it stops where the
-    /// quotient is too large.
+    /// 64: divides, and leaves the quotient in the lower half and 0 in the upper; it stops where
+    /// the quotient is too large.
     pub fn divide_reset(&mut self, d: u16, i: u16) -> Result<u16, Why>
         requires { is_location d ≡ true }
         ensures { HasEffect (λ c. effect c Op.DivideReset d i) self.old self.new result }

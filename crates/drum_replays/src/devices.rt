@@ -53,7 +53,7 @@ fn fills(
 ) -> Result<(), Fail> {
     let sent = if most == 0 { 0 } else { room };
     let whole = OF_TWO_WORDS.as_bytes();
-    let front = whole.get(..sent).ok_or("a front")?;
+    let prefix = whole.get(..sent).ok_or("a prefix")?;
     let is_whole = sent == whole.len();
     let wanted = if is_whole {
         Ok(())
@@ -63,7 +63,7 @@ fn fills(
     let mut out = Writing::new(Full::new(rt.alloc(), room, most));
     let ended = report(analysis, &subject.deck, &subject.notes, &mut out);
     assert_eq!(rt; ended, wanted, "with {room} bytes, {most} a call");
-    assert_eq!(rt; out.writer.taken.as_slice(), front);
+    assert_eq!(rt; out.writer.taken.as_slice(), prefix);
     assert_eq!(rt; out.failures(), u64::from(!is_whole));
     Ok(())
 }

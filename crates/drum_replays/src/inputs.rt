@@ -213,11 +213,11 @@ fn lengths(rt: HostRuntime) -> Result<(), Fail> {
     Ok(())
 }
 
-/// Whether a front of a line of the whole inputs is itself a line.
-fn is_shorter_line(front: &str) -> bool {
-    front.starts_with('*')
-        || front == "0100 +0000000001"
-        || front.starts_with("WAIT ") && front.len() > 5
+/// Whether a prefix of a line of the whole inputs is itself a line.
+fn is_shorter_line(prefix: &str) -> bool {
+    prefix.starts_with('*')
+        || prefix == "0100 +0000000001"
+        || prefix.starts_with("WAIT ") && prefix.len() > 5
 }
 
 /// That the text that is cut within a line is inputs just where what is left of the line is a line,
@@ -229,21 +229,21 @@ fn cut_at(
     number: u16,
 ) -> Result<(), Fail> {
     for cut in 0..=line.len() {
-        let front = line.get(..cut).ok_or("a front")?;
+        let prefix = line.get(..cut).ok_or("a prefix")?;
         let is_whole = cut == 0 || cut == line.len();
-        let fault = if is_whole || is_shorter_line(front) {
+        let fault = if is_whole || is_shorter_line(prefix) {
             None
         } else {
             Some(InputFault::Line(number))
         };
-        let text = format!(in rt.alloc(); "{before}{front}")?;
-        assert_eq!(rt; fault_of(rt.alloc(), text.as_str()), fault, "at {front}");
+        let text = format!(in rt.alloc(); "{before}{prefix}")?;
+        assert_eq!(rt; fault_of(rt.alloc(), text.as_str()), fault, "at {prefix}");
     }
     Ok(())
 }
 
 #[test]
-fn fronts(rt: HostRuntime) -> Result<(), Fail> {
+fn prefixes(rt: HostRuntime) -> Result<(), Fail> {
     let mut before = String::new(rt.alloc());
     let mut number = 0u16;
     for line in WHOLE.lines() {

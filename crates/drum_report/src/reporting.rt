@@ -23,7 +23,7 @@ use tallies::Tallies;
 ///
 /// # Errors
 ///
-/// Where a write fails, or takes none of some bytes: then a front of the text has gone out, of so
+/// Where a write fails, or takes none of some bytes: then a prefix of the text has gone out, of so
 /// many bytes as it says.
 pub fn report<O: Output>(
     analysis: &Analysis,

@@ -164,77 +164,80 @@ fn keys(rt: HostRuntime) -> Result<(), Fail> {
     Ok(())
 }
 
+/// What stands behind the notes, and the line that it gets.
+const MARKS: [(&str, &str); 19] = [
+    ("mark = 1\n", "fault 16 notes kind mark\n"),
+    ("mark = [1]\n", "fault 16 notes kind mark.1\n"),
+    ("[mark]\nfrom = 1\n", "fault 16 notes kind mark\n"),
+    (
+        "[[mark]]\nfrom = 100\nmost = 1\n",
+        "fault 13 notes missing mark.1.to\n",
+    ),
+    (
+        "[[mark]]\nfrom = 100\nto = 100\nmost = 1\nhue = 1\n",
+        "fault 14 notes unknown mark.1.hue\n",
+    ),
+    (
+        "[[mark]]\nfrom = 2000\nto = true\nmost = 1\n",
+        "fault 15 notes range mark.1.from\n",
+    ),
+    (
+        "[[mark]]\nfrom = 7999\nto = 1\nmost = 1\n",
+        "fault 15 notes range mark.1.from\n",
+    ),
+    (
+        "[[mark]]\nfrom = -1\nto = 1\nmost = 1\n",
+        "fault 15 notes range mark.1.from\n",
+    ),
+    (
+        "[[mark]]\nfrom = 1.0\nto = 1\nmost = 1\n",
+        "fault 16 notes kind mark.1.from\n",
+    ),
+    (
+        "[[mark]]\nfrom = 1\nto = 8004\nmost = 1\n",
+        "fault 15 notes range mark.1.to\n",
+    ),
+    (
+        "[[mark]]\nfrom = 1\nto = 1\nmost = 10000\n",
+        "fault 15 notes range mark.1.most\n",
+    ),
+    (
+        "[[mark]]\nfrom = 1\nto = 1\nmost = 9223372036854775807\n",
+        "fault 15 notes range mark.1.most\n",
+    ),
+    (
+        "[[mark]]\nfrom = 1\nto = 1\nmost = 9223372036854775808\n",
+        "fault 11 notes toml\n",
+    ),
+    (
+        "[[mark]]\nfrom = 1\nto = 1\nmost = 1979-05-27\n",
+        "fault 16 notes kind mark.1.most\n",
+    ),
+    (
+        "[[mark]]\nfrom = 1\nto = 1\nmost = 1\ninside = 1\n",
+        "fault 15 notes range mark.1.inside\n",
+    ),
+    (
+        "[[mark]]\nfrom = 1\nto = 1\nmost = 1\n[[mark]]\nfrom = 2\nto = 1\nmost = 1\ninside = 2\n",
+        "fault 15 notes range mark.2.inside\n",
+    ),
+    (
+        "[[mark]]\nfrom = 1\nto = 1\nmost = 1\n[[mark]]\nfrom = 2\nto = 1\nmost = 1\ninside = 0\n",
+        "fault 15 notes range mark.2.inside\n",
+    ),
+    (
+        "[[mark]]\nfrom = 1\nto = 1\nmost = 1\n[[mark]]\nfrom = 2\nto = 1\nmost = 1\ninside = \"1\"\n",
+        "fault 16 notes kind mark.2.inside\n",
+    ),
+    (
+        "[[mark]]\nfrom = 1\nto = 1\nmost = 1\n[[mark]]\nfrom = 1\nto = 1\nmost = 2\n",
+        "fault 17 notes twomarks 0001 0001\n",
+    ),
+];
+
 #[test]
 fn marks(rt: HostRuntime) -> Result<(), Fail> {
-    for (more, line) in [
-        ("mark = 1\n", "fault 16 notes kind mark\n"),
-        ("mark = [1]\n", "fault 16 notes kind mark.1\n"),
-        ("[mark]\nfrom = 1\n", "fault 16 notes kind mark\n"),
-        (
-            "[[mark]]\nfrom = 100\nmost = 1\n",
-            "fault 13 notes missing mark.1.to\n",
-        ),
-        (
-            "[[mark]]\nfrom = 100\nto = 100\nmost = 1\nhue = 1\n",
-            "fault 14 notes unknown mark.1.hue\n",
-        ),
-        (
-            "[[mark]]\nfrom = 2000\nto = true\nmost = 1\n",
-            "fault 15 notes range mark.1.from\n",
-        ),
-        (
-            "[[mark]]\nfrom = 7999\nto = 1\nmost = 1\n",
-            "fault 15 notes range mark.1.from\n",
-        ),
-        (
-            "[[mark]]\nfrom = -1\nto = 1\nmost = 1\n",
-            "fault 15 notes range mark.1.from\n",
-        ),
-        (
-            "[[mark]]\nfrom = 1.0\nto = 1\nmost = 1\n",
-            "fault 16 notes kind mark.1.from\n",
-        ),
-        (
-            "[[mark]]\nfrom = 1\nto = 8004\nmost = 1\n",
-            "fault 15 notes range mark.1.to\n",
-        ),
-        (
-            "[[mark]]\nfrom = 1\nto = 1\nmost = 10000\n",
-            "fault 15 notes range mark.1.most\n",
-        ),
-        (
-            "[[mark]]\nfrom = 1\nto = 1\nmost = 9223372036854775807\n",
-            "fault 15 notes range mark.1.most\n",
-        ),
-        (
-            "[[mark]]\nfrom = 1\nto = 1\nmost = 9223372036854775808\n",
-            "fault 11 notes toml\n",
-        ),
-        (
-            "[[mark]]\nfrom = 1\nto = 1\nmost = 1979-05-27\n",
-            "fault 16 notes kind mark.1.most\n",
-        ),
-        (
-            "[[mark]]\nfrom = 1\nto = 1\nmost = 1\ninside = 1\n",
-            "fault 15 notes range mark.1.inside\n",
-        ),
-        (
-            "[[mark]]\nfrom = 1\nto = 1\nmost = 1\n[[mark]]\nfrom = 2\nto = 1\nmost = 1\ninside = 2\n",
-            "fault 15 notes range mark.2.inside\n",
-        ),
-        (
-            "[[mark]]\nfrom = 1\nto = 1\nmost = 1\n[[mark]]\nfrom = 2\nto = 1\nmost = 1\ninside = 0\n",
-            "fault 15 notes range mark.2.inside\n",
-        ),
-        (
-            "[[mark]]\nfrom = 1\nto = 1\nmost = 1\n[[mark]]\nfrom = 2\nto = 1\nmost = 1\ninside = \"1\"\n",
-            "fault 16 notes kind mark.2.inside\n",
-        ),
-        (
-            "[[mark]]\nfrom = 1\nto = 1\nmost = 1\n[[mark]]\nfrom = 1\nto = 1\nmost = 2\n",
-            "fault 17 notes twomarks 0001 0001\n",
-        ),
-    ] {
+    for (more, line) in MARKS {
         faulted(&rt, with(rt.alloc(), more)?.as_str(), line)?;
     }
     let two = "[[mark]]\nfrom = 1\nto = 1\nmost = 1\n[[mark]]\nfrom = 1\nto = 2\nmost = 2\n";
@@ -256,47 +259,50 @@ fn many_marks(rt: HostRuntime) -> Result<(), Fail> {
     )
 }
 
+/// What stands in a list, and the line that it gets.
+const LISTS: [(&str, &str); 9] = [
+    (
+        "location = 106\n",
+        "fault 13 notes missing list.1.pattern\n",
+    ),
+    (
+        "location = 106\npattern = []\n",
+        "fault 15 notes range list.1.pattern\n",
+    ),
+    (
+        "location = 106\npattern = {}\n",
+        "fault 16 notes kind list.1.pattern\n",
+    ),
+    (
+        "location = 3000\npattern = 1\n",
+        "fault 15 notes range list.1.location\n",
+    ),
+    (
+        "location = 106\npattern = [{ op = 100, d_from = 0, d_to = 0, i = 0 }]\n",
+        "fault 15 notes range list.1.pattern.1.op\n",
+    ),
+    (
+        "location = 106\npattern = [{ op = 1, d_from = 2, d_to = 1, i = 0 }]\n",
+        "fault 15 notes range list.1.pattern.1.d_to\n",
+    ),
+    (
+        "location = 106\npattern = [{ op = 1, d_from = 0, d_to = 10000, i = -1 }]\n",
+        "fault 15 notes range list.1.pattern.1.d_to\n",
+    ),
+    (
+        "location = 106\npattern = [{ op = 1, d_from = 0, d_to = 0, i = 10000 }]\n",
+        "fault 15 notes range list.1.pattern.1.i\n",
+    ),
+    (
+        "location = 106\npattern = [{ op = 1, d_from = 0, d_to = 0, i = 0 }, 7]\n",
+        "fault 16 notes kind list.1.pattern.2\n",
+    ),
+];
+
 #[test]
 fn lists(rt: HostRuntime) -> Result<(), Fail> {
     let good = "pattern = [{ op = 1, d_from = 0, d_to = 9999, i = 106 }]\n";
-    for (list, line) in [
-        (
-            "location = 106\n",
-            "fault 13 notes missing list.1.pattern\n",
-        ),
-        (
-            "location = 106\npattern = []\n",
-            "fault 15 notes range list.1.pattern\n",
-        ),
-        (
-            "location = 106\npattern = {}\n",
-            "fault 16 notes kind list.1.pattern\n",
-        ),
-        (
-            "location = 3000\npattern = 1\n",
-            "fault 15 notes range list.1.location\n",
-        ),
-        (
-            "location = 106\npattern = [{ op = 100, d_from = 0, d_to = 0, i = 0 }]\n",
-            "fault 15 notes range list.1.pattern.1.op\n",
-        ),
-        (
-            "location = 106\npattern = [{ op = 1, d_from = 2, d_to = 1, i = 0 }]\n",
-            "fault 15 notes range list.1.pattern.1.d_to\n",
-        ),
-        (
-            "location = 106\npattern = [{ op = 1, d_from = 0, d_to = 10000, i = -1 }]\n",
-            "fault 15 notes range list.1.pattern.1.d_to\n",
-        ),
-        (
-            "location = 106\npattern = [{ op = 1, d_from = 0, d_to = 0, i = 10000 }]\n",
-            "fault 15 notes range list.1.pattern.1.i\n",
-        ),
-        (
-            "location = 106\npattern = [{ op = 1, d_from = 0, d_to = 0, i = 0 }, 7]\n",
-            "fault 16 notes kind list.1.pattern.2\n",
-        ),
-    ] {
+    for (list, line) in LISTS {
         let notes = format!(in rt.alloc(); "{NOTES}[[list]]\n{list}")?;
         faulted(&rt, notes.as_str(), line)?;
     }

@@ -89,132 +89,138 @@ fn files_that_cannot_be_opened(rt: HostRuntime) -> Result<(), Fail> {
     Ok(())
 }
 
+/// The deck, the timing table and the notes, with the status and the line that they get.
+const THREE_FILES: [(&str, &str, &str, Status, &str); 9] = [
+    (
+        "no deck",
+        "none",
+        "notes",
+        Status::Refused,
+        "fault 3 deck card 1\n",
+    ),
+    (
+        "no deck",
+        "no times",
+        "empty",
+        Status::Refused,
+        "fault 3 deck card 1\n",
+    ),
+    (
+        "none",
+        "no times",
+        "notes",
+        Status::Failed,
+        "fault 52 deck open\n",
+    ),
+    (
+        "deck",
+        "none",
+        "empty",
+        Status::Failed,
+        "fault 52 times open\n",
+    ),
+    (
+        "deck",
+        "no times",
+        "none",
+        Status::Refused,
+        "fault 16 times kind op\n",
+    ),
+    (
+        "endless",
+        "no times",
+        "notes",
+        Status::Refused,
+        "fault 16 times kind op\n",
+    ),
+    (
+        "endless",
+        "times",
+        "none",
+        Status::Failed,
+        "fault 52 notes open\n",
+    ),
+    (
+        "endless",
+        "times",
+        "empty",
+        Status::Refused,
+        "fault 13 notes missing programmed\n",
+    ),
+    (
+        "endless",
+        "times",
+        "notes",
+        Status::Refused,
+        "fault 35 unbounded 0100\n",
+    ),
+];
+
 #[test]
 fn first_of_three_files(rt: HostRuntime) -> Result<(), Fail> {
-    for (deck, times, notes, status, line) in [
-        (
-            "no deck",
-            "none",
-            "notes",
-            Status::Refused,
-            "fault 3 deck card 1\n",
-        ),
-        (
-            "no deck",
-            "no times",
-            "empty",
-            Status::Refused,
-            "fault 3 deck card 1\n",
-        ),
-        (
-            "none",
-            "no times",
-            "notes",
-            Status::Failed,
-            "fault 52 deck open\n",
-        ),
-        (
-            "deck",
-            "none",
-            "empty",
-            Status::Failed,
-            "fault 52 times open\n",
-        ),
-        (
-            "deck",
-            "no times",
-            "none",
-            Status::Refused,
-            "fault 16 times kind op\n",
-        ),
-        (
-            "endless",
-            "no times",
-            "notes",
-            Status::Refused,
-            "fault 16 times kind op\n",
-        ),
-        (
-            "endless",
-            "times",
-            "none",
-            Status::Failed,
-            "fault 52 notes open\n",
-        ),
-        (
-            "endless",
-            "times",
-            "empty",
-            Status::Refused,
-            "fault 13 notes missing programmed\n",
-        ),
-        (
-            "endless",
-            "times",
-            "notes",
-            Status::Refused,
-            "fault 35 unbounded 0100\n",
-        ),
-    ] {
+    for (deck, times, notes, status, line) in THREE_FILES {
         complains(&rt, &["bound", deck, times, notes], status, line)?;
         complains(&rt, &["report", deck, times, notes], status, line)?;
     }
     Ok(())
 }
 
+/// The deck, the notes and the inputs, with the status and the line that they get.
+const FOUR_FILES: [(&str, &str, &str, Status, &str); 7] = [
+    (
+        "no deck",
+        "notes",
+        "none",
+        Status::Refused,
+        "fault 3 deck card 1\n",
+    ),
+    (
+        "deck",
+        "none",
+        "no inputs",
+        Status::Failed,
+        "fault 52 notes open\n",
+    ),
+    (
+        "deck",
+        "empty",
+        "none",
+        Status::Refused,
+        "fault 13 notes missing programmed\n",
+    ),
+    (
+        "endless",
+        "notes",
+        "no inputs",
+        Status::Refused,
+        "fault 43 inputs line 1\n",
+    ),
+    (
+        "endless",
+        "notes",
+        "none",
+        Status::Failed,
+        "fault 52 inputs open\n",
+    ),
+    (
+        "endless",
+        "notes",
+        "inputs",
+        Status::Refused,
+        "fault 35 unbounded 0100\n",
+    ),
+    (
+        "deck",
+        "notes",
+        "loaded",
+        Status::Refused,
+        "fault 47 inputs loaded 0100\n",
+    ),
+];
+
 #[test]
 fn first_of_four_files(rt: HostRuntime) -> Result<(), Fail> {
-    for (deck, notes, inputs, status, line) in [
-        (
-            "no deck",
-            "notes",
-            "none",
-            Status::Refused,
-            "fault 3 deck card 1\n",
-        ),
-        (
-            "deck",
-            "none",
-            "no inputs",
-            Status::Failed,
-            "fault 52 notes open\n",
-        ),
-        (
-            "deck",
-            "empty",
-            "none",
-            Status::Refused,
-            "fault 13 notes missing programmed\n",
-        ),
-        (
-            "endless",
-            "notes",
-            "no inputs",
-            Status::Refused,
-            "fault 43 inputs line 1\n",
-        ),
-        (
-            "endless",
-            "notes",
-            "none",
-            Status::Failed,
-            "fault 52 inputs open\n",
-        ),
-        (
-            "endless",
-            "notes",
-            "inputs",
-            Status::Refused,
-            "fault 35 unbounded 0100\n",
-        ),
-        (
-            "deck",
-            "notes",
-            "loaded",
-            Status::Refused,
-            "fault 47 inputs loaded 0100\n",
-        ),
-    ] {
+    for (deck, notes, inputs, status, line) in FOUR_FILES {
         complains(&rt, &["replay", deck, "times", notes, inputs], status, line)?;
     }
     Ok(())

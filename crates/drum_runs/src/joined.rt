@@ -29,7 +29,7 @@ fn prefixes(rt: HostRuntime) -> Result<(), Fail> {
 #[test]
 fn marks(rt: HostRuntime) -> Result<(), Fail> {
     let alloc = rt.alloc();
-    for (front, middle, end, line) in [
+    for (prefix, middle, end, line) in [
         // A second `%TIMES` stands in the timing table, and a second `%NOTES` in the notes.
         ("%TIMES\n%TIMES\n", "%NOTES\n", "", "fault 11 times toml\n"),
         ("%TIMES\n", "%TIMES\n%NOTES\n", "", "fault 11 times toml\n"),
@@ -48,7 +48,7 @@ fn marks(rt: HostRuntime) -> Result<(), Fail> {
         ("%TIMES\n", "", "", "fault 51 nopart\n"),
         ("", "%NOTES\n", "", "fault 51 nopart\n"),
     ] {
-        let text = format!(in alloc; "{TWO_WORDS}{front}{TIMES}{middle}{NOTES}{end}")?;
+        let text = format!(in alloc; "{TWO_WORDS}{prefix}{TIMES}{middle}{NOTES}{end}")?;
         let ran = run_text(alloc, text.as_bytes())?;
         assert!(rt; ran.is(Status::Refused, "", line), "{text} gives {ran:?}");
     }

@@ -56,7 +56,7 @@ fn run_to(
     run(rt.alloc(), words, &mut source, &mut input, out, err)
 }
 
-/// That words put a front of this text on an output that takes so many bytes a call, the whole where
+/// That words put a prefix of this text on an output that takes so many bytes a call, the whole where
 /// it has the room, and nothing on standard error.
 fn fills(
     rt: &(impl AllocGlobal + Abort),
@@ -69,7 +69,7 @@ fn fills(
     let mut err = Writing::new(Full::new(rt.alloc(), AMPLE, AMPLE));
     let status = run_to(rt, words, &mut out, &mut err);
     let sent = if most == 0 { 0 } else { room.min(text.len()) };
-    let front = text.as_bytes().get(..sent).ok_or("a front")?;
+    let prefix = text.as_bytes().get(..sent).ok_or("a prefix")?;
     let is_whole = sent == text.len();
     let ended = if is_whole {
         Status::Done
@@ -77,7 +77,7 @@ fn fills(
         Status::Failed
     };
     assert_eq!(rt; status, ended, "with {room} bytes, {most} a call");
-    assert_eq!(rt; out.writer.taken.as_slice(), front);
+    assert_eq!(rt; out.writer.taken.as_slice(), prefix);
     assert_eq!(rt; out.failures(), u64::from(!is_whole));
     assert_eq!(rt; err.calls(), 0);
     Ok(())
@@ -163,8 +163,8 @@ fn traces_that_leave_to_full_outputs(rt: HostRuntime) -> Result<(), Fail> {
         let mut err = Writing::new(Full::new(rt.alloc(), AMPLE, AMPLE));
         let status = run_to(&rt, &words, &mut out, &mut err);
         assert_eq!(rt; status, Status::Failed, "with {room} bytes");
-        let front = text.get(..room).ok_or("a front")?;
-        assert_eq!(rt; out.writer.taken.as_slice(), front);
+        let prefix = text.get(..room).ok_or("a prefix")?;
+        assert_eq!(rt; out.writer.taken.as_slice(), prefix);
         assert_eq!(rt; out.failures(), 1);
         assert_eq!(rt; err.calls(), 0);
     }
@@ -195,7 +195,7 @@ fn complaints_to_full_outputs(rt: HostRuntime) -> Result<(), Fail> {
     for room in 0..=line.len() {
         let words = ["bound", "no deck", "times", "notes"];
         let sent = complains_to(&rt, &words, room, Status::Refused)?;
-        assert_eq!(rt; sent.as_slice(), line.get(..room).ok_or("a front")?);
+        assert_eq!(rt; sent.as_slice(), line.get(..room).ok_or("a prefix")?);
         complains_to(
             &rt,
             &["bound", "none", "times", "notes"],

@@ -115,59 +115,64 @@ fn without_marks_and_lists(rt: HostRuntime) -> Result<(), Fail> {
     Ok(())
 }
 
+/// Eight marks.
+const EIGHT: [(u16, u16, u16); 8] = [
+    (0, 0, 9999),
+    (0, 1, 9999),
+    (0, 2, 9999),
+    (0, 3, 9999),
+    (0, 4, 9999),
+    (0, 5, 9999),
+    (0, 6, 9999),
+    (0, 7, 9999),
+];
+
+/// A deck, notes and marks beside them, and what becomes of it.
+const MARKED: [(&str, &str, [(u16, u16, u16); 2], &str); 7] = [
+    (BRANCH_BACK, NOTES, [(100, 100, 3), (0, 0, 0)], "accepted"),
+    (
+        BRANCH_BACK,
+        NOTES,
+        [(100, 100, 9999), (100, 110, 199)],
+        "accepted",
+    ),
+    (
+        BRANCH_BACK,
+        NOTES,
+        [(100, 100, 9999), (100, 110, 200)],
+        "toolarge 4020000",
+    ),
+    (
+        BRANCH_BACK,
+        NOTES,
+        [(100, 110, 3), (110, 100, 3)],
+        "unbounded 0100",
+    ),
+    (ROUND, EITHER, [(106, 100, 0), (0, 0, 0)], "accepted"),
+    (
+        ROUND,
+        EITHER,
+        [(0, 0, 9999), (0, 1, 9999)],
+        "toolarge 200000000",
+    ),
+    (
+        "0100 +2401060106\n0106 +0100000100\nSTART 0100\n",
+        EITHER,
+        [(0, 0, 9999), (0, 1, 9999)],
+        "alters 0100 0106",
+    ),
+];
+
 #[test]
 fn with_marks(rt: HostRuntime) -> Result<(), Fail> {
     let alloc = rt.alloc();
-    for (deck, notes, edges, wanted) in [
-        (BRANCH_BACK, NOTES, [(100, 100, 3), (0, 0, 0)], "accepted"),
-        (
-            BRANCH_BACK,
-            NOTES,
-            [(100, 100, 9999), (100, 110, 199)],
-            "accepted",
-        ),
-        (
-            BRANCH_BACK,
-            NOTES,
-            [(100, 100, 9999), (100, 110, 200)],
-            "toolarge 4020000",
-        ),
-        (
-            BRANCH_BACK,
-            NOTES,
-            [(100, 110, 3), (110, 100, 3)],
-            "unbounded 0100",
-        ),
-        (ROUND, EITHER, [(106, 100, 0), (0, 0, 0)], "accepted"),
-        (
-            ROUND,
-            EITHER,
-            [(0, 0, 9999), (0, 1, 9999)],
-            "toolarge 200000000",
-        ),
-        (
-            "0100 +2401060106\n0106 +0100000100\nSTART 0100\n",
-            EITHER,
-            [(0, 0, 9999), (0, 1, 9999)],
-            "alters 0100 0106",
-        ),
-    ] {
+    for (deck, notes, edges, wanted) in MARKED {
         judged(&rt, deck, marks(alloc, notes, &edges)?.as_str(), wanted)?;
     }
-    let eight = [
-        (0, 0, 9999),
-        (0, 1, 9999),
-        (0, 2, 9999),
-        (0, 3, 9999),
-        (0, 4, 9999),
-        (0, 5, 9999),
-        (0, 6, 9999),
-        (0, 7, 9999),
-    ];
     judged(
         &rt,
         ROUND,
-        marks(alloc, EITHER, &eight)?.as_str(),
+        marks(alloc, EITHER, &EIGHT)?.as_str(),
         "toolarge 200000000000000000000000000000000",
     )
 }

@@ -118,12 +118,12 @@ entry_said : (at : List ℕ) (fields : Members) (op : Op) → entry_faults op at
     × IsEntry op fields entry
 entry_said at fields op none =
     let keys : List Fault = unknown_of op at fields ++ missing_of op at fields in
-    let front : unknown_of op at fields ++ missing_of op at fields ++ plain_faults at fields ≡ [] =
+    let prefix : unknown_of op at fields ++ missing_of op at fields ++ plain_faults at fields ≡ [] =
     none_before (keys ++ plain_faults at fields) (rest_faults (form_of op) at fields) none in
     let no_key : unknown_of op at fields ++ missing_of op at fields ≡ [] =
-    none_before keys (plain_faults at fields) front in
+    none_before keys (plain_faults at fields) prefix in
     let said = form_said at fields (form_of op) (none_behind (unknown_of op at fields) (missing_of op at fields) no_key)
-    (none_behind keys (plain_faults at fields) front)
+    (none_behind keys (plain_faults at fields) prefix)
     (none_behind (keys ++ plain_faults at fields) (rest_faults (form_of op) at fields) none) in (
       said.0,
       record {

@@ -1,12 +1,12 @@
 -- What values are.
 use Rattle.std.specs.Prelude.{◌≡◌, ℕ, List, Contains}
-use Rattle.drum_times.specs.declared.document.wrong.Wrong.{Wrong}
-use Rattle.drum_times.specs.declared.document.wrong.Wrong.TheVariants.{Kind, Range}
+use Rattle.drum_times.specs.declared.document.value.ValueFault.{ValueFault}
+use Rattle.drum_times.specs.declared.document.value.ValueFault.TheVariants.{Kind, Range}
 use Rattle.drum_times.specs.Document.{Fault, kind, range}
 use Rattle.toml.specs.Data.{Data, string}
 
 -- the fault of a value at a path
-abbrev pub fault_of : Wrong → List ℕ → Fault
+abbrev pub fault_of : ValueFault → List ℕ → Fault
 fault_of Kind path = kind path
 fault_of Range path = range path
 

@@ -6,8 +6,8 @@ ghost use Rattle.toml.specs.View.{table_view};
 
 pub mod fields;
 pub mod tables;
+mod value;
 mod values;
-mod wrong;
 
 use crate::fault::NoteFault;
 use std::alloc::Global;

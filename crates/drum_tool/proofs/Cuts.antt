@@ -24,7 +24,7 @@ begins_more byte line text (inr same) = inr (ap (λ (xs : List ℕ). byte ∷ xs
 whole_more : (byte : ℕ) (text : List ℕ) (n : ℕ) → 0 < length (take n text) → AreWholeLines (take n text)
     → AreWholeLines (byte ∷ take n text)
 whole_more byte text n some (inl none) = absurd (omega (arith, some, ap length none))
-whole_more byte text n some (inr (front, spelled)) = inr (byte ∷ front, ap (λ (xs : List ℕ). byte ∷ xs) spelled)
+whole_more byte text n some (inr (prefix, spelled)) = inr (byte ∷ prefix, ap (λ (xs : List ℕ). byte ∷ xs) spelled)
 
 -- Where a line of a text begins: at the text's beginning, if it is the first.
 record Found (line text : List ℕ) (j : ℕ) : Type 0 where
@@ -165,17 +165,18 @@ begins_in_all line text n k plain fits whole within at =
       begins = go at.begins all;
     }
   where
-    feed : (front : List ℕ) → take n text ≡ front ++ codes "\n" → drop k (take n text) ≡ line → ⊥
-    feed front ends same =
-        let long : length front + 1 ≡ length (take n text) = sym (ap length ends ∙ length-append front (codes "\n")) in
-        let last : get_or (take n text) (length front) 0 ≡ 10 =
-        ap (λ (xs : List ℕ). get_or xs (length front) 0) ends ∙ get_or-append_seam front 10 [] 0 in
-        let place : k + (length front - k) ≡ length front = omega (arith, long, within) in
-        let there : get_or line (length front - k) 0 ≡ 10 =
-        ap (λ (xs : List ℕ). get_or xs (length front - k) 0) (sym same)
-        ∙ get_or-drop k (take n text) (length front - k) 0
+    feed : (prefix : List ℕ) → take n text ≡ prefix ++ codes "\n" → drop k (take n text) ≡ line → ⊥
+    feed prefix ends same =
+        let long : length prefix + 1
+        ≡ length (take n text) = sym (ap length ends ∙ length-append prefix (codes "\n")) in
+        let last : get_or (take n text) (length prefix) 0 ≡ 10 =
+        ap (λ (xs : List ℕ). get_or xs (length prefix) 0) ends ∙ get_or-append_seam prefix 10 [] 0 in
+        let place : k + (length prefix - k) ≡ length prefix = omega (arith, long, within) in
+        let there : get_or line (length prefix - k) 0 ≡ 10 =
+        ap (λ (xs : List ℕ). get_or xs (length prefix - k) 0) (sym same)
+        ∙ get_or-drop k (take n text) (length prefix - k) 0
         ∙ ap (λ (i : ℕ). get_or (take n text) i 0) place ∙ last in
-        plain_no_feed line (length front - k) plain
+        plain_no_feed line (length prefix - k) plain
         (omega (arith, long, within, ap length same, length-drop k (take n text))) there
 
     go : Begins line (drop k (take n text)) → drop k text ≡ drop k (take n text) ++ drop n text
@@ -204,9 +205,9 @@ no_line line text rest next feed spelled split other (inr same) =
     omega (arith, ap length spelled, ap length same, length-append line rest, ap length split)
 
 -- nor where none of it does
-pub no_front : (line text : List ℕ) → ((rest : List ℕ) → text ≡ line ++ rest → ⊥) → ¬ Begins line text
-no_front line text none (inl (rest, begins)) = none (codes "\n" ++ rest) (begins ∙ append_assoc line (codes "\n") rest)
-no_front line text none (inr same) = none [] (same ∙ sym (append-nil line))
+pub no_prefix : (line text : List ℕ) → ((rest : List ℕ) → text ≡ line ++ rest → ⊥) → ¬ Begins line text
+no_prefix line text none (inl (rest, begins)) = none (codes "\n" ++ rest) (begins ∙ append_assoc line (codes "\n") rest)
+no_prefix line text none (inr same) = none [] (same ∙ sym (append-nil line))
 
 -- The first place at which a plain line begins, in whole lines, cuts the text.
 pub is_cut : (mark text behind : List ℕ) (at : ℕ) → IsPlain mark → at ≤ length text → AreWholeLines (take at text)

@@ -21,7 +21,7 @@ use Rattle.drum_machine.specs.Keeps.{IsAsDeclared, Leaves, reads_load}
 use Rattle.drum_machine.specs.Machine.{GoesOn, Tells, Becomes, TakesStep, state_in, used_by, sought_by, op_in}
 use Rattle.drum_machine.specs.Machine.{punched_with}
 use Rattle.drum_machine.specs.Monitor.{HasSeen, IsToldOf, answer_of, counts_over}
-use Rattle.drum_machine.specs.Run.{Turn, IsFirstState, time_of, used_from}
+use Rattle.drum_machine.specs.Run.{Turn, IsFirstState, time_after, used_from}
 use Rattle.drum_machine.specs.Step.{State, Stepped, on, stopped, contents_after, fetched}
 use Rattle.drum_flow.specs.Walk.{Setting}
 use Rattle.drum_lines.specs.declared.verdict.Verdict.TheVariants.{Kept, Left}
@@ -115,7 +115,7 @@ module _ (g : Setting) where
       module _ (said : answers.Step) (after : Machine) (rest : Feed)
           (takes : TakesStep g.times before.machine before.feed said after rest) where
         -- they use no more than the bound, where they are seen,
-        seen_bounded : (seer : Monitor) → HasSeen g.loads g.notes seer more → time_of turn.outcome ≤ bound
+        seen_bounded : (seer : Monitor) → HasSeen g.loads g.notes seer more → time_after turn.outcome ≤ bound
         seen_bounded seer seen =
             subst (λ (used : ℕ). used ≤ bound) (used_more 0 turns turn)
             (bounded first more begins.first
@@ -157,7 +157,7 @@ module _ (g : Setting) where
                   seen = seen;
                   silent = silent;
                   goes = becomes.0;
-                  within = subst (λ (used : ℕ). used ≤ bound) (ap time_of onto) (seen_bounded seer seen);
+                  within = subst (λ (used : ℕ). used ≤ bound) (ap time_after onto) (seen_bounded seer seen);
                   counted = counts_more turns turn before.steps following.counted;
                   each_takes_time = omega (arith, later becomes.0, following.each_takes_time);
                 }
@@ -201,7 +201,7 @@ module _ (g : Setting) where
                 },
               );
               of_run = replayed;
-              within = subst (λ (time : ℕ). time ≤ bound) (ap time_of is) (seen_bounded seer seen);
+              within = subst (λ (time : ℕ). time ≤ bound) (ap time_after is) (seen_bounded seer seen);
               short = few;
             }
           where

@@ -1,9 +1,9 @@
--- Turns that lead on: a front of the run that a state and waits fix.
+-- Turns that lead on: a prefix of the run that a state and waits fix.
 use Rattle.std.proofs.Common.{◌≡◌, ℕ, List, [], ◌∷◌, ◌++◌, refl, ap, sym, subst, ◌∙◌}
 use Rattle.drum_core.specs.declared.op.Op.{Op}
 use Rattle.drum_times.specs.declared.entry.Entry.{Entry}
 use Rattle.drum_machine.specs.Machine.{op_in, wait_with, waits_with}
-use Rattle.drum_machine.specs.Run.{Turn, IsTurn, IsRun, Follow, time_of, used_from}
+use Rattle.drum_machine.specs.Run.{Turn, IsTurn, IsRun, FollowStep, time_after, used_from}
 use Rattle.drum_machine.specs.Step.{State, Stepped, on, stopped, MayWait}
 use Rattle.drum_tool.specs.Following as spec
 use Rattle.drum_tool.specs.Following.{Goes}
@@ -20,15 +20,15 @@ goes_goes (on next) Right Other so goes = so next goes
 goes_goes (stopped held because moment) Right Other so goes = absurd goes
 
 goes_follows : (outcome : Stepped) (Right Other : State → Type 0) (turns : List Turn)
-    → ((next : State) → Right next → Other next) → Goes outcome Right → Follow outcome Other turns
+    → ((next : State) → Right next → Other next) → Goes outcome Right → FollowStep outcome Other turns
 goes_follows (on next) Right Other turns so goes = so next goes
 goes_follows (stopped held because moment) Right Other turns so goes = absurd goes
 
 -- the time after turns is that after the last
 pub used_more : (time : ℕ) (turns : List Turn) (turn : Turn)
-    → used_from time (turns ++ turn ∷ []) ≡ time_of turn.outcome
+    → used_from time (turns ++ turn ∷ []) ≡ time_after turn.outcome
 used_more time [] turn = refl
-used_more time (one ∷ turns) turn = used_more (time_of one.outcome) turns turn
+used_more time (one ∷ turns) turn = used_more (time_after one.outcome) turns turn
 
 module _ (times : Op → Entry) where
   abbrev Lead : State → List ℕ → List Turn → State → List ℕ → Type 0
@@ -44,7 +44,7 @@ module _ (times : Op → Entry) where
   is_turn : (s : State) (waits : List ℕ) → MayBe s waits → IsTurn times s (turn_at s waits)
   is_turn s waits may = record { from_here = refl; may_wait = may; stepped = refl }
 
-  last_follows : (outcome : Stepped) → Follow outcome (λ next. IsRun times next []) []
+  last_follows : (outcome : Stepped) → FollowStep outcome (λ next. IsRun times next []) []
   last_follows (on next) = tt
   last_follows (stopped held because moment) = refl
 
@@ -101,7 +101,7 @@ module _ (times : Op → Entry) where
 
   used_along : (outcome : Stepped) (turns : List Turn) (now : State) (Right : State → Type 0)
       → ((next : State) → Right next → used_from next.time turns ≡ now.time) → Goes outcome Right
-      → used_from (time_of outcome) turns ≡ now.time
+      → used_from (time_after outcome) turns ≡ now.time
   used_along (on next) turns now Right so goes = so next goes
   used_along (stopped held because moment) turns now Right so goes = absurd goes
 

@@ -9,8 +9,8 @@ use Rattle.drum_machine.specs.declared.card.Card.{Card}
 use Rattle.drum_machine.specs.Contents.{Contents}
 use Rattle.drum_machine.specs.FirstState.{IsFirstDrum, IsSetUp}
 use Rattle.drum_machine.specs.Machine.{op_in, wait_with, waits_with}
-use Rattle.drum_machine.specs.Run.{Turn, IsTurn, IsRun, Follow}
-use Rattle.drum_machine.proofs.Fronts.{run_front}
+use Rattle.drum_machine.specs.Run.{Turn, IsTurn, IsRun, FollowStep}
+use Rattle.drum_machine.proofs.Prefixes.{run_prefix}
 use Rattle.drum_machine.specs.Step.{State, Stepped, on, stopped, step}
 use Rattle.drum_flow.specs.Walk.{Setting}
 use Rattle.drum_tool.specs.Replay.{Given, AreFed, IsReplayed}
@@ -117,8 +117,8 @@ module _ (times : Op → Entry) where
   one_turn s waits turn other is fed is_other other_fed =
       the_turn s waits turn is fed ∙ sym (the_turn s waits other is_other other_fed)
 
-  one_rest : (outcome : Stepped) (turns others : List Turn) → Follow outcome (λ next. IsRun times next turns) turns
-      → Follow outcome (λ next. IsRun times next others) others
+  one_rest : (outcome : Stepped) (turns others : List Turn) → FollowStep outcome (λ next. IsRun times next turns) turns
+      → FollowStep outcome (λ next. IsRun times next others) others
       → ((next : State) → IsRun times next turns → IsRun times next others → turns ≡ others) → turns ≡ others
   one_rest (on next) turns others follow follow_other so = so next follow follow_other
   one_rest (stopped held because moment) turns others follow follow_other so = follow ∙ sym follow_other
@@ -131,8 +131,8 @@ module _ (times : Op → Entry) where
   one_from (turn ∷ turns) [] s waits run fed run_other fed_other long = absurd (omega (arith, long))
   one_from (turn ∷ turns) (other ∷ others) s waits run fed run_other fed_other long =
       let here : other ≡ turn = sym (one_turn s waits turn other run.0 fed.0 run_other.0 fed_other.0) in
-      let follow_other : Follow turn.outcome (λ next. IsRun times next others) others =
-      subst (λ (one : Turn). Follow one.outcome (λ next. IsRun times next others) others) here run_other.1 in
+      let follow_other : FollowStep turn.outcome (λ next. IsRun times next others) others =
+      subst (λ (one : Turn). FollowStep one.outcome (λ next. IsRun times next others) others) here run_other.1 in
       let waits_other : AreFed times (waits_with (op_in turn.origin) turn.origin waits) others =
       subst (λ (one : Turn). AreFed times (waits_with (op_in one.origin) one.origin waits) others) here fed_other.1 in
       let rest : turns ≡ others =
@@ -151,20 +151,20 @@ one_run g given turns others is is_other long =
     (subst (λ (s : State). IsRun g.times s others) same is_other.run) is_other.fed long
 
 -- Waits that are fed to turns are fed to the first of them,
-fed_front : (times : Op → Entry) (waits : List ℕ) (turns : List Turn) (n : ℕ) → AreFed times waits turns
+fed_prefix : (times : Op → Entry) (waits : List ℕ) (turns : List Turn) (n : ℕ) → AreFed times waits turns
     → AreFed times waits (take n turns)
-fed_front times waits turns zero fed = tt
-fed_front times waits [] (suc n) fed = tt
-fed_front times waits (turn ∷ turns) (suc n) fed =
-    (fed.0, fed_front times (waits_with (op_in turn.origin) turn.origin waits) turns n fed.1)
+fed_prefix times waits turns zero fed = tt
+fed_prefix times waits [] (suc n) fed = tt
+fed_prefix times waits (turn ∷ turns) (suc n) fed =
+    (fed.0, fed_prefix times (waits_with (op_in turn.origin) turn.origin waits) turns n fed.1)
 
 -- and so the first turns of a run are those of a shorter one.
-pub front_replayed : (g : Setting) (given : Given) (turns : List Turn) (n : ℕ) → IsReplayed g given turns
+pub prefix_replayed : (g : Setting) (given : Given) (turns : List Turn) (n : ℕ) → IsReplayed g given turns
     → IsReplayed g given (take n turns)
-front_replayed g given turns n is = record {
+prefix_replayed g given turns n is = record {
   first = is.first;
   set_up = is.set_up;
   reader = is.reader;
-  run = run_front g.times is.first turns n is.run;
-  fed = fed_front g.times given.waits turns n is.fed;
+  run = run_prefix g.times is.first turns n is.run;
+  fed = fed_prefix g.times given.waits turns n is.fed;
 }

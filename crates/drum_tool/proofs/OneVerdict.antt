@@ -10,7 +10,7 @@ use Rattle.drum_machine.specs.Counts.{no_counts}
 use Rattle.drum_machine.specs.Keeps.{AreKept, IsKeptTurn, IsAsDeclared, Leaves, GoesTo, counts_after}
 use Rattle.drum_machine.specs.Machine.{op_in, waits_with}
 use Rattle.drum_machine.specs.Monitor.{counts_over}
-use Rattle.drum_machine.specs.Run.{Turn, IsRun, Follow, used_from}
+use Rattle.drum_machine.specs.Run.{Turn, IsRun, FollowStep, used_from}
 use Rattle.drum_machine.specs.Step.{State, Stepped, on, stopped}
 use Rattle.drum_flow.specs.Walk.{Setting}
 use Rattle.drum_lines.specs.declared.verdict.Verdict.{Verdict}
@@ -75,14 +75,14 @@ module _ (g : Setting) where
 
   stops_last : (outcome : Stepped) (held : Contents) (because : whys.Why) (moment : ℕ) (Right : State → Type 0)
       (turns : List Turn) (last : Turn)
-      → outcome ≡ stopped held because moment → Follow outcome Right (turns ++ last ∷ []) → ⊥
+      → outcome ≡ stopped held because moment → FollowStep outcome Right (turns ++ last ∷ []) → ⊥
   stops_last (on next) held because moment Right turns last stops follow = cc
   stops_last (stopped then why time) held because moment Right turns last stops follow = some_last turns last follow
 
   -- none comes with a turn that keeps to the notes, where turns follow it
   ends_last : (counts : List ℕ) (turn : Turn) (Right : State → Type 0) (turns : List Turn) (last : Turn)
       → Ends counts turn → KeptTurn counts turn
-      → Follow turn.outcome Right (turns ++ last ∷ []) → ⊥
+      → FollowStep turn.outcome Right (turns ++ last ∷ []) → ⊥
   ends_last counts turn Right turns last (inl (kept, (held, because, moment, stops))) keeps follow =
       stops_last turn.outcome held because moment Right turns last stops follow
   ends_last counts turn Right turns last (inr (what, leaves)) keeps follow =
@@ -98,7 +98,7 @@ module _ (g : Setting) where
 
   -- what follows the first turn, where that goes on
   ending_rest : (outcome : Stepped) (waits counts : List ℕ) (turns : List Turn) (last : Turn)
-      → Follow outcome (λ next. IsRun g.times next (turns ++ last ∷ [])) (turns ++ last ∷ [])
+      → FollowStep outcome (λ next. IsRun g.times next (turns ++ last ∷ [])) (turns ++ last ∷ [])
       → AreFed g.times waits (turns ++ last ∷ [])
       → AreKept g.loads g.notes counts turns → Ends (counts_over g.notes counts turns) last
       → (next : State) → outcome ≡ on next → Ending next waits counts turns last
@@ -114,7 +114,7 @@ module _ (g : Setting) where
       absurd (some_last turns last follow)
 
   goes_or_none : (outcome : Stepped) (Right : State → Type 0) (turns : List Turn) (last : Turn)
-      → Follow outcome Right (turns ++ last ∷ [])
+      → FollowStep outcome Right (turns ++ last ∷ [])
       → (next : State) × (outcome ≡ on next)
   goes_or_none (on next) Right turns last follow = (next, refl)
   goes_or_none (stopped held because moment) Right turns last follow = absurd (some_last turns last follow)

@@ -69,11 +69,6 @@ unread_replay g given (faults.Notes fault) is = absurd is
 unread_replay g given (faults.Inputs fault) is = absurd is
 unread_replay g given (faults.Loaded location) is = refl
 
-pub replayed_unread : {A : Type 0} (g : Setting) (given : Given) (result : Result A Fault)
-    → IfErr result (IsReplayFault g given) → failed_by result ≡ 0
-replayed_unread g given (Ok found) is = refl
-replayed_unread g given (Err fault) is = unread_replay g given fault is
-
 -- what holds where bytes are known
 pub some_map : (left : Option (List ℕ)) (P Q : List ℕ → Type 0) → IfSome left P → ((bytes : List ℕ) → P bytes → Q bytes)
     → IfSome left Q

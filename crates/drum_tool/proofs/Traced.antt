@@ -130,18 +130,18 @@ either_map (Err e) q f h = h e q
 -- ---- what goes out
 
 -- a text that goes out whole, and another behind it
-pub gets_behind : (old mid new : Device) (front text : List ℕ) (ending status : Status) → GetsAll old mid front
+pub gets_behind : (old mid new : Device) (prefix text : List ℕ) (ending status : Status) → GetsAll old mid prefix
     → GetsResult mid new text ending status
-    → GetsResult old new (front ++ text) ending status
-gets_behind old mid new front text ending status all (inl (rest, is)) =
-    inl ((Appends-then old.written mid.written new.written front text all.0 rest.0, rest.1 ∙ all.1), is)
-gets_behind old mid new front text ending status all (inr (rest, is)) =
+    → GetsResult old new (prefix ++ text) ending status
+gets_behind old mid new prefix text ending status all (inl (rest, is)) =
+    inl ((Appends-then old.written mid.written new.written prefix text all.0 rest.0, rest.1 ∙ all.1), is)
+gets_behind old mid new prefix text ending status all (inr (rest, is)) =
     inr (
       (
-        length front + rest.0,
-        omega (arith, rest.1, length-append front text),
-        subst (Appends old.written new.written) (sym (take_behind rest.0 front text))
-            (Appends-then old.written mid.written new.written front (take rest.0 text) all.0 rest.2),
+        length prefix + rest.0,
+        omega (arith, rest.1, length-append prefix text),
+        subst (Appends old.written new.written) (sym (take_behind rest.0 prefix text))
+            (Appends-then old.written mid.written new.written prefix (take rest.0 text) all.0 rest.2),
         rest.3 ∙ ap (λ (n : ℕ). n + 1) all.1,
       ),
       is,

@@ -11,7 +11,7 @@ use Rattle.drum_tool.specs.Documents.{Texts, Say, SayNone}
 
 -- nothing, or bytes whose last is a line feed
 abbrev pub AreWholeLines : List ℕ → Type 0
-AreWholeLines text = (text ≡ []) ⊎ ((front : List ℕ) × (text ≡ front ++ codes "\n"))
+AreWholeLines text = (text ≡ []) ⊎ ((prefix : List ℕ) × (text ≡ prefix ++ codes "\n"))
 
 -- the text begins with the line, and a line feed or its end stands behind it
 abbrev pub Begins : List ℕ → List ℕ → Type 0

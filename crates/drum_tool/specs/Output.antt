@@ -18,13 +18,13 @@ abbrev pub GetsAll : Device → Device → List ℕ → Type 0
 GetsAll before after text =
     Appends before.written after.written text × (after.failures ≡ before.failures)
 
--- a write fails, and it has got a front of the text
+-- a write fails, and it has got a prefix of the text
 abbrev pub GetsFront : Device → Device → List ℕ → Type 0
 GetsFront before after text =
     (count : ℕ) × (count < length text) × Appends before.written after.written (take count text)
     × (after.failures ≡ before.failures + 1)
 
--- of a complaint it gets all, or a front
+-- of a complaint it gets all, or a prefix
 abbrev pub GetsComplaint : Device → Device → List ℕ → Type 0
 GetsComplaint before after text = GetsAll before after text ⊎ GetsFront before after text
 
@@ -40,7 +40,7 @@ ended_with (Ok done) status = status
 ended_with (Err fault) status = Failed
 
 -- A result goes to standard output, and a complaint to standard error, where a write that fails
--- changes nothing. Of a text that is given up standard output gets a front. The other device gets
+-- changes nothing. Of a text that is given up standard output gets a prefix. The other device gets
 -- nothing.
 abbrev pub Tells : Reply → Device → Device → Device → Device → Status → Type 0
 Tells (says text done) out out' err err' status =

@@ -14,8 +14,9 @@ pub struct Parts<'a> {
 }
 
 impl Parts<'_> {
-    /// The parts of a text: the first line that is exactly `%TIMES` ends the deck, and the first such
-    /// `%NOTES` line after it the times. A part is all bytes between, its last line feed with them.
+    /// The parts of a text: the first line that is exactly `%TIMES` ends the deck, and the first
+    /// such `%NOTES` line after it the times. A part is all bytes between, its last line feed with
+    /// them.
     pub fn of(text: &[u8]) -> Option<Parts<'_>>
         ensures found { IfSome result (λ parts.
             AreParts text.now (texts_of parts)) }
@@ -41,13 +42,13 @@ fn are_whole_lines(text: &[u8]) -> bool
     }
 }
 
-/// What stands behind a front that the text begins with.
-fn behind<'a>(text: &'a [u8], front: &[u8]) -> Option<&'a [u8]>
+/// What stands behind a prefix that the text begins with.
+fn behind<'a>(text: &'a [u8], prefix: &[u8]) -> Option<&'a [u8]>
     ensures { MatchOption result
-        ((rest : List ℕ) → text.now ≢ front.now ++ rest)
-        (λ rest. text.now ≡ front.now ++ rest.now) }
+        ((rest : List ℕ) → text.now ≢ prefix.now ++ rest)
+        (λ rest. text.now ≡ prefix.now ++ rest.now) }
 {
-    text.strip_prefix(front)
+    text.strip_prefix(prefix)
 }
 
 /// What stands behind a line that the text begins with, and behind its line feed.

@@ -21,12 +21,12 @@ ghost use Rattle.drum_tool.specs.Words.{Answers};
 use drum_command::laws::each_line_is_taken;
 
 /// What is given fixes one run: as many of its first turns are the same, and those of fewer are a
-/// front of those of more.
+/// prefix of those of more.
 pub fn one_run()
     ensures same { (g : Setting) (given : Given) (turns others : List Turn)
         → IsReplayed g given turns → IsReplayed g given others → length turns ≡ length others
         → turns ≡ others }
-    ensures fronts { (g : Setting) (given : Given) (turns : List Turn) (n : ℕ)
+    ensures prefixes { (g : Setting) (given : Given) (turns : List Turn) (n : ℕ)
         → IsReplayed g given turns → IsReplayed g given (take n turns) }
 {}
 

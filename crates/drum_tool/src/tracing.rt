@@ -72,7 +72,8 @@ fn send_steps<O: Output>(
 ///
 /// # Errors
 ///
-/// Where a write fails: then a front of the lines has gone out, and the run is followed no further.
+/// Where a write fails: then a prefix of the lines has gone out, and the run is followed no
+/// further.
 pub fn trace<O: Output>(
     documents: &Documents,
     begun: Begun,

@@ -7,7 +7,7 @@ use crate::latest::Latest;
 use crate::leap::Leap;
 use drum_core::REVOLUTION;
 
-/// The latest end of a hop from a key. It is made by [`Made::end`] alone, which counts it.
+/// The latest end of a hop from a key. It is made by [`Ends::end`] alone, which counts it.
 #[derive(Debug, Drop)]
 pub struct End {
     clock: u64,
@@ -52,20 +52,20 @@ impl End {
 /// The ends of hops that have been made: how many, and, for the contracts alone, which was the
 /// last. Each is of a later hop than the one before it, so that no two are of one key and number.
 #[derive(Debug, Drop)]
-pub struct Made {
+pub struct Ends {
     count: u64,
     last: Option<KeyHop>,
 }
 
-impl Made {
+impl Ends {
     ghost use Rattle.drum_bound.specs.KeyHops.{IsLater};
 
     /// No end yet.
-    pub fn none() -> Made
+    pub fn none() -> Ends
         ensures count { result.count ≡ 0 }
         ensures last { result.last ≡ None }
     {
-        Made {
+        Ends {
             count: 0,
             last: None,
         }

@@ -1,5 +1,5 @@
 ghost use Rattle.std.specs.Prelude.{◌≡◌, ℕ, ◌+◌, ◌<◌, ◌≤◌, ◌⊎◌, vec_len, length, take, slice_get, OnOk, IfErr};
-ghost use Rattle.drum_core.specs.Taken.{IsFirstTaken};
+ghost use Rattle.drum_core.specs.Loaded.{IsFirstLoaded};
 ghost use Rattle.std.specs.Option.{ForSome};
 
 use super::card::Card;
@@ -130,7 +130,7 @@ fn put_words(
     ensures others { OnOk result ((n : ℕ) → (n < first) ⊎ (first + length words.now ≤ n)
         → slice_get image.new.items n ≡ slice_get image.old.items n) }
     ensures taken { IfErr result (λ location.
-        IsFirstTaken image.old.items first (length words.now) location.number) }
+        IsFirstLoaded image.old.items first (length words.now) location.number) }
 {
     for (place, word) in words.iter().enumerate() {
         let number = first + place as u16;

@@ -19,7 +19,7 @@ pub trait Input {
     /// How many bytes its reads gave, in all.
     ghost given: { Self → ℕ };
 
-    /// Reads some bytes into the front of the buffer and says how many: none only at the end, or
+    /// Reads some bytes into the prefix of the buffer and says how many: none only at the end, or
     /// where the buffer has no room.
     ///
     /// # Errors

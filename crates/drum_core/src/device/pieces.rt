@@ -17,7 +17,7 @@ pub struct Unsent {
 pub fn write_whole<O: Output>(output: &mut O, bytes: &[u8]) -> Result<(), Unsent>
     requires { O.called output.old + length bytes.now ≤ 2 ^ 63 }
     ensures all { OnOk result (Appends (O.written output.old) (O.written output.new) bytes.now) }
-    ensures front { IfErr result (λ error.
+    ensures prefix { IfErr result (λ error.
         Appends (O.written output.old) (O.written output.new) (take error.sent bytes.now)) }
     ensures some { IfErr result (λ error. error.sent < length bytes.now) }
     ensures failures { O.failed output.new
@@ -41,7 +41,7 @@ pub fn write_pieces<O: Output>(output: &mut O, pieces: &[&[u8]]) -> Result<usize
     ensures all { OnOk result
         (Appends (O.written output.old) (O.written output.new) (joined pieces.now)) }
     ensures count { IfOk result (λ count. count ≡ length (joined pieces.now)) }
-    ensures front { IfErr result (λ error. Appends (O.written output.old) (O.written output.new)
+    ensures prefix { IfErr result (λ error. Appends (O.written output.old) (O.written output.new)
         (take error.sent (joined pieces.now))) }
     ensures some { IfErr result (λ error. error.sent < length (joined pieces.now)) }
     ensures failures { O.failed output.new

@@ -4,6 +4,7 @@ use crate::subjects::SUBJECTS;
 use crate::window::{close_spared, open};
 use drum_bound::{Analysis, Flow, Hops, Way, accept, analyse};
 use drum_core::Location;
+use drum_flow::AcceptedFlow;
 use std::process::Abort;
 use std::test::Fail;
 
@@ -43,10 +44,12 @@ fn hops_answer(rt: &impl Abort, flow: &Flow<'_>) {
 fn of_two_roads(rt: HostRuntime) -> Result<(), Fail> {
     let documents = SUBJECTS[2].documents(rt.alloc())?;
     let flow = accept(rt.alloc(), &documents.deck, &documents.notes)?;
+    let accepted = AcceptedFlow::of(rt.alloc(), &documents.deck, &documents.notes)?;
     open(&rt);
     let executed = flow.executed().iter().map(|place| place.number());
     assert!(rt; executed.eq([100, 200, 210, 110, 120]));
-    assert_eq!(rt; flow.order().len(), 5);
+    assert_eq!(rt; accepted.order().len(), 5);
+    assert_eq!(rt; accepted.flow().executed().len(), 5);
     for (number, found) in [(100, Some(0)), (110, Some(3)), (150, None)] {
         let place = Location::new(number).and_then(|place| flow.place_of(place));
         assert_eq!(rt; place, found);

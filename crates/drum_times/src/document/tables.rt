@@ -8,7 +8,7 @@ ghost use Rattle.toml.specs.Data.{Members, get_member};
 ghost use Rattle.toml.specs.View.{view, table_view, items_view};
 
 use super::fields::Fields;
-use super::wrong::Wrong;
+use super::value::ValueFault;
 use crate::fault::NoteFault;
 use crate::key_path::KeyPath;
 use std::alloc::{AllocError, Global};
@@ -53,10 +53,10 @@ impl Fields<'_> {
             return Ok(Vec::new(self.alloc));
         };
         let Some(items) = value.as_array() else {
-            return Err(self.fault(key, Wrong::Kind));
+            return Err(self.fault(key, ValueFault::Kind));
         };
         if !is_count(items.len(), low, high) {
-            return Err(self.fault(key, Wrong::Range));
+            return Err(self.fault(key, ValueFault::Range));
         }
         let path = self.path(key)?;
         read_elements(self.alloc, path.text.as_str(), items)

@@ -8,22 +8,22 @@ ghost use Rattle.toml.specs.Data.{Data, get_member, table as toml_table};
 ghost use Rattle.toml.specs.View.{table_view};
 
 use super::fields::Fields;
-use super::wrong::{self, Wrong};
+use super::value::{self, ValueFault};
 use crate::fault::NoteFault;
 use drum_core::Location;
 use toml::Table;
 
 impl Fields<'_> {
     /// The fault of the value at a key, or Memory.
-    pub fn fault(&self, key: &str, wrong: Wrong) -> NoteFault
+    pub fn fault(&self, key: &str, wrong: ValueFault) -> NoteFault
         ensures { IsFirst (fault_of wrong (self.now.at.now ++ key.now) ∷ []) result }
     {
         let Ok(path) = self.path(key) else {
             return NoteFault::Memory;
         };
         match wrong {
-            Wrong::Kind => NoteFault::Kind(path),
-            Wrong::Range => NoteFault::Range(path),
+            ValueFault::Kind => NoteFault::Kind(path),
+            ValueFault::Range => NoteFault::Range(path),
         }
     }
 
@@ -38,7 +38,7 @@ impl Fields<'_> {
     {
         match self.value(key)?.as_table() {
             Some(table) => Ok(table),
-            None => Err(self.fault(key, Wrong::Kind)),
+            None => Err(self.fault(key, ValueFault::Kind)),
         }
     }
 
@@ -51,7 +51,7 @@ impl Fields<'_> {
             (document.required (document.whole low high)
             self.now.at.now key.now (table_view self.now.table.now))) }
     {
-        match wrong::whole_number(self.value(key)?, low, high) {
+        match value::whole_number(self.value(key)?, low, high) {
             Ok(number) => Ok(number),
             Err(wrong) => Err(self.fault(key, wrong)),
         }
@@ -65,7 +65,7 @@ impl Fields<'_> {
             (document.required document.location
             self.now.at.now key.now (table_view self.now.table.now))) }
     {
-        match wrong::location(self.value(key)?) {
+        match value::location(self.value(key)?) {
             Ok(location) => Ok(location),
             Err(wrong) => Err(self.fault(key, wrong)),
         }
@@ -81,7 +81,7 @@ impl Fields<'_> {
             (document.text (map (λ choice. choice.0.now) choices.now)) self.now.at.now key.now
             (table_view self.now.table.now))) }
     {
-        match wrong::choice(self.value(key)?, choices) {
+        match value::choice(self.value(key)?, choices) {
             Ok(chosen) => Ok(chosen),
             Err(wrong) => Err(self.fault(key, wrong)),
         }

@@ -3,7 +3,10 @@ use Rattle.drum_core.specs.declared.deck.Deck.{Deck}
 use Rattle.drum_core.specs.Loads.{loads_in, start_in}
 use Rattle.drum_times.specs.Allowed.{Notes, AreSound}
 use Rattle.drum_flow.specs.Accepted.{IsAccepted}
-use Rattle.drum_flow.specs.Flow.{deck_of, notes_of, executed_in, order_in}
+use Rattle.drum_flow.specs.declared.flow_graph.Flow.{Flow}
+use Rattle.drum_flow.specs.Graph.{AreDifferent}
+use Rattle.drum_flow.specs.Flow.{deck_of, notes_of, executed_in}
+use Rattle.drum_flow.specs.AcceptedFlow.{in_order}
 use Rattle.drum_flow.specs.Free.{IsFreeOrder}
 use Rattle.drum_flow.proofs.KeptWalk.{kept_walk}
 use Rattle.drum_flow.specs.RunHops.{hops_taken}
@@ -21,57 +24,64 @@ moved Holds deck other notes others same equal holds =
 
 pub analysis_of-requires : goal.analysis_of-requires
 analysis_of-requires c =
-    let flow = c.in_ok-flow.flow in
+    let accepted = c.in_ok-accepted.accepted in
     let deck = c.args.deck.now in
     let notes = c.args.notes.now in
-    let ensures = c.in_ok-flow.ensures in
-    can_have_keys flow
-    (moved (λ d n. IsAccepted (loads_in d) n (start_in d) (executed_in flow)) deck (deck_of flow) notes (notes_of flow)
+    let ensures = c.in_ok-accepted.ensures in
+    can_have_keys accepted
+    (moved (λ d n. IsAccepted (loads_in d) n (start_in d) (executed_in accepted.flow)) deck
+    (deck_of accepted.flow) notes (notes_of accepted.flow)
     (sym ensures.deck) (sym ensures.notes) ensures.accepted)
-    (moved (λ d n. IsFreeOrder (loads_in d) n (executed_in flow) (order_in flow)) deck (deck_of flow) notes
-    (notes_of flow) (sym ensures.deck) (sym ensures.notes) ensures.order)
-    (subst AreSound (sym ensures.notes) c.marks-marks.ensures.sound) c.executed-executed.ensures.different
+    (moved (λ d n. IsFreeOrder (loads_in d) n (executed_in accepted.flow) (in_order accepted)) deck
+    (deck_of accepted.flow) notes
+    (notes_of accepted.flow) (sym ensures.deck) (sym ensures.notes) ensures.order)
+    (subst AreSound (sym ensures.notes) c.marks-marks.ensures.sound)
+    (subst (λ (f : Flow). AreDifferent (executed_in f)) c.flow.ensures c.executed-executed.ensures.different)
 
 pub returns-clause-accepted : goal.returns-clause-accepted
 returns-clause-accepted c =
-    let flow = c.in_ok-flow.flow in
+    let accepted = c.in_ok-accepted.accepted in
     let deck = c.args.deck.now in
     let notes = c.args.notes.now in
-    let ensures = c.in_ok-flow.ensures in
+    let ensures = c.in_ok-accepted.ensures in
     let same =
-    as_many flow
-    (moved (λ d n. IsAccepted (loads_in d) n (start_in d) (executed_in flow)) deck (deck_of flow) notes (notes_of flow)
+    as_many accepted
+    (moved (λ d n. IsAccepted (loads_in d) n (start_in d) (executed_in accepted.flow)) deck
+    (deck_of accepted.flow) notes (notes_of accepted.flow)
     (sym ensures.deck) (sym ensures.notes) ensures.accepted)
-    (moved (λ d n. IsFreeOrder (loads_in d) n (executed_in flow) (order_in flow)) deck (deck_of flow) notes
-    (notes_of flow) (sym ensures.deck) (sym ensures.notes) ensures.order)
-    c.executed-executed.ensures.different in
-    (executed_in flow, ensures.accepted, c.in-Ok.ensures.executed ∙ same)
+    (moved (λ d n. IsFreeOrder (loads_in d) n (executed_in accepted.flow) (in_order accepted)) deck
+    (deck_of accepted.flow) notes
+    (notes_of accepted.flow) (sym ensures.deck) (sym ensures.notes) ensures.order)
+    (subst (λ (f : Flow). AreDifferent (executed_in f)) c.flow.ensures c.executed-executed.ensures.different) in
+    (executed_in accepted.flow, ensures.accepted, c.in-Ok.ensures.executed ∙ same)
 
 pub returns-clause-kept : goal.returns-clause-kept
 returns-clause-kept c = λ s turns first is_run kept.
-    let flow = c.in_ok-flow.flow in
+    let accepted = c.in_ok-accepted.accepted in
     let deck = c.args.deck.now in
     let notes = c.args.notes.now in
     let times = c.args.times.now in
     let analysis = c.in-Ok.analysis in
-    let ensures = c.in_ok-flow.ensures in
-    let analysed : IsAnalysis (setting deck times notes) (length (order_in flow)) analysis =
-    moved (λ d n. IsAnalysis (setting d times n) (length (order_in flow)) analysis) (deck_of flow) deck (notes_of flow)
+    let ensures = c.in_ok-accepted.ensures in
+    let analysed : IsAnalysis (setting deck times notes) (length (in_order accepted)) analysis =
+    moved (λ d n. IsAnalysis (setting d times n) (length (in_order accepted)) analysis) (deck_of accepted.flow) deck
+    (notes_of accepted.flow)
     notes ensures.deck ensures.notes c.in-Ok.ensures in
-    let walked = kept_walk (setting deck times notes) (executed_in flow) s turns
+    let walked = kept_walk (setting deck times notes) (executed_in accepted.flow) s turns
     (is_proper deck times notes c.marks-marks.ensures.sound) ensures.accepted first is_run kept in
     omega (arith, analysed.worst.most s.start (hops_taken turns) walked.0, walked.1)
 
 pub returns-clause-under : goal.returns-clause-under
 returns-clause-under c = λ s turns first is_run kept.
-    let flow = c.in_ok-flow.flow in
+    let accepted = c.in_ok-accepted.accepted in
     let deck = c.args.deck.now in
     let notes = c.args.notes.now in
     let times = c.args.times.now in
     let analysis = c.in-Ok.analysis in
-    let ensures = c.in_ok-flow.ensures in
-    let analysed : IsAnalysis (setting deck times notes) (length (order_in flow)) analysis =
-    moved (λ d n. IsAnalysis (setting d times n) (length (order_in flow)) analysis) (deck_of flow) deck (notes_of flow)
+    let ensures = c.in_ok-accepted.ensures in
+    let analysed : IsAnalysis (setting deck times notes) (length (in_order accepted)) analysis =
+    moved (λ d n. IsAnalysis (setting d times n) (length (in_order accepted)) analysis) (deck_of accepted.flow) deck
+    (notes_of accepted.flow)
     notes ensures.deck ensures.notes c.in-Ok.ensures in
-    arrive_under (setting deck times notes) (rows_of analysis) (executed_in flow) s turns analysed.table
+    arrive_under (setting deck times notes) (rows_of analysis) (executed_in accepted.flow) s turns analysed.table
     (is_proper deck times notes c.marks-marks.ensures.sound) ensures.accepted first is_run kept

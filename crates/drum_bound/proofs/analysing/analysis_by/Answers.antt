@@ -1,8 +1,9 @@
-use Rattle.std.proofs.Common.{◌≡◌, ℕ, ◌-◌, List, Vec, Global, length, map, ap, sym, ◌∙◌, subst, arith}
+use Rattle.std.proofs.Common.{◌≡◌, ℕ, ◌-◌, List, Vec, Global, length, map, ap, sym, subst, arith}
 use Rattle.std.proofs.lemmas.List.{length-map}
 use Rattle.drum_times.specs.declared.notes.mark.Mark.{Mark}
 use Rattle.drum_times.specs.declared.times.Times.{Times}
-use Rattle.drum_flow.specs.Flow.{deck_of, notes_of, order_in}
+use Rattle.drum_flow.specs.Flow.{deck_of, notes_of}
+use Rattle.drum_flow.specs.AcceptedFlow.{in_order}
 use Rattle.drum_bound.specs.declared.analysis.Analysis.{Analysis}
 use Rattle.drum_bound.specs.declared.cells.Cells.{Cells}
 use Rattle.drum_bound.specs.declared.keys.Keys.{Keys}
@@ -21,7 +22,7 @@ use Rattle.drum_bound.proofs.analysing.analysis_by.Goals as goal
 
 -- the bound, from the start angle
 bound : (keys : Keys) (times : Times) (cells : Cells) (visits : List Visited) → IsFound keys times cells visits
-    → cells.last.clock - cells.angle ≡ cells.last.clock - start_angle (setting_of keys.flow.now times).start
+    → cells.last.clock - cells.angle ≡ cells.last.clock - start_angle (setting_of keys.accepted.now times).start
 bound keys times cells visits is = ap (λ (n : ℕ). cells.last.clock - n) is.are.angle
 
 pub of-requires-2-clause-in_time : goal.of-requires-2-clause-in_time
@@ -33,7 +34,7 @@ of-requires-2-clause-in_time c =
     let is : IsFound keys times cells visits =
     is_found keys times c.in_ok-scan.scan visits c.in_ok-scan.ensures.keys c.in_ok-scan.ensures.times
     c.in_ok-scan.ensures.done c.in_ok-walk.ensures in
-    let g = setting_of keys.flow.now times in
+    let g = setting_of keys.accepted.now times in
     subst (AreInTime 0 visits) (sym (bound keys times cells visits is))
     (walk_in_time g (start_angle g.start) (cells.last.clock - start_angle g.start) visits is.walk)
 
@@ -45,7 +46,8 @@ of-requires-2-clause-after c =
     let is : IsFound keys times c.in_ok-scan.scan.cells visits =
     is_found keys times c.in_ok-scan.scan visits c.in_ok-scan.ensures.keys c.in_ok-scan.ensures.times
     c.in_ok-scan.ensures.done c.in_ok-walk.ensures in
-    last_after (setting_of keys.flow.now times) (order_in keys.flow.now) c.in_ok-scan.scan.cells is.are is.scanned
+    last_after (setting_of keys.accepted.now times) (in_order keys.accepted.now) c.in_ok-scan.scan.cells is.are
+    is.scanned
 
 pub of-requires-2-clause-on_drum : goal.of-requires-2-clause-on_drum
 of-requires-2-clause-on_drum c = omega (arith, c.in_ok-scan.ensures.done.cells.angle)
@@ -63,7 +65,7 @@ of-requires-2-clause-below c =
 pub of-requires-2-clause-few : goal.of-requires-2-clause-few
 of-requires-2-clause-few c =
     let keys = c.args.keys.now in
-    let g = setting_of keys.flow.now c.args.times.now in
+    let g = setting_of keys.accepted.now c.args.times.now in
     let visits = map seen_visit c.in_ok-walk.walk.items in
     let is : IsFound keys c.args.times.now c.in_ok-scan.scan.cells visits =
     is_found keys c.args.times.now c.in_ok-scan.scan visits c.in_ok-scan.ensures.keys c.in_ok-scan.ensures.times
@@ -71,7 +73,7 @@ of-requires-2-clause-few c =
     omega (
       arith,
       c.requires.ordered.0.few,
-      short_walk g (order_in keys.flow.now) c.requires.ordered.0 (start_angle g.start) is.walk.hops is.walk.walk,
+      short_walk g (in_order keys.accepted.now) c.requires.ordered.0 (start_angle g.start) is.walk.hops is.walk.walk,
       length-map is.walk.hops visited,
       ap length is.walk.same,
       length-map c.in_ok-walk.walk.items seen_visit,
@@ -83,14 +85,13 @@ returns c =
     let times = c.args.times.now in
     let cells = c.in_ok-scan.scan.cells in
     let visits = map seen_visit c.in_ok-walk.walk.items in
-    let g = setting_of keys.flow.now times in
-    let order = order_in keys.flow.now in
+    let g = setting_of keys.accepted.now times in
+    let order = in_order keys.accepted.now in
     let is : IsFound keys times cells visits =
     is_found keys times c.in_ok-scan.scan visits c.in_ok-scan.ensures.keys c.in_ok-scan.ensures.times
     c.in_ok-scan.ensures.done c.in_ok-walk.ensures in
     let analysis : Analysis = c.of-2.result in
-    let marks : c.marks.result.now ≡ (notes_of keys.flow.now).marks =
-    c.marks.ensures.all ∙ ap (λ notes. notes.marks) c.notes.ensures in
+    let marks : c.marks.result.now ≡ (notes_of keys.accepted.now.flow).marks = c.marks.ensures.all in
     let passed : ArePasses c.marks.result.now visits c.passes_of_marks-passed.result =
     subst (λ (walk : List Visit). ArePasses c.marks.result.now (map seen_visit walk) c.passes_of_marks-passed.result)
     c.deref-2.ensures.value c.passes_of_marks-passed.ensures.passed in
@@ -99,7 +100,7 @@ returns c =
     let same : c.of-2.result.cells ≡ cells = c.of-2.ensures.cells in
     let walked : map seen_visit c.of-2.result.walk.items ≡ visits =
     ap (λ (walk : Vec Visit Global). map seen_visit walk.items) c.of-2.ensures.walk in
-    is_analysis g order analysis c.requires.ordered.0 (deck_of keys.flow.now).on_drum
+    is_analysis g order analysis c.requires.ordered.0 (deck_of keys.accepted.now.flow).on_drum
     (subst (AreCells g order) (sym same) is.are)
     (subst (λ (all : Cells).
     Scanned g order (keys_of g.notes.marks order) (keys_of g.notes.marks order) (kept_in all) all.last) (sym same)

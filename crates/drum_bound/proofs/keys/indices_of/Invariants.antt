@@ -1,5 +1,5 @@
 use Rattle.std.proofs.Common.{◌≡◌, vec_len}
-use Rattle.drum_bound.proofs.Sites.{HaveIndicesBelow}
+use Rattle.drum_bound.proofs.Nodes.{HaveIndicesBelow}
 use Rattle.drum_bound.proofs.keys.indices_of.Given as goal
 
 -- the indices of the locations so far

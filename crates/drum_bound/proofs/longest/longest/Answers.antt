@@ -1,4 +1,5 @@
-use Rattle.std.proofs.Common.{◌≡◌, ℕ, ap, sym, ◌∙◌, inl, inr, arith, Some}
+use Rattle.std.proofs.Common.{◌≡◌, ℕ, ap, sym, ◌∙◌, inl, inr, arith, None, Some}
+use Rattle.drum_core.specs.declared.op.Op.{Op}
 use Rattle.drum_core.specs.Op.{op_of}
 use Rattle.drum_machine.specs.declared.ways.Way as ways
 use Rattle.drum_machine.specs.WaysLeft.{seen_way}
@@ -9,6 +10,14 @@ use Rattle.drum_machine.specs.Ways.{early, to, late}
 use Rattle.drum_bound.specs.Longest.{longest, most_units, most_wait}
 use Rattle.drum_bound.proofs.LongestLaws.{longest_of}
 use Rattle.drum_bound.proofs.longest.longest.Goals as goal
+
+-- the profile has the operation of a hop
+pub unreachable-requires : goal.unreachable-requires
+unreachable-requires c = go
+    (sym c.requires.may_end.1 ∙ ap op_of (sym c.op.ensures) ∙ sym c.of.ensures.listed ∙ c.in_default.is)
+  where
+    go : {op : Op} → Some op ≡ None → ⊥
+    go e = cc
 
 -- a stop before the operation acts
 pub returns-in-Early-clause-value : goal.returns-in-Early-clause-value

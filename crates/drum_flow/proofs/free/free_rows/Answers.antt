@@ -7,7 +7,7 @@ use Rattle.drum_core.specs.declared.location.Location.{Location}
 use Rattle.drum_core.specs.Loads.{loads_in}
 use Rattle.drum_flow.specs.Flow.{executed_in}
 use Rattle.drum_flow.specs.Free.{IsFreeRow}
-use Rattle.drum_flow.specs.Rows.{row_in}
+use Rattle.drum_flow.specs.Rows.{targets_in}
 use Rattle.drum_flow.proofs.Alterations.{number_at}
 use Rattle.drum_flow.proofs.FreeRows.{rows_more}
 use Rattle.drum_flow.proofs.free.free_rows.Goals as goal
@@ -29,7 +29,7 @@ loop-from-preserved c =
       rows =
           λ place other lt at. subst
           (λ (all : List (Vec ℕ Global)). IsFreeRow (loads_in flow.deck.now) flow.notes.now (executed_in flow) other
-          (row_in all place)) (sym pushed)
+          (targets_in all place)) (sym pushed)
           (rows_more (loads_in flow.deck.now) flow.notes.now (executed_in flow) rows c.in-Ok.row k from.number
           c.loop-from.invariant.long c.loop-from.invariant.rows here c.in-Ok.ensures place other lt at);
     }

@@ -1,7 +1,7 @@
 use Rattle.std.proofs.Common.{◌≡◌, refl, sym, ◌∙◌, ap, arith, length}
 use Rattle.drum_core.specs.Word.{spaced}
 use Rattle.drum_core.proofs.Cards.{length-spaced}
-use Rattle.drum_inputs.proofs.Fronts.{same_behind}
+use Rattle.drum_inputs.proofs.Prefixes.{same_behind}
 use Rattle.drum_inputs.proofs.line.read_ten.Goals as goal
 
 pub returns-then-text-clause-none : goal.returns-then-text-clause-none

@@ -1,6 +1,6 @@
 use Rattle.std.proofs.Common.{sym, ◌∙◌}
 use Rattle.drum_core.specs.Word.{spelling}
-use Rattle.drum_inputs.proofs.Fronts.{same_behind, none_too}
+use Rattle.drum_inputs.proofs.Prefixes.{same_behind, none_too}
 use Rattle.drum_inputs.proofs.setting.read_word.Goals as goal
 
 pub returns-clause-none : goal.returns-clause-none

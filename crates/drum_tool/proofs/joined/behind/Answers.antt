@@ -4,4 +4,4 @@ use Rattle.drum_tool.proofs.joined.behind.Goals as goal
 
 pub returns : goal.returns
 returns c =
-    strip_prefix_is Decides-eqb c.args.text.now c.args.front.now c.strip_prefix.result c.strip_prefix.ensures.cases
+    strip_prefix_is Decides-eqb c.args.text.now c.args.prefix.now c.strip_prefix.result c.strip_prefix.ensures.cases

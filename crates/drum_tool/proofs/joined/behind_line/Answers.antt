@@ -1,8 +1,8 @@
-use Rattle.drum_tool.proofs.Cuts.{no_front, no_line}
+use Rattle.drum_tool.proofs.Cuts.{no_prefix, no_line}
 use Rattle.drum_tool.proofs.joined.behind_line.Goals as goal
 
 pub returns-in_default : goal.returns-in_default
-returns-in_default c = no_front c.args.line.now c.args.text.now c.in_default.ensures
+returns-in_default c = no_prefix c.args.line.now c.args.text.now c.in_default.ensures
 
 pub returns-in-Some-2 : goal.returns-in-Some-2
 returns-in-Some-2 c =

@@ -1,11 +1,12 @@
 use Rattle.std.proofs.Common.{◌≡◌, ℕ, ◌+◌, ◌*◌, List, length, sym, ap, ◌∙◌, subst, arith}
 use Rattle.drum_times.specs.declared.notes.mark.Mark.{Mark}
 use Rattle.drum_machine.specs.Counts.{AreWithin}
-use Rattle.drum_flow.specs.Flow.{notes_of, order_in}
+use Rattle.drum_flow.specs.Flow.{notes_of}
+use Rattle.drum_flow.specs.AcceptedFlow.{in_order}
 use Rattle.drum_flow.specs.Passes.{leading}
 use Rattle.drum_machine.specs.CountsIn.{counts_in}
 use Rattle.drum_bound.specs.Keys.{IsKey}
-use Rattle.drum_bound.proofs.Sites.{key_of_place, same_length, small_number, small_product}
+use Rattle.drum_bound.proofs.Nodes.{key_of_place, same_length, small_number, small_product}
 use Rattle.drum_bound.proofs.keys.Keys.key_of.Goals as goal
 
 pub leading-requires-clause-within : goal.leading-requires-clause-within
@@ -14,26 +15,26 @@ leading-requires-clause-within c =
 
 pub overflow_mul-result : goal.overflow_mul-result
 overflow_mul-result c =
-    let marks = (notes_of c.args.self.now.flow.now).marks in
-    let order = order_in c.args.self.now.flow.now in
+    let marks = (notes_of c.args.self.now.accepted.now.flow).marks in
+    let order = in_order c.args.self.now.accepted.now in
     let counts = counts_in c.args.counts marks in
     let lead : c.leading.result ≡ leading marks counts =
     c.leading.ensures ∙ ap (λ (all : List Mark). leading all (counts_in c.args.counts all)) c.marks.ensures.all in
     let words : c.len.result ≡ length order =
-    omega (arith, c.len.ensures, c.args.self.now.sites.ok.0, same_length c.args.self.now c.requires.keys) in
+    omega (arith, c.len.ensures, c.args.self.now.nodes.ok.0, same_length c.args.self.now c.requires.keys) in
     let product : c.leading.result * c.len.result ≡ leading marks counts * length order =
     ap (λ (n : ℕ). n * c.len.result) lead ∙ ap (λ (n : ℕ). leading marks counts * n) words in
     omega (arith, product, small_product marks order counts c.requires.within c.requires.keys.ordered.0.few)
 
 pub overflow_add-result : goal.overflow_add-result
 overflow_add-result c =
-    let marks = (notes_of c.args.self.now.flow.now).marks in
-    let order = order_in c.args.self.now.flow.now in
+    let marks = (notes_of c.args.self.now.accepted.now.flow).marks in
+    let order = in_order c.args.self.now.accepted.now in
     let counts = counts_in c.args.counts marks in
     let lead : c.leading.result ≡ leading marks counts =
     c.leading.ensures ∙ ap (λ (all : List Mark). leading all (counts_in c.args.counts all)) c.marks.ensures.all in
     let words : c.len.result ≡ length order =
-    omega (arith, c.len.ensures, c.args.self.now.sites.ok.0, same_length c.args.self.now c.requires.keys) in
+    omega (arith, c.len.ensures, c.args.self.now.nodes.ok.0, same_length c.args.self.now c.requires.keys) in
     let product : c.leading.result * c.len.result ≡ leading marks counts * length order =
     ap (λ (n : ℕ). n * c.len.result) lead ∙ ap (λ (n : ℕ). leading marks counts * n) words in
     omega (
@@ -45,13 +46,13 @@ overflow_add-result c =
 
 pub returns : goal.returns
 returns c =
-    let marks = (notes_of c.args.self.now.flow.now).marks in
-    let order = order_in c.args.self.now.flow.now in
+    let marks = (notes_of c.args.self.now.accepted.now.flow).marks in
+    let order = in_order c.args.self.now.accepted.now in
     let counts = counts_in c.args.counts marks in
     let lead : c.leading.result ≡ leading marks counts =
     c.leading.ensures ∙ ap (λ (all : List Mark). leading all (counts_in c.args.counts all)) c.marks.ensures.all in
     let words : c.len.result ≡ length order =
-    omega (arith, c.len.ensures, c.args.self.now.sites.ok.0, same_length c.args.self.now c.requires.keys) in
+    omega (arith, c.len.ensures, c.args.self.now.nodes.ok.0, same_length c.args.self.now c.requires.keys) in
     let product : c.leading.result * c.len.result ≡ leading marks counts * length order =
     ap (λ (n : ℕ). n * c.len.result) lead ∙ ap (λ (n : ℕ). leading marks counts * n) words in
     subst (λ (key : ℕ). IsKey marks order key c.args.location.number counts)

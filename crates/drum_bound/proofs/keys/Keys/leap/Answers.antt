@@ -5,7 +5,8 @@ use Rattle.drum_times.specs.Entries.{entry_in}
 use Rattle.drum_machine.specs.Ways.{Way, early, to, late}
 use Rattle.drum_machine.specs.declared.ways.Way as code
 use Rattle.drum_machine.specs.declared.ways.Way.TheVariants as way
-use Rattle.drum_flow.specs.Flow.{deck_of, notes_of, order_in}
+use Rattle.drum_flow.specs.Flow.{deck_of, notes_of}
+use Rattle.drum_flow.specs.AcceptedFlow.{in_order}
 use Rattle.drum_flow.specs.Hops.{hops}
 use Rattle.drum_machine.specs.WaysLeft.{seen_way}
 use Rattle.drum_bound.proofs.DigitsLaws.{no_counts_within}
@@ -13,7 +14,7 @@ use Rattle.drum_times.specs.Marks.{mark_on}
 use Rattle.drum_machine.specs.Counts.{no_counts}
 use Rattle.drum_bound.proofs.LeapLaws.{leap_time}
 use Rattle.drum_bound.proofs.Profiles.{hop_may_end}
-use Rattle.drum_bound.proofs.Sites.{small_number}
+use Rattle.drum_bound.proofs.Nodes.{small_number}
 use Rattle.drum_bound.proofs.keys.Keys.leap.Goals as goal
 
 -- a hop that goes on goes on there alone
@@ -22,33 +23,35 @@ one_next n next e = cc
 
 pub longest-requires-clause-may_end : goal.longest-requires-clause-may_end
 longest-requires-clause-may_end c =
-    let flow = c.args.self.now.flow.now in
-    hop_may_end (loads_in (deck_of flow)) (notes_of flow) c.args.location.number c.args.hop.instruction
+    let accepted = c.args.self.now.accepted.now in
+    hop_may_end (loads_in (deck_of accepted.flow)) (notes_of accepted.flow) c.args.location.number
+    c.args.hop.instruction
     (seen_way c.args.hop.way) c.requires.hop
 
 pub index_of-requires-clause-there : goal.index_of-requires-clause-there
 index_of-requires-clause-there c =
-    let flow = c.args.self.now.flow.now in
+    let accepted = c.args.self.now.accepted.now in
     c.requires.keys.ordered.0.closed c.args.location.number c.in-To.next.number c.requires.there (
       c.args.hop.instruction,
-      subst (λ (w : Way). Contains (hops (loads_in (deck_of flow)) (notes_of flow) c.args.location.number)
+      subst (λ (w : Way). Contains
+          (hops (loads_in (deck_of accepted.flow)) (notes_of accepted.flow) c.args.location.number)
           (record { ins = c.args.hop.instruction; way = w }))
           (ap seen_way c.in-To.is) c.requires.hop,
     )
 
 pub overflow_cast-index : goal.overflow_cast-index
 overflow_cast-index c =
-    let flow = c.args.self.now.flow.now in
-    let marks = (notes_of flow).marks in
+    let accepted = c.args.self.now.accepted.now in
+    let marks = (notes_of accepted.flow).marks in
     omega (
       arith,
-      small_number marks (order_in flow) (no_counts marks) c.index_of.result c.in-To.next.number
+      small_number marks (in_order accepted) (no_counts marks) c.index_of.result c.in-To.next.number
           (no_counts_within marks) c.requires.keys.ordered.0.few c.index_of.ensures,
     )
 
 pub returns-in-To-clause-leap : goal.returns-in-To-clause-leap
 returns-in-To-clause-leap c =
-    let flow = c.args.self.now.flow.now in
+    let accepted = c.args.self.now.accepted.now in
     let times = entry_in c.args.times.now in
     let place = c.args.location.number in
     let ins = c.args.hop.instruction in
@@ -60,13 +63,13 @@ returns-in-To-clause-leap c =
           let same : c.in-To.next.number ≡ next =
           one_next c.in-To.next.number next (sym (ap seen_way c.in-To.is) ∙ on) in (
             c.index_of.ensures ∙ ap Some same,
-            ap (mark_on (notes_of flow).marks place) (sym same) ∙ c.mark_between.ensures,
+            ap (mark_on (notes_of accepted.flow).marks place) (sym same) ∙ c.mark_between.ensures,
           );
     }
 
 pub returns-in-Early : goal.returns-in-Early
 returns-in-Early c =
-    let flow = c.args.self.now.flow.now in
+    let accepted = c.args.self.now.accepted.now in
     let times = entry_in c.args.times.now in
     let place = c.args.location.number in
     let ins = c.args.hop.instruction in

@@ -5,10 +5,10 @@ use Rattle.std.specs.Option.{option_map}
 use Rattle.std.proofs.lemmas.Bool.{cases_lt}
 use Rattle.std.proofs.lemmas.List.{length-append}
 use Rattle.std.proofs.lemmas.Option.{slice_get_read, slice_get-map, slice_get_within}
-use Rattle.drum_flow.specs.declared.flow_graph.Flow.{Flow}
-use Rattle.drum_flow.specs.Flow.{order_in}
+use Rattle.drum_flow.specs.declared.accepted_flow.AcceptedFlow.{AcceptedFlow}
+use Rattle.drum_flow.specs.AcceptedFlow.{in_order}
 use Rattle.drum_times.specs.declared.times.Times.{Times}
-use Rattle.drum_bound.specs.declared.keys.Site.{Site}
+use Rattle.drum_bound.specs.declared.keys.Node.{Node}
 use Rattle.drum_bound.specs.declared.leap.Leap.{Leap}
 use Rattle.drum_bound.specs.KeysOf.{setting_of}
 use Rattle.drum_bound.specs.LeapOf.{AreLeaps}
@@ -17,65 +17,68 @@ use Rattle.drum_bound.proofs.keys.Keys.leaps.Goals as goal
 use Rattle.drum_bound.proofs.keys.Keys.leaps.Goals.{in-Some, in-None}
 
 -- the leaps of the location, if it has them
-own_leaps : (flow : Flow) (times : Times) (place : ℕ) (made : Option (Vec Leap Global)) (leaps : Vec Leap Global)
-    → IfSome made (λ leaps. AreLeaps (setting_of flow times) (order_in flow) place leaps.items) → made ≡ Some leaps
-    → AreLeaps (setting_of flow times) (order_in flow) place leaps.items
-own_leaps flow times place made leaps are is =
+own_leaps : (accepted : AcceptedFlow) (times : Times) (place : ℕ) (made : Option (Vec Leap Global))
+    (leaps : Vec Leap Global)
+    → IfSome made (λ leaps. AreLeaps (setting_of accepted times) (in_order accepted) place leaps.items) → made
+    ≡ Some leaps
+    → AreLeaps (setting_of accepted times) (in_order accepted) place leaps.items
+own_leaps accepted times place made leaps are is =
     subst (λ (one : Option (Vec Leap Global)).
-    IfSome one (λ leaps. AreLeaps (setting_of flow times) (order_in flow) place leaps.items)) is are
+    IfSome one (λ leaps. AreLeaps (setting_of accepted times) (in_order accepted) place leaps.items)) is are
 
 -- the leaps of one more location
-leaps_more : (flow : Flow) (times : Times) (all : List (Option (Vec Leap Global))) (made : Option (Vec Leap Global))
+leaps_more : (accepted : AcceptedFlow) (times : Times) (all : List (Option (Vec Leap Global)))
+    (made : Option (Vec Leap Global))
     (place : ℕ)
-    → slice_get (order_in flow) (length all) ≡ Some place
-    → IfSome made (λ leaps. AreLeaps (setting_of flow times) (order_in flow) place leaps.items)
-    → ((k one : ℕ) (leaps : Vec Leap Global) → slice_get (order_in flow) k ≡ Some one
-    → slice_get all k ≡ Some (Some leaps) → AreLeaps (setting_of flow times) (order_in flow) one leaps.items)
-    → (k one : ℕ) (leaps : Vec Leap Global) → slice_get (order_in flow) k ≡ Some one
+    → slice_get (in_order accepted) (length all) ≡ Some place
+    → IfSome made (λ leaps. AreLeaps (setting_of accepted times) (in_order accepted) place leaps.items)
+    → ((k one : ℕ) (leaps : Vec Leap Global) → slice_get (in_order accepted) k ≡ Some one
+    → slice_get all k ≡ Some (Some leaps) → AreLeaps (setting_of accepted times) (in_order accepted) one leaps.items)
+    → (k one : ℕ) (leaps : Vec Leap Global) → slice_get (in_order accepted) k ≡ Some one
     → slice_get (all ++ made ∷ []) k ≡ Some (Some leaps)
-    → AreLeaps (setting_of flow times) (order_in flow) one leaps.items
-leaps_more flow times all made place here are before k one leaps at there = elim (cases_lt k (length all)) [
+    → AreLeaps (setting_of accepted times) (in_order accepted) one leaps.items
+leaps_more accepted times all made place here are before k one leaps at there = elim (cases_lt k (length all)) [
   | inl within ↦ before k one leaps at (sym (get_before all made k within) ∙ there)
   | inr past ↦ (
       let inside : k < length (all ++ made ∷ []) = slice_get_within (all ++ made ∷ []) k (Some leaps) there in
       let last : k ≡ length all = omega (arith, past, inside, length-append all (made ∷ [])) in
-      let same : place ≡ one = one_place (sym here ∙ ap (slice_get (order_in flow)) (sym last) ∙ at) in
+      let same : place ≡ one = one_number (sym here ∙ ap (slice_get (in_order accepted)) (sym last) ∙ at) in
       let is : made ≡ Some leaps = one_made (sym (get_behind all made k last) ∙ there) in
-      subst (λ (n : ℕ). AreLeaps (setting_of flow times) (order_in flow) n leaps.items) same
-      (own_leaps flow times place made leaps are is))
+      subst (λ (n : ℕ). AreLeaps (setting_of accepted times) (in_order accepted) n leaps.items) same
+      (own_leaps accepted times place made leaps are is))
 ]
   where
-    one_place : {a b : ℕ} → Some a ≡ Some b → a ≡ b
-    one_place e = cc
+    one_number : {a b : ℕ} → Some a ≡ Some b → a ≡ b
+    one_number e = cc
 
     one_made : {a b : Option (Vec Leap Global)} → Some a ≡ Some b → a ≡ b
     one_made e = cc
 
-pub loop-site-preserved : goal.loop-site-preserved
-loop-site-preserved c =
+pub loop-node-preserved : goal.loop-node-preserved
+loop-node-preserved c =
     let keys = c.args.self.now in
-    let flow = keys.flow.now in
-    let all = c.loop-site.all.items in
-    let k = c.loop-site.site-index in
-    let count : length all ≡ k = omega (arith, c.loop-site.invariant.long, c.loop-site.all.ok.0) in
-    let site : slice_get keys.sites.items k ≡ Some c.site-item.result =
-    ap (λ (sites : List Site). slice_get sites k) (sym c.deref-site-items.ensures.value)
-    ∙ slice_get_read c.deref-site-items.result.now (length c.deref-site-items.result.now) k c.site-item.result refl
-    c.loop-site-test.true c.site-item.is in
-    let here : slice_get (order_in flow) k ≡ Some c.site-item.result.location.number =
-    ap (λ (order : List ℕ). slice_get order k) (sym c.requires.sites)
-    ∙ slice_get-map (λ (one : Site). one.location.number) keys.sites.items k
-    ∙ ap (option_map (λ (one : Site). one.location.number)) site in
+    let accepted = keys.accepted.now in
+    let all = c.loop-node.all.items in
+    let k = c.loop-node.node-index in
+    let count : length all ≡ k = omega (arith, c.loop-node.invariant.long, c.loop-node.all.ok.0) in
+    let node : slice_get keys.nodes.items k ≡ Some c.node-item.result =
+    ap (λ (nodes : List Node). slice_get nodes k) (sym c.deref-node-items.ensures.value)
+    ∙ slice_get_read c.deref-node-items.result.now (length c.deref-node-items.result.now) k c.node-item.result refl
+    c.loop-node-test.true c.node-item.is in
+    let here : slice_get (in_order accepted) k ≡ Some c.node-item.result.location.number =
+    ap (λ (order : List ℕ). slice_get order k) (sym c.requires.nodes)
+    ∙ slice_get-map (λ (one : Node). one.location.number) keys.nodes.items k
+    ∙ ap (option_map (λ (one : Node). one.location.number)) node in
     record {
-      long = omega (arith, c.in_ok-push.ensures.len, c.loop-site.invariant.long);
+      long = omega (arith, c.in_ok-push.ensures.len, c.loop-node.invariant.long);
       each = λ j one leaps at there.
-          leaps_more flow c.args.times.now all c.in_ok-leaps.leaps c.site-item.result.location.number
-          (ap (slice_get (order_in flow)) count ∙ here) c.in_ok-leaps.ensures.leaps
-          c.loop-site.invariant.each j one leaps at
+          leaps_more accepted c.args.times.now all c.in_ok-leaps.leaps c.node-item.result.location.number
+          (ap (slice_get (in_order accepted)) count ∙ here) c.in_ok-leaps.ensures.leaps
+          c.loop-node.invariant.each j one leaps at
           (subst (λ (held : List (Option (Vec Leap Global))). slice_get held j ≡ Some (Some leaps))
           c.in_ok-push.ensures.items there);
       room = elim c.match-leaps.branch [
-        | in-Some w ↦ omega (arith, w.room-is, c.loop-site.invariant.room)
-        | in-None w ↦ omega (arith, w.room-is, c.loop-site.invariant.room)
+        | in-Some w ↦ omega (arith, w.room-is, c.loop-node.invariant.room)
+        | in-None w ↦ omega (arith, w.room-is, c.loop-node.invariant.room)
       ];
     }

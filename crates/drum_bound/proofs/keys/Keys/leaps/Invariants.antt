@@ -1,17 +1,17 @@
 use Rattle.std.proofs.Common.{◌≡◌, ◌≤◌, ℕ, Some, Vec, Global, vec_len}
 use Rattle.std.specs.Prelude.{slice_get}
-use Rattle.drum_flow.specs.Flow.{order_in}
+use Rattle.drum_flow.specs.AcceptedFlow.{in_order}
 use Rattle.drum_bound.specs.declared.leap.Leap.{Leap}
 use Rattle.drum_bound.specs.KeysOf.{setting_of}
 use Rattle.drum_bound.specs.LeapOf.{AreLeaps}
 use Rattle.drum_bound.proofs.keys.Keys.leaps.Given as goal
 
 -- the leaps of the locations so far
-abbrev pub invariant-loop-site : goal.invariant-loop-site
-invariant-loop-site l = record {
-  long : vec_len l.all ≡ l.site-index;
-  each : (k place : ℕ) (leaps : Vec Leap Global) → slice_get (order_in l.self.flow.now) k ≡ Some place
+abbrev pub invariant-loop-node : goal.invariant-loop-node
+invariant-loop-node l = record {
+  long : vec_len l.all ≡ l.node-index;
+  each : (k place : ℕ) (leaps : Vec Leap Global) → slice_get (in_order l.self.accepted.now) k ≡ Some place
       → slice_get l.all.items k ≡ Some (Some leaps)
-      → AreLeaps (setting_of l.self.flow.now l.times) (order_in l.self.flow.now) place leaps.items;
+      → AreLeaps (setting_of l.self.accepted.now l.times) (in_order l.self.accepted.now) place leaps.items;
   room : l.room ≤ 262144;
 }

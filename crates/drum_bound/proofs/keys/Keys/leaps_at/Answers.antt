@@ -3,7 +3,7 @@ use Rattle.std.specs.Prelude.{Contains}
 use Rattle.std.proofs.lemmas.List.{append_assoc, map-append}
 use Rattle.std.proofs.lemmas.List.Elements.{Contains-push_cases}
 use Rattle.drum_flow.specs.declared.hops.Hop as code
-use Rattle.drum_flow.specs.Flow.{order_in}
+use Rattle.drum_flow.specs.AcceptedFlow.{in_order}
 use Rattle.drum_flow.specs.Hops.{Hop}
 use Rattle.drum_flow.specs.HopsLeft.{hops_left}
 use Rattle.drum_flow.specs.Seen.{seen_hop}
@@ -21,8 +21,8 @@ more leaps leap rest =
 
 pub loop-hop-preserved : goal.loop-hop-preserved
 loop-hop-preserved c =
-    let flow = c.args.self.now.flow.now in
-    let place = c.args.site.now.location.number in
+    let accepted = c.args.self.now.accepted.now in
+    let place = c.args.node.now.location.number in
     let rest = hops_left c.next.new.self in
     let leaps = c.loop-hop.leaps.items in
     let leap = c.leap.result in
@@ -39,8 +39,10 @@ loop-hop-preserved c =
       each = λ one has. elim (Contains-push_cases leaps leap one
           (subst (λ (all : List Leap). Contains all one) pushed has)) [
             | inl before ↦ c.loop-hop.invariant.each one before
-            | inr same ↦ subst (IsLeap (setting_of flow c.args.times.now) (order_in flow) place (place % 50)) same
-                (subst (λ (angle : ℕ). IsLeap (setting_of flow c.args.times.now) (order_in flow) place angle leap) angle
+            | inr same ↦ subst (IsLeap (setting_of accepted c.args.times.now) (in_order accepted) place (place % 50))
+                same
+                (subst (λ (angle : ℕ). IsLeap (setting_of accepted c.args.times.now) (in_order accepted) place angle
+                leap) angle
                 c.leap.ensures.leap)
           ];
       few = omega (arith, c.in_ok-push.ensures.len, c.if-len-room.false, c.len.ensures);

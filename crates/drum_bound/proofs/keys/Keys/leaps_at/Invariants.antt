@@ -1,7 +1,8 @@
 use Rattle.std.proofs.Common.{◌≡◌, ◌%◌, ◌++◌, ◌≤◌, map, vec_len}
 use Rattle.std.specs.Prelude.{Contains}
 use Rattle.drum_core.specs.Loads.{loads_in}
-use Rattle.drum_flow.specs.Flow.{deck_of, notes_of, order_in}
+use Rattle.drum_flow.specs.Flow.{deck_of, notes_of}
+use Rattle.drum_flow.specs.AcceptedFlow.{in_order}
 use Rattle.drum_flow.specs.Hops.{hops}
 use Rattle.drum_flow.specs.HopsLeft.{hops_left}
 use Rattle.drum_bound.specs.declared.leap.Leap.{Leap}
@@ -13,9 +14,9 @@ use Rattle.drum_bound.proofs.keys.Keys.leaps_at.Given as goal
 abbrev pub invariant-loop-hop : goal.invariant-loop-hop
 invariant-loop-hop l = record {
   hops : map leap_hop l.leaps.items ++ hops_left l.hop-iterator
-      ≡ hops (loads_in (deck_of l.self.flow.now)) (notes_of l.self.flow.now) l.site.location.number;
+      ≡ hops (loads_in (deck_of l.self.accepted.now.flow)) (notes_of l.self.accepted.now.flow) l.node.location.number;
   each : (leap : Leap) → Contains l.leaps.items leap
-      → IsLeap (setting_of l.self.flow.now l.times) (order_in l.self.flow.now) l.site.location.number
-      (l.site.location.number % 50) leap;
+      → IsLeap (setting_of l.self.accepted.now l.times) (in_order l.self.accepted.now) l.node.location.number
+      (l.node.location.number % 50) leap;
   few : vec_len l.leaps ≤ l.room;
 }

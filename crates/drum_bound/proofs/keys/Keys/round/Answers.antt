@@ -6,7 +6,7 @@ use Rattle.std.proofs.lemmas.List.{get_or-set_other, get_or-set_same, length-set
 use Rattle.std.proofs.lemmas.Option.{slice_get_read, slice_get_within}
 use Rattle.drum_times.specs.declared.notes.mark.Mark.{Mark}
 use Rattle.drum_machine.specs.Counts.{AreWithin}
-use Rattle.drum_flow.specs.declared.flow_graph.Flow.{Flow}
+use Rattle.drum_flow.specs.declared.accepted_flow.AcceptedFlow.{AcceptedFlow}
 use Rattle.drum_flow.specs.Flow.{notes_of}
 use Rattle.drum_machine.specs.declared.counts.Counts.{Counts}
 use Rattle.drum_bound.specs.declared.keys.Keys.{Keys}
@@ -24,31 +24,34 @@ counted : (marks : List Mark) (leading : ℕ) (counts : Counts) (all : List Mark
 counted marks leading counts all same is = subst (λ (ms : List Mark). counts_in counts ms ≡ digits ms leading) same is
 
 within : (keys : Keys) (leading : ℕ) (counts : Counts) → AreKeys keys → leading < keys.counts
-    → counts_in counts (notes_of keys.flow.now).marks ≡ digits (notes_of keys.flow.now).marks leading
-    → AreWithin (notes_of keys.flow.now).marks (counts_in counts (notes_of keys.flow.now).marks)
+    → counts_in counts (notes_of keys.accepted.now.flow).marks ≡ digits (notes_of keys.accepted.now.flow).marks leading
+    → AreWithin (notes_of keys.accepted.now.flow).marks (counts_in counts (notes_of keys.accepted.now.flow).marks)
 within keys leading counts are below is =
-    let marks = (notes_of keys.flow.now).marks in
+    let marks = (notes_of keys.accepted.now.flow).marks in
     subst (AreWithin marks) (sym is) (digits_within marks leading (omega (arith, below, are.counts)))
 
 -- one more mark
-passed_more : (flow : Flow) (number place : ℕ) (passed : List (Option Counted)) (mark : Mark) (after : Option Counted)
+passed_more : (accepted : AcceptedFlow) (number place : ℕ) (passed : List (Option Counted)) (mark : Mark)
+    (after : Option Counted)
     → place < length passed
-    → slice_get (notes_of flow).marks place ≡ Some mark → IsPassed flow (digits (notes_of flow).marks number) mark after
-    → ((k : ℕ) (one : Mark) → k < place → slice_get (notes_of flow).marks k ≡ Some one
-    → IsPassed flow (digits (notes_of flow).marks number) one (slice_index_or passed k None))
-    → (k : ℕ) (one : Mark) → k < place + 1 → slice_get (notes_of flow).marks k ≡ Some one
-    → IsPassed flow (digits (notes_of flow).marks number) one (slice_index_or (set passed place after) k None)
-passed_more flow number place passed mark after inside here right before k one below at = elim (cases_eq k place) [
+    → slice_get (notes_of accepted.flow).marks place ≡ Some mark
+    → IsPassed accepted (digits (notes_of accepted.flow).marks number) mark after
+    → ((k : ℕ) (one : Mark) → k < place → slice_get (notes_of accepted.flow).marks k ≡ Some one
+    → IsPassed accepted (digits (notes_of accepted.flow).marks number) one (slice_index_or passed k None))
+    → (k : ℕ) (one : Mark) → k < place + 1 → slice_get (notes_of accepted.flow).marks k ≡ Some one
+    → IsPassed accepted (digits (notes_of accepted.flow).marks number) one
+    (slice_index_or (set passed place after) k None)
+passed_more accepted number place passed mark after inside here right before k one below at = elim (cases_eq k place) [
   | inl same ↦ (
-      let there : slice_get (notes_of flow).marks place ≡ Some one =
-      subst (λ (n : ℕ). slice_get (notes_of flow).marks n ≡ Some one) same at in
+      let there : slice_get (notes_of accepted.flow).marks place ≡ Some one =
+      subst (λ (n : ℕ). slice_get (notes_of accepted.flow).marks n ≡ Some one) same at in
       let is : mark ≡ one = one_mark (sym here ∙ there) in
-      subst (λ (n : ℕ). IsPassed flow (digits (notes_of flow).marks number) one
+      subst (λ (n : ℕ). IsPassed accepted (digits (notes_of accepted.flow).marks number) one
       (slice_index_or (set passed place after) n None)) (sym same)
-      (subst (IsPassed flow (digits (notes_of flow).marks number) one)
+      (subst (IsPassed accepted (digits (notes_of accepted.flow).marks number) one)
       (sym (get_or-set_same passed place after None inside))
-      (subst (λ (m : Mark). IsPassed flow (digits (notes_of flow).marks number) m after) is right)))
-  | inr ne ↦ subst (IsPassed flow (digits (notes_of flow).marks number) one)
+      (subst (λ (m : Mark). IsPassed accepted (digits (notes_of accepted.flow).marks number) m after) is right)))
+  | inr ne ↦ subst (IsPassed accepted (digits (notes_of accepted.flow).marks number) one)
       (sym (get_or-set_other passed place k after None ne)) (before k one (omega (arith, below, ne)) at)
 ]
   where
@@ -59,13 +62,13 @@ pub counted_after-requires-clause-within : goal.counted_after-requires-clause-wi
 counted_after-requires-clause-within c =
     let keys = c.args.self.now in
     within keys c.args.leading c.counts_at-counts.result c.requires.keys c.requires.below
-    (counted (notes_of keys.flow.now).marks c.args.leading c.counts_at-counts.result c.marks-marks.result.now
+    (counted (notes_of keys.accepted.now.flow).marks c.args.leading c.counts_at-counts.result c.marks-marks.result.now
     c.marks-marks.ensures.all c.counts_at-counts.ensures)
 
 pub loop-place-preserved : goal.loop-place-preserved
 loop-place-preserved c =
     let keys = c.args.self.now in
-    let marks = (notes_of keys.flow.now).marks in
+    let marks = (notes_of keys.accepted.now.flow).marks in
     let place = c.loop-place.place in
     let is : counts_in c.counts_at-counts.result marks ≡ digits marks c.args.leading =
     counted marks c.args.leading c.counts_at-counts.result c.marks-marks.result.now c.marks-marks.ensures.all
@@ -76,10 +79,11 @@ loop-place-preserved c =
     c.loop-place-test.true c.index-marks-place.is in
     record {
       places = length-set c.loop-place.passed place c.counted_after.result ∙ c.loop-place.invariant.places;
-      passed = passed_more keys.flow.now c.args.leading place c.loop-place.passed c.index-marks-place.result
+      passed = passed_more keys.accepted.now c.args.leading place c.loop-place.passed c.index-marks-place.result
           c.counted_after.result
           (omega (arith, c.loop-place-test.true, c.marks-marks.ensures.few, c.loop-place.invariant.places)) here
-          (subst (λ (counts : List ℕ). IsPassed keys.flow.now counts c.index-marks-place.result c.counted_after.result)
+          (subst (λ (counts : List ℕ). IsPassed keys.accepted.now counts c.index-marks-place.result
+          c.counted_after.result)
           is c.counted_after.ensures)
           c.loop-place.invariant.passed;
     }
@@ -88,18 +92,18 @@ pub counted-requires-clause-within : goal.counted-requires-clause-within
 counted-requires-clause-within c =
     let keys = c.args.self.now in
     within keys c.args.leading c.counts_at-counts.result c.requires.keys c.requires.below
-    (counted (notes_of keys.flow.now).marks c.args.leading c.counts_at-counts.result c.marks-marks.result.now
+    (counted (notes_of keys.accepted.now.flow).marks c.args.leading c.counts_at-counts.result c.marks-marks.result.now
     c.marks-marks.ensures.all c.counts_at-counts.ensures)
 
 pub returns : goal.returns
 returns c =
     let keys = c.args.self.now in
-    let marks = (notes_of keys.flow.now).marks in
+    let marks = (notes_of keys.accepted.now.flow).marks in
     let is : counts_in c.counts_at-counts.result marks ≡ digits marks c.args.leading =
     counted marks c.args.leading c.counts_at-counts.result c.marks-marks.result.now c.marks-marks.ensures.all
     c.counts_at-counts.ensures in
     record {
-      own = subst (λ (counts : List ℕ). IsCounted keys.flow.now counts c.counted.result) is c.counted.ensures;
+      own = subst (λ (counts : List ℕ). IsCounted keys.accepted.now counts c.counted.result) is c.counted.ensures;
       passed = λ k mark at. c.loop-place.invariant.passed k mark
           (omega (
             arith,

@@ -10,7 +10,7 @@ use Rattle.drum_bound.proofs.keys.Keys.round.Given as goal
 abbrev pub invariant-loop-place : goal.invariant-loop-place
 invariant-loop-place l = record {
   places : length l.passed ≡ 8;
-  passed : (k : ℕ) (mark : Mark) → k < l.place → slice_get (notes_of l.self.flow.now).marks k ≡ Some mark
-      → IsPassed l.self.flow.now (digits (notes_of l.self.flow.now).marks l.leading) mark
+  passed : (k : ℕ) (mark : Mark) → k < l.place → slice_get (notes_of l.self.accepted.now.flow).marks k ≡ Some mark
+      → IsPassed l.self.accepted.now (digits (notes_of l.self.accepted.now.flow).marks l.leading) mark
       (slice_index_or l.passed k None);
 }

@@ -6,5 +6,5 @@ use Rattle.drum_bound.proofs.keys.Keys.start_key.Goals as goal
 
 pub key_of-requires-clause-within : goal.key_of-requires-clause-within
 key_of-requires-clause-within c =
-    let marks = (notes_of c.args.self.now.flow.now).marks in
+    let marks = (notes_of c.args.self.now.accepted.now.flow).marks in
     subst (AreWithin marks) (sym (c.none.ensures marks c.requires.ordered.0.sound.few_marks)) (no_counts_within marks)

@@ -25,38 +25,40 @@ use Rattle.drum_bound.proofs.scan.Scan.go_on.Goals as goal
 
 -- what the hop leads to
 led : (scan : Scan) (key next : ℕ) (round : Round) (mark : Option ℕ) → AreKeys scan.keys.now → key < scan.keys.now.size
-    → IsRound scan.keys.now.flow.now (key / length (order_of scan)) round
+    → IsRound scan.keys.now.accepted.now (key / length (order_of scan)) round
     → mark_on (setting_in scan).notes.marks (place_at (order_of scan) key) next ≡ mark
-    → IsLed scan.keys.now.flow.now (key / length (order_of scan)) (place_at (order_of scan) key) next
+    → IsLed scan.keys.now.accepted.now (key / length (order_of scan)) (place_at (order_of scan) key) next
     (counted_after round mark)
 led scan key next round mark keys below is on =
-    round_leads scan.keys.now.flow.now (key / length (order_of scan)) (place_at (order_of scan) key) next round mark is
+    round_leads scan.keys.now.accepted.now (key / length (order_of scan)) (place_at (order_of scan) key) next round
+    mark is
     (counts_within (setting_in scan).notes.marks (order_of scan) key (omega (arith, below, keys.size))) on
 
 -- and where it is something, that
 led_to : (scan : Scan) (key next : ℕ) (one : Option Counted) (counted : Counted)
-    → IsLed scan.keys.now.flow.now (key / length (order_of scan)) (place_at (order_of scan) key) next one
+    → IsLed scan.keys.now.accepted.now (key / length (order_of scan)) (place_at (order_of scan) key) next one
     → one ≡ Some counted
-    → IsCounted scan.keys.now.flow.now
+    → IsCounted scan.keys.now.accepted.now
     (after_pass (setting_in scan).notes.marks (place_at (order_of scan) key) next
     (counts_at (setting_in scan).notes.marks (order_of scan) key)) counted
     × AreWithin (setting_in scan).notes.marks
     (after_pass (setting_in scan).notes.marks (place_at (order_of scan) key) next
     (counts_at (setting_in scan).notes.marks (order_of scan) key))
 led_to scan key next one counted is same =
-    subst (IsLed scan.keys.now.flow.now (key / length (order_of scan)) (place_at (order_of scan) key) next) same is
+    subst (IsLed scan.keys.now.accepted.now (key / length (order_of scan)) (place_at (order_of scan) key) next) same is
 
 led_nowhere : (scan : Scan) (key next : ℕ) (one : Option Counted)
-    → IsLed scan.keys.now.flow.now (key / length (order_of scan)) (place_at (order_of scan) key) next one → one ≡ None
+    → IsLed scan.keys.now.accepted.now (key / length (order_of scan)) (place_at (order_of scan) key) next one → one
+    ≡ None
     → ¬ AreWithin (setting_in scan).notes.marks
     (after_pass (setting_in scan).notes.marks (place_at (order_of scan) key) next
     (counts_at (setting_in scan).notes.marks (order_of scan) key))
 led_nowhere scan key next one is same =
-    subst (IsLed scan.keys.now.flow.now (key / length (order_of scan)) (place_at (order_of scan) key) next) same is
+    subst (IsLed scan.keys.now.accepted.now (key / length (order_of scan)) (place_at (order_of scan) key) next) same is
 
 -- the key that it leads to
 key_is : (scan : Scan) (key next index : ℕ) (one : Option Counted) (counted : Counted)
-    → IsLed scan.keys.now.flow.now (key / length (order_of scan)) (place_at (order_of scan) key) next one
+    → IsLed scan.keys.now.accepted.now (key / length (order_of scan)) (place_at (order_of scan) key) next one
     → one ≡ Some counted
     → slice_get (order_of scan) index ≡ Some next
     → IsKey (setting_in scan).notes.marks (order_of scan) (counted.first + index) next
@@ -64,7 +66,7 @@ key_is : (scan : Scan) (key next index : ℕ) (one : Option Counted) (counted : 
     (counts_at (setting_in scan).notes.marks (order_of scan) key))
 key_is scan key next index one counted is same at =
     let to_it = led_to scan key next one counted is same in
-    led_key scan.keys.now.flow.now
+    led_key scan.keys.now.accepted.now
     (after_pass (setting_in scan).notes.marks (place_at (order_of scan) key) next
     (counts_at (setting_in scan).notes.marks (order_of scan) key)) counted index next to_it.0 to_it.1 at
 
@@ -95,7 +97,7 @@ returns-in_default-clause-goes c =
 -- the key that the leap leads to, of a scan
 led_leap : (scan : Scan) (key next : ℕ) (round : Round) (leap : Leap) (angle : ℕ) (counted : Counted)
     → AreKeys scan.keys.now → key < scan.keys.now.size
-    → IsRound scan.keys.now.flow.now (key / length (order_of scan)) round
+    → IsRound scan.keys.now.accepted.now (key / length (order_of scan)) round
     → IsLeap (setting_in scan) (order_of scan) (place_at (order_of scan) key) angle leap
     → seen_way leap.hop.way ≡ to next → counted_after round leap.mark ≡ Some counted
     → IsKey (setting_in scan).notes.marks (order_of scan) (counted.first + leap.index) next
@@ -134,7 +136,7 @@ led_later : (scan : Scan) (from key next : ℕ) (one : Option Counted) (counted 
     → IsKey (setting_in scan).notes.marks (order_of scan) key next
     (after_pass (setting_in scan).notes.marks (place_at (order_of scan) from) next
     (counts_at (setting_in scan).notes.marks (order_of scan) from))
-    → IsLed scan.keys.now.flow.now (from / length (order_of scan)) (place_at (order_of scan) from) next one
+    → IsLed scan.keys.now.accepted.now (from / length (order_of scan)) (place_at (order_of scan) from) next one
     → one ≡ Some counted → from < key
 led_later scan from key next one counted keys below edge is led same =
     (leads_on (setting_in scan) (order_of scan) keys.ordered.0 from (record { ins = edge.0; way = to next }) key next
@@ -143,7 +145,7 @@ led_later scan from key next one counted keys below edge is led same =
 later_leap : (scan : Scan) (key next : ℕ) (round : Round) (leap : Leap) (angle : ℕ) (counted : Counted)
     → AreKeys scan.keys.now → key < scan.keys.now.size
     → IsEdge (setting_in scan).loads (setting_in scan).notes (place_at (order_of scan) key) next
-    → IsRound scan.keys.now.flow.now (key / length (order_of scan)) round
+    → IsRound scan.keys.now.accepted.now (key / length (order_of scan)) round
     → IsLeap (setting_in scan) (order_of scan) (place_at (order_of scan) key) angle leap
     → seen_way leap.hop.way ≡ to next → counted_after round leap.mark ≡ Some counted → key < counted.first + leap.index
 later_leap scan key next round leap angle counted keys below edge is leaps goes one =

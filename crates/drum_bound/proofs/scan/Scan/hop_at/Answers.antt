@@ -67,11 +67,11 @@ pub returns-in-None : goal.returns-in-None
 returns-in-None c = λ place there.
     let scan = c.args.self.now in
     let g = setting_in scan in
-    let same : c.site.result.location.number ≡ place =
-    some_is c.site.result.location.number place (sym c.site.ensures.location ∙ there) in
+    let same : c.node.result.location.number ≡ place =
+    some_is c.node.result.location.number place (sym c.node.ensures.location ∙ there) in
     ap (λ (p : ℕ). slice_get (hops g.loads g.notes p) c.args.number) (sym same)
     ∙ sym (nth_from_yields_List c.nth.result c.nth.new.self c.args.number c.nth.ensures.ran
-    (YieldsList-from_first seen_hop hops_left (hops g.loads g.notes c.site.result.location.number) c.site.ensures.hops))
+    (YieldsList-from_first seen_hop hops_left (hops g.loads g.notes c.node.result.location.number) c.node.ensures.hops))
   where
     some_is : (a b : ℕ) → Some a ≡ Some b → a ≡ b
     some_is a b e = cc

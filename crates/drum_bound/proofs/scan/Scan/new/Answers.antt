@@ -1,7 +1,8 @@
 use Rattle.std.proofs.Common.{◌≡◌, ℕ, ◌*◌, List, length, Option, None, set, replicate, Some, ap, sym, ◌∙◌, refl, subst}
 use Rattle.std.proofs.Common.{arith}
 use Rattle.drum_core.specs.Loads.{start_in}
-use Rattle.drum_flow.specs.Flow.{deck_of, order_in}
+use Rattle.drum_flow.specs.Flow.{deck_of}
+use Rattle.drum_flow.specs.AcceptedFlow.{in_order}
 use Rattle.drum_bound.specs.declared.key_hop.KeyHop.{KeyHop}
 use Rattle.drum_bound.specs.declared.latest.Latest.{Latest}
 use Rattle.drum_bound.specs.KeysOf.{setting_of}
@@ -12,25 +13,25 @@ use Rattle.drum_bound.proofs.EntriesRaised.{number_none}
 use Rattle.drum_bound.specs.Scanned.{Scanned}
 use Rattle.drum_bound.specs.KeyHops.{IsBefore}
 use Rattle.drum_bound.proofs.Begun.{begun}
-use Rattle.drum_bound.proofs.Sites.{same_length}
+use Rattle.drum_bound.proofs.Nodes.{same_length}
 use Rattle.drum_bound.specs.Held.{kept_in}
 use Rattle.drum_bound.proofs.scan.Scan.new.Goals as goal
 
 pub returns-clause-scanned : goal.returns-clause-scanned
 returns-clause-scanned c =
     let keys = c.args.keys.now in
-    let g = setting_of keys.flow.now c.args.times.now in
-    let order = order_in keys.flow.now in
+    let g = setting_of keys.accepted.now c.args.times.now in
+    let order = in_order keys.accepted.now in
     let key = c.start_key-key.result in
     let start : Latest = record { clock = c.start_angle-angle.result; origin = None } in
     let words : c.len-words.result ≡ length order =
-    omega (arith, c.len-words.ensures, keys.sites.ok.0, same_length keys c.requires.keys) in
+    omega (arith, c.len-words.ensures, keys.nodes.ok.0, same_length keys c.requires.keys) in
     let size : keys.counts * c.len-words.result ≡ keys_of g.notes.marks order =
     ap (λ (n : ℕ). keys.counts * n) words ∙ ap (λ (n : ℕ). n * length order) c.requires.keys.counts in
     let cells : kept_in c.in_ok-cells.cells ≡ set (replicate (keys_of g.notes.marks order) None) key (Some start) =
     c.in_ok-cells.ensures.kept ∙ ap (λ (n : ℕ). set (replicate n None) key (Some start)) size in
-    let starts : c.start-start.result.number ≡ start_in (deck_of keys.flow.now) =
-    c.start-start.ensures.held ∙ ap start_in c.deck.ensures in
+    let starts : c.start-start.result.number ≡ start_in (deck_of keys.accepted.now.flow) =
+    c.start-start.ensures in
     record {
       keys = c.requires.keys;
       leaps = c.requires.leaps;

@@ -6,7 +6,7 @@ use Rattle.drum_machine.specs.WaysLeft.{seen_way}
 use Rattle.drum_flow.specs.Seen.{seen_hop}
 use Rattle.drum_flow.specs.Walk.{Setting}
 use Rattle.drum_bound.specs.declared.cells.Cells.{Cells}
-use Rattle.drum_bound.specs.declared.cells.end.Made.{Made}
+use Rattle.drum_bound.specs.declared.cells.end.Ends.{Ends}
 use Rattle.drum_bound.specs.declared.latest.Latest.{Latest}
 use Rattle.drum_bound.specs.declared.key_hop.KeyHop.{KeyHop}
 use Rattle.drum_bound.specs.EndOf.{latest_in}
@@ -26,7 +26,7 @@ use Rattle.drum_bound.specs.ScanOf.{setting_in, order_of, AreCells}
 use Rattle.drum_bound.proofs.Scans.{Comes, take_stop}
 use Rattle.drum_bound.proofs.HeldLaws.{clock_after}
 use Rattle.drum_bound.proofs.FewHops.{few_hops}
-use Rattle.drum_bound.proofs.Taken.{edge_of, goes_agreed, goes_as, goes_taken}
+use Rattle.drum_bound.proofs.GoingOn.{edge_of, goes_agreed, goes_as, goes_taken}
 use Rattle.drum_bound.specs.Held.{kept_in}
 use Rattle.drum_bound.proofs.scan.Scan.take_leap.Goals as goal
 
@@ -155,9 +155,9 @@ returns-in-Early c =
     ∙ ap (λ (l : Latest). later l new) (ap (λ (cells : Cells). cells.last) c.end-end.ensures.same) in
     record {
       same = refl;
-      counted = ap (λ (made : Made). made.count) (ap (λ (cells : Cells). cells.made) c.keep_last.ensures.same)
+      counted = ap (λ (made : Ends). made.count) (ap (λ (cells : Cells). cells.made) c.keep_last.ensures.same)
           ∙ c.end-end.ensures.counted;
-      last = ap (λ (made : Made). made.last) (ap (λ (cells : Cells). cells.made) c.keep_last.ensures.same)
+      last = ap (λ (made : Ends). made.last) (ap (λ (cells : Cells). cells.made) c.keep_last.ensures.same)
           ∙ c.end-end.ensures.now_last;
       cells = subst (AreCells g order) (sym c.keep_last.ensures.same)
           (cells_last g order c.end-end.new.self c.keep_last.new.self.last

@@ -9,7 +9,7 @@ use Rattle.drum_bound.specs.ScanOf.{setting_in, order_of, IsScanned}
 use Rattle.drum_bound.proofs.KeysTaken.{skipped_all}
 use Rattle.drum_bound.proofs.RoundLaws.{round_first}
 use Rattle.drum_bound.proofs.RowsHeld.{places_size}
-use Rattle.drum_bound.proofs.Sites.{same_length}
+use Rattle.drum_bound.proofs.Nodes.{same_length}
 use Rattle.drum_bound.proofs.scan.Scan.take_round.Goals as goal
 
 -- the next round begins where this one ends
@@ -27,9 +27,9 @@ round_below scan counts index first first' is below inside at =
 
 -- the first key of a round
 first_is : (scan : Scan) (counts first : ℕ) (round : Round) → IsScanned scan first → counts < scan.keys.now.counts
-    → IsRound scan.keys.now.flow.now counts round → round.own.first ≡ counts * length (order_of scan)
+    → IsRound scan.keys.now.accepted.now counts round → round.own.first ≡ counts * length (order_of scan)
 first_is scan counts first round is below of =
-    round_first scan.keys.now.flow.now counts round of (omega (arith, below, is.keys.counts))
+    round_first scan.keys.now.accepted.now counts round of (omega (arith, below, is.keys.counts))
 
 pub keeps_any-requires-clause-there : goal.keeps_any-requires-clause-there
 keeps_any-requires-clause-there c =
@@ -38,7 +38,7 @@ keeps_any-requires-clause-there c =
     omega (
       arith,
       c.len-words.ensures,
-      scan.keys.now.sites.ok.0,
+      scan.keys.now.nodes.ok.0,
       same_length scan.keys.now
           c.requires.scanned.keys,
     ) in
@@ -64,7 +64,7 @@ returns-then-not-keeps_any-clause-scanned c =
     omega (
       arith,
       c.len-words.ensures,
-      scan.keys.now.sites.ok.0,
+      scan.keys.now.nodes.ok.0,
       same_length scan.keys.now
           c.requires.scanned.keys,
     ) in
@@ -95,7 +95,7 @@ take_key-requires-clause-below c =
     omega (
       arith,
       c.len-words.ensures,
-      scan.keys.now.sites.ok.0,
+      scan.keys.now.nodes.ok.0,
       same_length scan.keys.now
           c.requires.scanned.keys,
     ) in
@@ -114,7 +114,7 @@ take_key-requires-clause-round c =
     omega (
       arith,
       c.len-words.ensures,
-      scan.keys.now.sites.ok.0,
+      scan.keys.now.nodes.ok.0,
       same_length scan.keys.now
           c.requires.scanned.keys,
     ) in
@@ -124,9 +124,9 @@ take_key-requires-clause-round c =
     ap (λ (f : ℕ). (f + c.loop-index.index) / n) first
     ∙ div-mul-add c.args.counts n c.loop-index.index (omega (arith, c.loop-index-test.true, words)) in
     subst (λ (s : Scan).
-    IsRound s.keys.now.flow.now ((c.round-round.result.own.first + c.loop-index.index) / length (order_of s))
+    IsRound s.keys.now.accepted.now ((c.round-round.result.own.first + c.loop-index.index) / length (order_of s))
     c.round-round.result) (sym c.loop-index.invariant.same)
-    (subst (λ (k : ℕ). IsRound scan.keys.now.flow.now k c.round-round.result) (sym whole) c.round-round.ensures)
+    (subst (λ (k : ℕ). IsRound scan.keys.now.accepted.now k c.round-round.result) (sym whole) c.round-round.ensures)
 
 pub take_key-requires-clause-rest : goal.take_key-requires-clause-rest
 take_key-requires-clause-rest c =
@@ -136,7 +136,7 @@ take_key-requires-clause-rest c =
     omega (
       arith,
       c.len-words.ensures,
-      scan.keys.now.sites.ok.0,
+      scan.keys.now.nodes.ok.0,
       same_length scan.keys.now
           c.requires.scanned.keys,
     ) in
@@ -170,7 +170,7 @@ returns-clause-scanned c =
     omega (
       arith,
       c.len-words.ensures,
-      scan.keys.now.sites.ok.0,
+      scan.keys.now.nodes.ok.0,
       same_length scan.keys.now
           c.requires.scanned.keys,
     ) in

@@ -7,7 +7,7 @@ use Rattle.drum_flow.specs.Hops.{Hop}
 use Rattle.drum_machine.specs.WaysLeft.{seen_way}
 use Rattle.drum_flow.specs.Seen.{seen_hop}
 use Rattle.drum_flow.specs.Walk.{Setting}
-use Rattle.drum_bound.specs.declared.keys.Site.{Site}
+use Rattle.drum_bound.specs.declared.keys.Node.{Node}
 use Rattle.drum_bound.specs.declared.scan.Scan.{Scan}
 use Rattle.drum_bound.specs.Keys.{place_at}
 use Rattle.drum_bound.specs.ScanOf.{IsDone, order_of, setting_in, size_in}
@@ -17,11 +17,11 @@ use Rattle.drum_bound.proofs.KeyLaws.{some_places}
 use Rattle.drum_bound.proofs.Finished.{kept_after}
 use Rattle.drum_bound.proofs.scan.Scan.visit.Goals as goal
 
--- there are as many sites as locations
-as_long : (scan : Scan) (words : ℕ) → IsDone scan → words ≡ vec_len scan.keys.now.sites → words ≡ length (order_of scan)
+-- there are as many nodes as locations
+as_long : (scan : Scan) (words : ℕ) → IsDone scan → words ≡ vec_len scan.keys.now.nodes → words ≡ length (order_of scan)
 as_long scan words done is =
-    is ∙ scan.keys.now.sites.ok.0 ∙ sym (length-map scan.keys.now.sites.items (λ (site : Site). site.location.number))
-    ∙ ap (λ (all : List ℕ). length all) done.keys.sites
+    is ∙ scan.keys.now.nodes.ok.0 ∙ sym (length-map scan.keys.now.nodes.items (λ (node : Node). node.location.number))
+    ∙ ap (λ (all : List ℕ). length all) done.keys.nodes
 
 pub overflow_sub-result : goal.overflow_sub-result
 overflow_sub-result c =
@@ -41,7 +41,7 @@ overflow_sub-result-2 c =
     )
 
 -- the index of a key's location is one of the order
-index_inside : (scan : Scan) (key words : ℕ) → IsDone scan → key < size_in scan → words ≡ vec_len scan.keys.now.sites
+index_inside : (scan : Scan) (key words : ℕ) → IsDone scan → key < size_in scan → words ≡ vec_len scan.keys.now.nodes
     → key % words < length (order_of scan)
 index_inside scan key words done below is =
     let long : words ≡ length (order_of scan) = as_long scan words done is in
@@ -49,7 +49,7 @@ index_inside scan key words done below is =
     (mod-lt key (some_places (setting_in scan).notes.marks (order_of scan) key below))
 
 -- and the location there is the key's
-place_read : (scan : Scan) (key words : ℕ) → IsDone scan → key < size_in scan → words ≡ vec_len scan.keys.now.sites
+place_read : (scan : Scan) (key words : ℕ) → IsDone scan → key < size_in scan → words ≡ vec_len scan.keys.now.nodes
     → slice_get (order_of scan) (key % words) ≡ Some (place_at (order_of scan) key)
 place_read scan key words done below is =
     let long : words ≡ length (order_of scan) = as_long scan words done is in

@@ -4,7 +4,7 @@ use Rattle.std.proofs.lemmas.List.Folds.{length-flat_map-take}
 use Rattle.std.specs.Borrow.{Bor}
 use Rattle.std.specs.Io.KnownBytes.{Appends}
 use Rattle.drum_core.specs.Device.{joined}
-use Rattle.drum_core.proofs.Bytes.{Appends-then, pieces_more, front_of_pieces}
+use Rattle.drum_core.proofs.Bytes.{Appends-then, pieces_more, prefix_of_pieces}
 use Rattle.drum_core.proofs.device.pieces.write_pieces.Goals as goal
 
 -- the piece at hand
@@ -36,19 +36,19 @@ overflow_add-result g c =
     let within = fits c.args.pieces.now c.loop-piece.piece-index past c.loop-piece-test.true in
     omega (arith, within, c.loop-piece.invariant.so_far, c.in-Err.ensures.some)
 
-pub returns-in-Err-clause-front : goal.returns-in-Err-clause-front
-returns-in-Err-clause-front g c =
+pub returns-in-Err-clause-prefix : goal.returns-in-Err-clause-prefix
+returns-in-Err-clause-prefix g c =
     let pieces = c.args.pieces.now in
     let i = c.loop-piece.piece-index in
     let sent = c.in-Err.unsent.sent in
     let before = joined (take i pieces) in
     let same : take (c.loop-piece.sent + sent) (joined pieces) ≡ before ++ take sent (get_or pieces i past).now =
     ap (λ (n : ℕ). take (n + sent) (joined pieces)) c.loop-piece.invariant.so_far
-    ∙ front_of_pieces bytes_of pieces i sent past c.loop-piece-test.true c.in-Err.ensures.some in
+    ∙ prefix_of_pieces bytes_of pieces i sent past c.loop-piece-test.true c.in-Err.ensures.some in
     subst (Appends (g.O.Output.written c.args.output.now) (g.O.Output.written c.write_whole.new.output)) (sym same)
     (Appends-then (g.O.Output.written c.args.output.now) (g.O.Output.written c.loop-piece.output)
     (g.O.Output.written c.write_whole.new.output)
-    before (take sent (get_or pieces i past).now) c.loop-piece.invariant.front c.in-Err.ensures.front)
+    before (take sent (get_or pieces i past).now) c.loop-piece.invariant.prefix c.in-Err.ensures.prefix)
 
 pub returns-in-Err-clause-some : goal.returns-in-Err-clause-some
 returns-in-Err-clause-some g c =
@@ -70,12 +70,12 @@ loop-piece-preserved g c =
     pieces_more bytes_of pieces i past c.loop-piece-test.true in
     record {
       so_far = omega (arith, ap length more, length-append before piece, c.loop-piece.invariant.so_far);
-      front =
+      prefix =
           subst (Appends (g.O.Output.written c.args.output.now) (g.O.Output.written c.write_whole.new.output))
           (sym more)
           (Appends-then (g.O.Output.written c.args.output.now) (g.O.Output.written c.loop-piece.output)
           (g.O.Output.written c.write_whole.new.output)
-          before piece c.loop-piece.invariant.front c.in-Ok.ensures.all);
+          before piece c.loop-piece.invariant.prefix c.in-Ok.ensures.all);
       calls = omega (arith, c.loop-piece.invariant.calls, c.in-Ok.ensures.calls);
       failed = omega (arith, c.loop-piece.invariant.failed, c.in-Ok.ensures.failures);
     }

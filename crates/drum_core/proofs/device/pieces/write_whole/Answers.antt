@@ -9,9 +9,9 @@ loop-sent-preserved g c =
     let within : c.loop-sent.sent + c.in-Ok.count ≤ length bytes = search rules in
     record {
       within = within;
-      front =
+      prefix =
           Appends-more _ (g.O.Output.written c.loop-sent.output) _ c.loop-sent.sent c.in-Ok.count bytes within
-          c.loop-sent.invariant.front c.in-Ok.ensures.bytes;
+          c.loop-sent.invariant.prefix c.in-Ok.ensures.bytes;
       calls = grind (arith, common_steps);
       failed = grind (arith, common_steps);
     }

@@ -6,7 +6,7 @@ use Rattle.drum_core.proofs.device.pieces.write_whole.Given as goal
 abbrev pub invariant-loop-sent : goal.invariant-loop-sent
 invariant-loop-sent g l = record {
   within : l.sent ≤ length l.bytes;
-  front : Appends (g.O.Output.written l.fn.output) (g.O.Output.written l.output) (take l.sent l.bytes);
+  prefix : Appends (g.O.Output.written l.fn.output) (g.O.Output.written l.output) (take l.sent l.bytes);
   calls : g.O.Output.called l.output ≤ g.O.Output.called l.fn.output + l.sent;
   failed : g.O.Output.failed l.output ≡ g.O.Output.failed l.fn.output;
 }

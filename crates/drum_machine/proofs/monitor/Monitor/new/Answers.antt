@@ -1,4 +1,5 @@
 use Rattle.drum_machine.proofs.monitor.Monitor.new.Goals as goal
 
 pub returns-clause-seen : goal.returns-clause-seen
-returns-clause-seen c loads = record { counts = c.none.ensures c.args.notes.now.marks c.marks.ensures.sound.few_marks; kept = tt }
+returns-clause-seen c loads = record
+    { counts = c.none.ensures c.args.notes.now.marks c.marks.ensures.sound.few_marks; kept = tt }

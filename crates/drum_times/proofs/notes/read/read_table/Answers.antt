@@ -137,7 +137,8 @@ returns-in-Some-repeated_location-clause-first c =
                 (
                   (subst (λ (es : List (ℕ × ℕ)). said.edge_faults [] es ≡ [])
                       (ap (map said.edge_of) c.deref.ensures.value
-                      ∙ sym (edges_same (table_view c.args.table.now) c.in_ok-marks.marks.items c.in_ok-marks.ensures.said))
+                      ∙ sym (edges_same (table_view c.args.table.now) c.in_ok-marks.marks.items
+                      c.in_ok-marks.ensures.said))
                       c.in_default.ensures.none),
                   tt,
                 ),

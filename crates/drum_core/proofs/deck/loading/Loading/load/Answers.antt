@@ -3,7 +3,7 @@ use Rattle.std.proofs.Common.{cond, not, Some, None, refl, sym, ◌∙◌, ap, a
 use Rattle.std.specs.Result.{is_ok}
 use Rattle.drum_core.specs.declared.word.Word.{Word}
 use Rattle.drum_core.specs.DeckText as text
-use Rattle.drum_core.specs.Taken.{IsFirstTaken}
+use Rattle.drum_core.specs.Loaded.{IsFirstLoaded}
 use Rattle.drum_core.specs.Held.{Holds}
 use Rattle.drum_core.proofs.Loads.{holds_card, twice_fault}
 use Rattle.drum_core.proofs.deck.loading.Loading.load.Goals as goal
@@ -28,7 +28,7 @@ returns-in-Err-clause-err c not_memory lines bytes holds is_line =
     let within : first + length words ≤ 2000 =
     omega (arith, c.if-card-words.false, ap (λ (words : List Word). length words) same) in
     let taken =
-    subst (λ (words : List Word). IsFirstTaken c.args.self.now.image.items first (length words)
+    subst (λ (words : List Word). IsFirstLoaded c.args.self.now.image.items first (length words)
     c.in-Err.location.number) same c.in-Err.ensures.taken in
     twice_fault c.args.self.now.image.items c.args.self.now.cards.items c.args.self.now.start lines c.args.line bytes
     first words c.in-Err.location holds is_line within taken

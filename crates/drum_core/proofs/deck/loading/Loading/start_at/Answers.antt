@@ -18,5 +18,6 @@ returns-clause-ok c lines holds =
     let unstarted =
     subst (λ (begun : Option Location). Holds c.args.self.now.image.items c.args.self.now.cards.items begun lines)
     nothing holds in
-    holds_start c.args.self.now.image.items c.args.self.now.cards.items lines (omega (arith, c.if-address-ge-DRUM.false))
+    holds_start c.args.self.now.image.items c.args.self.now.cards.items lines
+    (omega (arith, c.if-address-ge-DRUM.false))
     unstarted

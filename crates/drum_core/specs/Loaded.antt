@@ -2,7 +2,7 @@
 use Rattle.std.specs.Prelude.{◌≡◌, ℕ, ◌+◌, ◌<◌, ◌≤◌, List, slice_get, Option, Some, None}
 
 -- the location is the first of so many that has one
-pub record IsFirstTaken {A : Type 0} (image : List (Option A)) (first count location : ℕ) :
+pub record IsFirstLoaded {A : Type 0} (image : List (Option A)) (first count location : ℕ) :
     Type 0 where
   pub low : first ≤ location
   pub high : location < first + count

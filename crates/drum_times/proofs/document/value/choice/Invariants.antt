@@ -1,6 +1,6 @@
 use Rattle.std.proofs.Common.{◌≡◌, map, drop}
 use Rattle.drum_times.specs.Document as document
-use Rattle.drum_times.proofs.document.wrong.choice.Given as goal
+use Rattle.drum_times.proofs.document.value.choice.Given as goal
 
 abbrev pub invariant-loop-name : goal.invariant-loop-name
 invariant-loop-name g l =

@@ -5,7 +5,7 @@ use Rattle.std.specs.Prelude.{slice_get}
 use Rattle.std.proofs.lemmas.Bool.{cases_eq}
 use Rattle.std.proofs.lemmas.Option.{slice_get_within, get_or_from_slice_get}
 use Rattle.drum_core.specs.declared.location.Location.{Location}
-use Rattle.drum_flow.specs.Flow.{order_in}
+use Rattle.drum_flow.specs.AcceptedFlow.{in_order}
 use Rattle.drum_flow.specs.Graph.{AreDifferent}
 use Rattle.drum_flow.proofs.Lists.{get_written, get_other}
 use Rattle.drum_flow.specs.Accepted.{counts_of}
@@ -16,24 +16,17 @@ use Rattle.std.proofs.Math.Nat.{mul-le-mul_left}
 use Rattle.std.proofs.lemmas.List.{length-map, map-append}
 use Rattle.std.proofs.lemmas.Nat.{mod-mul-add, div-mul-add}
 use Rattle.drum_bound.specs.declared.keys.Keys.{Keys}
-use Rattle.drum_bound.specs.declared.keys.Site.{Site}
+use Rattle.drum_bound.specs.declared.keys.Node.{Node}
 use Rattle.drum_bound.specs.Digits.{digits}
 use Rattle.drum_bound.proofs.DigitsLaws.{digits_leading}
-use Rattle.drum_bound.proofs.KeyLaws.{one_index}
+use Rattle.drum_flow.proofs.FreeRows.{one_place}
 use Rattle.drum_bound.specs.Keys.{keys_of, IsKey}
-use Rattle.drum_bound.specs.KeysOf.{AreKeys, HaveIndices, numbers, sites_in}
+use Rattle.drum_bound.specs.KeysOf.{AreKeys, HaveIndices, numbers, nodes_in}
 
 -- each of the first locations' place stands at its number
 abbrev pub HaveIndicesBelow : ℕ → List Location → List ℕ → Type 0
 HaveIndicesBelow below order places =
     (k place : ℕ) → k < below → slice_get (numbers order) k ≡ Some place → slice_get places place ≡ Some k
-
--- a member of a list without repeats stands in one place
-one_place : (order : List ℕ) (a b place : ℕ) → AreDifferent order → slice_get order a ≡ Some place
-    → slice_get order b ≡ Some place → a ≡ b
-one_place order a b place different p q =
-    one_index order a b different (slice_get_within order a place p) (slice_get_within order b place q)
-    (get_or_from_slice_get order a place 0 p ∙ sym (get_or_from_slice_get order b place 0 q))
 
 -- one more location's place is written
 pub place_written : (order : List Location) (places : List ℕ) (k number : ℕ) → AreDifferent (numbers order)
@@ -64,10 +57,10 @@ all_places order places below le have k place at =
           (λ (one : Location). one.number),
     )) at
 
--- the locations of sites with one more
-pub sites_more : (sites : List Site) (site : Site)
-    → sites_in (sites ++ site ∷ []) ≡ sites_in sites ++ site.location.number ∷ []
-sites_more sites site = map-append (λ (one : Site). one.location.number) sites (site ∷ [])
+-- the locations of nodes with one more
+pub nodes_more : (nodes : List Node) (node : Node)
+    → nodes_in (nodes ++ node ∷ []) ≡ nodes_in nodes ++ node.location.number ∷ []
+nodes_more nodes node = map-append (λ (one : Node). one.location.number) nodes (node ∷ [])
 
 -- the key of counts, by their number, and of a place
 pub key_of_place : (marks : List Mark) (order counts : List ℕ) (k next : ℕ) → AreWithin marks counts
@@ -89,10 +82,10 @@ key_of_place marks order counts k next within at =
     }
 
 -- a key has as many locations as its order
-pub same_length : (keys : Keys) → AreKeys keys → length keys.sites.items ≡ length (order_in keys.flow.now)
+pub same_length : (keys : Keys) → AreKeys keys → length keys.nodes.items ≡ length (in_order keys.accepted.now)
 same_length keys are =
-    sym (length-map keys.sites.items (λ (site : Site). site.location.number))
-    ∙ ap (λ (ns : List ℕ). length ns) are.sites
+    sym (length-map keys.nodes.items (λ (node : Node). node.location.number))
+    ∙ ap (λ (ns : List ℕ). length ns) are.nodes
 
 -- the key of the first location with counts is small
 pub small_product : (marks : List Mark) (order counts : List ℕ) → AreWithin marks counts → keys_of marks order ≤ 4000000

@@ -11,7 +11,7 @@ use toml::Value;
 
 /// What is wrong with a value.
 #[derive(Clone, Copy, Debug, PartialEq, Eq)]
-pub enum Wrong {
+pub enum ValueFault {
     /// It is of another kind.
     Kind,
     /// It is outside its range.
@@ -19,7 +19,7 @@ pub enum Wrong {
 }
 
 /// The whole number from `low` to `high` that a value is.
-pub fn whole_number(value: &Value, low: u64, high: u64) -> Result<u64, Wrong>
+pub fn whole_number(value: &Value, low: u64, high: u64) -> Result<u64, ValueFault>
     ensures found { IfOk result (λ n. view value.now ≡ integer (pos n)) }
     ensures low { IfOk result (λ n. low ≤ n) }
     ensures high { IfOk result (λ n. n ≤ high) }
@@ -28,26 +28,26 @@ pub fn whole_number(value: &Value, low: u64, high: u64) -> Result<u64, Wrong>
         ≡ fault_of wrong path ∷ []) }
 {
     let Some(number) = value.as_integer() else {
-        return Err(Wrong::Kind);
+        return Err(ValueFault::Kind);
     };
     match u64::try_from(number) {
         Ok(number) if low <= number && number <= high => Ok(number),
-        _ => Err(Wrong::Range),
+        _ => Err(ValueFault::Range),
     }
 }
 
 /// The location whose number a value is.
-pub fn location(value: &Value) -> Result<Location, Wrong>
+pub fn location(value: &Value) -> Result<Location, ValueFault>
     ensures found { IfOk result (λ location. view value.now ≡ integer (pos location.number)) }
     ensures wrong { IfErr result (λ wrong. (path : List ℕ)
         → document.number_faults path is_location (view value.now) ≡ fault_of wrong path ∷ []) }
 {
     let number = whole_number(value, 0, 9999)?;
-    Location::new(number as u16).ok_or(Wrong::Range)
+    Location::new(number as u16).ok_or(ValueFault::Range)
 }
 
 /// What the text that a value is stands for.
-pub fn choice<T: Copy + Drop>(value: &Value, choices: &[(&str, T)]) -> Result<T, Wrong>
+pub fn choice<T: Copy + Drop>(value: &Value, choices: &[(&str, T)]) -> Result<T, ValueFault>
     ensures found { IfOk result (StandsFor (map (λ choice. (choice.0.now, choice.1)) choices.now)
         (view value.now)) }
     ensures wrong { IfErr result (λ wrong. (path : List ℕ)
@@ -55,12 +55,12 @@ pub fn choice<T: Copy + Drop>(value: &Value, choices: &[(&str, T)]) -> Result<T,
         ≡ fault_of wrong path ∷ []) }
 {
     let Some(text) = value.as_str() else {
-        return Err(Wrong::Kind);
+        return Err(ValueFault::Kind);
     };
     for (name, chosen) in choices {
         if *name == text {
             return Ok(*chosen);
         }
     }
-    Err(Wrong::Range)
+    Err(ValueFault::Range)
 }

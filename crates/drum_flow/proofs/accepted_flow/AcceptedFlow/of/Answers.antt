@@ -11,7 +11,7 @@ use Rattle.drum_flow.specs.Flow.{executed_in, AreExecuted}
 use Rattle.drum_flow.specs.Free.{IsFreeOrder}
 use Rattle.drum_flow.proofs.Acceptances.{flags_fixed, too_much, unbounded, is_accepted}
 use Rattle.drum_flow.proofs.Founds.{numbers}
-use Rattle.drum_flow.proofs.acceptance.accept.Goals as goal
+use Rattle.drum_flow.proofs.accepted_flow.AcceptedFlow.of.Goals as goal
 
 -- what is so of one deck and its notes is so of those that are the same
 moved : (Holds : Deck → Notes → Type 0) (deck other : Deck) (notes others : Notes) → deck ≡ other → notes ≡ others

@@ -1,0 +1,74 @@
+//! The checks of acceptance, in their order, and what comes of a deck that they let pass.
+
+ghost use Rattle.std.specs.Prelude.{◌≡◌, map, IfOk, IfErr};
+ghost use Rattle.drum_core.specs.Loads.{loads_in, start_in};
+ghost use Rattle.drum_flow.specs.Acceptance.{IsRefusal};
+ghost use Rattle.drum_flow.specs.Accepted.{IsAccepted};
+ghost use Rattle.drum_flow.specs.AcceptedFlow.{in_order};
+ghost use Rattle.drum_flow.specs.Flow.{deck_of, notes_of, executed_in};
+ghost use Rattle.drum_flow.specs.Free.{IsFreeOrder};
+
+use crate::altering::check_unaltered;
+use crate::discovery::flow;
+use crate::fixed::Fixed;
+use crate::flow_graph::Flow;
+use crate::free_order::free_order;
+use crate::refusal::Refusal;
+use crate::size::check_small;
+use drum_core::{Deck, Location};
+use drum_times::Notes;
+use std::alloc::Global;
+
+/// The flow graph of an accepted deck under its notes, with an order of its executed locations in
+/// which every edge free of marks goes on.
+#[derive(Debug, Drop)]
+pub struct AcceptedFlow<'a> {
+    flow: Flow<'a>,
+    order: Vec<Location>,
+}
+
+impl<'a> AcceptedFlow<'a> {
+    /// That of a deck under its notes, where the deck with its notes is accepted.
+    ///
+    /// # Errors
+    ///
+    /// Those of [`accept`](crate::accept).
+    pub fn of(alloc: Global, deck: &'a Deck, notes: &'a Notes) -> Result<AcceptedFlow<'a>, Refusal>
+        ensures deck { IfOk result (λ accepted. deck_of accepted.flow ≡ deck.now) }
+        ensures notes { IfOk result (λ accepted. notes_of accepted.flow ≡ notes.now) }
+        ensures accepted { IfOk result (λ accepted. IsAccepted (loads_in deck.now) notes.now
+            (start_in deck.now) (executed_in accepted.flow)) }
+        ensures order { IfOk result (λ accepted. IsFreeOrder (loads_in deck.now) notes.now
+            (executed_in accepted.flow) (in_order accepted)) }
+        ensures refused { IfErr result (IsRefusal (loads_in deck.now) notes.now
+            (start_in deck.now)) }
+    {
+        let flow = flow(alloc, deck, notes)?;
+        let fixed = Fixed::of(alloc, flow.executed(), notes)?;
+        check_unaltered(&flow, &fixed)?;
+        check_small(&flow)?;
+        let order = free_order(alloc, &flow)?;
+        Ok(AcceptedFlow { flow, order })
+    }
+
+    /// The flow graph itself.
+    pub fn flow(&self) -> &Flow<'a>
+        ensures { result.now ≡ self.now.flow }
+    {
+        &self.flow
+    }
+
+    /// The flow graph itself, without the order.
+    pub(crate) fn into_flow(self) -> Flow<'a>
+        ensures { result ≡ self.entry.flow }
+    {
+        self.flow
+    }
+
+    /// The executed locations, in an order in which every edge free of marks goes on.
+    pub fn order(&self) -> &[Location]
+        ensures { map (λ location. location.number) result.now ≡ in_order self.now }
+    {
+        &self.order
+    }
+}
