@@ -125,7 +125,7 @@ module _ (g : Setting) (order : List ℕ) (cells : List (Option Latest)) (last :
           let hop : Hop = is.0.hop in
           let from : ℕ = origin.key in
           let row : Row = row_of g order from is.0.kept in
-          let leads : LeadsTo g (end_of g row origin.hop hop) (row_of g order key kept) = record {
+          let leads : LeadsTo g (end_of g row origin.number hop) (row_of g order key kept) = record {
             hop = hop;
             of = is.0.is;
             onto = is.1.onto;
@@ -136,8 +136,8 @@ module _ (g : Setting) (order : List ℕ) (cells : List (Option Latest)) (last :
             after = ap (number_of marks) (sym is.1.passed);
           } in
           inr (
-            end_of g row origin.hop hop,
-            has_in g (rows_below g order cells (keys_of marks order)) row origin.hop hop
+            end_of g row origin.number hop,
+            has_in g (rows_below g order cells (keys_of marks order)) row origin.number hop
                 (has_row g order cells (keys_of marks order) from is.0.kept is.0.below is.0.there) is.0.is,
             leads,
             ap (λ (clock : ℕ). clock - start_angle g.start) is.0.end ∙ ends_from from is.0.kept hop is.0.there,

@@ -49,7 +49,7 @@ module _ (g : Setting) (order : List ℕ) (ordered : IsOrdered g.loads g.notes g
   goes_taken clock origin hop next new cells last cells' last' comes goes (inr onto) left taking =
       let leads : LeadsOn g order key hop onto.0 =
       leads_on g order ordered key hop onto.0 next below
-      (contains_from_get (hops g.loads g.notes (place_at order key)) origin.hop hop comes.is) goes onto.1 onto.2 in
+      (contains_from_get (hops g.loads g.notes (place_at order key)) origin.number hop comes.is) goes onto.1 onto.2 in
       subst (λ (all : List (Option Latest)). Taking g order key clock left all last') (sym onto.3)
       (subst (λ (l : Latest). Taking g order key clock left (raised cells onto.0 new) l) (sym onto.4)
       (take_on g order key clock origin hop new onto.0 left cells last comes leads taking))

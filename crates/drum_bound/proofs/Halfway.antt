@@ -30,7 +30,7 @@ pub record IsHalfway (b : Scan) (key clock number : ℕ) (cells : Cells) : Type 
   pub taking : Taking (setting_in b) (order_of b) key clock (drop number (hops_at b key)) (kept_in cells) cells.last
   pub turns : cells.made.count ≡ b.cells.made.count + number
   pub agreed : IsAgreed key (kept_in b.cells) (kept_in cells)
-  pub later : IsLater cells.made.last (record { key = key; hop = number })
+  pub later : IsLater cells.made.last (record { key = key; number = number })
 
 -- what is left of a list from one of its members on
 drop_at : {X : Type 0} (n : ℕ) (xs : List X) (x : X) → slice_get xs n ≡ Some x → drop n xs ≡ x ∷ drop (suc n) xs
@@ -64,7 +64,7 @@ pub half_more : (b s : Scan) (key clock number : ℕ) (hop : Hop) (cells : Cells
     → IsHalfway b key clock number s.cells
     → slice_get (hops_at b key) number ≡ Some hop → AreCells (setting_in s) (order_of s) cells
     → cells.made.count ≡ s.cells.made.count + 1
-    → cells.made.last ≡ Some (record { key = key; hop = number }) → IsAgreed key (kept_in s.cells) (kept_in cells)
+    → cells.made.last ≡ Some (record { key = key; number = number }) → IsAgreed key (kept_in s.cells) (kept_in cells)
     → ((left : List Hop) → Taking (setting_in s) (order_of s) key clock (hop ∷ left) (kept_in s.cells) s.cells.last
     → Taking (setting_in s) (order_of s) key clock left (kept_in cells) cells.last)
     → IsHalfway b key clock (number + 1) cells

@@ -138,7 +138,7 @@ pub closed : (b : Scan) (cells : Cells) (key number : ℕ) (kept : Latest) → I
     → Taking (setting_in b) (order_of b) key kept.clock [] (kept_in cells) cells.last
     → cells.made.count ≡ b.cells.made.count + length (hops_at b key)
     → IsAgreed key (kept_in b.cells) (kept_in cells)
-    → IsLater cells.made.last (record { key = key; hop = number }) → IsScanned (record b { cells = cells }) (key + 1)
+    → IsLater cells.made.last (record { key = key; number = number }) → IsScanned (record b { cells = cells }) (key + 1)
 closed b cells key number kept is there are taking count agreed later =
     let next : suc key ≡ key + 1 = omega arith in
     let g = setting_in b in

@@ -21,15 +21,15 @@ others_left {X = X} n all rest x left = sym (drop-drop 1 n all) ∙ ap (λ (xs :
 
 -- each hop of a key comes after those of earlier keys
 pub later_key : (last : Option KeyHop) (key hop : ℕ) → IsBefore last key
-    → IsLater last (record { key = key; hop = hop })
+    → IsLater last (record { key = key; number = hop })
 later_key None key hop before = tt
 later_key (Some last) key hop before = inl before
 
 -- the next hop of a key comes after the last one
-pub later_hop : (last : Option KeyHop) (key hop : ℕ) → last ≡ Some (record { key = key; hop = hop })
-    → IsLater last (record { key = key; hop = hop + 1 })
+pub later_hop : (last : Option KeyHop) (key hop : ℕ) → last ≡ Some (record { key = key; number = hop })
+    → IsLater last (record { key = key; number = hop + 1 })
 later_hop last key hop is =
-    subst (λ (turn : Option KeyHop). IsLater turn (record { key = key; hop = hop + 1 })) (sym is)
+    subst (λ (turn : Option KeyHop). IsLater turn (record { key = key; number = hop + 1 })) (sym is)
     (inr (refl, omega arith))
 
 -- where none is of this key or a later one, none is of the next
@@ -38,7 +38,7 @@ before_next None key before = tt
 before_next (Some last) key before = omega (arith, before)
 
 -- where a hop of this key comes after the last one, that is of no later key
-pub before_end : (last : Option KeyHop) (key hop : ℕ) → IsLater last (record { key = key; hop = hop })
+pub before_end : (last : Option KeyHop) (key hop : ℕ) → IsLater last (record { key = key; number = hop })
     → IsBefore last (suc key)
 before_end None key hop later = tt
 before_end (Some last) key hop (inl less) = omega (arith, less)

@@ -141,7 +141,7 @@ module _ (g : Setting) (order : List ℕ) where
     pub from : origin.key ≡ key
     pub by : new.origin ≡ Some origin
     pub ended : new.clock ≡ end_from g order key hop clock
-    pub is : slice_get (hops g.loads g.notes (place_at order key)) origin.hop ≡ Some hop
+    pub is : slice_get (hops g.loads g.notes (place_at order key)) origin.number ≡ Some hop
 
   -- it is the end of that hop
   abbrev end_of_new : (key clock : ℕ) (origin : KeyHop) (hop : Hop) (new : Latest) (left : List Hop)
@@ -153,7 +153,7 @@ module _ (g : Setting) (order : List ℕ) where
     kept = t.kept;
     there = subst (λ (k : ℕ). cell_at cells' k ≡ Some t.kept) (sym comes.from) (agree key (omega arith) ∙ t.there);
     hop = hop;
-    is = subst (λ (k : ℕ). slice_get (hops g.loads g.notes (place_at order k)) origin.hop ≡ Some hop) (sym comes.from)
+    is = subst (λ (k : ℕ). slice_get (hops g.loads g.notes (place_at order k)) origin.number ≡ Some hop) (sym comes.from)
         comes.is;
     end = comes.ended ∙ ap (end_from g order key hop) (sym t.now)
         ∙ ap (λ (k : ℕ). end_from g order k hop t.kept.clock) (sym comes.from);

@@ -97,13 +97,13 @@ module _ (g : Setting) (order : List ℕ) (cells : List (Option Latest)) (last :
       ∙ ap (λ (end : ℕ). end - angle) (sym e.end) in
       record {
         here = refl;
-        allowed = contains_from_get (hops g.loads g.notes (place_at order origin.key)) origin.hop e.hop e.is;
+        allowed = contains_from_get (hops g.loads g.notes (place_at order origin.key)) origin.number e.hop e.is;
         begins = refl;
         timed = subst (λ (ended : ℕ).
             IsTimed g.times angle (taken_of g order origin.key hop (e.kept.clock - angle) ended) (op_of hop.ins.op))
             ends
             (timed_of g order origin.key hop angle (e.kept.clock - angle)
-            (contains_from_get (hops g.loads g.notes (place_at order origin.key)) origin.hop hop e.is));
+            (contains_from_get (hops g.loads g.notes (place_at order origin.key)) origin.number hop e.is));
       }
 
   -- A hop from one key to another goes before a walk from there on.

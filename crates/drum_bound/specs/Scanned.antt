@@ -66,7 +66,7 @@ IsOpen g order key late = Unit {0}
 -- the hop of a key that has this number
 abbrev pub IsKeyHop : Setting → List ℕ → KeyHop → Hop → Type 0
 IsKeyHop g order origin hop =
-    slice_get (hops g.loads g.notes (place_at order origin.key)) origin.hop ≡ Some hop
+    slice_get (hops g.loads g.notes (place_at order origin.key)) origin.number ≡ Some hop
 
 -- A clock is the latest end of this hop from what is kept at its key, which is among the first
 -- keys.

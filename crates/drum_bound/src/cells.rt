@@ -97,7 +97,7 @@ impl Cells {
         })?;
         origins.push(KeyHop {
             key: start_key as u32,
-            hop: 0,
+            number: 0,
         })?;
         places[start_key] = 1;
         let last = Latest {
@@ -227,7 +227,7 @@ impl Cells {
             ≡ first (is_available search.now.location.number) search.now.begun }
         requires later { IsLater self.old.made.last (record {
           key = search.now.key;
-          hop = number;
+          number = number;
         }) }
         requires few { self.old.made.count < 2 ^ 62 }
         requires narrow { search.now.key < 2 ^ 32 }
@@ -236,8 +236,8 @@ impl Cells {
         ensures same { self.new ≡ record self.old { made = self.new.made } }
         ensures counted { self.new.made.count ≡ self.old.made.count + 1 }
         ensures now_last { self.new.made.last
-            ≡ Some (record { key = search.now.key; hop = number }) }
-        ensures origin { result.origin ≡ record { key = search.now.key; hop = number } }
+            ≡ Some (record { key = search.now.key; number = number }) }
+        ensures origin { result.origin ≡ record { key = search.now.key; number = number } }
         ensures clock { (g : Setting) (order : List ℕ)
             → MayEnd leap.now.hop.instruction (seen_way leap.now.hop.way)
             → IsLeap g order search.now.location.number (search.now.found % 50) leap.now
@@ -247,7 +247,7 @@ impl Cells {
     {
         let key_hop = KeyHop {
             key: search.key as u32,
-            hop: number as u32,
+            number: number as u32,
         };
         self.made.end(key_hop, search.found, leap)
     }

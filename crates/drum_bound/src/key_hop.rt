@@ -4,5 +4,5 @@
 #[derive(Clone, Copy, Debug, PartialEq, Eq)]
 pub struct KeyHop {
     pub key: u32,
-    pub hop: u32,
+    pub number: u32,
 }

@@ -126,13 +126,13 @@ impl<'a> Scan<'a> {
     fn take_leap(&mut self, round: &Round, search: &Search, number: usize, leap: &Leap)
         requires ready { IsReady self.old round.now search.now number leap.now }
         requires later { IsLater self.old.cells.made.last
-            (record { key = search.now.key; hop = number }) }
+            (record { key = search.now.key; number = number }) }
         requires soon { search.now.found ≤ 2 ^ 62 }
         requires few { self.old.cells.made.count < 2 ^ 62 }
         ensures same { self.new ≡ record self.old { cells = self.new.cells } }
         ensures counted { self.new.cells.made.count ≡ self.old.cells.made.count + 1 }
         ensures last { self.new.cells.made.last
-            ≡ Some (record { key = search.now.key; hop = number }) }
+            ≡ Some (record { key = search.now.key; number = number }) }
         ensures cells { AreCells (setting_in self.old) (order_of self.old) self.new.cells }
         ensures agreed { IsAgreed search.now.key (kept_in self.old.cells) (kept_in self.new.cells) }
         ensures taken { (left : List HopOf)

@@ -48,7 +48,7 @@ impl Scan<'_> {
         let angle = self.start_angle();
         let key = origin.key as usize;
         let index = key % self.keys.nodes.len();
-        let Some(hop) = self.hop_at(index, origin.hop as usize) else {
+        let Some(hop) = self.hop_at(index, origin.number as usize) else {
             unreachable!()
         };
         Visit {

@@ -10,9 +10,9 @@ returns-in-Some-clause-found c =
     let mark = c.args.mark.now in
     let behind = c.in-Some.behind.now in
     let told = c.in-Some.ensures in
-    subst (λ (before : List ℕ). IsCut mark text before behind) (sym c.split_at.ensures.prefix)
+    subst (λ (before : List ℕ). IsCut mark text before behind) (sym c.split_at.ensures.front)
     (is_cut mark text behind c.loop-at.at (is_plain mark c.requires) (omega (arith, c.loop-at-test.true))
-    (subst AreWholeLines c.split_at.ensures.prefix told.0)
+    (subst AreWholeLines c.split_at.ensures.front told.0)
     c.loop-at.invariant
     (subst (λ (rest : List ℕ). (rest ≡ mark ++ codes "\n" ++ behind) ⊎ ((rest ≡ mark) × (behind ≡ [])))
     c.split_at.ensures.back told.1))
@@ -20,7 +20,7 @@ returns-in-Some-clause-found c =
 pub loop-at-preserved : goal.loop-at-preserved
 loop-at-preserved c =
     below_more _ _ c.loop-at.invariant
-    (λ begins. c.in_default.ensures (subst AreWholeLines (sym c.split_at.ensures.prefix) begins.whole)
+    (λ begins. c.in_default.ensures (subst AreWholeLines (sym c.split_at.ensures.front) begins.whole)
     (subst (Begins c.args.mark.now) (sym c.split_at.ensures.back) begins.begins))
 
 pub returns-clause-none : goal.returns-clause-none

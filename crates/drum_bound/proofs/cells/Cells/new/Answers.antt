@@ -13,7 +13,7 @@ pub returns-clause-held : goal.returns-clause-held
 returns-clause-held c =
     let size : ℕ = c.args.counts * c.args.words in
     let key = c.args.start_key in
-    let origin : KeyHop = record { key = key; hop = 0 } in
+    let origin : KeyHop = record { key = key; number = 0 } in
     let entry : Worst = record { place = c.args.start; angle = c.args.angle; counts = 0; time = 0 } in
     let places : c.in_ok-places.places.items ≡ replicate size 0 =
     c.in_ok-places.ensures.items_if_clones_equal (λ y h. search rules) in
@@ -43,7 +43,7 @@ pub returns-clause-kept : goal.returns-clause-kept
 returns-clause-kept c =
     let size : ℕ = c.args.counts * c.args.words in
     let key = c.args.start_key in
-    let origin : KeyHop = record { key = key; hop = 0 } in
+    let origin : KeyHop = record { key = key; number = 0 } in
     let entry : Worst = record { place = c.args.start; angle = c.args.angle; counts = 0; time = 0 } in
     let places : c.in_ok-places.places.items ≡ replicate size 0 =
     c.in_ok-places.ensures.items_if_clones_equal (λ y h. search rules) in
@@ -63,7 +63,7 @@ pub returns-clause-entries : goal.returns-clause-entries
 returns-clause-entries c = λ place_of counts_of at counted.
     let size : ℕ = c.args.counts * c.args.words in
     let key = c.args.start_key in
-    let origin : KeyHop = record { key = key; hop = 0 } in
+    let origin : KeyHop = record { key = key; number = 0 } in
     let entry : Worst = record { place = c.args.start; angle = c.args.angle; counts = 0; time = 0 } in
     let places : c.in_ok-places.places.items ≡ replicate size 0 =
     c.in_ok-places.ensures.items_if_clones_equal (λ y h. search rules) in

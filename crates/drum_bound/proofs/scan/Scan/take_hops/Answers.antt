@@ -108,7 +108,7 @@ take_leap-requires-clause-soon c =
 
 pub take_leap-requires-clause-later : goal.take_leap-requires-clause-later
 take_leap-requires-clause-later c =
-    subst (λ (n : ℕ). IsLater c.loop-number.self.cells.made.last (record { key = c.args.search.now.key; hop = n }))
+    subst (λ (n : ℕ). IsLater c.loop-number.self.cells.made.last (record { key = c.args.search.now.key; number = n }))
     (sym c.in-Some.ensures.steps.1) c.loop-number.invariant.half.later
 
 within : (hops : List Hop) (number : ℕ) (hop : Hop) → slice_get hops number ≡ Some hop → number ≤ length hops
@@ -142,8 +142,8 @@ loop-number-preserved c =
     c.loop-number.invariant.left step in
     let own : leap_hop leap ≡ hop = ap (λ (h : code.Hop). seen_hop h) c.leap-leap.ensures.hop in
     let after = c.take_leap.new.self in
-    let last : after.cells.made.last ≡ Some (record { key = key; hop = number }) =
-    c.take_leap.ensures.last ∙ ap (λ (n : ℕ). Some (record { key = key; hop = n })) c.in-Some.ensures.steps.1 in
+    let last : after.cells.made.last ≡ Some (record { key = key; number = number }) =
+    c.take_leap.ensures.last ∙ ap (λ (n : ℕ). Some (record { key = key; number = n })) c.in-Some.ensures.steps.1 in
     record {
       same = c.take_leap.ensures.same
           ∙ ap (λ (one : Scan). record one { cells = after.cells }) c.loop-number.invariant.same;

@@ -114,7 +114,7 @@ returns-in-To-clause-taken c =
     let order = order_of c.args.self.now in
     let at = c.args.search.now in
     let new = (latest_in c.end-end.result) in
-    let comes : Comes g order at.key c.args.search.now.begun (record { key = at.key; hop = c.args.number })
+    let comes : Comes g order at.key c.args.search.now.begun (record { key = at.key; number = c.args.number })
     (seen_hop c.args.leap.now.hop) new = record {
       from = refl;
       by = ap (λ (o : KeyHop). Some o) c.end-end.ensures.origin;
@@ -124,7 +124,7 @@ returns-in-To-clause-taken c =
     } in
     goes_taken g order c.requires.ready.keys.ordered.0 at.key
     (omega (arith, c.requires.ready.below, c.requires.ready.keys.size)) c.args.search.now.begun
-    (record { key = at.key; hop = c.args.number }) (seen_hop c.args.leap.now.hop)
+    (record { key = at.key; number = c.args.number }) (seen_hop c.args.leap.now.hop)
     c.in-To.next.number new (kept_in c.args.self.now.cells) c.args.self.now.cells.last (kept_in c.go_on.new.self.cells)
     c.go_on.new.self.cells.last comes (ap seen_way c.in-To.is)
     (goes_as (setting_in c.args.self.now) (order_of c.args.self.now) c.args.search.now.key c.in-To.next.number
@@ -139,7 +139,7 @@ returns-in-Early c =
     let order = order_of c.args.self.now in
     let at = c.args.search.now in
     let new = (latest_in c.end-end.result) in
-    let comes : Comes g order at.key c.args.search.now.begun (record { key = at.key; hop = c.args.number })
+    let comes : Comes g order at.key c.args.search.now.begun (record { key = at.key; number = c.args.number })
     (seen_hop c.args.leap.now.hop) new = record {
       from = refl;
       by = ap (λ (o : KeyHop). Some o) c.end-end.ensures.origin;
@@ -169,7 +169,7 @@ returns-in-Early c =
           Taking g order at.key c.args.search.now.begun left all c.keep_last.new.self.last) (sym kept)
           (subst (λ (l : Latest). Taking g order at.key c.args.search.now.begun left (kept_in c.args.self.now.cells) l)
           (sym last)
-          (take_stop g order at.key c.args.search.now.begun (record { key = at.key; hop = c.args.number })
+          (take_stop g order at.key c.args.search.now.begun (record { key = at.key; number = c.args.number })
           (seen_hop c.args.leap.now.hop) new left (kept_in c.args.self.now.cells) c.args.self.now.cells.last comes
           (stops c.args.leap.now.hop.way c.in-Early.is) taking));
     }
