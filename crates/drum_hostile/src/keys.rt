@@ -9,7 +9,7 @@ use std::test::Fail;
 const DEEPEST: usize = 80;
 
 /// That a text which no document may have gets these lines, in front of the timing table and in
-/// prefix of the notes.
+/// front of the notes.
 fn refused(
     rt: &(impl AllocGlobal + Abort),
     text: &str,

@@ -19,8 +19,8 @@ pub trait Input {
     /// How many bytes its reads gave, in all.
     ghost given: { Self → ℕ };
 
-    /// Reads some bytes into the prefix of the buffer and says how many: none only at the end, or
-    /// where the buffer has no room.
+    /// Reads some bytes into the beginning of the buffer and says how many: none only at the end,
+    /// or where the buffer has no room.
     ///
     /// # Errors
     ///

@@ -16,7 +16,7 @@ pub trait Output {
     /// How many writes failed, or took none of some bytes.
     ghost failed: { Self → ℕ };
 
-    /// Writes some bytes from the prefix of the buffer and says how many.
+    /// Writes some bytes from the beginning of the buffer and says how many.
     ///
     /// # Errors
     ///
