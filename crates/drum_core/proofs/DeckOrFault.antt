@@ -10,11 +10,13 @@ use Rattle.drum_core.specs.declared.deck.fault.DeckFault.TheVariants.{TooLong}
 use Rattle.drum_core.specs.DeckText.{Line, comment, start, card, IsLine, Say, Given, given_from, starts, IsGiven}
 use Rattle.drum_core.specs.DeckText.{AreSound, IsTooLong, IsDeck, IsFaultOfLine, IsFirstFault, LacksStart, IsRefused}
 use Rattle.drum_core.specs.Lines.{lines_of}
-use Rattle.drum_core.proofs.FaultLaws.{say_one, starts-append}
+use Rattle.drum_core.proofs.DeckLaws.{line_one}
+use Rattle.drum_core.proofs.FaultLaws.{starts-append}
+use Rattle.drum_core.proofs.FirstFaults.{say_one, say_append}
 use Rattle.drum_core.proofs.LineCases.{least_or_none, line_cases}
 use Rattle.drum_core.proofs.LineLemmas.{long_among, long_behind}
 use Rattle.drum_core.proofs.Loads.{sound_more, sound_card}
-use Rattle.drum_core.proofs.Progress.{say_append, first_refused}
+use Rattle.drum_core.proofs.Progress.{first_refused}
 
 given_cases : (given : List Given) (location : ℕ) → IsGiven given location ⊎ (IsGiven given location → ⊥)
 given_cases [] location = inr (λ given. omega (arith, given.2))
@@ -123,7 +125,7 @@ all_or_first text texts (line ∷ rest) before split said sound = elim (goes_on 
     },
   )
   | inl says ↦ all_or_first text (texts ++ line ∷ []) rest (before ++ says.0 ∷ []) (split
-      ∙ sym (append_assoc texts (line ∷ []) rest)) (say_append texts before line says.0 said says.1) says.2
+      ∙ sym (append_assoc texts (line ∷ []) rest)) (say_append IsLine texts before line says.0 said says.1) says.2
 ]
 
 -- sound lines are a deck's, or none says where to start
@@ -158,4 +160,4 @@ deck_or_fault text = elim (long_or_not text) [
 -- a text is the deck of one list of lines
 pub deck_lines_one : (text : List ℕ) (lines others : List Line) → IsDeck text lines → IsDeck text others
     → lines ≡ others
-deck_lines_one text lines others p q = say_one (lines_of text) lines others p.said q.said
+deck_lines_one text lines others p q = say_one IsLine line_one (lines_of text) lines others p.said q.said

@@ -14,7 +14,9 @@ use Rattle.drum_core.specs.Lines.{lines_of}
 use Rattle.drum_core.specs.DeckText.{Line, comment, start, card, IsLine, Say, Given, given_by_card, given_by}
 use Rattle.drum_core.specs.DeckText.{given_from, given_at, starts, IsPastDrum, IsGiven, AreDistinct, AreSound}
 use Rattle.drum_core.specs.DeckText.{IsFaultOfLine, IsFirstFault, LacksStart, IsRefused, IsDeck}
-use Rattle.drum_core.proofs.DeckLaws.{line_one, same_prefix}
+use Rattle.drum_core.proofs.DeckLaws.{line_one}
+use Rattle.drum_core.proofs.FirstFaults as firsts
+use Rattle.drum_core.proofs.FirstFaults.{HasOneFault, say_one}
 
 -- what is given to distinct locations is found there
 given_is_found : (given : List Given) (one : Given) (k : ℕ) → AreDistinct given → k < length given
@@ -32,44 +34,6 @@ given_is_found (first ∷ given) one (suc k) distinct within here =
 pub image_is_function : (given : List Given) → AreDistinct given → (one : Given) → Contains given one
     → given_at given one.location ≡ Some one
 image_is_function given distinct one among = given_is_found given one among.0 distinct among.1 among.2
-
--- texts say one list of lines
-pub say_one : (texts : List (List ℕ)) (lines others : List Line) → Say texts lines → Say texts others → lines ≡ others
-say_one [] [] [] p q = refl
-say_one [] [] (b ∷ others) p q = absurd q
-say_one [] (a ∷ lines) others p q = absurd p
-say_one (text ∷ texts) [] others p q = absurd p
-say_one (text ∷ texts) (a ∷ lines) [] p q = absurd q
-say_one (text ∷ texts) (a ∷ lines) (b ∷ others) p q =
-    let here : a ≡ b = line_one text a b p.0 q.0 in
-    let further : lines ≡ others = say_one texts lines others p.1 q.1 in
-    cc
-
--- what a text among others says
-pub record Parts (texts : List (List ℕ)) (text : List ℕ) (lines : List Line) : Type 0 where
-  pub prefix : List Line
-  pub line : Line
-  pub behind : List Line
-  pub split : lines ≡ prefix ++ line ∷ behind
-  pub said : Say texts prefix
-  pub says : IsLine text line
-
-parts_of : (texts : List (List ℕ)) (text : List ℕ) (others : List (List ℕ)) (lines : List Line)
-    → Say (texts ++ text ∷ others) lines → Parts texts text lines
-parts_of [] text others [] p = absurd p
-parts_of [] text others (line ∷ lines) p =
-    record { prefix = []; line = line; behind = lines; split = refl; said = tt; says = p.0 }
-parts_of (first ∷ texts) text others [] p = absurd p
-parts_of (first ∷ texts) text others (line ∷ lines) p =
-    let rest = parts_of texts text others lines p.1 in
-    record {
-      prefix = line ∷ rest.prefix;
-      line = rest.line;
-      behind = rest.behind;
-      split = ap (λ (xs : List Line). line ∷ xs) rest.split;
-      said = (p.0, rest.said);
-      says = rest.says;
-    }
 
 -- a list of lines with one behind others
 on_drum_behind : (prefix : List Line) (line : Line) (behind : List Line)
@@ -218,68 +182,17 @@ fault_of_line_one before number text (Twice l) (Twice m) p q =
     let same : l.number ≡ m.number = omega arith in
     ap Twice (same_location l m same)
 
--- of two prefixes of one list, the longer has the shorter and what stands behind it
-longer_prefix : (texts others : List (List ℕ)) (text other : List ℕ) (behind behind' : List (List ℕ))
-    → length texts < length others
-    → texts ++ text ∷ behind ≡ others ++ other ∷ behind' → (between : List (List ℕ))
-    × (others ≡ texts ++ text ∷ between)
-longer_prefix [] [] text other behind behind' less e = absurd (omega arith)
-longer_prefix [] (first ∷ others) text other behind behind' less e =
-    let head : text ≡ first = cc in
-    (others, ap (λ (t : List ℕ). t ∷ others) (sym head))
-longer_prefix (first ∷ texts) [] text other behind behind' less e = absurd (omega arith)
-longer_prefix (first ∷ texts) (first' ∷ others) text other behind behind' less e =
-    let head : first ≡ first' = cc in
-    let tail : texts ++ text ∷ behind ≡ others ++ other ∷ behind' = cc in
-    let rest = longer_prefix texts others text other behind behind' (omega arith) tail in
-    (rest.0, ap (λ (t : List ℕ). t ∷ others) (sym head) ∙ ap (λ (ts : List (List ℕ)). first ∷ ts) rest.1)
-
--- the first fault of a text isn't behind that of an earlier line
-not_behind : (text : List ℕ) (fault other : DeckFault) (p : IsFirstFault text fault) (q : IsFirstFault text other)
-    → length p.texts < length q.texts → ⊥
-not_behind text fault other p q less =
-    let longer = longer_prefix p.texts q.texts p.line q.line p.others q.others less (sym p.split ∙ q.split) in
-    let said : Say (p.texts ++ p.line ∷ longer.0) q.before =
-    subst (λ (ts : List (List ℕ)). Say ts q.before) longer.1 q.said in
-    let parts = parts_of p.texts p.line longer.0 q.before said in
-    let prefix : p.before ≡ parts.prefix = say_one p.texts p.before parts.prefix p.said parts.said in
-    no_fault_among parts.prefix parts.line parts.behind (length p.texts + 1) p.line fault
-    (subst AreSound parts.split q.sound) parts.says
-    (subst (λ (ls : List Line). IsFaultOfLine ls (length p.texts + 1) p.line fault) prefix p.first)
-
-pub first_fault_one : (text : List ℕ) (fault other : DeckFault) → IsFirstFault text fault → IsFirstFault text other
-    → fault ≡ other
-first_fault_one text fault other p q =
-    elim (cases_lt (length p.texts) (length q.texts)) [
-      | inl less ↦ absurd (not_behind text fault other p q less)
-      | inr upto ↦ elim (cases_lt (length q.texts) (length p.texts)) [
-        | inl less ↦ absurd (not_behind text other fault q p less)
-        | inr upto' ↦
-            let long : length p.texts ≡ length q.texts = omega arith in
-            let parts =
-            same_prefix p.texts q.texts (p.line ∷ p.others) (q.line ∷ q.others) long (sym p.split ∙ q.split) in
-            let line : p.line ≡ q.line = cc in
-            let said : Say p.texts q.before = subst (λ (ts : List (List ℕ)). Say ts q.before) (sym parts.0) q.said in
-            let before : p.before ≡ q.before = say_one p.texts p.before q.before p.said said in
-            let here : IsFaultOfLine q.before (length q.texts + 1) q.line fault =
-            subst (λ (ls : List Line). IsFaultOfLine ls (length q.texts + 1) q.line fault) before
-            (subst (λ (t : List ℕ). IsFaultOfLine p.before (length q.texts + 1) t fault) line
-            (subst (λ (n : ℕ). IsFaultOfLine p.before (n + 1) p.line fault) long p.first)) in
-            fault_of_line_one q.before (length q.texts + 1) q.line fault other here q.first
-      ]
-    ]
+deck_faults : HasOneFault IsLine AreSound IsFaultOfLine
+deck_faults = record { one_line = line_one; none_among = no_fault_among; one_fault = fault_of_line_one }
 
 -- a text whose lines are sound has no faulty line
 sound_not_faulty : (text : List ℕ) (lines : List Line) (fault : DeckFault) → Say (lines_of text) lines → AreSound lines
     → IsFirstFault text fault → ⊥
-sound_not_faulty text lines fault all_said sound p =
-    let said : Say (p.texts ++ p.line ∷ p.others) lines =
-    subst (λ (ts : List (List ℕ)). Say ts lines) p.split all_said in
-    let parts = parts_of p.texts p.line p.others lines said in
-    let prefix : p.before ≡ parts.prefix = say_one p.texts p.before parts.prefix p.said parts.said in
-    no_fault_among parts.prefix parts.line parts.behind (length p.texts + 1) p.line fault
-    (subst AreSound parts.split sound) parts.says
-    (subst (λ (ls : List Line). IsFaultOfLine ls (length p.texts + 1) p.line fault) prefix p.first)
+sound_not_faulty = firsts.sound_not_faulty IsLine AreSound IsFaultOfLine deck_faults
+
+first_fault_one : (text : List ℕ) (fault other : DeckFault) → IsFirstFault text fault → IsFirstFault text other
+    → fault ≡ other
+first_fault_one = firsts.first_fault_one IsLine AreSound IsFaultOfLine deck_faults
 
 not_both : (text : List ℕ) (fault : DeckFault) → LacksStart text → IsFirstFault text fault → ⊥
 not_both text fault lacks p = sound_not_faulty text lacks.lines fault lacks.said lacks.sound p
@@ -291,7 +204,7 @@ deck_not_refused text lines Read deck p = p
 deck_not_refused text lines Memory deck p = p
 deck_not_refused text lines TooLong deck p = deck.short p
 deck_not_refused text lines NoStart deck p =
-    let same : lines ≡ p.1.lines = say_one (lines_of text) lines p.1.lines deck.said p.1.said in
+    let same : lines ≡ p.1.lines = say_one IsLine line_one (lines_of text) lines p.1.lines deck.said p.1.said in
     omega (
       arith,
       ap (λ (ls : List Line). length (starts ls)) same,

@@ -6,6 +6,7 @@ pub mod Clockworks
 pub mod DeckLaws
 mod DeckOrFault
 pub mod FaultLaws
+pub mod FirstFaults
 pub mod Firsts
 pub mod Handed
 mod LineCases

@@ -9,6 +9,7 @@ use Rattle.drum_core.specs.declared.deck.fault.DeckFault.{DeckFault}
 use Rattle.drum_core.specs.declared.deck.fault.DeckFault.TheVariants as faults
 use Rattle.drum_core.specs.declared.deck.loading.Loading.{Loading}
 use Rattle.drum_core.specs.Lines.{lines_of}
+use Rattle.drum_core.proofs.FirstFaults.{say_append}
 use Rattle.drum_core.proofs.LineLemmas.{longer_by_bytes}
 use Rattle.drum_core.specs.DeckText.{Line, IsLine, Say, starts, IsTooLong, IsDeck, LacksStart, IsFaultOfLine}
 use Rattle.drum_core.specs.DeckText.{IsFirstFault, IsRefused}
@@ -22,13 +23,6 @@ pub record Progress (text rest : List ℕ) (loading : Loading) (number : ℕ) : 
   pub said : Say texts lines
   pub holds : HoldsLines loading lines
   pub counted : number ≡ length texts
-
-pub say_append : (texts : List (List ℕ)) (lines : List Line) (text : List ℕ) (line : Line) → Say texts lines
-    → IsLine text line → Say (texts ++ text ∷ []) (lines ++ line ∷ [])
-say_append [] [] text line p is_line = (is_line, tt)
-say_append [] (one ∷ lines) text line p is_line = absurd p
-say_append (one ∷ texts) [] text line p is_line = absurd p
-say_append (one ∷ texts) (other ∷ lines) text line p is_line = (p.0, say_append texts lines text line p.1 is_line)
 
 pub say_length : (texts : List (List ℕ)) (lines : List Line) → Say texts lines → length texts ≡ length lines
 say_length [] [] p = refl
@@ -64,7 +58,7 @@ one_more text rest rest' loading loading' number line says p steps is_line holds
   split =
       p.split ∙ ap (λ (xs : List (List ℕ)). p.texts ++ xs) steps
       ∙ sym (append_assoc p.texts (line ∷ []) (lines_of rest'));
-  said = say_append p.texts p.lines line says p.said is_line;
+  said = say_append IsLine p.texts p.lines line says p.said is_line;
   holds = holds;
   counted = omega (arith, p.counted, length-append p.texts (line ∷ []));
 }

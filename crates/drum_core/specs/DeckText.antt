@@ -1,12 +1,12 @@
 -- Deck text (this project's choice): what each line says, which texts are decks, what a deck loads,
 -- and why another text is refused.
-use Rattle.std.specs.Prelude.{◌≡◌, ℕ, ◌+◌, ◌^◌, ◌<◌, ◌≤◌, List, [], ◌∷◌, ◌++◌, length, flat_map, codes, ◌⊎◌, Any, ◌==◌, if◌then◌else◌, Option, Some, None}
+use Rattle.std.specs.Prelude.{◌≡◌, ℕ, ◌+◌, ◌^◌, ◌<◌, ◌≤◌, List, [], ◌∷◌, ◌++◌, length, flat_map, codes, Any, ◌==◌, if◌then◌else◌, Option, Some, None}
 use Rattle.std.specs.List.{AllByRecursion}
 use Rattle.std.specs.Option.{option_map}
 use Rattle.drum_core.specs.declared.deck.fault.DeckFault.{DeckFault}
 use Rattle.drum_core.specs.declared.deck.fault.DeckFault.TheVariants.{Read, Memory, Card, Twice, NoStart, TwoStarts, PastDrum, TooLong}
 use Rattle.drum_core.specs.declared.word.Word.{Word}
-use Rattle.drum_core.specs.Lines.{lines_of}
+use Rattle.drum_core.specs.Lines.{lines_of, IsLonger, EachSays, HasFirstFault}
 use Rattle.drum_core.specs.Numeral.{digits_of}
 use Rattle.drum_core.specs.Word.{spelling}
 
@@ -27,10 +27,7 @@ IsLine text (card n words) =
 
 -- each line of a text, and what it says
 abbrev pub Say : List (List ℕ) → List Line → Type 0
-Say [] [] = Unit {0}
-Say (text ∷ texts) (line ∷ lines) = IsLine text line × Say texts lines
-Say [] (line ∷ lines) = ⊥
-Say (text ∷ texts) [] = ⊥
+Say texts lines = EachSays IsLine texts lines
 
 -- a word that a deck gives a location, and the number of the card's line, from 1
 pub record Given : Type 0 where
@@ -106,7 +103,7 @@ pub record AreSound (lines : List Line) : Type 0 where
 
 -- over 4000 lines, or a line over 100 bytes
 abbrev pub IsTooLong : List ℕ → Type 0
-IsTooLong text = (4000 < length (lines_of text)) ⊎ Any (λ line. 100 < length line) (lines_of text)
+IsTooLong text = IsLonger 4000 100 text
 
 -- The text is a deck, and these are its lines: it isn't too long, every line is a comment, a start
 -- or a card, no location is past the drum or given twice, and there is exactly one start.
@@ -136,15 +133,8 @@ IsFaultOfLine before number text NoStart = ⊥
 IsFaultOfLine before number text TooLong = ⊥
 
 -- The first line with a fault has this one: the lines before it are sound.
-pub record IsFirstFault (text : List ℕ) (fault : DeckFault) : Type 0 where
-  pub texts : List (List ℕ)
-  pub line : List ℕ
-  pub others : List (List ℕ)
-  pub split : lines_of text ≡ texts ++ line ∷ others
-  pub before : List Line
-  pub said : Say texts before
-  pub sound : AreSound before
-  pub first : IsFaultOfLine before (length texts + 1) line fault
+abbrev pub IsFirstFault : List ℕ → DeckFault → Type 0
+IsFirstFault text fault = HasFirstFault IsLine AreSound IsFaultOfLine text fault
 
 -- Every line is sound, and none is a start.
 pub record LacksStart (text : List ℕ) : Type 0 where

@@ -5,6 +5,7 @@ use Rattle.std.proofs.lemmas.Bool.{cases_lt}
 use Rattle.std.proofs.lemmas.List.{append-nil}
 use Rattle.std.specs.Prelude.{Option, Some, None, IfSome, Result, Ok, Err, IfOk, IfErr}
 use Rattle.drum_core.specs.Lines.{lines_of}
+use Rattle.drum_core.proofs.FirstFaults.{say_append}
 use Rattle.drum_core.proofs.LineLemmas.{longer_by_bytes}
 use Rattle.drum_inputs.specs.declared.fault.InputFault.{InputFault}
 use Rattle.drum_inputs.specs.declared.fault.InputFault.TheVariants as faults
@@ -24,13 +25,6 @@ pub record Progress (text rest : List ℕ) (stating : Stating) (number : ℕ) : 
   pub holds : HoldsLines stating lines
   pub counted : number ≡ length texts
 
-say_append : (texts : List (List ℕ)) (lines : List Line) (text : List ℕ) (line : Line) → Say texts lines
-    → IsLine text line → Say (texts ++ text ∷ []) (lines ++ line ∷ [])
-say_append [] [] text line p is_line = (is_line, tt)
-say_append [] (one ∷ lines) text line p is_line = absurd p
-say_append (one ∷ texts) [] text line p is_line = absurd p
-say_append (one ∷ texts) (other ∷ lines) text line p is_line = (p.0, say_append texts lines text line p.1 is_line)
-
 pub few_left : (text rest : List ℕ) (stating : Stating) (number : ℕ) → (IsTooLong text → ⊥)
     → Progress text rest stating number → number + length (lines_of rest) ≤ 4000
 few_left text rest stating number short p =
@@ -49,7 +43,7 @@ one_more text rest rest' stating stating' number line says p steps is_line holds
   split =
       p.split ∙ ap (λ (xs : List (List ℕ)). p.texts ++ xs) steps
       ∙ sym (append_assoc p.texts (line ∷ []) (lines_of rest'));
-  said = say_append p.texts p.lines line says p.said is_line;
+  said = say_append IsLine p.texts p.lines line says p.said is_line;
   holds = holds;
   counted = omega (arith, p.counted, length-append p.texts (line ∷ []));
 }

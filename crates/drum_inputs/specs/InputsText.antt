@@ -1,10 +1,10 @@
 -- The inputs of a replay (this project's choice): what each line says, which texts are inputs, what
 -- they state, and why another text is refused.
-use Rattle.std.specs.Prelude.{◌≡◌, ℕ, ◌+◌, ◌^◌, ◌<◌, ◌≤◌, List, [], ◌∷◌, ◌++◌, length, flat_map, codes, ◌⊎◌, Any, Bool, true, false, if◌then◌else◌, Option, Some, None, IsSome, ℤ}
+use Rattle.std.specs.Prelude.{◌≡◌, ℕ, ◌+◌, ◌^◌, ◌<◌, ◌≤◌, List, [], ◌∷◌, ◌++◌, length, flat_map, codes, Any, Bool, true, false, if◌then◌else◌, Option, Some, None, IsSome, ℤ}
 use Rattle.std.specs.Option.{option_or}
 use Rattle.drum_core.specs.declared.word.Word.{Word}
 use Rattle.drum_core.specs.DeckText as deck
-use Rattle.drum_core.specs.Lines.{lines_of}
+use Rattle.drum_core.specs.Lines.{lines_of, IsLonger, EachSays, HasFirstFault}
 use Rattle.drum_core.specs.Numeral.{digits_of}
 use Rattle.drum_core.specs.Word.{signed, spelling, spaced}
 use Rattle.drum_inputs.specs.declared.fault.InputFault.{InputFault}
@@ -55,10 +55,7 @@ IsLine text (wait n) =
 
 -- each line of a text, and what it says
 abbrev pub Say : List (List ℕ) → List Line → Type 0
-Say [] [] = Unit {0}
-Say (text ∷ texts) (line ∷ lines) = IsLine text line × Say texts lines
-Say [] (line ∷ lines) = ⊥
-Say (text ∷ texts) [] = ⊥
+Say texts lines = EachSays IsLine texts lines
 
 -- what a line says of each setting, if anything
 abbrev pub angle_in : Line → Option ℕ
@@ -158,7 +155,7 @@ AreSound lines = AreSoundBehind [] lines
 
 -- over 4000 lines, or a line over 200 bytes
 abbrev pub IsTooLong : List ℕ → Type 0
-IsTooLong text = (4000 < length (lines_of text)) ⊎ Any (λ line. 200 < length line) (lines_of text)
+IsTooLong text = IsLonger 4000 200 text
 
 -- The text is inputs, and these are its lines: it isn't too long, each line is of one of the kinds,
 -- no location is past the drum, and nothing is said twice.
@@ -181,15 +178,8 @@ IsFaultOfLine before number text faults.Memory = ⊥
 IsFaultOfLine before number text faults.TooLong = ⊥
 
 -- The first line with a fault has this one: the lines before it are sound.
-pub record IsFirstFault (text : List ℕ) (fault : InputFault) : Type 0 where
-  pub texts : List (List ℕ)
-  pub line : List ℕ
-  pub others : List (List ℕ)
-  pub split : lines_of text ≡ texts ++ line ∷ others
-  pub before : List Line
-  pub said : Say texts before
-  pub sound : AreSound before
-  pub first : IsFaultOfLine before (length texts + 1) line fault
+abbrev pub IsFirstFault : List ℕ → InputFault → Type 0
+IsFirstFault text fault = HasFirstFault IsLine AreSound IsFaultOfLine text fault
 
 -- Why a text is no inputs: it is too long; else the fault of the first line with one. (Read and
 -- Memory are faults of the reading, not of the text.)
