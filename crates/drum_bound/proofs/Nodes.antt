@@ -1,7 +1,7 @@
 -- The locations of keys, and their places.
 use Rattle.std.proofs.Common.{◌≡◌, ℕ, suc, ◌+◌, ◌*◌, ◌/◌, ◌%◌, ◌<◌, ◌≤◌, List, [], ◌∷◌, ◌++◌, length, get_or, set, ap}
 use Rattle.std.proofs.Common.{sym, ◌∙◌, subst, inl, inr, Some, arith}
-use Rattle.std.specs.Prelude.{slice_get}
+use Rattle.std.specs.Prelude.{slice_get, vec_len}
 use Rattle.std.proofs.lemmas.Bool.{cases_eq}
 use Rattle.std.proofs.lemmas.Option.{slice_get_within, get_or_from_slice_get}
 use Rattle.drum_core.specs.declared.location.Location.{Location}
@@ -86,6 +86,11 @@ pub same_length : (keys : Keys) → AreKeys keys → length keys.nodes.items ≡
 same_length keys are =
     sym (length-map keys.nodes.items (λ (node : Node). node.location.number))
     ∙ ap (λ (ns : List ℕ). length ns) are.nodes
+
+-- which is what the code counts
+pub as_long : (keys : Keys) (words : ℕ) → AreKeys keys → words ≡ vec_len keys.nodes
+    → words ≡ length (in_order keys.accepted.now)
+as_long keys words are is = is ∙ keys.nodes.ok.0 ∙ same_length keys are
 
 -- the key of the first location with counts is small
 pub small_product : (marks : List Mark) (order counts : List ℕ) → AreWithin marks counts → keys_of marks order ≤ 4000000

@@ -47,29 +47,11 @@ pub took_angle : {A E : Type 0} (result : Result A E) (old : Settings) (slot : O
     → setting ≡ Angle value → CanBeStated setting
     → OnOk result (old.angle ≡ None) → OnOk result (slot ≡ Some value)
     → OnOk result ((lines : List Line)
-    → HasTaken old (record {
-      angle = slot;
-      switches = old.switches;
-      distributor = old.distributor;
-      accumulator = old.accumulator;
-      latch = old.latch;
-      programmed = old.programmed;
-      on_overflow = old.on_overflow;
-    })
-    setting lines)
+    → HasTaken old (record old { angle = slot }) setting lines)
 took_angle (Err fault) old slot setting value is can empty filled = tt
 took_angle (Ok done) old slot setting value is can empty filled = λ lines holds.
     let small : value < 50 = (subst CanBeStated is can).1.0 in
-    let new : Settings =
-    record {
-      angle = slot;
-      switches = old.switches;
-      distributor = old.distributor;
-      accumulator = old.accumulator;
-      latch = old.latch;
-      programmed = old.programmed;
-      on_overflow = old.on_overflow;
-    } in
+    let new : Settings = record old { angle = slot } in
     let here : HoldSettings new (lines ++ angle value ∷ []) = record {
       angle = filled ∙ fills angle_in lines (angle value) value holds.angle empty refl;
       switches = keeps switches_in lines (angle value) holds.switches refl;
@@ -89,28 +71,10 @@ pub took_switches : {A E : Type 0} (result : Result A E) (old : Settings) (slot 
     (value : Word) → setting ≡ Switches value → CanBeStated setting
     → OnOk result (old.switches ≡ None) → OnOk result (slot ≡ Some value)
     → OnOk result ((lines : List Line)
-    → HasTaken old (record {
-      angle = old.angle;
-      switches = slot;
-      distributor = old.distributor;
-      accumulator = old.accumulator;
-      latch = old.latch;
-      programmed = old.programmed;
-      on_overflow = old.on_overflow;
-    })
-    setting lines)
+    → HasTaken old (record old { switches = slot }) setting lines)
 took_switches (Err fault) old slot setting value is can empty filled = tt
 took_switches (Ok done) old slot setting value is can empty filled = λ lines holds.
-    let new : Settings =
-    record {
-      angle = old.angle;
-      switches = slot;
-      distributor = old.distributor;
-      accumulator = old.accumulator;
-      latch = old.latch;
-      programmed = old.programmed;
-      on_overflow = old.on_overflow;
-    } in
+    let new : Settings = record old { switches = slot } in
     let here : HoldSettings new (lines ++ switches value ∷ []) = record {
       angle = keeps angle_in lines (switches value) holds.angle refl;
       switches = filled ∙ fills switches_in lines (switches value) value holds.switches empty refl;
@@ -130,28 +94,10 @@ pub took_distributor : {A E : Type 0} (result : Result A E) (old : Settings) (sl
     (value : Word) → setting ≡ Distributor value → CanBeStated setting
     → OnOk result (old.distributor ≡ None) → OnOk result (slot ≡ Some value)
     → OnOk result ((lines : List Line)
-    → HasTaken old (record {
-      angle = old.angle;
-      switches = old.switches;
-      distributor = slot;
-      accumulator = old.accumulator;
-      latch = old.latch;
-      programmed = old.programmed;
-      on_overflow = old.on_overflow;
-    })
-    setting lines)
+    → HasTaken old (record old { distributor = slot }) setting lines)
 took_distributor (Err fault) old slot setting value is can empty filled = tt
 took_distributor (Ok done) old slot setting value is can empty filled = λ lines holds.
-    let new : Settings =
-    record {
-      angle = old.angle;
-      switches = old.switches;
-      distributor = slot;
-      accumulator = old.accumulator;
-      latch = old.latch;
-      programmed = old.programmed;
-      on_overflow = old.on_overflow;
-    } in
+    let new : Settings = record old { distributor = slot } in
     let here : HoldSettings new (lines ++ distributor value ∷ []) = record {
       angle = keeps angle_in lines (distributor value) holds.angle refl;
       switches = keeps switches_in lines (distributor value) holds.switches refl;
@@ -171,30 +117,12 @@ pub took_accumulator : {A E : Type 0} (result : Result A E) (old : Settings) (sl
     (value : ℤ) → setting ≡ Accumulator value → CanBeStated setting
     → OnOk result (old.accumulator ≡ None) → OnOk result (slot ≡ Some value)
     → OnOk result ((lines : List Line)
-    → HasTaken old (record {
-      angle = old.angle;
-      switches = old.switches;
-      distributor = old.distributor;
-      accumulator = slot;
-      latch = old.latch;
-      programmed = old.programmed;
-      on_overflow = old.on_overflow;
-    }) setting
-    lines)
+    → HasTaken old (record old { accumulator = slot }) setting lines)
 took_accumulator (Err fault) old slot setting value is can empty filled = tt
 took_accumulator (Ok done) old slot setting value is can empty filled = λ lines holds.
     let here = subst CanBeStated is can in
     let small : unsigned_abs value < 10 ^ 20 = small_accumulator here.0 value here.1 in
-    let new : Settings =
-    record {
-      angle = old.angle;
-      switches = old.switches;
-      distributor = old.distributor;
-      accumulator = slot;
-      latch = old.latch;
-      programmed = old.programmed;
-      on_overflow = old.on_overflow;
-    } in
+    let new : Settings = record old { accumulator = slot } in
     let here : HoldSettings new (lines ++ accumulator value ∷ []) = record {
       angle = keeps angle_in lines (accumulator value) holds.angle refl;
       switches = keeps switches_in lines (accumulator value) holds.switches refl;
@@ -214,28 +142,10 @@ pub took_latch : {A E : Type 0} (result : Result A E) (old : Settings) (slot : O
     (value : Bool) → setting ≡ Latch value → CanBeStated setting
     → OnOk result (old.latch ≡ None) → OnOk result (slot ≡ Some value)
     → OnOk result ((lines : List Line)
-    → HasTaken old (record {
-      angle = old.angle;
-      switches = old.switches;
-      distributor = old.distributor;
-      accumulator = old.accumulator;
-      latch = slot;
-      programmed = old.programmed;
-      on_overflow = old.on_overflow;
-    })
-    setting lines)
+    → HasTaken old (record old { latch = slot }) setting lines)
 took_latch (Err fault) old slot setting value is can empty filled = tt
 took_latch (Ok done) old slot setting value is can empty filled = λ lines holds.
-    let new : Settings =
-    record {
-      angle = old.angle;
-      switches = old.switches;
-      distributor = old.distributor;
-      accumulator = old.accumulator;
-      latch = slot;
-      programmed = old.programmed;
-      on_overflow = old.on_overflow;
-    } in
+    let new : Settings = record old { latch = slot } in
     let here : HoldSettings new (lines ++ latch value ∷ []) = record {
       angle = keeps angle_in lines (latch value) holds.angle refl;
       switches = keeps switches_in lines (latch value) holds.switches refl;
@@ -255,28 +165,10 @@ pub took_programmed : {A E : Type 0} (result : Result A E) (old : Settings) (slo
     (value : Bool) → setting ≡ Programmed value → CanBeStated setting
     → OnOk result (old.programmed ≡ None) → OnOk result (slot ≡ Some value)
     → OnOk result ((lines : List Line)
-    → HasTaken old (record {
-      angle = old.angle;
-      switches = old.switches;
-      distributor = old.distributor;
-      accumulator = old.accumulator;
-      latch = old.latch;
-      programmed = slot;
-      on_overflow = old.on_overflow;
-    }) setting
-    lines)
+    → HasTaken old (record old { programmed = slot }) setting lines)
 took_programmed (Err fault) old slot setting value is can empty filled = tt
 took_programmed (Ok done) old slot setting value is can empty filled = λ lines holds.
-    let new : Settings =
-    record {
-      angle = old.angle;
-      switches = old.switches;
-      distributor = old.distributor;
-      accumulator = old.accumulator;
-      latch = old.latch;
-      programmed = slot;
-      on_overflow = old.on_overflow;
-    } in
+    let new : Settings = record old { programmed = slot } in
     let here : HoldSettings new (lines ++ programmed value ∷ []) = record {
       angle = keeps angle_in lines (programmed value) holds.angle refl;
       switches = keeps switches_in lines (programmed value) holds.switches refl;
@@ -296,28 +188,10 @@ pub took_on_overflow : {A E : Type 0} (result : Result A E) (old : Settings) (sl
     (value : Bool) → setting ≡ OnOverflow value → CanBeStated setting
     → OnOk result (old.on_overflow ≡ None) → OnOk result (slot ≡ Some value)
     → OnOk result ((lines : List Line)
-    → HasTaken old (record {
-      angle = old.angle;
-      switches = old.switches;
-      distributor = old.distributor;
-      accumulator = old.accumulator;
-      latch = old.latch;
-      programmed = old.programmed;
-      on_overflow = slot;
-    }) setting
-    lines)
+    → HasTaken old (record old { on_overflow = slot }) setting lines)
 took_on_overflow (Err fault) old slot setting value is can empty filled = tt
 took_on_overflow (Ok done) old slot setting value is can empty filled = λ lines holds.
-    let new : Settings =
-    record {
-      angle = old.angle;
-      switches = old.switches;
-      distributor = old.distributor;
-      accumulator = old.accumulator;
-      latch = old.latch;
-      programmed = old.programmed;
-      on_overflow = slot;
-    } in
+    let new : Settings = record old { on_overflow = slot } in
     let here : HoldSettings new (lines ++ on_overflow value ∷ []) = record {
       angle = keeps angle_in lines (on_overflow value) holds.angle refl;
       switches = keeps switches_in lines (on_overflow value) holds.switches refl;

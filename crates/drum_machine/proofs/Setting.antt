@@ -1,5 +1,5 @@
 -- A machine to evaluate the definitions on: the timing table that the tests use, and two words on the drum.
-use Rattle.std.proofs.Common.{ℕ, ◌≤◌, Bool, true, false, List, [], replicate, arith, ℤ, None}
+use Rattle.std.proofs.Common.{ℕ, ◌+◌, ◌≤◌, Bool, true, false, List, [], replicate, arith, ℤ, None}
 use Rattle.std.specs.Prelude.{slice_set, slice_index_or}
 use Rattle.drum_core.specs.declared.op.Op.{Op}
 use Rattle.drum_core.specs.declared.op.Op.TheVariants.{NoOperation, Stop, Add, ResetAdd, Divide, DivideReset, Multiply}
@@ -16,129 +16,53 @@ use Rattle.drum_machine.specs.Effect.{Outcome, goes, stops}
 use Rattle.drum_machine.specs.Step.{State}
 
 -- that the word times of an entry are in their ranges
-pub record InRange (before after per wait_min wait_max : ℕ) : Type 0 where
-  pub some_before : 1 ≤ before
-  pub short_before : before ≤ 1000000
-  pub short_after : after ≤ 1000000
-  pub short_per : per ≤ 1000000
-  pub waits : wait_min ≤ wait_max
-  pub short_wait : wait_max ≤ 1000000
+abbrev pub AreInRange : (before after per wait_min wait_max : ℕ) → Type 0
+AreInRange before after per wait_min wait_max =
+    (1 ≤ before) × (wait_min ≤ wait_max) × (before + after + per + wait_max ≤ 1000000)
 
 abbrev pub entry : (before after : ℕ) → Parity → (per wait_min wait_max : ℕ)
-    → InRange before after per wait_min wait_max → Entry
-entry before after parity per wait_min wait_max range = record {
+    → AreInRange before after per wait_min wait_max → Entry
+entry before after parity per wait_min wait_max (some, waits, short) = record {
   before = before;
   after = after;
   parity = parity;
   per = per;
   wait_min = wait_min;
   wait_max = wait_max;
-  some_before = range.some_before;
-  short_before = range.short_before;
-  short_after = range.short_after;
-  short_per = range.short_per;
-  waits = range.waits;
-  short_wait = range.short_wait;
+  some_before = some;
+  short_before = omega (arith, short);
+  short_after = omega (arith, short);
+  short_per = omega (arith, short);
+  waits = waits;
+  short_wait = omega (arith, short);
 }
 
-pub quick : InRange 1 0 0 0 0
-quick =
-    record {
-      some_before = omega arith;
-      short_before = omega arith;
-      short_after = omega arith;
-      short_per = omega arith;
-      waits = omega arith;
-      short_wait = omega arith;
-    }
+pub quick : AreInRange 1 0 0 0 0
+quick = (omega arith, omega arith, omega arith)
 
-pub adding : InRange 3 2 0 0 0
-adding =
-    record {
-      some_before = omega arith;
-      short_before = omega arith;
-      short_after = omega arith;
-      short_per = omega arith;
-      waits = omega arith;
-      short_wait = omega arith;
-    }
+pub adding : AreInRange 3 2 0 0 0
+adding = (omega arith, omega arith, omega arith)
 
-pub dividing : InRange 3 5 2 0 0
-dividing =
-    record {
-      some_before = omega arith;
-      short_before = omega arith;
-      short_after = omega arith;
-      short_per = omega arith;
-      waits = omega arith;
-      short_wait = omega arith;
-    }
+pub dividing : AreInRange 3 5 2 0 0
+dividing = (omega arith, omega arith, omega arith)
 
-pub multiplying : InRange 3 1 2 0 0
-multiplying =
-    record {
-      some_before = omega arith;
-      short_before = omega arith;
-      short_after = omega arith;
-      short_per = omega arith;
-      waits = omega arith;
-      short_wait = omega arith;
-    }
+pub multiplying : AreInRange 3 1 2 0 0
+multiplying = (omega arith, omega arith, omega arith)
 
-pub storing : InRange 3 3 0 0 0
-storing =
-    record {
-      some_before = omega arith;
-      short_before = omega arith;
-      short_after = omega arith;
-      short_per = omega arith;
-      waits = omega arith;
-      short_wait = omega arith;
-    }
+pub storing : AreInRange 3 3 0 0 0
+storing = (omega arith, omega arith, omega arith)
 
-pub joining : InRange 3 4 0 0 0
-joining =
-    record {
-      some_before = omega arith;
-      short_before = omega arith;
-      short_after = omega arith;
-      short_per = omega arith;
-      waits = omega arith;
-      short_wait = omega arith;
-    }
+pub joining : AreInRange 3 4 0 0 0
+joining = (omega arith, omega arith, omega arith)
 
-pub shifting : InRange 2 1 2 0 0
-shifting =
-    record {
-      some_before = omega arith;
-      short_before = omega arith;
-      short_after = omega arith;
-      short_per = omega arith;
-      waits = omega arith;
-      short_wait = omega arith;
-    }
+pub shifting : AreInRange 2 1 2 0 0
+shifting = (omega arith, omega arith, omega arith)
 
-pub branching : InRange 2 1 0 0 0
-branching =
-    record {
-      some_before = omega arith;
-      short_before = omega arith;
-      short_after = omega arith;
-      short_per = omega arith;
-      waits = omega arith;
-      short_wait = omega arith;
-    }
+pub branching : AreInRange 2 1 0 0 0
+branching = (omega arith, omega arith, omega arith)
 
-pub with_cards : InRange 1 1 0 100 3125
-with_cards =
-    record {
-      some_before = omega arith;
-      short_before = omega arith;
-      short_after = omega arith;
-      short_per = omega arith;
-      waits = omega arith;
-      short_wait = omega arith;
-    }
+pub with_cards : AreInRange 1 1 0 100 3125
+with_cards = (omega arith, omega arith, omega arith)
 
 -- the timing table
 abbrev pub times : Op → Entry

@@ -5,7 +5,7 @@ use Rattle.drum_flow.specs.AcceptedFlow.{in_order}
 use Rattle.drum_flow.specs.Passes.{leading}
 use Rattle.drum_machine.specs.CountsIn.{counts_in}
 use Rattle.drum_bound.specs.Table.{number_of}
-use Rattle.drum_bound.proofs.Nodes.{same_length, small_product}
+use Rattle.drum_bound.proofs.Nodes.{as_long, small_product}
 use Rattle.drum_bound.proofs.keys.Keys.counted.Goals as goal
 
 pub overflow_mul-result : goal.overflow_mul-result
@@ -16,7 +16,7 @@ overflow_mul-result c =
     let lead : c.leading.result ≡ leading marks counts =
     c.leading.ensures ∙ ap (λ (all : List Mark). leading all (counts_in c.args.counts all)) c.marks.ensures.all in
     let words : c.len.result ≡ length order =
-    omega (arith, c.len.ensures, c.args.self.now.nodes.ok.0, same_length c.args.self.now c.requires.keys) in
+    as_long c.args.self.now c.len.result c.requires.keys c.len.ensures in
     let product : c.leading.result * c.len.result ≡ leading marks counts * length order =
     ap (λ (n : ℕ). n * c.len.result) lead ∙ ap (λ (n : ℕ). leading marks counts * n) words in
     omega (arith, product, small_product marks order counts c.requires.within c.requires.keys.ordered.0.few)
@@ -29,7 +29,7 @@ returns c =
     let lead : c.leading.result ≡ leading marks counts =
     c.leading.ensures ∙ ap (λ (all : List Mark). leading all (counts_in c.args.counts all)) c.marks.ensures.all in
     let words : c.len.result ≡ length order =
-    omega (arith, c.len.ensures, c.args.self.now.nodes.ok.0, same_length c.args.self.now c.requires.keys) in
+    as_long c.args.self.now c.len.result c.requires.keys c.len.ensures in
     record {
       first = ap (λ (n : ℕ). n * c.len.result) lead ∙ ap (λ (n : ℕ). leading marks counts * n) words;
       number = c.table_number.ensures

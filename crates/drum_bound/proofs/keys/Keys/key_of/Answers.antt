@@ -6,7 +6,7 @@ use Rattle.drum_flow.specs.AcceptedFlow.{in_order}
 use Rattle.drum_flow.specs.Passes.{leading}
 use Rattle.drum_machine.specs.CountsIn.{counts_in}
 use Rattle.drum_bound.specs.Keys.{IsKey}
-use Rattle.drum_bound.proofs.Nodes.{key_of_place, same_length, small_number, small_product}
+use Rattle.drum_bound.proofs.Nodes.{key_of_place, as_long, small_number, small_product}
 use Rattle.drum_bound.proofs.keys.Keys.key_of.Goals as goal
 
 pub leading-requires-clause-within : goal.leading-requires-clause-within
@@ -21,7 +21,7 @@ overflow_mul-result c =
     let lead : c.leading.result ≡ leading marks counts =
     c.leading.ensures ∙ ap (λ (all : List Mark). leading all (counts_in c.args.counts all)) c.marks.ensures.all in
     let words : c.len.result ≡ length order =
-    omega (arith, c.len.ensures, c.args.self.now.nodes.ok.0, same_length c.args.self.now c.requires.keys) in
+    as_long c.args.self.now c.len.result c.requires.keys c.len.ensures in
     let product : c.leading.result * c.len.result ≡ leading marks counts * length order =
     ap (λ (n : ℕ). n * c.len.result) lead ∙ ap (λ (n : ℕ). leading marks counts * n) words in
     omega (arith, product, small_product marks order counts c.requires.within c.requires.keys.ordered.0.few)
@@ -34,7 +34,7 @@ overflow_add-result c =
     let lead : c.leading.result ≡ leading marks counts =
     c.leading.ensures ∙ ap (λ (all : List Mark). leading all (counts_in c.args.counts all)) c.marks.ensures.all in
     let words : c.len.result ≡ length order =
-    omega (arith, c.len.ensures, c.args.self.now.nodes.ok.0, same_length c.args.self.now c.requires.keys) in
+    as_long c.args.self.now c.len.result c.requires.keys c.len.ensures in
     let product : c.leading.result * c.len.result ≡ leading marks counts * length order =
     ap (λ (n : ℕ). n * c.len.result) lead ∙ ap (λ (n : ℕ). leading marks counts * n) words in
     omega (
@@ -52,7 +52,7 @@ returns c =
     let lead : c.leading.result ≡ leading marks counts =
     c.leading.ensures ∙ ap (λ (all : List Mark). leading all (counts_in c.args.counts all)) c.marks.ensures.all in
     let words : c.len.result ≡ length order =
-    omega (arith, c.len.ensures, c.args.self.now.nodes.ok.0, same_length c.args.self.now c.requires.keys) in
+    as_long c.args.self.now c.len.result c.requires.keys c.len.ensures in
     let product : c.leading.result * c.len.result ≡ leading marks counts * length order =
     ap (λ (n : ℕ). n * c.len.result) lead ∙ ap (λ (n : ℕ). leading marks counts * n) words in
     subst (λ (key : ℕ). IsKey marks order key c.args.location.number counts)

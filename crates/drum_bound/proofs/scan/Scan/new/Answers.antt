@@ -1,5 +1,4 @@
 use Rattle.std.proofs.Common.{◌≡◌, ℕ, ◌*◌, List, length, Option, None, set, replicate, Some, ap, sym, ◌∙◌, refl, subst}
-use Rattle.std.proofs.Common.{arith}
 use Rattle.drum_core.specs.Loads.{start_in}
 use Rattle.drum_flow.specs.Flow.{deck_of}
 use Rattle.drum_flow.specs.AcceptedFlow.{in_order}
@@ -13,7 +12,7 @@ use Rattle.drum_bound.proofs.EntriesRaised.{number_none}
 use Rattle.drum_bound.specs.Scanned.{Scanned}
 use Rattle.drum_bound.specs.KeyHops.{IsBefore}
 use Rattle.drum_bound.proofs.Begun.{begun}
-use Rattle.drum_bound.proofs.Nodes.{same_length}
+use Rattle.drum_bound.proofs.Nodes.{as_long}
 use Rattle.drum_bound.specs.Held.{kept_in}
 use Rattle.drum_bound.proofs.scan.Scan.new.Goals as goal
 
@@ -25,7 +24,7 @@ returns-clause-scanned c =
     let key = c.start_key-key.result in
     let start : Latest = record { clock = c.start_angle-angle.result; origin = None } in
     let words : c.len-words.result ≡ length order =
-    omega (arith, c.len-words.ensures, keys.nodes.ok.0, same_length keys c.requires.keys) in
+    as_long keys c.len-words.result c.requires.keys c.len-words.ensures in
     let size : keys.counts * c.len-words.result ≡ keys_of g.notes.marks order =
     ap (λ (n : ℕ). keys.counts * n) words ∙ ap (λ (n : ℕ). n * length order) c.requires.keys.counts in
     let cells : kept_in c.in_ok-cells.cells ≡ set (replicate (keys_of g.notes.marks order) None) key (Some start) =

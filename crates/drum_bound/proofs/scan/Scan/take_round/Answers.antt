@@ -9,7 +9,7 @@ use Rattle.drum_bound.specs.ScanOf.{setting_in, order_of, IsScanned}
 use Rattle.drum_bound.proofs.KeysTaken.{skipped_all}
 use Rattle.drum_bound.proofs.RoundLaws.{round_first}
 use Rattle.drum_bound.proofs.RowsHeld.{places_size}
-use Rattle.drum_bound.proofs.Nodes.{same_length}
+use Rattle.drum_bound.proofs.Nodes.{as_long}
 use Rattle.drum_bound.proofs.scan.Scan.take_round.Goals as goal
 
 -- the next round begins where this one ends
@@ -35,13 +35,7 @@ pub keeps_any-requires-clause-there : goal.keeps_any-requires-clause-there
 keeps_any-requires-clause-there c =
     let scan = c.args.self.now in
     let words : c.len-words.result ≡ length (order_of scan) =
-    omega (
-      arith,
-      c.len-words.ensures,
-      scan.keys.now.nodes.ok.0,
-      same_length scan.keys.now
-          c.requires.scanned.keys,
-    ) in
+    as_long scan.keys.now c.len-words.result c.requires.scanned.keys c.len-words.ensures in
     let product : c.args.counts * c.len-words.result ≡ c.args.counts * length (order_of scan) =
     ap (λ (n : ℕ). c.args.counts * n) words in
     let up : length (order_of scan) * suc c.args.counts
@@ -61,13 +55,7 @@ returns-then-not-keeps_any-clause-scanned c =
     let scan = c.args.self.now in
     let n : ℕ = length (order_of scan) in
     let words : c.len-words.result ≡ n =
-    omega (
-      arith,
-      c.len-words.ensures,
-      scan.keys.now.nodes.ok.0,
-      same_length scan.keys.now
-          c.requires.scanned.keys,
-    ) in
+    as_long scan.keys.now c.len-words.result c.requires.scanned.keys c.len-words.ensures in
     let product : c.args.counts * c.len-words.result ≡ c.args.counts * n = ap (λ (w : ℕ). c.args.counts * w) words in
     subst (IsScanned scan) (next_round c.args.counts n)
     (skipped_all scan (c.args.counts * n) n c.requires.scanned
@@ -92,13 +80,7 @@ take_key-requires-clause-below c =
     let scan = c.args.self.now in
     let n : ℕ = length (order_of scan) in
     let words : c.len-words.result ≡ n =
-    omega (
-      arith,
-      c.len-words.ensures,
-      scan.keys.now.nodes.ok.0,
-      same_length scan.keys.now
-          c.requires.scanned.keys,
-    ) in
+    as_long scan.keys.now c.len-words.result c.requires.scanned.keys c.len-words.ensures in
     let first = first_is scan c.args.counts (c.args.counts * n) c.round-round.result c.requires.scanned c.requires.below
     c.round-round.ensures in
     subst (λ (s : Scan). c.round-round.result.own.first + c.loop-index.index < s.keys.now.size)
@@ -111,13 +93,7 @@ take_key-requires-clause-round c =
     let scan = c.args.self.now in
     let n : ℕ = length (order_of scan) in
     let words : c.len-words.result ≡ n =
-    omega (
-      arith,
-      c.len-words.ensures,
-      scan.keys.now.nodes.ok.0,
-      same_length scan.keys.now
-          c.requires.scanned.keys,
-    ) in
+    as_long scan.keys.now c.len-words.result c.requires.scanned.keys c.len-words.ensures in
     let first = first_is scan c.args.counts (c.args.counts * n) c.round-round.result c.requires.scanned c.requires.below
     c.round-round.ensures in
     let whole : (c.round-round.result.own.first + c.loop-index.index) / n ≡ c.args.counts =
@@ -133,13 +109,7 @@ take_key-requires-clause-rest c =
     let scan = c.args.self.now in
     let n : ℕ = length (order_of scan) in
     let words : c.len-words.result ≡ n =
-    omega (
-      arith,
-      c.len-words.ensures,
-      scan.keys.now.nodes.ok.0,
-      same_length scan.keys.now
-          c.requires.scanned.keys,
-    ) in
+    as_long scan.keys.now c.len-words.result c.requires.scanned.keys c.len-words.ensures in
     let first = first_is scan c.args.counts (c.args.counts * n) c.round-round.result c.requires.scanned c.requires.below
     c.round-round.ensures in
     let rest : (c.round-round.result.own.first + c.loop-index.index) % n ≡ c.loop-index.index =
@@ -167,13 +137,7 @@ returns-clause-scanned c =
     let scan = c.args.self.now in
     let n : ℕ = length (order_of scan) in
     let words : c.len-words.result ≡ n =
-    omega (
-      arith,
-      c.len-words.ensures,
-      scan.keys.now.nodes.ok.0,
-      same_length scan.keys.now
-          c.requires.scanned.keys,
-    ) in
+    as_long scan.keys.now c.len-words.result c.requires.scanned.keys c.len-words.ensures in
     let all : c.loop-index.index ≡ n = omega (arith, c.loop-index-test.false, c.loop-index.auto.index-end, words) in
     subst (IsScanned c.loop-index.self) (ap (λ (k : ℕ). c.args.counts * n + k) all ∙ next_round c.args.counts n)
     c.loop-index.invariant.scanned

@@ -1,13 +1,11 @@
 use Rattle.std.proofs.Common.{◌≡◌, ℕ, ◌-◌, ◌%◌, ◌<◌, List, length, Some, None, ap, sym, ◌∙◌, subst, arith}
 use Rattle.std.specs.Prelude.{slice_get, vec_len}
 use Rattle.std.proofs.Math.Nat.{mod-lt}
-use Rattle.std.proofs.lemmas.List.{length-map}
 use Rattle.std.proofs.lemmas.Option.{slice_get-get_or}
 use Rattle.drum_flow.specs.Hops.{Hop}
 use Rattle.drum_machine.specs.WaysLeft.{seen_way}
 use Rattle.drum_flow.specs.Seen.{seen_hop}
 use Rattle.drum_flow.specs.Walk.{Setting}
-use Rattle.drum_bound.specs.declared.keys.Node.{Node}
 use Rattle.drum_bound.specs.declared.scan.Scan.{Scan}
 use Rattle.drum_bound.specs.Keys.{place_at}
 use Rattle.drum_bound.specs.ScanOf.{IsDone, order_of, setting_in, size_in}
@@ -15,13 +13,8 @@ use Rattle.drum_bound.specs.TakenOf.{taken_of}
 use Rattle.drum_bound.specs.Visited.{visited}
 use Rattle.drum_bound.proofs.KeyLaws.{some_places}
 use Rattle.drum_bound.proofs.Finished.{kept_after}
+use Rattle.drum_bound.proofs.Nodes.{as_long}
 use Rattle.drum_bound.proofs.scan.Scan.visit.Goals as goal
-
--- there are as many nodes as locations
-as_long : (scan : Scan) (words : ℕ) → IsDone scan → words ≡ vec_len scan.keys.now.nodes → words ≡ length (order_of scan)
-as_long scan words done is =
-    is ∙ scan.keys.now.nodes.ok.0 ∙ sym (length-map scan.keys.now.nodes.items (λ (node : Node). node.location.number))
-    ∙ ap (λ (all : List ℕ). length all) done.keys.nodes
 
 pub overflow_sub-result : goal.overflow_sub-result
 overflow_sub-result c =
@@ -44,7 +37,7 @@ overflow_sub-result-2 c =
 index_inside : (scan : Scan) (key words : ℕ) → IsDone scan → key < size_in scan → words ≡ vec_len scan.keys.now.nodes
     → key % words < length (order_of scan)
 index_inside scan key words done below is =
-    let long : words ≡ length (order_of scan) = as_long scan words done is in
+    let long : words ≡ length (order_of scan) = as_long scan.keys.now words done.keys is in
     subst (λ (n : ℕ). key % n < length (order_of scan)) (sym long)
     (mod-lt key (some_places (setting_in scan).notes.marks (order_of scan) key below))
 
@@ -52,7 +45,7 @@ index_inside scan key words done below is =
 place_read : (scan : Scan) (key words : ℕ) → IsDone scan → key < size_in scan → words ≡ vec_len scan.keys.now.nodes
     → slice_get (order_of scan) (key % words) ≡ Some (place_at (order_of scan) key)
 place_read scan key words done below is =
-    let long : words ≡ length (order_of scan) = as_long scan words done is in
+    let long : words ≡ length (order_of scan) = as_long scan.keys.now words done.keys is in
     ap (λ (n : ℕ). slice_get (order_of scan) (key % n)) long
     ∙ slice_get-get_or (order_of scan) (key % length (order_of scan)) 0
     (mod-lt key (some_places (setting_in scan).notes.marks (order_of scan) key below))
