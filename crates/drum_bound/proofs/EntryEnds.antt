@@ -25,7 +25,7 @@ end_of g row number hop =
     record {
       place = row.place;
       counts = row.counts;
-      hop = number;
+      number = number;
       begun = row.time;
       ended =
           latest_end g row.place hop row.time;
@@ -95,7 +95,7 @@ unlike_at g row number [] = tt
 unlike_at g row number (hop ∷ left) = (
   λ other there places counts same.
       let of : IsOneOf g row (number + 1) left other = one_at g row (number + 1) left other there in
-      let numbers : number + 1 + of.more ≡ other.hop = ap (λ (end : HopEnd). end.hop) of.same in
+      let numbers : number + 1 + of.more ≡ other.number = ap (λ (end : HopEnd). end.number) of.same in
       omega (arith, same, numbers),
   unlike_at g row (number + 1) left,
 )
@@ -200,9 +200,9 @@ is_end g row number hop = record {
 
 -- where an end of all is from
 whose : (g : Setting) (rows : List Row) (end : HopEnd) → IsEndIn g rows end
-    → (row : Row) × (hop : Hop) × Contains rows row × IsHop g row.place end.hop hop × IsHopEnd g row end.hop hop end
+    → (row : Row) × (hop : Hop) × Contains rows row × IsHop g row.place end.number hop × IsHopEnd g row end.number hop end
 whose g rows end one =
-    let number : one.number ≡ end.hop = ap (λ (e : HopEnd). e.hop) one.same in (
+    let number : one.number ≡ end.number = ap (λ (e : HopEnd). e.number) one.same in (
       one.row,
       one.hop,
       one.there,

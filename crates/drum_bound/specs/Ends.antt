@@ -13,7 +13,7 @@ use Rattle.drum_bound.specs.Table.{number_of, Row}
 pub record HopEnd : Type 0 where
   pub place : ℕ
   pub counts : ℕ
-  pub hop : ℕ
+  pub number : ℕ
   pub begun : ℕ
   pub ended : ℕ
 
@@ -26,22 +26,22 @@ IsHop g place number hop = slice_get (hops g.loads g.notes place) number ≡ Som
 pub record IsHopEnd (g : Setting) (row : Row) (number : ℕ) (hop : Hop) (end : HopEnd) : Type 0 where
   pub place : end.place ≡ row.place
   pub counts : end.counts ≡ row.counts
-  pub of : end.hop ≡ number
+  pub of : end.number ≡ number
   pub begun : end.begun ≡ row.time
   pub ended : (g.start + 1) % 50 + end.ended
       ≡ longest g.times row.place hop.ins hop.way ((g.start + 1) % 50 + row.time)
 
--- no two ends are of one place, counts and hop
+-- no two ends are of one place, counts and hop's number
 abbrev pub AreUnlike : List HopEnd → Type 0
 AreUnlike [] = Unit {0}
 AreUnlike (end ∷ ends) =
     ((other : HopEnd) → Contains ends other → end.place ≡ other.place → end.counts ≡ other.counts
-    → end.hop ≡ other.hop → ⊥) × AreUnlike ends
+    → end.number ≡ other.number → ⊥) × AreUnlike ends
 
 -- The ends of the hops of a table's entries: one of each hop of each entry, and none twice.
 pub record AreEnds (g : Setting) (rows : List Row) (ends : List HopEnd) : Type 0 where
   pub each : (end : HopEnd) → Contains ends end → (row : Row) × (hop : Hop) × Contains rows row
-      × IsHop g row.place end.hop hop × IsHopEnd g row end.hop hop end
+      × IsHop g row.place end.number hop × IsHopEnd g row end.number hop end
   pub all : (row : Row) (number : ℕ) (hop : Hop) → Contains rows row → IsHop g row.place number hop
       → (end : HopEnd) × Contains ends end × IsHopEnd g row number hop end
   pub once : AreUnlike ends
@@ -50,7 +50,7 @@ pub record AreEnds (g : Setting) (rows : List Row) (ends : List HopEnd) : Type 0
 -- none above its mark's most.
 pub record LeadsTo (g : Setting) (end : HopEnd) (row : Row) : Type 0 where
   pub hop : Hop
-  pub of : IsHop g end.place end.hop hop
+  pub of : IsHop g end.place end.number hop
   pub onto : hop.way ≡ to row.place
   pub passes : List ℕ
   pub within : AreWithin g.notes.marks passes
