@@ -63,78 +63,54 @@ impl Settings {
     }
 }
 
+/// Whether inputs of this text state these settings, and no words.
+fn states(rt: &(impl AllocGlobal + Abort), text: &str, wanted: Settings) -> Result<(), Fail> {
+    let inputs = read(rt.alloc(), text)?;
+    assert_eq!(rt; Settings::of(&inputs.setup), wanted, "for {text}");
+    assert!(rt; inputs.setup.words.is_empty(), "for {text}");
+    Ok(())
+}
+
 #[test]
-fn single_settings(rt: HostRuntime) -> Result<(), Fail> {
-    let unsaid = Settings::unsaid();
-    for (text, wanted) in [
-        ("", unsaid),
-        ("* ANGLE 49\n", unsaid),
-        (
-            "ANGLE 49",
-            Settings {
-                angle: 49,
-                ..unsaid
-            },
-        ),
-        (
-            "SWITCHES -0000000001\n",
-            Settings {
-                switches: word("-0000000001")?,
-                ..unsaid
-            },
-        ),
-        (
-            "DISTRIBUTOR +9876543210\n",
-            Settings {
-                distributor: word("+9876543210")?,
-                ..unsaid
-            },
-        ),
-        ("ACCUMULATOR -00000000000000000000\n", unsaid),
-        (
-            "ACCUMULATOR -00000000000000000017\n",
-            Settings {
-                accumulator: -17,
-                ..unsaid
-            },
-        ),
-        (
-            "ACCUMULATOR +99999999999999999999\n",
-            Settings {
-                accumulator: 99_999_999_999_999_999_999,
-                ..unsaid
-            },
-        ),
-        (
-            "LATCH ON\n",
-            Settings {
-                latch: true,
-                ..unsaid
-            },
-        ),
-        ("LATCH OFF\n", unsaid),
-        (
-            "PROGRAMMED RUN\n",
-            Settings {
-                programmed: false,
-                ..unsaid
-            },
-        ),
-        ("PROGRAMMED STOP\n", unsaid),
-        (
-            "ONOVERFLOW SENSE\n",
-            Settings {
-                on_overflow: false,
-                ..unsaid
-            },
-        ),
-        ("ONOVERFLOW STOP\n", unsaid),
+fn settings_as_unsaid(rt: HostRuntime) -> Result<(), Fail> {
+    for text in [
+        "",
+        "* ANGLE 49\n",
+        "ACCUMULATOR -00000000000000000000\n",
+        "LATCH OFF\n",
+        "PROGRAMMED STOP\n",
+        "ONOVERFLOW STOP\n",
     ] {
-        let inputs = read(rt.alloc(), text)?;
-        assert_eq!(rt; Settings::of(&inputs.setup), wanted, "for {text}");
-        assert!(rt; inputs.setup.words.is_empty(), "for {text}");
+        states(&rt, text, Settings::unsaid())?;
     }
     Ok(())
+}
+
+#[test]
+fn single_settings(rt: HostRuntime) -> Result<(), Fail> {
+    let mut wanted = Settings::unsaid();
+    wanted.angle = 49;
+    states(&rt, "ANGLE 49", wanted)?;
+    wanted = Settings::unsaid();
+    wanted.switches = word("-0000000001")?;
+    states(&rt, "SWITCHES -0000000001\n", wanted)?;
+    wanted = Settings::unsaid();
+    wanted.distributor = word("+9876543210")?;
+    states(&rt, "DISTRIBUTOR +9876543210\n", wanted)?;
+    wanted = Settings::unsaid();
+    wanted.accumulator = -17;
+    states(&rt, "ACCUMULATOR -00000000000000000017\n", wanted)?;
+    wanted.accumulator = 99_999_999_999_999_999_999;
+    states(&rt, "ACCUMULATOR +99999999999999999999\n", wanted)?;
+    wanted = Settings::unsaid();
+    wanted.latch = true;
+    states(&rt, "LATCH ON\n", wanted)?;
+    wanted = Settings::unsaid();
+    wanted.programmed = false;
+    states(&rt, "PROGRAMMED RUN\n", wanted)?;
+    wanted = Settings::unsaid();
+    wanted.on_overflow = false;
+    states(&rt, "ONOVERFLOW SENSE\n", wanted)
 }
 
 /// What feeds are is seen by their `Debug`.

@@ -207,6 +207,19 @@ fn with_lists(rt: HostRuntime) -> Result<(), Fail> {
         .as_str(),
         "accepted",
     )?;
+    let roads = format!(in alloc; "{NOTES}{ROADS}")?;
+    judged(&rt, TWO_ROADS, roads.as_str(), "unbounded 0110 0200 0210")?;
+    judged(
+        &rt,
+        TWO_ROADS,
+        marks(alloc, roads.as_str(), &[(210, 110, 1), (210, 120, 1)])?.as_str(),
+        "accepted",
+    )
+}
+
+#[test]
+fn with_a_list_for_the_distributor(rt: HostRuntime) -> Result<(), Fail> {
+    let alloc = rt.alloc();
     let distributor = "0100 +6901038001\nSTART 0100\n";
     judged(
         &rt,
@@ -232,14 +245,6 @@ fn with_lists(rt: HostRuntime) -> Result<(), Fail> {
         distributor,
         list(alloc, run, 8001, "op = 1, d_from = 0, d_to = 9999, i = 0")?.as_str(),
         "notloaded 0000",
-    )?;
-    let roads = format!(in alloc; "{NOTES}{ROADS}")?;
-    judged(&rt, TWO_ROADS, roads.as_str(), "unbounded 0110 0200 0210")?;
-    judged(
-        &rt,
-        TWO_ROADS,
-        marks(alloc, roads.as_str(), &[(210, 110, 1), (210, 120, 1)])?.as_str(),
-        "accepted",
     )
 }
 

@@ -7,6 +7,8 @@ mod bounds;
 #[cfg(test)]
 mod exhaustive;
 #[cfg(test)]
+mod order;
+#[cfg(test)]
 mod search;
 #[cfg(test)]
 mod support;

@@ -1,18 +1,11 @@
 //! All walks of a deck, gone through one after the other, and through each hop one word time at a
 //! time. It shares nothing with the analysis but the reading of decks, timing tables and notes.
 
+use crate::order::{Order, acting, found, has_word, is_location, is_wanted, places, ways_of};
 use crate::support::Subject;
-use drum_core::{Location, Op, Parity};
-use drum_times::{Entry, Mark, Programmed};
+use drum_core::{Location, Op};
+use drum_times::{Entry, Mark};
 use std::alloc::{AllocError, Global};
-
-/// An instruction, as three numbers.
-#[derive(Clone, Copy, Debug)]
-struct Order {
-    op: u8,
-    d: u16,
-    i: u16,
-}
 
 /// Where a walk has come to: it seeks a place, at a clock that began at its start angle, with marks
 /// passed so often.
@@ -30,14 +23,6 @@ struct Arrival {
     place: u16,
     counts: [u16; 8],
     time: u64,
-}
-
-/// In what ways the step of an instruction may end.
-#[derive(Clone, Copy, Debug)]
-struct Ways {
-    branch: bool,
-    next: bool,
-    stop: bool,
 }
 
 /// How long a step may last beyond what is fixed, in word times: from the least to the most, by
@@ -64,91 +49,6 @@ pub struct Search<'a> {
     open: Vec<Stand>,
     latest: u64,
     arrivals: Vec<Arrival>,
-}
-
-/// Whether a number is a location's.
-fn is_location(number: u16) -> bool {
-    number < 2000 || (8000..8004).contains(&number)
-}
-
-/// Whether a location can be had at this moment.
-fn is_there(place: u16, clock: u64) -> bool {
-    let angle = clock % 50;
-    match place {
-        8000 | 8001 => true,
-        8002 => angle % 2 == 0,
-        8003 => angle % 2 == 1,
-        _ => u64::from(place % 50) == angle,
-    }
-}
-
-/// The first moment, from this one on, at which a location can be had.
-fn found(place: u16, clock: u64) -> u64 {
-    let mut moment = clock;
-    for _ in 0..50 {
-        if is_there(place, moment) {
-            break;
-        }
-        moment = moment.saturating_add(1);
-    }
-    moment
-}
-
-/// The first moment, from this one on, at which an operation of this parity acts.
-fn acting(parity: Parity, clock: u64) -> u64 {
-    let odd = clock % 50 % 2 == 1;
-    let waits = match parity {
-        Parity::Any => false,
-        Parity::Even => odd,
-        Parity::Odd => !odd,
-    };
-    if waits {
-        clock.saturating_add(1)
-    } else {
-        clock
-    }
-}
-
-/// Whether the operation reads or stores a word at D.
-fn has_word(op: u8) -> bool {
-    matches!(op, 10 | 11 | 14..=24 | 60 | 61 | 64..=69)
-}
-
-/// Whether D is such as the operation wants.
-fn is_wanted(order: Order) -> bool {
-    match order.op {
-        10 | 11 | 14..=19 | 60 | 61 | 64..=69 => is_location(order.d),
-        20..=24 | 70 | 71 => order.d < 2000,
-        _ => true,
-    }
-}
-
-/// How many places a shift goes.
-fn places(order: Order) -> u64 {
-    let units = u64::from(order.d % 10);
-    if order.op == 31 && units == 0 {
-        10
-    } else {
-        units
-    }
-}
-
-/// The ways in which the step of an instruction may end, but for a stop at x.
-fn ways_of(order: Order, subject: &Subject) -> Ways {
-    let programmed = subject.notes.programmed();
-    let (branch, next, stop) = match order.op {
-        1 => (
-            false,
-            programmed != Programmed::Stop,
-            programmed != Programmed::Run,
-        ),
-        10 | 11 | 14..=19 | 64 => (false, true, true),
-        44..=47 => (true, true, false),
-        70 => (subject.notes.load_cards(), true, false),
-        90..=99 => (true, true, true),
-        _ => (false, true, false),
-    };
-    Ways { branch, next, stop }
 }
 
 /// The number of the mark on an edge.
