@@ -27,6 +27,6 @@ start_in deck = deck.start.number
 abbrev pub card_in : Deck → ℕ → Option ℕ
 card_in deck location = option_map (λ one. one.line) (given_in deck location)
 
--- the lines of the data cards, in order
+-- the lines of the cards, in order
 abbrev pub cards_in : Deck → List ℕ
 cards_in deck = deck.cards.items

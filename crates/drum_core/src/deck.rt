@@ -76,7 +76,7 @@ impl Deck {
         Some(given.line)
     }
 
-    /// The lines of its data cards, in order: each from 1 to 4000.
+    /// The lines of its cards, in order: each from 1 to 4000.
     pub fn cards(&self) -> &[u16]
         ensures held { result.now ≡ cards_in self.now }
         ensures numbered { All (λ line. (1 ≤ line) × (line ≤ 4000)) result.now }

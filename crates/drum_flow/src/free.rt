@@ -25,7 +25,7 @@ fn free_row(alloc: Global, flow: &Flow<'_>, from: Location) -> Result<Vec<usize>
     unmarked_row(alloc, flow, targets.locations(), from)
 }
 
-/// The places of those of the targets that no mark stands before.
+/// The places of those of the targets to which the edge has no mark.
 fn unmarked_row(
     alloc: Global,
     flow: &Flow<'_>,

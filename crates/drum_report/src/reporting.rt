@@ -16,7 +16,7 @@ use drum_times::Notes;
 use sending::{send_cards, send_marks, send_other};
 use tallies::Tallies;
 
-/// Writes the report of an analysis: for each data card of the deck how often the walk visits its
+/// Writes the report of an analysis: for each card of the deck how often the walk visits its
 /// locations and the word times that it spends there, the same for all other locations, how often
 /// it passes each mark of the notes, and the bound. All is counted from the analysis's walk, so any
 /// deck and notes may be given. It takes no memory.

@@ -1,4 +1,4 @@
-//! What goes out of a reply: a result to standard output, a complaint to standard error.
+//! A reply, written to the output that it is for, and the status after it.
 
 ghost use Rattle.std.specs.Prelude.{◌≡◌, ◌+◌, ◌^◌, ◌≤◌, length};
 ghost use Rattle.drum_times.specs.Entries.{entry_in};
