@@ -12,14 +12,14 @@ use Rattle.drum_flow.specs.declared.refusal.Refusal.{Refusal}
 use Rattle.drum_flow.specs.declared.refusal.Refusal.TheVariants.{Memory, NotLoaded, NotInProfile, Alters, Unbounded}
 use Rattle.drum_flow.specs.declared.refusal.Refusal.TheVariants.{TooLarge}
 use Rattle.drum_flow.specs.Acceptance.{IsRefusal}
-use Rattle.drum_flow.specs.Accepted.{counts_of, IsFree, LeadRound, IsClosed, IsAccepted, IsSound}
+use Rattle.drum_flow.specs.Accepted.{counts_of, product_of, IsFree, IsAccepted, IsSound}
 use Rattle.drum_flow.specs.Altering.{FlagsFixed, AltersNone}
 use Rattle.drum_flow.specs.Executed.{added_by, with_new, found_after, IsOrder}
 use Rattle.drum_flow.specs.Fixed.{AreFlagged}
 use Rattle.drum_flow.specs.Flow.{AreExecuted}
 use Rattle.drum_flow.specs.Free.{IsFreeOrder, IsCycleRefusal}
-use Rattle.drum_flow.specs.Graph.{AreDifferent, GoOn}
-use Rattle.drum_flow.specs.Size.{product_of, IsTooMuch}
+use Rattle.drum_flow.specs.Graph.{AreDifferent, GoOn, LeadRound, IsClosed}
+use Rattle.drum_flow.specs.Size.{IsTooMuch}
 use Rattle.drum_flow.proofs.Lists.{contains_there, contains_cases, contains_none}
 
 -- how far before the end of a list a member stands
@@ -66,7 +66,7 @@ module _ (loads : ℕ → Option Word) (notes : Notes) where
   ]
 
   round_lower : (order : List ℕ) (first node : ℕ) (xs : List ℕ) → AreDifferent order → GoOn (IsFree loads notes) order
-      → Contains order node → LeadRound loads notes first node xs
+      → Contains order node → LeadRound (IsFree loads notes) first node xs
       → height order first < height order node
   round_lower order first node [] d onward there round = (lower order node first d onward there round).1
   round_lower order first node (next ∷ xs) d onward there round =
@@ -75,7 +75,7 @@ module _ (loads : ℕ → Option Word) (notes : Notes) where
 
   -- where every free edge goes on, none lead round
   no_round : (order : List ℕ) (first : ℕ) (xs : List ℕ) → AreDifferent order → GoOn (IsFree loads notes) order
-      → Contains order first → ¬ IsClosed loads notes (first ∷ xs)
+      → Contains order first → ¬ IsClosed (IsFree loads notes) (first ∷ xs)
   no_round order first xs d onward there closed =
       let less : height order first < height order first = round_lower order first first xs d onward there closed in
       omega (arith, less)
@@ -100,12 +100,12 @@ module _ (loads : ℕ → Option Word) (notes : Notes) where
 
     -- so there is one order
     pub one_order : (a b : List ℕ) → IsOrder loads notes start a → IsOrder loads notes start b → a ≡ b
-    one_order a b p q = elim (cases_lt p.turns q.turns) [
-      | inl less ↦ (let same : found_after loads notes start q.turns ≡ found_after loads notes start p.turns =
-          stays p.turns q.turns (omega (arith, ap (λ (xs : List ℕ). length xs) p.after, p.all)) (omega (arith, less)) in
+    one_order a b p q = elim (cases_lt p.count q.count) [
+      | inl less ↦ (let same : found_after loads notes start q.count ≡ found_after loads notes start p.count =
+          stays p.count q.count (omega (arith, ap (λ (xs : List ℕ). length xs) p.after, p.all)) (omega (arith, less)) in
           sym p.after ∙ sym same ∙ q.after)
-      | inr more ↦ (let same : found_after loads notes start p.turns ≡ found_after loads notes start q.turns =
-          stays q.turns p.turns (omega (arith, ap (λ (xs : List ℕ). length xs) q.after, q.all)) more in
+      | inr more ↦ (let same : found_after loads notes start p.count ≡ found_after loads notes start q.count =
+          stays q.count p.count (omega (arith, ap (λ (xs : List ℕ). length xs) q.after, q.all)) more in
           sym p.after ∙ same ∙ q.after)
     ]
 

@@ -13,8 +13,8 @@ use Rattle.drum_core.specs.declared.location.Location.{Location}
 use Rattle.drum_core.specs.declared.word.Word.{Word}
 use Rattle.drum_times.specs.Allowed.{Notes, allowed}
 use Rattle.drum_machine.specs.Writes.{writes}
-use Rattle.drum_flow.specs.Accepted.{IsFixed, Alters, IsAltered}
-use Rattle.drum_flow.specs.Altering.{IsLowestAltered, IsFirstAltered, AltersNone}
+use Rattle.drum_flow.specs.Accepted.{IsFixed, Alters, IsLowestAltered, IsAltered}
+use Rattle.drum_flow.specs.Altering.{IsFirstAltered, AltersNone}
 use Rattle.drum_flow.specs.Flow.{AreExecuted}
 use Rattle.drum_flow.proofs.Founds.{numbers}
 
@@ -95,9 +95,7 @@ altered_first loads notes start places k writer word executed here before altere
   none_before = λ place ins there allowed. before place there ins allowed;
   ins = altered.ins;
   first = altered.first;
-  written = altered.lowest.written;
-  fixed = altered.lowest.fixed;
-  lowest = altered.lowest.lowest;
+  lowest = altered.lowest;
 }
 
 -- the member of a list of locations at a place, by its number

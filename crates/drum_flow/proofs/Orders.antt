@@ -254,7 +254,7 @@ module _ (loads : ℕ → Option Word) (notes : Notes) (start : ℕ) where
     pub all_executed : ((k place : ℕ) → k < turns → slice_get places k ≡ Some place → IsGood loads notes place)
         → AreExecuted loads notes start places
     all_executed good = record {
-      order = record { turns = turns; after = after; all = all };
+      order = record { count = turns; after = after; all = all };
       all = λ place executed. along start place executed.0 begun executed.1;
       only = λ place there. only_executed turns place (subst (λ (xs : List ℕ). Contains xs place) (sym after) there);
       good = λ place there.
@@ -294,7 +294,7 @@ wrong_met loads notes start turn place places refusal after good here wrong = go
   where
     met : IsMet loads notes start place
     met = record {
-      turns = turn;
+      count = turn;
       member = ap (λ (xs : List ℕ). slice_get xs turn) after ∙ here;
       before = λ k other lt at. good k other lt (sym (ap (λ (xs : List ℕ). slice_get xs k) after) ∙ at);
     }

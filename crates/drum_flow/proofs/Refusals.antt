@@ -9,7 +9,8 @@ use Rattle.drum_flow.specs.declared.refusal.Refusal.{Refusal}
 use Rattle.drum_flow.specs.declared.refusal.Refusal.TheVariants.{Memory, NotLoaded, NotInProfile, Alters, Unbounded}
 use Rattle.drum_flow.specs.declared.refusal.Refusal.TheVariants.{TooLarge}
 use Rattle.drum_flow.specs.Acceptance.{IsRefusal}
-use Rattle.drum_flow.specs.Accepted.{IsAccepted, IsMet, IsFirstIn, IsClosed, counts_of, Alters as AltersOne}
+use Rattle.drum_flow.specs.Accepted.{IsAccepted, IsMet, IsFirstIn, IsFree, counts_of, Alters as AltersOne}
+use Rattle.drum_flow.specs.Graph.{IsClosed}
 use Rattle.drum_flow.specs.Executed.{found_after, IsOrder}
 use Rattle.drum_flow.specs.Hops.{IsExecuted}
 use Rattle.drum_flow.proofs.Acceptances.{one_order}
@@ -28,16 +29,16 @@ first_is_there list Property ins (before, after, split, has, none) =
 module _ (loads : ℕ → Option Word) (notes : Notes) (start : ℕ) where
   met_is_executed : (place : ℕ) → IsMet loads notes start place → IsExecuted loads notes start place
   met_is_executed place met =
-      only_executed loads notes start met.turns place
-      (contains_from_get (found_after loads notes start met.turns) met.turns place met.member)
+      only_executed loads notes start met.count place
+      (contains_from_get (found_after loads notes start met.count) met.count place met.member)
 
   in_order_is_executed : (order : List ℕ) (place : ℕ) → IsOrder loads notes start order → Contains order place
       → IsExecuted loads notes start place
   in_order_is_executed order place is there =
-      only_executed loads notes start is.turns place (subst (λ (xs : List ℕ). Contains xs place) (sym is.after) there)
+      only_executed loads notes start is.count place (subst (λ (xs : List ℕ). Contains xs place) (sym is.after) there)
 
   not_closed : (executed cycle : List ℕ) → IsAccepted loads notes start executed
-      → ((place : ℕ) → Contains cycle place → IsExecuted loads notes start place) → IsClosed loads notes cycle → ⊥
+      → ((place : ℕ) → Contains cycle place → IsExecuted loads notes start place) → IsClosed (IsFree loads notes) cycle → ⊥
   not_closed executed [] accepted there closed = closed
   not_closed executed (first ∷ others) accepted there closed =
       accepted.bounded first others (there first (contains_here first others)) closed

@@ -266,14 +266,14 @@ row_passed row states passed at before more past next there =
 -- the edges along a list, from a place of it on, and one from its last node to the first of these, lead round
 round_from : (row : ℕ → List ℕ) (first node : ℕ) (xs : List ℕ) → LeadAlong row node xs
     → ((last : ℕ) → last_of (node ∷ xs) ≡ Some last → Contains (row last) first)
-    → LeadRound row first node xs
+    → LeadRound (Leads row) first node xs
 round_from row first node [] along edge = edge node refl
 round_from row first node (b ∷ bs) along edge =
     (along.0, round_from row first b bs along.1 (λ last e. edge last (last_cons node b bs ∙ e)))
 
 closed_along : (row : ℕ → List ℕ) (at first node : ℕ) (xs : List ℕ) → LeadAlong row node xs
     → slice_get (node ∷ xs) at ≡ Some first
-    → ((last : ℕ) → last_of (node ∷ xs) ≡ Some last → Contains (row last) first) → IsClosed row (drop at (node ∷ xs))
+    → ((last : ℕ) → last_of (node ∷ xs) ≡ Some last → Contains (row last) first) → IsClosed (Leads row) (drop at (node ∷ xs))
 closed_along row zero first node xs along here edge =
     let same : node ≡ first = cc in
     round_from row node node xs along (λ last e. subst (λ (z : ℕ). Contains (row last) z) (sym same) (edge last e))
@@ -295,7 +295,7 @@ cycle_closed row size states passed path finished at first s here edge = record 
 }
   where
     closed : (nodes : List ℕ) → AreLinked row nodes → slice_get nodes at ≡ Some first
-        → ((last : ℕ) → last_of nodes ≡ Some last → Contains (row last) first) → IsClosed row (drop at nodes)
+        → ((last : ℕ) → last_of nodes ≡ Some last → Contains (row last) first) → IsClosed (Leads row) (drop at nodes)
     closed [] linked e edge = cc
     closed (node ∷ nodes) linked e edge = closed_along row at first node nodes linked e edge
 

@@ -8,7 +8,6 @@ use Rattle.drum_core.specs.declared.location.Location.{Location}
 use Rattle.drum_core.specs.declared.word.Word.{Word}
 use Rattle.drum_times.specs.Allowed.{Notes}
 use Rattle.drum_flow.specs.Accepted.{IsFree}
-use Rattle.drum_flow.specs.Accepted as said
 use Rattle.drum_flow.specs.Flow.{AreExecuted}
 use Rattle.drum_flow.specs.Free.{AreFreeRows, IsFreeOrder, IsFreeCycle}
 use Rattle.drum_flow.specs.Turned.{IsTurned}
@@ -64,8 +63,8 @@ module _ (loads : ℕ → Option Word) (notes : Notes) (executed : List ℕ) (ro
   )
 
   round_free : (first node : ℕ) (xs : List ℕ) → node < length executed
-      → ((one : ℕ) → Contains xs one → one < length executed) → LeadRound row first node xs
-      → said.LeadRound loads notes (slice_index executed first) (slice_index executed node)
+      → ((one : ℕ) → Contains xs one → one < length executed) → LeadRound (Leads row) first node xs
+      → LeadRound (IsFree loads notes) (slice_index executed first) (slice_index executed node)
       (map (λ place. slice_index executed place) xs)
   round_free first node [] inside within round = edge_free node first inside round
   round_free first node (next ∷ xs) inside within round = (
@@ -74,8 +73,8 @@ module _ (loads : ℕ → Option Word) (notes : Notes) (executed : List ℕ) (ro
         (λ one there. within one (contains_there next one xs there)) round.1,
   )
 
-  closed_free : (nodes : List ℕ) → ((node : ℕ) → Contains nodes node → node < length executed) → IsClosed row nodes
-      → said.IsClosed loads notes (map (λ place. slice_index executed place) nodes)
+  closed_free : (nodes : List ℕ) → ((node : ℕ) → Contains nodes node → node < length executed) → IsClosed (Leads row) nodes
+      → IsClosed (IsFree loads notes) (map (λ place. slice_index executed place) nodes)
   closed_free [] within closed = closed
   closed_free (node ∷ nodes) within closed =
       round_free node node nodes (within node (contains_here node nodes))
@@ -169,6 +168,6 @@ cycle_free loads notes executed row size nodes turned different rows long cycle 
     }
 
 -- a cycle has a member
-pub cycle_some : (row : ℕ → List ℕ) (nodes : List ℕ) → IsClosed row nodes → 0 < length nodes
+pub cycle_some : (row : ℕ → List ℕ) (nodes : List ℕ) → IsClosed (Leads row) nodes → 0 < length nodes
 cycle_some row [] closed = absurd closed
 cycle_some row (node ∷ nodes) closed = omega arith

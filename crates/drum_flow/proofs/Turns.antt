@@ -8,8 +8,8 @@ use Rattle.std.proofs.lemmas.Option.{slice_get_within, get_or_from_slice_get}
 use Rattle.drum_core.specs.declared.location.Location.{Location}
 use Rattle.drum_core.specs.declared.word.Word.{Word}
 use Rattle.drum_times.specs.Allowed.{Notes}
-use Rattle.drum_flow.specs.Accepted.{LeadRound, IsClosed, IsSmallestFirst}
-use Rattle.drum_flow.specs.Graph.{AreDifferent}
+use Rattle.drum_flow.specs.Accepted.{IsFree, IsSmallestFirst}
+use Rattle.drum_flow.specs.Graph.{AreDifferent, LeadRound, IsClosed}
 use Rattle.drum_flow.specs.Turned.{IsTurned}
 use Rattle.drum_flow.proofs.Founds.{numbers}
 use Rattle.drum_flow.proofs.Lists.{contains_here, contains_there, contains_cases, contains_none}
@@ -36,23 +36,23 @@ numbers_turned locations k =
 
 module _ (loads : ℕ → Option Word) (notes : Notes) where
   -- a way round, cut at a member
-  cut : (first node mid : ℕ) (before behind : List ℕ) → LeadRound loads notes first node (before ++ mid ∷ behind)
-      → LeadRound loads notes mid node before × LeadRound loads notes first mid behind
+  cut : (first node mid : ℕ) (before behind : List ℕ) → LeadRound (IsFree loads notes) first node (before ++ mid ∷ behind)
+      → LeadRound (IsFree loads notes) mid node before × LeadRound (IsFree loads notes) first mid behind
   cut first node mid [] behind round = (round.0, round.1)
   cut first node mid (one ∷ before) behind round =
       let parts = cut first one mid before behind round.1 in
       ((round.0, parts.0), parts.1)
 
   -- two ways put together
-  join : (first node mid : ℕ) (before behind : List ℕ) → LeadRound loads notes mid node before
-      → LeadRound loads notes first mid behind → LeadRound loads notes first node (before ++ mid ∷ behind)
+  join : (first node mid : ℕ) (before behind : List ℕ) → LeadRound (IsFree loads notes) mid node before
+      → LeadRound (IsFree loads notes) first mid behind → LeadRound (IsFree loads notes) first node (before ++ mid ∷ behind)
   join first node mid [] behind one other = (one, other)
   join first node mid (next ∷ before) behind one other = (one.0, join first next mid before behind one.1 other)
 
-  closed_turned : (before behind : List ℕ) (mid : ℕ) → IsClosed loads notes (before ++ mid ∷ behind)
-      → IsClosed loads notes ((mid ∷ behind) ++ before)
+  closed_turned : (before behind : List ℕ) (mid : ℕ) → IsClosed (IsFree loads notes) (before ++ mid ∷ behind)
+      → IsClosed (IsFree loads notes) ((mid ∷ behind) ++ before)
   closed_turned [] behind mid round =
-      subst (λ (xs : List ℕ). IsClosed loads notes (mid ∷ xs)) (sym (append-nil behind)) round
+      subst (λ (xs : List ℕ). IsClosed (IsFree loads notes) (mid ∷ xs)) (sym (append-nil behind)) round
   closed_turned (node ∷ before) behind mid round =
       let parts = cut node node mid before behind round in
       join mid mid node behind before parts.1 parts.0
@@ -88,14 +88,14 @@ different_turned xs ys d =
 
 -- What is so of a closed list without repeats is so of it turned, and its smallest member is the first.
 pub record IsTurnedCycle (loads : ℕ → Option Word) (notes : Notes) (list turned : List ℕ) : Type 0 where
-  pub closed : IsClosed loads notes turned
+  pub closed : IsClosed (IsFree loads notes) turned
   pub different : AreDifferent turned
   pub smallest : IsSmallestFirst turned
   pub members : (place : ℕ) → Contains turned place → Contains list place
 
 -- by the parts of the list
 turned_parts : (loads : ℕ → Option Word) (notes : Notes) (before behind : List ℕ) (mid : ℕ)
-    → IsClosed loads notes (before ++ mid ∷ behind) → AreDifferent (before ++ mid ∷ behind)
+    → IsClosed (IsFree loads notes) (before ++ mid ∷ behind) → AreDifferent (before ++ mid ∷ behind)
     → ((other : ℕ) → Contains (before ++ mid ∷ behind) other → mid ≤ other)
     → IsTurnedCycle loads notes (before ++ mid ∷ behind) ((mid ∷ behind) ++ before)
 turned_parts loads notes before behind mid closed different least =
@@ -116,7 +116,7 @@ turned_parts loads notes before behind mid closed different least =
     }
 
 pub turned_cycle : (loads : ℕ → Option Word) (notes : Notes) (list turned : List ℕ) → IsTurned list turned
-    → IsClosed loads notes list → AreDifferent list → IsTurnedCycle loads notes list turned
+    → IsClosed (IsFree loads notes) list → AreDifferent list → IsTurnedCycle loads notes list turned
 turned_cycle loads notes list turned t closed different =
     let k = t.place in
     let mid = t.member.0 in
@@ -130,7 +130,7 @@ turned_cycle loads notes list turned t closed different =
     ap (λ (xs : List ℕ). xs ++ take k list) (sym rest) ∙ sym t.parts in
     let parts : IsTurnedCycle loads notes (take k list ++ mid ∷ drop (k + 1) list)
     ((mid ∷ drop (k + 1) list) ++ take k list) =
-    turned_parts loads notes (take k list) (drop (k + 1) list) mid (subst (IsClosed loads notes) (sym split) closed)
+    turned_parts loads notes (take k list) (drop (k + 1) list) mid (subst (IsClosed (IsFree loads notes)) (sym split) closed)
     (subst AreDifferent (sym split) different)
     (λ other there. t.least mid other t.member.1 (subst (λ (xs : List ℕ). Contains xs other) split there)) in
     subst (λ (xs : List ℕ). IsTurnedCycle loads notes xs turned) split

@@ -8,7 +8,7 @@ use Rattle.drum_times.specs.Allowed.{Notes, is_listed, allowed}
 use Rattle.drum_times.specs.Marks.{mark_on}
 use Rattle.drum_machine.specs.Writes.{writes}
 use Rattle.drum_flow.specs.Executed.{IsOrder, found_after}
-use Rattle.drum_flow.specs.Graph.{AreDifferent}
+use Rattle.drum_flow.specs.Graph.{AreDifferent, IsClosed}
 use Rattle.drum_flow.specs.Hops.{IsEdge, IsExecuted}
 
 -- the counts that there can be: the product of `most + 1` over the marks
@@ -35,15 +35,9 @@ abbrev pub IsFree : (ℕ → Option Word) → Notes → ℕ → ℕ → Type 0
 IsFree loads notes place next =
     IsEdge loads notes place next × IsNone (mark_on notes.marks place next)
 
--- free edges lead along these locations, and from the last to the first
-abbrev pub LeadRound : (ℕ → Option Word) → Notes → ℕ → ℕ → List ℕ → Type 0
-LeadRound loads notes first place [] = IsFree loads notes place first
-LeadRound loads notes first place (next ∷ nexts) =
-    IsFree loads notes place next × LeadRound loads notes first next nexts
-
-abbrev pub IsClosed : (ℕ → Option Word) → Notes → List ℕ → Type 0
-IsClosed loads notes [] = ⊥
-IsClosed loads notes (place ∷ places) = LeadRound loads notes place place places
+-- executed words times counts
+abbrev pub product_of : List ℕ → List Mark → ℕ
+product_of executed marks = length executed * counts_of marks
 
 -- The deck with its notes is accepted; these are its executed locations.
 pub record IsAccepted (loads : ℕ → Option Word) (notes : Notes) (start : ℕ)
@@ -55,8 +49,8 @@ pub record IsAccepted (loads : ℕ → Option Word) (notes : Notes) (start : ℕ
       → Contains (allowed loads notes place) ins
       → Contains (writes ins) at → ¬ IsFixed loads notes start at
   pub bounded : (first : ℕ) (others : List ℕ) → IsExecuted loads notes start first
-      → ¬ IsClosed loads notes (first ∷ others)
-  pub small : length executed * counts_of notes.marks ≤ 4000000
+      → ¬ IsClosed (IsFree loads notes) (first ∷ others)
+  pub small : product_of executed notes.marks ≤ 4000000
 
 -- The location is loaded or listed, and each operation there is in the profile.
 abbrev pub IsGood : (ℕ → Option Word) → Notes → ℕ → Type 0
@@ -64,10 +58,10 @@ IsGood loads notes place = IsThere loads notes place × IsInProfile loads notes 
 
 -- Discovery meets the location, and all that it met before are good.
 pub record IsMet (loads : ℕ → Option Word) (notes : Notes) (start : ℕ) (place : ℕ) : Type 0 where
-  pub turns : ℕ
-  pub member : slice_get (found_after loads notes start turns) turns ≡ Some place
-  pub before : (k earlier : ℕ) → k < turns
-      → slice_get (found_after loads notes start turns) k ≡ Some earlier
+  pub count : ℕ
+  pub member : slice_get (found_after loads notes start count) count ≡ Some place
+  pub before : (k earlier : ℕ) → k < count
+      → slice_get (found_after loads notes start count) k ≡ Some earlier
       → IsGood loads notes earlier
 
 -- an instruction is the first in a list with a property
@@ -76,6 +70,15 @@ IsFirstIn list Property ins =
     (before : List Instruction) × (after : List Instruction) × (list ≡ before ++ ins ∷ after)
     × Property ins
     × ((other : Instruction) → Contains before other → ¬ Property other)
+
+-- the operation is outside the profile
+abbrev pub IsOutside : Instruction → Type 0
+IsOutside ins = IsNone (op_of ins.op)
+
+-- of the operations outside the profile that are allowed there, this is the first
+abbrev pub IsFirstOutside : (ℕ → Option Word) → Notes → ℕ → ℕ → Type 0
+IsFirstOutside loads notes place op =
+    (ins : Instruction) × IsFirstIn (allowed loads notes place) IsOutside ins × (ins.op ≡ op)
 
 -- the instruction writes an executed location without a list
 abbrev pub Alters : (ℕ → Option Word) → Notes → ℕ → Instruction → Type 0
@@ -91,8 +94,15 @@ IsNotLoaded loads notes start place = IsMet loads notes start place × ¬ IsTher
 abbrev pub IsNotInProfile : (ℕ → Option Word) → Notes → ℕ → ℕ → ℕ → Type 0
 IsNotInProfile loads notes start place op =
     IsMet loads notes start place × IsThere loads notes place
-    × ((ins : Instruction)
-    × IsFirstIn (allowed loads notes place) (λ one. IsNone (op_of one.op)) ins × (ins.op ≡ op))
+    × IsFirstOutside loads notes place op
+
+-- the word is the lowest that the instruction alters
+pub record IsLowestAltered (loads : ℕ → Option Word) (notes : Notes) (start : ℕ) (ins : Instruction)
+    (word : ℕ) : Type 0 where
+  pub written : Contains (writes ins) word
+  pub fixed : IsFixed loads notes start word
+  pub lowest : (other : ℕ) → Contains (writes ins) other → IsFixed loads notes start other
+      → word ≤ other
 
 -- Alters: all executed locations are good, this is the first in the order of discovery with an
 -- instruction that alters, and the word is the lowest that its first such instruction alters.
@@ -108,10 +118,7 @@ pub record IsAltered (loads : ℕ → Option Word) (notes : Notes)
       → Contains (allowed loads notes place) ins → ¬ Alters loads notes start ins
   pub ins : Instruction
   pub first : IsFirstIn (allowed loads notes writer) (Alters loads notes start) ins
-  pub written : Contains (writes ins) altered
-  pub fixed : IsFixed loads notes start altered
-  pub lowest : (other : ℕ) → Contains (writes ins) other → IsFixed loads notes start other
-      → altered ≤ other
+  pub lowest : IsLowestAltered loads notes start ins altered
 
 -- nothing above is wrong
 pub record IsSound (loads : ℕ → Option Word) (notes : Notes) (start : ℕ) : Type 0 where
@@ -124,7 +131,7 @@ abbrev pub IsTooLarge : (ℕ → Option Word) → Notes → ℕ → ℕ → Type
 IsTooLarge loads notes start product =
     IsSound loads notes start × (4000000 < product)
     × ((executed : List ℕ) × IsOrder loads notes start executed
-    × (product ≡ length executed * counts_of notes.marks))
+    × (product ≡ product_of executed notes.marks))
 
 -- the first member is the smallest
 abbrev pub IsSmallestFirst : List ℕ → Type 0
@@ -137,8 +144,8 @@ pub record IsUnbounded (loads : ℕ → Option Word) (notes : Notes) (start : �
     (cycle : List ℕ) : Type 0 where
   pub sound : IsSound loads notes start
   pub small : (executed : List ℕ) → IsOrder loads notes start executed
-      → length executed * counts_of notes.marks ≤ 4000000
+      → product_of executed notes.marks ≤ 4000000
   pub executed : (place : ℕ) → Contains cycle place → IsExecuted loads notes start place
-  pub closed : IsClosed loads notes cycle
+  pub closed : IsClosed (IsFree loads notes) cycle
   pub different : AreDifferent cycle
   pub smallest : IsSmallestFirst cycle

@@ -1,14 +1,13 @@
 -- How an instruction alters an executed location without a list.
-use Rattle.std.specs.Prelude.{ℕ, ◌≤◌, List, Option, Contains}
+use Rattle.std.specs.Prelude.{ℕ, List, Option, Contains}
 use Rattle.drum_core.specs.declared.instruction.Instruction.{Instruction}
 use Rattle.drum_core.specs.declared.word.Word.{Word}
 use Rattle.drum_times.specs.Allowed.{Notes, allowed}
-use Rattle.drum_machine.specs.Writes.{writes}
 use Rattle.drum_flow.specs.declared.fixed.Fixed.{Fixed}
 use Rattle.drum_flow.specs.declared.refusal.Refusal.{Refusal}
 use Rattle.drum_flow.specs.declared.refusal.Refusal.TheVariants.{Memory, NotLoaded, NotInProfile, Alters, Unbounded, TooLarge}
 use Rattle.drum_flow.specs.Accepted as said
-use Rattle.drum_flow.specs.Accepted.{IsFixed, IsFirstIn, IsAltered}
+use Rattle.drum_flow.specs.Accepted.{IsFixed, IsFirstIn, IsLowestAltered, IsAltered}
 use Rattle.drum_flow.specs.Fixed.{IsFlagged}
 
 -- the flags are those of the executed locations without a list
@@ -16,14 +15,6 @@ pub record FlagsFixed (loads : ℕ → Option Word) (notes : Notes) (start : ℕ
     (fixed : Fixed) : Type 0 where
   pub only : (place : ℕ) → IsFlagged fixed place → IsFixed loads notes start place
   pub all : (place : ℕ) → IsFixed loads notes start place → IsFlagged fixed place
-
--- the word is the lowest that the instruction alters
-pub record IsLowestAltered (loads : ℕ → Option Word) (notes : Notes) (start : ℕ) (ins : Instruction)
-    (word : ℕ) : Type 0 where
-  pub written : Contains (writes ins) word
-  pub fixed : IsFixed loads notes start word
-  pub lowest : (other : ℕ) → Contains (writes ins) other → IsFixed loads notes start other
-      → word ≤ other
 
 -- the word is the lowest that the first of the instructions alters which alters any
 pub record IsFirstAltered (loads : ℕ → Option Word) (notes : Notes) (start : ℕ)

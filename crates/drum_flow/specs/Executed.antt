@@ -1,5 +1,6 @@
--- The order of the executed locations (this project's choice): a list begins with the start, and
--- each of its members in turn adds its successors that are not in it yet, in the order of its hops.
+-- The order of discovery of the executed locations (this project's choice): a list begins with the
+-- start, and each of its members in turn adds its successors that are not in it yet, in the order of
+-- its hops.
 use Rattle.std.specs.Prelude.{◌≡◌, ℕ, zero, suc, ◌≤◌, ◌==◌, if◌then◌else◌, List, [], ◌∷◌, ◌++◌, length, slice_get, Option, Some, None, filter_map}
 use Rattle.std.specs.List.{list_any}
 use Rattle.drum_core.specs.declared.word.Word.{Word}
@@ -31,13 +32,13 @@ added_by loads notes (Some place) = successors loads notes place
 -- the list after so many of its members have added theirs
 abbrev pub found_after : (ℕ → Option Word) → Notes → ℕ → ℕ → List ℕ
 found_after loads notes start zero = start ∷ []
-found_after loads notes start (suc turns) =
-    let found = found_after loads notes start turns in
-    with_new found (added_by loads notes (slice_get found turns))
+found_after loads notes start (suc count) =
+    let found = found_after loads notes start count in
+    with_new found (added_by loads notes (slice_get found count))
 
 -- the order of discovery: each member of the list has added its successors
 pub record IsOrder (loads : ℕ → Option Word) (notes : Notes) (start : ℕ)
     (order : List ℕ) : Type 0 where
-  pub turns : ℕ
-  pub after : found_after loads notes start turns ≡ order
-  pub all : length order ≤ turns
+  pub count : ℕ
+  pub after : found_after loads notes start count ≡ order
+  pub all : length order ≤ count

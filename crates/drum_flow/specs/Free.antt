@@ -6,8 +6,8 @@ use Rattle.drum_times.specs.declared.notes.mark.Mark.{Mark}
 use Rattle.drum_times.specs.Marks.{mark_on}
 use Rattle.drum_flow.specs.declared.refusal.Refusal.{Refusal}
 use Rattle.drum_flow.specs.declared.refusal.Refusal.TheVariants.{Memory, NotLoaded, NotInProfile, Alters, Unbounded, TooLarge}
-use Rattle.drum_flow.specs.Accepted.{IsFree, IsClosed, IsSmallestFirst}
-use Rattle.drum_flow.specs.Graph.{AreDifferent, GoOn}
+use Rattle.drum_flow.specs.Accepted.{IsFree, IsSmallestFirst}
+use Rattle.drum_flow.specs.Graph.{AreDifferent, GoOn, IsClosed}
 
 -- The row of a location has the places of those that edges free of marks lead to from it.
 pub record IsFreeRow (loads : ℕ → Option Word) (notes : Notes) (executed : List ℕ) (from : ℕ)
@@ -17,7 +17,7 @@ pub record IsFreeRow (loads : ℕ → Option Word) (notes : Notes) (executed : L
   pub all : (place onto : ℕ) → slice_get executed place ≡ Some onto → IsFree loads notes from onto
       → Contains row place
 
--- The row has the places of those of the targets that no mark stands before.
+-- The row has the places of those of the targets to which the edge has no mark.
 pub record IsUnmarkedRow (marks : List Mark) (executed targets : List ℕ) (from : ℕ)
     (row : List ℕ) : Type 0 where
   pub free : (place : ℕ) → Contains row place → (onto : ℕ) × (slice_get executed place ≡ Some onto)
@@ -42,7 +42,7 @@ AreFreeRows loads notes executed row = (place from : ℕ) → slice_get executed
 pub record IsFreeCycle (loads : ℕ → Option Word) (notes : Notes)
     (executed cycle : List ℕ) : Type 0 where
   pub within : (place : ℕ) → Contains cycle place → Contains executed place
-  pub closed : IsClosed loads notes cycle
+  pub closed : IsClosed (IsFree loads notes) cycle
   pub different : AreDifferent cycle
   pub smallest : IsSmallestFirst cycle
 

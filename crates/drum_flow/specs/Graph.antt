@@ -36,19 +36,19 @@ pub record IsTopologicalOrder (row : ℕ → List ℕ) (size : ℕ) (order : Lis
   pub onward : GoOn (Leads row) order
 
 -- edges lead from a node along these, and from the last to the first
-abbrev pub LeadRound : (ℕ → List ℕ) → ℕ → ℕ → List ℕ → Type 0
-LeadRound row first node [] = Contains (row node) first
-LeadRound row first node (next ∷ nexts) = Contains (row node) next × LeadRound row first next nexts
+abbrev pub LeadRound : (ℕ → ℕ → Type 0) → ℕ → ℕ → List ℕ → Type 0
+LeadRound Edge first node [] = Edge node first
+LeadRound Edge first node (next ∷ nexts) = Edge node next × LeadRound Edge first next nexts
 
-abbrev pub IsClosed : (ℕ → List ℕ) → List ℕ → Type 0
-IsClosed row [] = ⊥
-IsClosed row (node ∷ nodes) = LeadRound row node node nodes
+abbrev pub IsClosed : (ℕ → ℕ → Type 0) → List ℕ → Type 0
+IsClosed Edge [] = ⊥
+IsClosed Edge (node ∷ nodes) = LeadRound Edge node node nodes
 
 -- Some nodes, none twice: edges lead from each to the next, and from the last to the first.
 pub record IsCycle (row : ℕ → List ℕ) (size : ℕ) (cycle : List ℕ) : Type 0 where
   pub within : (node : ℕ) → Contains cycle node → node < size
   pub distinct : AreDifferent cycle
-  pub closed : IsClosed row cycle
+  pub closed : IsClosed (Leads row) cycle
 
 -- an order in which every edge goes on, or a cycle
 abbrev pub IsSorted : (ℕ → List ℕ) → ℕ → Sorted → Type 0

@@ -1,26 +1,18 @@
 -- Why a flow isn't made: a location that discovery meets is neither loaded nor listed, or has an
 -- operation outside the profile.
-use Rattle.std.specs.Prelude.{◌≡◌, ℕ, IsNone, Option}
-use Rattle.drum_core.specs.declared.instruction.Instruction.{Instruction}
+use Rattle.std.specs.Prelude.{◌≡◌, ℕ, Option}
 use Rattle.drum_core.specs.declared.word.Word.{Word}
-use Rattle.drum_core.specs.Op.{op_of}
-use Rattle.drum_times.specs.Allowed.{Notes, allowed}
+use Rattle.drum_times.specs.Allowed.{Notes}
 use Rattle.drum_flow.specs.declared.refusal.Refusal.{Refusal}
 use Rattle.drum_flow.specs.declared.refusal.Refusal.TheVariants.{Memory, NotLoaded, NotInProfile, Alters, Unbounded, TooLarge}
-use Rattle.drum_flow.specs.Accepted.{IsThere, IsFirstIn, IsNotLoaded, IsNotInProfile}
-
--- the operation is outside the profile
-abbrev pub IsOutside : Instruction → Type 0
-IsOutside ins = IsNone (op_of ins.op)
+use Rattle.drum_flow.specs.Accepted.{IsThere, IsFirstOutside, IsNotLoaded, IsNotInProfile}
 
 -- what is wrong with a location, whatever comes before it
 abbrev pub IsWrong : (ℕ → Option Word) → Notes → ℕ → Refusal → Type 0
 IsWrong loads notes place (NotLoaded location) =
     (location.number ≡ place) × ¬ IsThere loads notes place
 IsWrong loads notes place (NotInProfile location op) =
-    (location.number ≡ place) × IsThere loads notes place
-    × ((ins : Instruction)
-    × IsFirstIn (allowed loads notes place) (λ one. IsNone (op_of one.op)) ins × (ins.op ≡ op))
+    (location.number ≡ place) × IsThere loads notes place × IsFirstOutside loads notes place op
 IsWrong loads notes place Memory = ⊥
 IsWrong loads notes place (Alters writer word) = ⊥
 IsWrong loads notes place (Unbounded cycle) = ⊥

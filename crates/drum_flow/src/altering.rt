@@ -4,7 +4,8 @@ ghost use Rattle.std.specs.Prelude.{◌≡◌, ℕ, Contains, IfSome, IfNone, If
 ghost use Rattle.drum_core.specs.Loads.{loads_in};
 ghost use Rattle.drum_times.specs.Allowed.{allowed, matching};
 ghost use Rattle.drum_flow.specs.Accepted as said;
-ghost use Rattle.drum_flow.specs.Altering.{FlagsFixed, IsLowestAltered, IsFirstAltered, NoneAlters, AltersNone, IsAlteredBy};
+ghost use Rattle.drum_flow.specs.Accepted.{IsLowestAltered};
+ghost use Rattle.drum_flow.specs.Altering.{FlagsFixed, IsFirstAltered, NoneAlters, AltersNone, IsAlteredBy};
 ghost use Rattle.drum_flow.specs.Flow.{executed_in, of_flow, AreExecuted};
 
 use crate::alike::same_writes_end;

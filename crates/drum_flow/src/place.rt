@@ -4,8 +4,8 @@ ghost use Rattle.std.specs.Prelude.{◌≡◌, ℕ, MatchBool, IfSome, IfNone, I
 ghost use Rattle.drum_core.specs.Loads.{loads_in};
 ghost use Rattle.drum_times.specs.Allowed as listed;
 ghost use Rattle.drum_times.specs.Allowed.{allowed};
-ghost use Rattle.drum_flow.specs.Accepted.{IsThere, IsInProfile, IsGood, IsFirstIn};
-ghost use Rattle.drum_flow.specs.Refused.{IsOutside, IsWrong};
+ghost use Rattle.drum_flow.specs.Accepted.{IsThere, IsInProfile, IsGood, IsFirstIn, IsOutside};
+ghost use Rattle.drum_flow.specs.Refused.{IsWrong};
 
 use crate::patterns::{Patterns, instruction_of};
 use crate::refusal::Refusal;

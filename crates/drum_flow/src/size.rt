@@ -2,7 +2,8 @@
 
 ghost use Rattle.std.specs.Prelude.{◌≤◌, IfErr, OnOk};
 ghost use Rattle.drum_flow.specs.Flow.{executed_in};
-ghost use Rattle.drum_flow.specs.Size.{product_of, IsTooMuch};
+ghost use Rattle.drum_flow.specs.Accepted.{product_of};
+ghost use Rattle.drum_flow.specs.Size.{IsTooMuch};
 
 use crate::counts::counts_of;
 use crate::flow_graph::Flow;

@@ -4,7 +4,7 @@ use Rattle.drum_core.specs.declared.instruction.Instruction.{Instruction}
 use Rattle.drum_core.specs.Loads.{loads_in, start_in}
 use Rattle.drum_machine.specs.Writes.{writes}
 use Rattle.drum_flow.specs.Accepted as said
-use Rattle.drum_flow.specs.Altering.{IsLowestAltered}
+use Rattle.drum_flow.specs.Accepted.{IsLowestAltered}
 use Rattle.drum_flow.proofs.Matched.{matching_at, matching_d, matching_with_d, first_in_pattern, none_in_pattern}
 use Rattle.drum_flow.proofs.altering.first_altered_in.Goals as goal
 

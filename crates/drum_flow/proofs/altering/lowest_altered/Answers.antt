@@ -4,7 +4,7 @@ use Rattle.std.specs.Prelude.{IsSome}
 use Rattle.std.proofs.lemmas.Bool.{cases_eq}
 use Rattle.drum_core.specs.declared.location.Location.{Location}
 use Rattle.drum_core.specs.Loads.{loads_in, start_in}
-use Rattle.drum_flow.specs.Altering.{IsLowestAltered}
+use Rattle.drum_flow.specs.Accepted.{IsLowestAltered}
 use Rattle.drum_flow.specs.Fixed.{IsFlagged}
 use Rattle.drum_flow.proofs.Alterations.{lowest_first, none_altered}
 use Rattle.drum_flow.proofs.altering.lowest_altered.Goals as goal

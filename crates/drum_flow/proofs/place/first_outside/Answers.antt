@@ -7,7 +7,7 @@ use Rattle.drum_core.specs.Op.{op_of}
 use Rattle.drum_times.specs.Allowed.{allowed}
 use Rattle.drum_flow.specs.Accepted.{IsFirstIn}
 use Rattle.drum_flow.specs.Patterns.{patterns_left}
-use Rattle.drum_flow.specs.Refused.{IsOutside}
+use Rattle.drum_flow.specs.Accepted.{IsOutside}
 use Rattle.drum_flow.proofs.Matched.{matching_at, matching_op, first_in_pattern, first_in_all, none_in_pattern}
 use Rattle.drum_flow.proofs.Matched.{none_in_more, patterns_taken}
 use Rattle.drum_flow.proofs.place.first_outside.Goals as goal

@@ -4,7 +4,7 @@ use Rattle.drum_core.specs.declared.instruction.Instruction.{Instruction}
 use Rattle.drum_core.specs.Loads.{loads_in}
 use Rattle.drum_times.specs.Allowed.{allowed, matching}
 use Rattle.drum_flow.specs.Patterns.{patterns_left}
-use Rattle.drum_flow.specs.Refused.{IsOutside}
+use Rattle.drum_flow.specs.Accepted.{IsOutside}
 use Rattle.drum_flow.proofs.place.first_outside.Given as goal
 
 -- the instructions of the patterns so far are in the profile, and the others are left
