@@ -31,8 +31,8 @@ use Rattle.drum_bound.proofs.Rows.{is_table, turns_of_rows}
 use Rattle.drum_bound.proofs.RowsHeld.{few_entries, held_raised, held_sum, held_table}
 use Rattle.drum_bound.proofs.ShortWalks.{short_walk}
 use Rattle.drum_bound.specs.ScanOf.{AreCells, IsDone, setting_in}
-use Rattle.drum_bound.specs.Scanned.{start_angle, Scanned, turns_below}
-use Rattle.drum_bound.specs.Table.{Row, IsTable}
+use Rattle.drum_bound.specs.Scanned.{Scanned, turns_below}
+use Rattle.drum_bound.specs.Table.{start_angle, Row, IsTable}
 use Rattle.drum_bound.specs.Visited.{Visited, IsWalkOf}
 use Rattle.drum_bound.specs.Worst.{IsWorst}
 use Rattle.drum_bound.specs.Held.{kept_in}

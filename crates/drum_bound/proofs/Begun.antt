@@ -8,7 +8,8 @@ use Rattle.drum_machine.specs.Counts.{no_counts}
 use Rattle.drum_flow.specs.Walk.{Setting}
 use Rattle.drum_bound.specs.declared.latest.Latest.{Latest}
 use Rattle.drum_bound.specs.Keys.{keys_of, IsKey}
-use Rattle.drum_bound.specs.Scanned.{start_angle, cell_at, IsBackedBy, IsLastBy, Scanned}
+use Rattle.drum_bound.specs.Scanned.{cell_at, IsBackedBy, IsLastBy, Scanned}
+use Rattle.drum_bound.specs.Table.{start_angle}
 
 -- the moment of the start is kept at one key alone
 only_start : (size first : ℕ) (start : Latest) (key : ℕ) (kept : Latest) → first < size

@@ -18,8 +18,8 @@ use Rattle.drum_bound.proofs.KeyLaws.{counts_within, one_key}
 use Rattle.drum_bound.specs.Longest.{longest}
 use Rattle.drum_bound.specs.RowOf.{row_of, rows_below}
 use Rattle.drum_bound.proofs.Rows.{IsRowOf, row_from, has_row, one_row, one_kept, is_inside}
-use Rattle.drum_bound.specs.Scanned.{start_angle, cell_at, end_from, IsBackedBy, Arrives, IsTakenBy, Scanned}
-use Rattle.drum_bound.specs.Table.{number_of, Row}
+use Rattle.drum_bound.specs.Scanned.{cell_at, end_from, IsBackedBy, Arrives, IsTakenBy, Scanned}
+use Rattle.drum_bound.specs.Table.{start_angle, number_of, Row}
 use Rattle.drum_bound.proofs.Walked.{not_before}
 
 -- no pass has the number 0

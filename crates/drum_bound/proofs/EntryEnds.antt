@@ -200,7 +200,8 @@ is_end g row number hop = record {
 
 -- where an end of all is from
 whose : (g : Setting) (rows : List Row) (end : HopEnd) → IsEndIn g rows end
-    → (row : Row) × (hop : Hop) × Contains rows row × IsHop g row.place end.number hop × IsHopEnd g row end.number hop end
+    → (row : Row) × (hop : Hop) × Contains rows row × IsHop g row.place end.number hop
+    × IsHopEnd g row end.number hop end
 whose g rows end one =
     let number : one.number ≡ end.number = ap (λ (e : HopEnd). e.number) one.same in (
       one.row,

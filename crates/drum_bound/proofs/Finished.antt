@@ -7,7 +7,8 @@ use Rattle.drum_bound.specs.declared.latest.Latest.{Latest}
 use Rattle.drum_bound.specs.declared.scan.Scan.{Scan}
 use Rattle.drum_bound.specs.Keys.{IsOrdered}
 use Rattle.drum_bound.specs.ScanOf.{IsDone, order_of, setting_in}
-use Rattle.drum_bound.specs.Scanned.{start_angle, cell_at}
+use Rattle.drum_bound.specs.Scanned.{cell_at}
+use Rattle.drum_bound.specs.Table.{start_angle}
 use Rattle.drum_bound.specs.Held.{kept_in}
 use Rattle.drum_bound.proofs.Walked.{not_before}
 

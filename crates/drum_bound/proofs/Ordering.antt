@@ -65,13 +65,13 @@ module _ (loads : ℕ → Option Word) (notes : Notes) (start : ℕ) (executed :
     (accepted : IsAccepted loads notes start executed) where
   -- The executed locations of an accepted deck are just the members of the order of discovery.
   pub are_executed : AreExecuted loads notes start executed
-  are_executed = all_executed loads notes start accepted.order.turns executed accepted.order.after accepted.order.all
+  are_executed = all_executed loads notes start accepted.order.count executed accepted.order.after accepted.order.all
       good
     where
-      good : (k place : ℕ) → k < accepted.order.turns → slice_get executed k ≡ Some place → IsGood loads notes place
+      good : (k place : ℕ) → k < accepted.order.count → slice_get executed k ≡ Some place → IsGood loads notes place
       good k place below at =
           let there : Contains executed place = contains_from_get executed k place at in
-          let is = only_executed loads notes start accepted.order.turns place
+          let is = only_executed loads notes start accepted.order.count place
           (subst (λ (places : List ℕ). Contains places place) (sym accepted.order.after) there) in
           (accepted.there place is, accepted.profile place is)
 

@@ -17,8 +17,8 @@ use Rattle.drum_bound.specs.Keys.{keys_of, place_at, counts_at, IsOrdered}
 use Rattle.drum_bound.proofs.KeyLaws.{counts_within, one_key}
 use Rattle.drum_bound.proofs.Raises.{kept_inside}
 use Rattle.drum_bound.specs.RowOf.{row_of, rows_at, rows_below}
-use Rattle.drum_bound.specs.Scanned.{start_angle, cell_at, Scanned, turns_at, turns_below}
-use Rattle.drum_bound.specs.Table.{number_of, IsReached, Row, IsRow, AreApart, IsTable}
+use Rattle.drum_bound.specs.Scanned.{cell_at, Scanned, turns_at, turns_below}
+use Rattle.drum_bound.specs.Table.{start_angle, number_of, IsReached, Row, IsRow, AreApart, IsTable}
 use Rattle.drum_bound.proofs.Unpassed.{no_later_arrival}
 use Rattle.drum_bound.proofs.Walked.{not_before, comes_from_start}
 

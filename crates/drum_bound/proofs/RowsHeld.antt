@@ -21,9 +21,9 @@ use Rattle.drum_bound.proofs.HeldLaws.{entry_inside, entries_few, is_entered, so
 use Rattle.drum_bound.specs.Keys.{keys_of, IsOrdered}
 use Rattle.drum_bound.specs.RowOf.{counts_number, row_in, row_of, rows_below}
 use Rattle.drum_bound.proofs.Rows.{IsRowOf, has_row, row_from, one_row}
-use Rattle.drum_bound.specs.Scanned.{start_angle, cell_at}
+use Rattle.drum_bound.specs.Scanned.{cell_at}
+use Rattle.drum_bound.specs.Table.{start_angle, Row, AreApart, IsTable}
 use Rattle.drum_bound.specs.ScanOf.{AreCells}
-use Rattle.drum_bound.specs.Table.{Row, AreApart, IsTable}
 
 -- there is one at each place of a list
 one_at : {X : Type 0} (xs : List X) (k : ℕ) → k < length xs → (x : X) × (slice_get xs k ≡ Some x)

@@ -17,8 +17,8 @@ use Rattle.drum_bound.specs.Longest.{longest}
 use Rattle.drum_bound.proofs.LongestLaws.{longest_monotone, longest_periodic, no_later, longest_from_found, first_fetch}
 use Rattle.drum_bound.proofs.LongestLaws.{first_fetch_behind}
 use Rattle.drum_bound.proofs.Profiles.{hop_may_end}
-use Rattle.drum_bound.specs.Scanned.{start_angle, cell_at, end_from, Arrives, IsTakenBy, Scanned}
-use Rattle.drum_bound.specs.Table.{GoesOn, Arrive}
+use Rattle.drum_bound.specs.Scanned.{cell_at, end_from, Arrives, IsTakenBy, Scanned}
+use Rattle.drum_bound.specs.Table.{start_angle, GoesOn, Arrive}
 
 -- A search that begins so many revolutions later ends as many later.
 pub longest_revolutions : (times : Op → Entry) (place : ℕ) (ins : Instruction) (way : Way) (t k : ℕ)

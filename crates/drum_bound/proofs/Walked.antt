@@ -14,8 +14,8 @@ use Rattle.drum_bound.specs.Keys.{keys_of, place_at, counts_at, IsKey, IsOrdered
 use Rattle.drum_bound.specs.Longest.{most_wait}
 use Rattle.drum_bound.proofs.LongestLaws.{longest_later, longest_is_timed}
 use Rattle.drum_bound.proofs.Profiles.{hop_may_end}
-use Rattle.drum_bound.specs.Scanned.{start_angle, cell_at, end_from, LeadsOn, IsOpen, IsEndOf, IsBackedBy, Scanned}
-use Rattle.drum_bound.specs.Table.{GoesOn, Arrive}
+use Rattle.drum_bound.specs.Scanned.{cell_at, end_from, LeadsOn, IsOpen, IsEndOf, IsBackedBy, Scanned}
+use Rattle.drum_bound.specs.Table.{start_angle, GoesOn, Arrive}
 use Rattle.drum_bound.specs.TakenOf.{units_of, wait_of, taken_of}
 
 -- Some walk from the angle behind the start's, with nothing used and no mark passed, goes on at the key's location at

@@ -4,7 +4,8 @@ use Rattle.drum_flow.specs.Walk.{Setting, Taken, IsWalk, time_of}
 use Rattle.drum_bound.specs.declared.latest.Latest.{Latest}
 use Rattle.drum_bound.specs.declared.key_hop.KeyHop.{KeyHop}
 use Rattle.drum_bound.specs.Keys.{keys_of, IsOrdered}
-use Rattle.drum_bound.specs.Scanned.{start_angle, IsLastBy, Scanned}
+use Rattle.drum_bound.specs.Scanned.{IsLastBy, Scanned}
+use Rattle.drum_bound.specs.Table.{start_angle}
 use Rattle.drum_bound.proofs.Unpassed.{no_walk_passes}
 use Rattle.drum_bound.specs.TakenOf.{taken_of}
 use Rattle.drum_bound.proofs.Walked.{hop_last, comes_from_start}

@@ -1,12 +1,12 @@
 -- The ends of the hops of a table's entries, and how they raise the entries (this project's
 -- choice).
-use Rattle.std.specs.Prelude.{◌≡◌, ℕ, ◌+◌, ◌%◌, ◌≤◌, ◌⊎◌, List, [], ◌∷◌, slice_get, Some, Contains}
+use Rattle.std.specs.Prelude.{◌≡◌, ℕ, ◌+◌, ◌≤◌, ◌⊎◌, List, [], ◌∷◌, slice_get, Some, Contains}
 use Rattle.drum_machine.specs.Counts.{after_pass, AreWithin}
 use Rattle.drum_machine.specs.Ways.{to}
 use Rattle.drum_flow.specs.Hops.{Hop, hops}
 use Rattle.drum_flow.specs.Walk.{Setting}
 use Rattle.drum_bound.specs.Longest.{longest}
-use Rattle.drum_bound.specs.Table.{number_of, Row}
+use Rattle.drum_bound.specs.Table.{number_of, start_angle, Row}
 
 -- the end of a hop: of an entry's place and counts, the number of the hop among those of the place,
 -- and the word times used when it begins and when it ends
@@ -28,8 +28,8 @@ pub record IsHopEnd (g : Setting) (row : Row) (number : ℕ) (hop : Hop) (end : 
   pub counts : end.counts ≡ row.counts
   pub of : end.number ≡ number
   pub begun : end.begun ≡ row.time
-  pub ended : (g.start + 1) % 50 + end.ended
-      ≡ longest g.times row.place hop.ins hop.way ((g.start + 1) % 50 + row.time)
+  pub ended : start_angle g.start + end.ended
+      ≡ longest g.times row.place hop.ins hop.way (start_angle g.start + row.time)
 
 -- no two ends are of one place, counts and hop's number
 abbrev pub AreUnlike : List HopEnd → Type 0
@@ -61,7 +61,7 @@ pub record LeadsTo (g : Setting) (end : HopEnd) (row : Row) : Type 0 where
 
 -- the start's entry: no word times used, at the angle behind the start's, no mark passed
 abbrev pub start_row : Setting → Row
-start_row g = record { place = g.start; angle = (g.start + 1) % 50; counts = 0; time = 0 }
+start_row g = record { place = g.start; angle = start_angle g.start; counts = 0; time = 0 }
 
 -- The entries are the start's, and of the others each has the time of an end that leads to it; no
 -- end that leads to an entry is later than its time.

@@ -8,7 +8,8 @@ use Rattle.drum_bound.specs.Scanned.{cell_at}
 -- number; after none, each does
 abbrev pub IsLater : Option KeyHop → KeyHop → Type 0
 IsLater None next = Unit {0}
-IsLater (Some last) next = (last.key < next.key) ⊎ ((last.key ≡ next.key) × (last.number < next.number))
+IsLater (Some last) next =
+    (last.key < next.key) ⊎ ((last.key ≡ next.key) × (last.number < next.number))
 
 -- none is of this key or a later one
 abbrev pub IsBefore : Option KeyHop → ℕ → Type 0

@@ -5,8 +5,8 @@ use Rattle.drum_flow.specs.Walk.{Setting}
 use Rattle.drum_bound.specs.declared.latest.Latest.{Latest}
 use Rattle.drum_bound.specs.declared.worst.Worst.{Worst}
 use Rattle.drum_bound.specs.Keys.{place_at, counts_at}
-use Rattle.drum_bound.specs.Scanned.{start_angle, cell_at}
-use Rattle.drum_bound.specs.Table.{number_of, Row}
+use Rattle.drum_bound.specs.Scanned.{cell_at}
+use Rattle.drum_bound.specs.Table.{start_angle, number_of, Row}
 
 -- an entry as the code has it
 abbrev pub row_in : Worst → Row
@@ -27,7 +27,7 @@ abbrev pub row_of : Setting → List ℕ → ℕ → Latest → Row
 row_of g order key kept = record {
   place = place_at order key;
   angle = kept.clock % 50;
-  counts = number_of g.notes.marks (counts_at g.notes.marks order key);
+  counts = counts_number g.notes.marks order key;
   time = kept.clock - start_angle g.start;
 }
 

@@ -17,7 +17,8 @@ use Rattle.drum_bound.specs.LeapOf.{HaveLeaps, IsLeap, leap_hop}
 use Rattle.drum_bound.specs.RoundOf.{IsRound}
 use Rattle.drum_bound.specs.SearchOf.{IsSearch}
 use Rattle.drum_bound.specs.Held.{AreHeld, HaveEntries, kept_in}
-use Rattle.drum_bound.specs.Scanned.{start_angle, cell_at, later, raised, Scanned, turns_below}
+use Rattle.drum_bound.specs.Scanned.{cell_at, later, raised, Scanned, turns_below}
+use Rattle.drum_bound.specs.Table.{start_angle}
 use Rattle.drum_bound.specs.KeyHops.{IsBefore}
 
 -- what its walks are in

@@ -1,6 +1,6 @@
 -- What is known when some of the keys have been taken, the others not yet: the latest end at each
 -- key, and of all.
-use Rattle.std.specs.Prelude.{◌≡◌, ℕ, zero, suc, ◌+◌, ◌*◌, ◌%◌, ◌<◌, ◌≤◌, nat_lt, if◌then◌else◌, List, length, slice_get, slice_index_or, slice_set, Option, Some, None, Contains, ◌⊎◌}
+use Rattle.std.specs.Prelude.{◌≡◌, ℕ, zero, suc, ◌+◌, ◌*◌, ◌<◌, ◌≤◌, nat_lt, if◌then◌else◌, List, length, slice_get, slice_index_or, slice_set, Option, Some, None, Contains, ◌⊎◌}
 use Rattle.drum_times.specs.declared.notes.mark.Mark.{Mark}
 use Rattle.drum_machine.specs.Timing.{longest_step}
 use Rattle.drum_machine.specs.Counts.{after_pass, no_counts, AreWithin}
@@ -11,10 +11,7 @@ use Rattle.drum_bound.specs.declared.latest.Latest.{Latest}
 use Rattle.drum_bound.specs.declared.key_hop.KeyHop.{KeyHop}
 use Rattle.drum_bound.specs.Keys.{keys_of, place_at, counts_at, IsKey}
 use Rattle.drum_bound.specs.Longest.{longest}
-
--- the one start angle, that behind the start's
-abbrev pub start_angle : ℕ → ℕ
-start_angle start = (start + 1) % 50
+use Rattle.drum_bound.specs.Table.{start_angle}
 
 -- what is kept at a key
 abbrev pub cell_at : List (Option Latest) → ℕ → Option Latest

@@ -34,6 +34,10 @@ pub record IsReached (g : Setting) (angle place counts time : ℕ) : Type 0 wher
   pub number : number_of g.notes.marks passes ≡ counts
   pub arrives : Arrive g g.start 0 (no_counts g.notes.marks) hops place time passes
 
+-- the one start angle of the table, that behind the start's
+abbrev pub start_angle : ℕ → ℕ
+start_angle start = (start + 1) % 50
+
 -- an entry of the table
 pub record Row : Type 0 where
   pub place : ℕ
@@ -44,7 +48,7 @@ pub record Row : Type 0 where
 -- The entry is right: some walk from the angle behind the start's arrives so, at this time and
 -- angle, and no walk from any angle arrives so later.
 pub record IsRow (g : Setting) (row : Row) : Type 0 where
-  pub reached : IsReached g ((g.start + 1) % 50) row.place row.counts row.time
+  pub reached : IsReached g (start_angle g.start) row.place row.counts row.time
   pub most : (angle time : ℕ) → IsReached g angle row.place row.counts time → time ≤ row.time
   pub angled : row.angle ≡ (g.start + 1 + row.time) % 50
 

@@ -133,7 +133,7 @@ pub fn analyse(
     ensures below { IfOk result (λ analysis. bound_of analysis < 2 ^ 50) }
     ensures refused { IfErr result (IsRefusal (loads_in deck.now) notes.now (start_in deck.now)) }
 {
-    // `mark`'s facts: the marks are eight at most.
+    // What `marks` promises: the marks are eight at most.
     let _marks = notes.marks();
     let accepted = AcceptedFlow::of(alloc, deck, notes)?;
     // The clause `accepted` names these.

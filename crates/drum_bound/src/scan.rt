@@ -35,7 +35,8 @@ impl<'a> Scan<'a> {
     ghost use Rattle.drum_bound.specs.Held.{kept_in};
     ghost use Rattle.drum_bound.specs.KeysOf.{AreKeys, order_in, setting_with};
     ghost use Rattle.drum_bound.specs.LeapOf.{AreLeaps, HaveLeaps, IsLeap, leap_hop};
-    ghost use Rattle.drum_bound.specs.Scanned.{start_angle, Taking};
+    ghost use Rattle.drum_bound.specs.Scanned.{Taking};
+    ghost use Rattle.drum_bound.specs.Table.{start_angle};
     ghost use Rattle.drum_bound.specs.ScanOf.{AreCells, Goes, HasRound, IsAgreed, IsDone, IsReady, IsScanned, hops_of, order_of, place_in, setting_in};
     ghost use Rattle.drum_bound.specs.SearchOf.{IsSearch};
     ghost use Rattle.drum_bound.specs.KeyHops.{IsLater};

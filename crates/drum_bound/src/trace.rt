@@ -6,7 +6,8 @@ ghost use Rattle.drum_flow.specs.Hops.{Hop as HopOf, hops};
 ghost use Rattle.drum_flow.specs.Seen.{seen_hop};
 ghost use Rattle.drum_bound.specs.Held.{kept_in};
 ghost use Rattle.drum_bound.specs.ScanOf.{IsDone, order_of, setting_in, size_in};
-ghost use Rattle.drum_bound.specs.Scanned.{cell_at, start_angle, IsEndOf, IsKeyHop};
+ghost use Rattle.drum_bound.specs.Scanned.{cell_at, IsEndOf, IsKeyHop};
+ghost use Rattle.drum_bound.specs.Table.{start_angle};
 ghost use Rattle.drum_bound.specs.Visited.{IsWalkOf, seen_visit, visited};
 ghost use Rattle.drum_bound.specs.TakenOf.{taken_of};
 

@@ -13,7 +13,8 @@ use Rattle.drum_bound.specs.Held.{kept_in}
 use Rattle.drum_bound.specs.Keys.{keys_of}
 use Rattle.drum_bound.specs.KeysOf.{setting_of}
 use Rattle.drum_bound.specs.ScanOf.{AreCells}
-use Rattle.drum_bound.specs.Scanned.{start_angle, turns_below, Scanned}
+use Rattle.drum_bound.specs.Scanned.{turns_below, Scanned}
+use Rattle.drum_bound.specs.Table.{start_angle}
 use Rattle.drum_bound.specs.Visited.{AreInTime, IsWalkOf, Visited, seen_visit, visited}
 use Rattle.drum_bound.proofs.Analyses.{IsFound, is_found, is_analysis, last_after}
 use Rattle.drum_bound.proofs.InTime.{walk_in_time}

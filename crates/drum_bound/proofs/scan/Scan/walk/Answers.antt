@@ -2,7 +2,8 @@ use Rattle.std.proofs.Common.{◌≡◌, ◌-◌, List, Some, map, sym, ◌∙�
 use Rattle.drum_bound.specs.declared.visit.Visit.{Visit}
 use Rattle.drum_bound.specs.Visited.{IsWalkOf, seen_visit}
 use Rattle.drum_bound.specs.ScanOf.{order_of, setting_in}
-use Rattle.drum_bound.specs.Scanned.{cell_at, start_angle}
+use Rattle.drum_bound.specs.Scanned.{cell_at}
+use Rattle.drum_bound.specs.Table.{start_angle}
 use Rattle.drum_bound.proofs.Finished.{is_ordered, starts_on_drum}
 use Rattle.drum_bound.proofs.Traces.{IsTraced, begins_before, origin_kept, trace_more, trace_whole}
 use Rattle.drum_bound.specs.Held.{kept_in}
