@@ -8,9 +8,7 @@ ghost use Rattle.drum_flow.specs.Flow.{executed_in};
 ghost use Rattle.drum_flow.specs.Graph.{AreDifferent};
 ghost use Rattle.drum_flow.specs.HopsLeft.{hops_left};
 ghost use Rattle.drum_machine.specs.CountsIn.{counts_in};
-ghost use Rattle.drum_bound.specs.Keys as numbered;
 ghost use Rattle.drum_bound.specs.Keys.{place_at, IsKey};
-ghost use Rattle.drum_bound.specs.RowOf.{counts_number};
 ghost use Rattle.drum_bound.specs.Table.{start_angle as start_angle_of};
 ghost use Rattle.drum_bound.specs.KeysOf.{AreKeys, CanHaveKeys, HaveHops, HaveIndices, hops_in, marks_in, nodes_in, numbers, order_in, start_of};
 

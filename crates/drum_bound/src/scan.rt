@@ -1,6 +1,6 @@
 //! The scan: each key in turn, and each of its hops.
 
-ghost use Rattle.std.specs.Prelude.{◌≡◌, ◌+◌, ◌*◌, ◌/◌, ◌%◌, ◌^◌, ◌<◌, ◌≤◌, ◌∷◌, ℕ, List, length, slice_get, IfOk, Some};
+ghost use Rattle.std.specs.Prelude.{◌≡◌, ◌+◌, ◌*◌, ◌/◌, ◌%◌, ◌^◌, ◌<◌, ◌≤◌, ◌∷◌, List, length, IfOk, Some};
 
 use crate::cells::{Cells, End};
 use crate::keys::Keys;
@@ -25,7 +25,6 @@ pub struct Scan<'a> {
 }
 
 impl<'a> Scan<'a> {
-    ghost use Rattle.drum_core.specs.Available.{is_available};
     ghost use Rattle.drum_core.specs.Moment.{first};
     ghost use Rattle.drum_machine.specs.Ways.{to};
     ghost use Rattle.drum_machine.specs.WaysLeft.{seen_way};

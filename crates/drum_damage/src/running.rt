@@ -1,6 +1,6 @@
 //! The program, run in this process over texts that are held.
 
-ghost use Rattle.std.specs.Prelude.{◌≡◌, None};
+ghost use Rattle.std.specs.Prelude.{None};
 
 use crate::parts::Parts;
 use drum_core::{Input, Reading, Writing};

@@ -1,6 +1,6 @@
 //! That no instruction of an executed location alters one without a list.
 
-ghost use Rattle.std.specs.Prelude.{◌≡◌, ℕ, Contains, IfSome, IfNone, IfErr, OnOk};
+ghost use Rattle.std.specs.Prelude.{ℕ, Contains, IfSome, IfNone, IfErr, OnOk};
 ghost use Rattle.drum_core.specs.Loads.{loads_in};
 ghost use Rattle.drum_times.specs.Allowed.{allowed, matching};
 ghost use Rattle.drum_flow.specs.Accepted as said;

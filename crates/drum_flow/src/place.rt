@@ -1,6 +1,6 @@
 //! Whether a location is loaded or listed, with operations in the profile alone.
 
-ghost use Rattle.std.specs.Prelude.{◌≡◌, ℕ, MatchBool, IfSome, IfNone, IfErr, OnOk};
+ghost use Rattle.std.specs.Prelude.{◌≡◌, MatchBool, IfSome, IfNone, IfErr, OnOk};
 ghost use Rattle.drum_core.specs.Loads.{loads_in};
 ghost use Rattle.drum_times.specs.Allowed as listed;
 ghost use Rattle.drum_times.specs.Allowed.{allowed};

@@ -1,7 +1,5 @@
 //! Outputs that take few bytes a call and fail after some bytes, for each text that goes out.
 
-ghost use Rattle.std.specs.Prelude.{◌≡◌, ◌^◌, ◌≤◌};
-
 use crate::support::{REPLAY, Shelf};
 use drum_core::{Output, Reading, Writing};
 use drum_texts::devices::{Full, Tap};

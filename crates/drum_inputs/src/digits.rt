@@ -1,7 +1,6 @@
 //! The numbers that a line is written with.
 
-ghost use Rattle.std.specs.Prelude.{◌≡◌, ◌≢◌, ℕ, ◌+◌, ◌^◌, ◌<◌, length, IfSome, IfNone, codes};
-ghost use Rattle.drum_core.specs.Numeral.{digits_of};
+ghost use Rattle.std.specs.Prelude.{ℕ, ◌<◌, IfSome, IfNone};
 ghost use Rattle.drum_inputs.specs.InputsText as text;
 
 use crate::key::behind;

@@ -1,4 +1,4 @@
-ghost use Rattle.std.specs.Prelude.{◌≡◌, ◌≢◌, ◌++◌, ℕ, Bool, List, length, IfSome, IfNone, IsTrue, ◌↔◌};
+ghost use Rattle.std.specs.Prelude.{◌≡◌, ◌≢◌, ◌++◌, Bool, List, length, IfSome, IfNone, IsTrue, ◌↔◌};
 ghost use Rattle.drum_core.specs.Word.{spaced};
 ghost use Rattle.drum_inputs.specs.InputsText as text;
 ghost use Rattle.drum_inputs.specs.Said.{said};

@@ -1,4 +1,4 @@
-ghost use Rattle.std.specs.Prelude.{◌≡◌, ◌≢◌, ℕ, List, ◌++◌, if◌then◌else◌, IfSome, IfNone};
+ghost use Rattle.std.specs.Prelude.{◌≡◌, ◌≢◌, ◌++◌, if◌then◌else◌, IfSome, IfNone};
 ghost use Rattle.drum_core.specs.Word.{spelling};
 ghost use Rattle.drum_inputs.specs.InputsText as text;
 ghost use Rattle.drum_inputs.specs.Said.{stated};

@@ -1,4 +1,4 @@
-ghost use Rattle.std.specs.Prelude.{◌≡◌, ◌≢◌, ℕ, ◌+◌, List, [], ◌∷◌, ◌++◌, length, take, OnOk, IfOk, IfErr};
+ghost use Rattle.std.specs.Prelude.{◌≢◌, ℕ, ◌+◌, List, [], ◌∷◌, ◌++◌, take, OnOk, IfOk, IfErr};
 ghost use Rattle.drum_inputs.specs.Holds.{HoldsLines};
 ghost use Rattle.drum_inputs.specs.Inputs.{AreInputsOf};
 ghost use Rattle.drum_inputs.specs.InputsText as text;

@@ -1,6 +1,6 @@
 //! The cards and the waits that a machine is fed with.
 
-ghost use Rattle.std.specs.Prelude.{◌≡◌, ◌≤◌, ◌&&◌, is_some};
+ghost use Rattle.std.specs.Prelude.{◌≡◌, ◌&&◌, is_some};
 ghost use Rattle.drum_machine.specs.Registers.{cards_before};
 ghost use Rattle.drum_machine.specs.Step.{is_read as read_is, has_cards};
 ghost use Rattle.drum_machine.specs.Timing.{IsWait};

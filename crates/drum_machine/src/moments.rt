@@ -1,7 +1,7 @@
 //! The moments of a step, by the parts of its chain. A clock counts word times from a moment of
 //! angle 0 on.
 
-ghost use Rattle.std.specs.Prelude.{◌≡◌, ◌^◌, ◌<◌, ◌≤◌, ◌+◌, ◌*◌, true};
+ghost use Rattle.std.specs.Prelude.{◌≡◌, ◌^◌, ◌≤◌, ◌+◌, ◌*◌, true};
 ghost use Rattle.drum_core.specs.Available.{has_parity};
 ghost use Rattle.drum_core.specs.Moment.{first};
 ghost use Rattle.drum_core.specs.Op.{operand_of, is_operand};

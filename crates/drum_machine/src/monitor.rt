@@ -1,4 +1,4 @@
-ghost use Rattle.std.specs.Prelude.{◌≡◌, ◌≤◌, ◌∷◌, [], ◌++◌, length, List, Some, None, MatchOption, MatchBool, IsTrue, Contains, take};
+ghost use Rattle.std.specs.Prelude.{◌≡◌, ◌≤◌, ◌∷◌, [], ◌++◌, length, List, Some, None, MatchOption, MatchBool, IsTrue, Contains};
 ghost use Rattle.drum_machine.specs.Keeps.{IsAsDeclared};
 ghost use Rattle.drum_core.specs.Instruction.{instruction_of};
 ghost use Rattle.drum_core.specs.Loads.{loads_in};

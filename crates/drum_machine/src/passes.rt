@@ -1,6 +1,6 @@
 //! What a pass of a mark does to the count of each.
 
-ghost use Rattle.std.specs.Prelude.{◌≡◌, ◌≤◌, ◌<◌, ◌+◌, length, take, slice_get, slice_index, IfSome, ◌==◌, if◌then◌else◌};
+ghost use Rattle.std.specs.Prelude.{◌≡◌, ◌≤◌, ◌<◌, ◌+◌, length, take, slice_get, slice_index, ◌==◌, if◌then◌else◌};
 ghost use Rattle.drum_machine.specs.Counts as counted;
 
 use drum_times::Mark;

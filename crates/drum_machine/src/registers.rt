@@ -35,7 +35,7 @@ pub struct Registers {
 }
 
 impl Registers {
-    ghost use Rattle.std.specs.Prelude.{ℕ, List, ◌∷◌, true, is_some};
+    ghost use Rattle.std.specs.Prelude.{List, ◌∷◌, true, is_some};
     ghost use Rattle.drum_core.specs.Location.{is_location};
     ghost use Rattle.drum_core.specs.Op.{operand_of, is_operand};
     ghost use Rattle.drum_machine.specs.Step.{is_read};

@@ -1,6 +1,6 @@
 //! The ways in which a step of an instruction may end.
 
-ghost use Rattle.std.specs.Prelude.{◌≡◌, ℕ, ◌^◌, ◌<◌, ◌≤◌, ◌&&◌, nat_lt, ◌++◌, [], false, None, IfNone, option_to_list};
+ghost use Rattle.std.specs.Prelude.{◌≡◌, ◌<◌, ◌++◌, [], false, None, IfNone, option_to_list};
 ghost use Rattle.std.specs.Iterator.{YieldsFirstBy, item_count};
 ghost use Rattle.drum_machine.specs.Ways as said;
 ghost use Rattle.drum_machine.specs.WaysLeft.{seen_way, addresses_left, ways_left};

@@ -1,6 +1,6 @@
 //! Which words an instruction writes.
 
-ghost use Rattle.std.specs.Prelude.{◌≡◌, ℕ, ◌-◌, ◌<◌, ◌≤◌};
+ghost use Rattle.std.specs.Prelude.{◌≡◌, ◌-◌, ◌<◌, ◌≤◌};
 ghost use Rattle.std.specs.List.{range_with_len};
 ghost use Rattle.drum_machine.specs.Writes as said;
 

@@ -1,6 +1,6 @@
 //! The report of an analysis: where the word times of its walk go.
 
-ghost use Rattle.std.specs.Prelude.{◌≡◌, ◌+◌, ◌^◌, ◌≤◌, ◌↔◌, IsErr};
+ghost use Rattle.std.specs.Prelude.{◌≡◌, ◌+◌, ◌^◌, ◌≤◌};
 ghost use Rattle.drum_bound.specs.AnalysisOf.{visits_of};
 ghost use Rattle.drum_report.specs.Report.{report_text};
 ghost use Rattle.drum_lines.specs.Sent.{IsWritten, fails_by};

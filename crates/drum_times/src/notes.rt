@@ -1,6 +1,6 @@
 //! What the notes say of a program: where the programmed switch stands, whether load cards are
 //! read, how often edges are passed, and what an altered word may become.
-ghost use Rattle.std.specs.Prelude.{◌≡◌, ◌<◌, ◌↔◌, IsTrue, length, map, option_map};
+ghost use Rattle.std.specs.Prelude.{◌≡◌, ◌<◌, map, option_map};
 ghost use Rattle.drum_times.specs.Allowed as said;
 ghost use Rattle.drum_times.specs.Listed.{listed};
 

@@ -2,7 +2,7 @@
 
 ghost use Rattle.std.specs.Prelude.{◌≡◌, ◌+◌, ◌^◌, ◌≤◌, ℕ, List, Option, IfOk, IfErr, length, string_bytes};
 ghost use Rattle.drum_bound.specs.AnalysisOf.{angle_of, bound_of, visits_of};
-ghost use Rattle.drum_lines.specs.FaultStatus.{failed_by, reads_failed};
+ghost use Rattle.drum_lines.specs.FaultStatus.{failed_by};
 ghost use Rattle.drum_tool.specs.Begun.{IsBegun};
 ghost use Rattle.drum_tool.specs.Documents.{IsBound, IsWorstWalk, setting_of};
 ghost use Rattle.drum_tool.specs.Files.{AreHeld, AreNotHeld, AreTold, HoldsInputs, HoldsNoInputs};

@@ -1,20 +1,15 @@
 //! Laws of the definitions, each the contract of a function that does nothing.
 
-ghost use Rattle.std.specs.Prelude.{◌≡◌, ℕ, ◌+◌, List, [], ◌∷◌, Option, codes, length, sum_by, take};
+ghost use Rattle.std.specs.Prelude.{◌≡◌, ℕ, List, [], ◌∷◌, Option, codes, length, take};
 ghost use Rattle.clap.specs.Words.{Text};
-ghost use Rattle.drum_core.specs.declared.deck.Deck.{Deck};
-ghost use Rattle.drum_core.specs.Loads.{cards_in};
 ghost use Rattle.drum_machine.specs.Run.{Turn};
 ghost use Rattle.drum_flow.specs.Walk.{Setting};
-ghost use Rattle.drum_bound.specs.declared.analysis.Analysis.{Analysis};
-ghost use Rattle.drum_bound.specs.AnalysisOf.{bound_of, visits_of};
 ghost use Rattle.drum_lines.specs.declared.status.Status.{Status};
 ghost use Rattle.drum_lines.specs.declared.status.Status.TheVariants.{Done};
 ghost use Rattle.drum_lines.specs.declared.verdict.Verdict.{Verdict};
 ghost use Rattle.drum_lines.specs.BoundText.{bound_text};
 ghost use Rattle.drum_tool.specs.Replay.{Given, IsReplayed, IsVerdict};
 ghost use Rattle.drum_tool.specs.Reply.{says};
-ghost use Rattle.drum_report.specs.Report.{is_of_card, is_of_none, time_in, used_after, visits_at};
 ghost use Rattle.drum_tool.specs.Told.{AreNames, IsBoundOfFiles, IsBoundOfJoined};
 ghost use Rattle.drum_tool.specs.Words.{Answers};
 

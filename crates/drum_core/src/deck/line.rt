@@ -1,4 +1,4 @@
-ghost use Rattle.std.specs.Prelude.{◌≡◌, ℕ, ◌<◌, ◌^◌, ◌∷◌, ◌↔◌, List, IsTrue, IfSome, IfNone};
+ghost use Rattle.std.specs.Prelude.{ℕ, ◌<◌, ◌↔◌, IsTrue, IfSome, IfNone};
 ghost use Rattle.drum_core.specs.DeckText as text;
 ghost use Rattle.drum_core.specs.DeckLine.{said};
 

@@ -1,6 +1,6 @@
 //! Reading a deck from its device, line by line.
 
-ghost use Rattle.std.specs.Prelude.{◌≡◌, ◌≢◌, ◌+◌, ◌^◌, ◌≤◌, ◌↔◌, List, IsTrue, IsErrOf, IfOk, IfErr, IfSome};
+ghost use Rattle.std.specs.Prelude.{◌≡◌, ◌≢◌, ◌+◌, ◌^◌, ◌≤◌, ◌↔◌, List, IsErrOf, IfOk, IfErr, IfSome};
 ghost use Rattle.drum_core.specs.DeckText.{Line, IsTooLong, IsDeck, IsRefused};
 ghost use Rattle.drum_core.specs.Holds.{IsDeckOf};
 

@@ -1,6 +1,6 @@
 //! A clockwork that may be left out.
 
-ghost use Rattle.std.specs.Prelude.{ℕ, ◌≤◌, Option, None, Some, refl};
+ghost use Rattle.std.specs.Prelude.{Option, None, Some, refl};
 ghost use Rattle.std.proofs.Common.{arith};
 ghost use Rattle.std.specs.Option.{option_map_or};
 

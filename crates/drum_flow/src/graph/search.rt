@@ -1,4 +1,4 @@
-ghost use Rattle.std.specs.Prelude.{◌≡◌, ℕ, ◌<◌, ◌≤◌, ◌≢◌, [], List, length, slice_get, Some, IfOk, IfSome, IfNone, OnOk, Contains, reverse};
+ghost use Rattle.std.specs.Prelude.{◌≡◌, ℕ, ◌<◌, ◌≤◌, ◌≢◌, [], length, slice_get, Some, IfOk, IfSome, IfNone, OnOk, Contains, reverse};
 ghost use Rattle.drum_flow.specs.declared.graph.progress.Progress.TheVariants.{New, Open, Finished};
 
 use crate::graph::Graph;
@@ -20,7 +20,7 @@ pub struct Search {
 
 impl Search {
     ghost use Rattle.drum_flow.specs.Graph.{row, size, IsCycle};
-    ghost use Rattle.drum_flow.specs.Search.{Searches, IsSearch, work_left, ForgetsNone, last_of};
+    ghost use Rattle.drum_flow.specs.Search.{Searches, work_left, ForgetsNone, last_of};
 
     /// A search that hasn't begun.
     pub fn new(alloc: Global, graph: &Graph) -> Result<Search, AllocError>

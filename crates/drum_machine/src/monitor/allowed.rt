@@ -1,6 +1,6 @@
 //! Whether the notes allow an instruction at a location.
 
-ghost use Rattle.std.specs.Prelude.{◌≡◌, flat_map, Contains, IsTrue, MatchBool};
+ghost use Rattle.std.specs.Prelude.{flat_map, Contains, IsTrue, MatchBool};
 ghost use Rattle.drum_core.specs.Loads.{loads_in};
 ghost use Rattle.drum_times.specs.Allowed.{matching, loaded, is_listed, allowed};
 

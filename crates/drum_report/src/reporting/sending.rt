@@ -1,6 +1,6 @@
 //! The lines of a report, each written behind what has gone out.
 
-ghost use Rattle.std.specs.Prelude.{◌≡◌, ℕ, ◌+◌, ◌*◌, ◌^◌, ◌<◌, ◌≤◌, ◌++◌, List, IfOk, length, codes, decimal, flat_map};
+ghost use Rattle.std.specs.Prelude.{◌≡◌, ◌+◌, ◌*◌, ◌^◌, ◌<◌, ◌≤◌, List, IfOk, length, flat_map};
 ghost use Rattle.drum_core.specs.Loads.{cards_in};
 ghost use Rattle.drum_bound.specs.Visited.{Visited};
 ghost use Rattle.drum_report.specs.Report.{card_line, mark_line};

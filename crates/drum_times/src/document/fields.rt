@@ -1,4 +1,4 @@
-ghost use Rattle.std.specs.Prelude.{◌≡◌, ◌≤◌, ◌∷◌, [], ◌++◌, Some, IfOk, IfErr, map, option_map, string_bytes, codes};
+ghost use Rattle.std.specs.Prelude.{◌≡◌, ◌∷◌, [], ◌++◌, Some, IfOk, IfErr, map, option_map, string_bytes, codes};
 ghost use Rattle.drum_times.specs.Document as document;
 ghost use Rattle.drum_times.specs.Refused.{IsFirst};
 ghost use Rattle.toml.specs.Data.{get_member};

@@ -1,10 +1,8 @@
 //! Notes, read from a document, or the first fault of the document.
 
-ghost use Rattle.std.specs.Prelude.{◌≡◌, ℕ, ◌++◌, [], ◌∷◌, length, map, IfOk, IfErr, IfNone, IfSome};
-ghost use Rattle.drum_times.specs.Listed.{listed};
+ghost use Rattle.std.specs.Prelude.{IfOk, IfErr};
 ghost use Rattle.drum_times.specs.NotesDocument as said;
-ghost use Rattle.drum_times.specs.Document.{two_marks, two_lists};
-ghost use Rattle.drum_times.specs.Refused.{Begin, IsDocument, IsFirst, IsRefused};
+ghost use Rattle.drum_times.specs.Refused.{IsDocument, IsFirst, IsRefused};
 ghost use Rattle.toml.specs.Data.{Members};
 ghost use Rattle.toml.specs.View.{table_view};
 

@@ -1,6 +1,5 @@
 //! A list of the notes and its patterns, read from their tables.
 
-ghost use Rattle.std.specs.Prelude.{◌≡◌, ℕ, ◌≤◌, [], IfOk, IfErr};
 ghost use Rattle.drum_times.specs.Listed.{listed};
 ghost use Rattle.drum_times.specs.NotesDocument as said;
 

@@ -1,6 +1,6 @@
 //! A mark of the notes, read from its table.
 
-ghost use Rattle.std.specs.Prelude.{◌≡◌, ℕ, ◌≤◌, [], IfOk, IfErr};
+ghost use Rattle.std.specs.Prelude.{◌≡◌, [], IfOk, IfErr};
 ghost use Rattle.drum_times.specs.NotesDocument as said;
 ghost use Rattle.drum_times.specs.Refused.{IsFirst};
 ghost use Rattle.toml.specs.View.{table_view};

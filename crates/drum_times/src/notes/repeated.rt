@@ -1,7 +1,6 @@
 //! Marks on one edge, and lists for one location.
 ghost use Rattle.std.specs.Prelude.{◌≡◌, [], map, IfNone, IfSome};
 ghost use Rattle.drum_times.specs.Document.{two_marks, two_lists};
-ghost use Rattle.drum_times.specs.Listed.{listed};
 ghost use Rattle.drum_times.specs.NotesDocument as said;
 ghost use Rattle.drum_times.specs.Refused.{Begin};
 

@@ -1,6 +1,6 @@
 //! A timing table, read from a document, or the first fault of the document.
 
-ghost use Rattle.std.specs.Prelude.{◌≡◌, ℕ, ◌<◌, [], length, map, codes, slice_get, Some, IfOk, IfErr};
+ghost use Rattle.std.specs.Prelude.{◌≡◌, ℕ, ◌<◌, [], map, codes, slice_get, Some, IfOk, IfErr};
 ghost use Rattle.std.specs.Prelude.{flat_map};
 ghost use Rattle.drum_core.specs.declared.op.Op.{Op};
 ghost use Rattle.drum_core.specs.Op.{ops};

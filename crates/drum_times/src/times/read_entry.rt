@@ -1,6 +1,6 @@
 //! An entry of a timing table, read from its keys.
 
-ghost use Rattle.std.specs.Prelude.{◌≡◌, ◌^◌, ◌*◌, ◌≤◌, [], map, IfOk, IfErr};
+ghost use Rattle.std.specs.Prelude.{◌≡◌, ◌≤◌, [], map, IfOk, IfErr};
 ghost use Rattle.drum_times.specs.Document.{missing_in};
 ghost use Rattle.drum_times.specs.Refused.{IsFirst};
 ghost use Rattle.drum_times.specs.TimesDocument as document;
