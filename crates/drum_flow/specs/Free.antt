@@ -1,4 +1,4 @@
--- The edges free of marks, as rows of places in the order of discovery.
+-- The edges free of marks, as rows of indices in the order of discovery.
 use Rattle.std.specs.Prelude.{◌≡◌, ℕ, IsNone, List, slice_get, Option, Some, Contains, map}
 use Rattle.drum_core.specs.declared.word.Word.{Word}
 use Rattle.drum_times.specs.Allowed.{Notes}
@@ -9,21 +9,21 @@ use Rattle.drum_flow.specs.declared.refusal.Refusal.TheVariants.{Memory, NotLoad
 use Rattle.drum_flow.specs.Accepted.{IsFree, IsSmallestFirst}
 use Rattle.drum_flow.specs.Graph.{AreDifferent, GoOn, IsClosed}
 
--- The row of a location has the places of those that edges free of marks lead to from it.
+-- The row of a location has the indices of those that edges free of marks lead to from it.
 pub record IsFreeRow (loads : ℕ → Option Word) (notes : Notes) (executed : List ℕ) (from : ℕ)
     (row : List ℕ) : Type 0 where
-  pub free : (place : ℕ) → Contains row place → (onto : ℕ) × (slice_get executed place ≡ Some onto)
+  pub free : (index : ℕ) → Contains row index → (onto : ℕ) × (slice_get executed index ≡ Some onto)
       × IsFree loads notes from onto
-  pub all : (place onto : ℕ) → slice_get executed place ≡ Some onto → IsFree loads notes from onto
-      → Contains row place
+  pub all : (index onto : ℕ) → slice_get executed index ≡ Some onto → IsFree loads notes from onto
+      → Contains row index
 
--- The row has the places of those of the targets to which the edge has no mark.
+-- The row has the indices of those of the targets to which the edge has no mark.
 pub record IsUnmarkedRow (marks : List Mark) (executed targets : List ℕ) (from : ℕ)
     (row : List ℕ) : Type 0 where
-  pub free : (place : ℕ) → Contains row place → (onto : ℕ) × (slice_get executed place ≡ Some onto)
+  pub free : (index : ℕ) → Contains row index → (onto : ℕ) × (slice_get executed index ≡ Some onto)
       × (Contains targets onto × IsNone (mark_on marks from onto))
-  pub all : (place onto : ℕ) → slice_get executed place ≡ Some onto → Contains targets onto
-      → IsNone (mark_on marks from onto) → Contains row place
+  pub all : (index onto : ℕ) → slice_get executed index ≡ Some onto → Contains targets onto
+      → IsNone (mark_on marks from onto) → Contains row index
 
 -- An order of the executed locations in which every edge free of marks goes on.
 pub record IsFreeOrder (loads : ℕ → Option Word) (notes : Notes)
@@ -33,10 +33,10 @@ pub record IsFreeOrder (loads : ℕ → Option Word) (notes : Notes)
   pub different : AreDifferent order
   pub onward : GoOn (IsFree loads notes) order
 
--- Each place's row is that of its location.
+-- Each index's row is that of its location.
 abbrev pub AreFreeRows : (ℕ → Option Word) → Notes → List ℕ → (ℕ → List ℕ) → Type 0
-AreFreeRows loads notes executed row = (place from : ℕ) → slice_get executed place ≡ Some from
-    → IsFreeRow loads notes executed from (row place)
+AreFreeRows loads notes executed row = (index from : ℕ) → slice_get executed index ≡ Some from
+    → IsFreeRow loads notes executed from (row index)
 
 -- Executed locations without repeats, the smallest first, that edges free of marks lead round.
 pub record IsFreeCycle (loads : ℕ → Option Word) (notes : Notes)

@@ -60,10 +60,10 @@ impl Executed {
         self.locations.as_slice()
     }
 
-    /// The place of a location in the order; `None` for one that isn't executed.
-    pub fn place_of(&self, location: Location) -> Option<usize>
-        ensures found { IfSome result (λ place.
-            slice_get (places_of self.now) place ≡ Some location.number) }
+    /// The index of a location in the order; `None` for one that isn't executed.
+    pub fn index_of(&self, location: Location) -> Option<usize>
+        ensures found { IfSome result (λ index.
+            slice_get (places_of self.now) index ≡ Some location.number) }
         ensures none { IfNone result (¬ Contains (places_of self.now) location.number) }
     {
         self.locations.get_index_of(&location)

@@ -42,16 +42,16 @@ impl<'a> Flow<'a> {
         self.notes
     }
 
-    /// The place of a location in the order of discovery; `None` for one that isn't executed.
-    pub fn place_of(&self, location: Location) -> Option<usize>
-        ensures found { IfSome result (λ place.
-            slice_get (executed_in self.now) place ≡ Some location.number) }
+    /// The index of a location in the order of discovery; `None` for one that isn't executed.
+    pub fn index_of(&self, location: Location) -> Option<usize>
+        ensures found { IfSome result (λ index.
+            slice_get (executed_in self.now) index ≡ Some location.number) }
         ensures none { IfNone result (¬ Contains (executed_in self.now) location.number) }
         ensures different { AreDifferent (executed_in self.now) }
     {
         // What `locations` ensures of them: they differ.
         let _executed = self.executed.locations();
-        self.executed.place_of(location)
+        self.executed.index_of(location)
     }
 
     /// The hops of a location, in order; none of one that isn't executed.
@@ -61,7 +61,7 @@ impl<'a> Flow<'a> {
             (notes_of self.now) location.number }
         ensures others { ¬ Contains (executed_in self.now) location.number → hops_left result ≡ [] }
     {
-        match self.executed.place_of(location) {
+        match self.executed.index_of(location) {
             Some(_) => Hops::at(self.deck, self.notes, location),
             None => Hops::none(self.notes),
         }

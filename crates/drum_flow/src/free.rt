@@ -1,4 +1,4 @@
-//! The edges free of marks between executed locations, as a graph of their places in the order of
+//! The edges free of marks between executed locations, as a graph of their indices in the order of
 //! discovery.
 
 ghost use Rattle.std.specs.Prelude.{◌≡◌, IfOk, length, map};
@@ -15,7 +15,7 @@ use drum_core::Location;
 use drum_times::Mark;
 use std::alloc::{AllocError, Global};
 
-/// The places of the executed locations that edges free of marks lead to from a location.
+/// The indices of the executed locations that edges free of marks lead to from a location.
 fn free_row(alloc: Global, flow: &Flow<'_>, from: Location) -> Result<Vec<usize>, AllocError>
     ensures { IfOk result (λ row. IsFreeRow (loads_in flow.now.deck.now) flow.now.notes.now
         (executed_in flow.now) from.number row.items) }
@@ -25,7 +25,7 @@ fn free_row(alloc: Global, flow: &Flow<'_>, from: Location) -> Result<Vec<usize>
     unmarked_row(alloc, flow, targets.locations(), from)
 }
 
-/// The places of those of the targets to which the edge has no mark.
+/// The indices of those of the targets to which the edge has no mark.
 fn unmarked_row(
     alloc: Global,
     flow: &Flow<'_>,
@@ -40,10 +40,10 @@ fn unmarked_row(
         if Mark::on_edge(flow.notes.marks(), from, *onto).is_some() {
             continue;
         }
-        let Some(place) = flow.place_of(*onto) else {
+        let Some(index) = flow.index_of(*onto) else {
             continue;
         };
-        row.push(place)?;
+        row.push(index)?;
     }
     Ok(row)
 }
@@ -64,7 +64,7 @@ fn free_rows(alloc: Global, flow: &Flow<'_>) -> Result<Vec<Vec<usize>>, AllocErr
     Ok(rows)
 }
 
-/// The graph of the edges free of marks, whose nodes are the places of the executed locations.
+/// The graph of the edges free of marks, whose nodes are the indices of the executed locations.
 pub fn free_graph(alloc: Global, flow: &Flow<'_>) -> Result<Graph, AllocError>
     ensures size { IfOk result (λ graph. size graph ≡ length (executed_in flow.now)) }
     ensures rows { IfOk result (λ graph. AreFreeRows (loads_in flow.now.deck.now) flow.now.notes.now

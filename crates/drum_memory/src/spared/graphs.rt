@@ -51,7 +51,7 @@ fn of_two_roads(rt: HostRuntime) -> Result<(), Fail> {
     assert_eq!(rt; accepted.order().len(), 5);
     assert_eq!(rt; accepted.flow().executed().len(), 5);
     for (number, found) in [(100, Some(0)), (110, Some(3)), (150, None)] {
-        let place = Location::new(number).and_then(|place| flow.place_of(place));
+        let place = Location::new(number).and_then(|place| flow.index_of(place));
         assert_eq!(rt; place, found);
     }
     assert_eq!(rt; flow.deck().start().number(), 100);

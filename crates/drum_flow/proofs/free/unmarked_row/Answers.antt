@@ -51,11 +51,11 @@ loop-onto-preserved c =
     subst (λ (row : List ℕ). IsUnmarkedRow flow.notes.now.marks (executed_in flow) (numbers (take (k + 1) targets))
     c.args.from.number row) (sym c.in_ok-push.ensures.items)
     (subst (λ (all : List ℕ). IsUnmarkedRow flow.notes.now.marks (executed_in flow) all c.args.from.number
-    (c.loop-onto.row.items ++ c.in-Some.place ∷ []))
+    (c.loop-onto.row.items ++ c.in-Some.index ∷ []))
     (sym (numbers_more targets k onto c.loop-onto-test.true c.onto-item.is))
     (row_more flow.notes.now.marks (executed_in flow) (numbers (take k targets)) c.args.from.number
     c.loop-onto.row.items onto.number c.loop-onto.invariant
-    c.in-Some.place c.in-Some.ensures.different c.in-Some.ensures.found unmarked))
+    c.in-Some.index c.in-Some.ensures.different c.in-Some.ensures.found unmarked))
 
 pub returns : goal.returns
 returns c =

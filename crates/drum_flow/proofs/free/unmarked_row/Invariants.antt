@@ -4,7 +4,7 @@ use Rattle.drum_flow.specs.Flow.{executed_in}
 use Rattle.drum_flow.specs.Free.{IsUnmarkedRow}
 use Rattle.drum_flow.proofs.free.unmarked_row.Given as goal
 
--- the places of the targets so far
+-- the indices of the targets so far
 abbrev pub invariant-loop-onto : goal.invariant-loop-onto
 invariant-loop-onto l =
     IsUnmarkedRow l.flow.notes.now.marks (executed_in l.flow)

@@ -2,7 +2,7 @@ use Rattle.std.proofs.Common.{◌≡◌, ℕ, false, Option, Some, None, IfSome,
 use Rattle.std.specs.Prelude.{is_some}
 use Rattle.drum_core.specs.contracts.location.LocationPartialEq.TheImpl.{eq-value}
 use Rattle.drum_flow.proofs.Founds.{none_found, one_found}
-use Rattle.drum_flow.proofs.executed.Executed.place_of.Goals as goal
+use Rattle.drum_flow.proofs.executed.Executed.index_of.Goals as goal
 
 if_some : (found : Option ℕ) (P : ℕ → Type 0) → ((place : ℕ) → found ≡ Some place → P place) → IfSome found P
 if_some None P all = tt
