@@ -1,6 +1,6 @@
 //! Reading the inputs of a replay from their device, line by line.
 
-ghost use Rattle.std.specs.Prelude.{◌≡◌, ◌≢◌, ◌+◌, ◌^◌, ◌≤◌, ◌↔◌, List, IsErrOf, IfOk, IfErr, IfSome};
+ghost use Rattle.std.specs.Prelude.{◌≡◌, ◌≢◌, ◌+◌, ◌^◌, ◌≤◌, ◌↔◌, ◌⊎◌, List, IsErrOf, IfOk, IfErr, IfSome};
 ghost use Rattle.drum_inputs.specs.Inputs.{AreInputsOf};
 ghost use Rattle.drum_inputs.specs.InputsText.{Line, IsTooLong, AreInputs, IsRefused};
 
@@ -32,6 +32,8 @@ pub fn read_inputs<I: Input>(alloc: Global, reader: &mut I) -> Result<Inputs, In
         (lines : List Line) × AreInputs bytes lines × AreInputsOf inputs lines)) }
     ensures refused { IfErr result (λ fault. fault ≢ InputFault.Read → fault ≢ InputFault.Memory
         → IfSome (I.left reader.old) (λ bytes. IsRefused bytes fault)) }
+    ensures full { I.given reader.new ≡ I.given reader.old + 804001
+        → IsErrOf result InputFault.TooLong ⊎ IsErrOf result InputFault.Memory }
     ensures read { IsErrOf result InputFault.Read
         ↔ (I.failed reader.new ≡ I.failed reader.old + 1) }
     ensures once { I.failed reader.new ≤ I.failed reader.old + 1 }

@@ -1,6 +1,6 @@
 //! Reading a deck from its device, line by line.
 
-ghost use Rattle.std.specs.Prelude.{◌≡◌, ◌≢◌, ◌+◌, ◌^◌, ◌≤◌, ◌↔◌, List, IsErrOf, IfOk, IfErr, IfSome};
+ghost use Rattle.std.specs.Prelude.{◌≡◌, ◌≢◌, ◌+◌, ◌^◌, ◌≤◌, ◌↔◌, ◌⊎◌, List, IsErrOf, IfOk, IfErr, IfSome};
 ghost use Rattle.drum_core.specs.DeckText.{Line, IsTooLong, IsDeck, IsRefused};
 ghost use Rattle.drum_core.specs.Holds.{IsDeckOf};
 
@@ -34,6 +34,8 @@ pub fn read_deck<I: Input>(alloc: Global, reader: &mut I) -> Result<Deck, DeckFa
         (lines : List Line) × IsDeck bytes lines × IsDeckOf deck lines)) }
     ensures refused { IfErr result (λ fault. fault ≢ DeckFault.Read → fault ≢ DeckFault.Memory
         → IfSome (I.left reader.old) (λ bytes. IsRefused bytes fault)) }
+    ensures full { I.given reader.new ≡ I.given reader.old + 404001
+        → IsErrOf result DeckFault.TooLong ⊎ IsErrOf result DeckFault.Memory }
     ensures read { IsErrOf result DeckFault.Read ↔ (I.failed reader.new ≡ I.failed reader.old + 1) }
     ensures once { I.failed reader.new ≤ I.failed reader.old + 1 }
     ensures asked { I.called reader.new ≤ I.called reader.old + 404001 }

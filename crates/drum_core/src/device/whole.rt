@@ -1,4 +1,4 @@
-ghost use Rattle.std.specs.Prelude.{◌≡◌, ◌+◌, ◌^◌, ◌<◌, ◌≤◌, ◌↔◌, IfOk, IfSome, IsErrOf, vec_len, length};
+ghost use Rattle.std.specs.Prelude.{◌≡◌, ◌+◌, ◌^◌, ◌<◌, ◌≤◌, ◌↔◌, ◌⊎◌, IfOk, IfSome, IsErrOf, vec_len, length};
 
 use super::input::Input;
 use std::alloc::Global;
@@ -31,6 +31,10 @@ pub fn read_whole<I: Input>(
     ensures within { IfOk result (λ text. vec_len text ≤ limit) }
     ensures long { IsErrOf result WholeError.TooLong
         → IfSome (I.left input.old) (λ bytes. limit < length bytes) }
+    ensures past { IsErrOf result WholeError.TooLong
+        → I.given input.new ≡ I.given input.old + limit + 1 }
+    ensures full { I.given input.new ≡ I.given input.old + limit + 1
+        → IsErrOf result WholeError.TooLong ⊎ IsErrOf result WholeError.Memory }
     ensures read { IsErrOf result WholeError.Read ↔ (I.failed input.new ≡ I.failed input.old + 1) }
     ensures once { I.failed input.new ≤ I.failed input.old + 1 }
     ensures asked { I.called input.new ≤ I.called input.old + limit + 1 }
