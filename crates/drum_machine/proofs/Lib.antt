@@ -12,6 +12,7 @@ mod Marks
 pub mod OwnLocations
 pub mod Passing
 mod Setting
+pub mod SinceLaws
 pub mod StepLaws
 pub mod Stepping
 pub mod Watching

@@ -11,6 +11,7 @@ pub mod Monitor
 pub mod Registers
 pub mod Run
 pub mod Setup
+pub mod Since
 pub mod Step
 pub mod Timing
 pub mod Ways

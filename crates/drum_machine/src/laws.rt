@@ -1,14 +1,19 @@
 //! Laws of the definitions, each the contract of a function that does nothing.
 
-ghost use Rattle.std.specs.Prelude.{◌≡◌, ℕ, ◌+◌, List, take, slice_get, Option, Some, Contains};
+ghost use Rattle.std.specs.Prelude.{◌≡◌, ℕ, ◌+◌, ◌↔◌, true, List, length, take, slice_get};
+ghost use Rattle.std.specs.Prelude.{Option, Some, Contains};
 ghost use Rattle.drum_core.specs.declared.op.Op.{Op};
 ghost use Rattle.drum_core.specs.declared.word.Word.{Word};
 ghost use Rattle.drum_core.specs.Op.{op_of};
 ghost use Rattle.drum_times.specs.declared.entry.Entry.{Entry};
-ghost use Rattle.drum_times.specs.Allowed.{Notes};
+ghost use Rattle.drum_times.specs.declared.notes.mark.Mark.{Mark};
+ghost use Rattle.drum_times.specs.Allowed.{Notes, StandInEarlier};
+ghost use Rattle.drum_machine.specs.Counts.{is_inside, no_counts};
 ghost use Rattle.drum_machine.specs.Ending.{ended_by, clock_by, own_notes};
-ghost use Rattle.drum_machine.specs.Keeps.{IsKept};
+ghost use Rattle.drum_machine.specs.Keeps.{IsAsDeclared, IsKeptTurn, IsKept};
 ghost use Rattle.drum_machine.specs.Run.{Turn, IsRun, IsWhole, time_after};
+ghost use Rattle.drum_machine.specs.Since.{Edge, counts_along, StandsInside, IsCountSince};
+ghost use Rattle.drum_machine.specs.Since.{counts_before};
 ghost use Rattle.drum_machine.specs.Step.{State, contents_after, step, instruction_in, clock_of};
 ghost use Rattle.drum_machine.specs.Timing.{ready, ended, units_of};
 ghost use Rattle.drum_machine.specs.Ways.{ways};
@@ -58,4 +63,34 @@ pub fn prefixes_are_runs()
 pub fn prefixes_are_kept()
     ensures { (loads : ℕ → Option Word) (notes : Notes) (s : State) (turns : List Turn) (n : ℕ)
         → IsKept loads notes s turns → IsKept loads notes s (take n turns) }
+{}
+
+/// Of marks that each stand inside of an earlier one, if of any: one is inside of another, as the
+/// counts take it, exactly where it stands inside of it, directly or through others.
+pub fn inside_is_a_chain()
+    ensures { (marks : List Mark) (inner outer : ℕ) → StandInEarlier 0 marks
+        → (is_inside marks inner outer ≡ true) ↔ StandsInside marks inner outer }
+{}
+
+/// Each mark has a count after edges. Of marks that each stand inside of an earlier one, if of any,
+/// it is how often the mark was passed since the last pass of a mark that it stands inside of.
+pub fn counts_are_since()
+    ensures each { (marks : List Mark) (edges : List Edge)
+        → length (counts_along marks (no_counts marks) edges) ≡ length marks }
+    ensures since { (marks : List Mark) (edges : List Edge) (place count : ℕ)
+        → StandInEarlier 0 marks
+        → slice_get (counts_along marks (no_counts marks) edges) place ≡ Some count
+        → IsCountSince marks place edges count }
+    ensures one { (marks : List Mark) (edges : List Edge) (place count other : ℕ)
+        → IsCountSince marks place edges count → IsCountSince marks place edges other
+        → count ≡ other }
+{}
+
+/// A run keeps to the notes exactly where the programmed switch is as declared and each turn keeps
+/// to them with the counts after the edges that the turns before it take.
+pub fn kept_turn_by_turn()
+    ensures { (loads : ℕ → Option Word) (notes : Notes) (s : State) (turns : List Turn)
+        → IsKept loads notes s turns ↔ (IsAsDeclared notes.programmed s.contents.programmed_stops
+        × ((place : ℕ) (turn : Turn) → slice_get turns place ≡ Some turn
+        → IsKeptTurn loads notes (counts_before notes turns place) turn)) }
 {}

@@ -1,0 +1,77 @@
+-- What the counts of marks are: the passes of a mark are counted since the last pass of a mark that
+-- it stands inside of, and from the beginning where there is none yet (this project's choice).
+use Rattle.std.specs.Prelude.{◌≡◌, ℕ, nat_eq, List, [], ◌∷◌, ◌++◌, take, slice_get}
+use Rattle.std.specs.Prelude.{Some, ◌⊎◌, All, count_by, flat_map}
+use Rattle.std.specs.Option.{option_eq}
+use Rattle.drum_times.specs.declared.notes.mark.Mark.{Mark}
+use Rattle.drum_times.specs.Allowed.{Notes}
+use Rattle.drum_times.specs.Marks.{mark_on}
+use Rattle.drum_machine.specs.Counts.{outer_of, after_pass, no_counts}
+use Rattle.drum_machine.specs.Run.{Turn}
+use Rattle.drum_machine.specs.Step.{Stepped, on, stopped}
+
+-- an edge that was taken: from which location onto which
+pub record Edge : Type 0 where
+  pub from : ℕ
+  pub onto : ℕ
+
+-- the counts after edges were taken, in their order
+abbrev pub counts_along : List Mark → List ℕ → List Edge → List ℕ
+counts_along marks counts [] = counts
+counts_along marks counts (edge ∷ edges) =
+    counts_along marks (after_pass marks edge.from edge.onto counts) edges
+
+-- the edge passes the mark at this place
+abbrev pub Passes : List Mark → ℕ → Edge → Type 0
+Passes marks place edge = mark_on marks edge.from edge.onto ≡ Some place
+
+-- how many of these edges pass the mark at this place
+abbrev pub passes_of : List Mark → ℕ → List Edge → ℕ
+passes_of marks place edges =
+    count_by (λ edge. option_eq nat_eq (mark_on marks edge.from edge.onto) (Some place)) edges
+
+-- the mark at the one place stands inside of the first of these, each of them inside of the next,
+-- and the last inside of the mark at the other place; without any, the one inside of the other
+abbrev pub LeadsOut : List Mark → ℕ → List ℕ → ℕ → Type 0
+LeadsOut marks inner [] outer = outer_of (slice_get marks inner) ≡ Some outer
+LeadsOut marks inner (next ∷ nexts) outer =
+    (outer_of (slice_get marks inner) ≡ Some next) × LeadsOut marks next nexts outer
+
+-- the mark at the one place stands inside of the one at the other, directly or through others
+abbrev pub StandsInside : List Mark → ℕ → ℕ → Type 0
+StandsInside marks inner outer = (through : List ℕ) × LeadsOut marks inner through outer
+
+-- the edge passes a mark that the one at this place stands inside of
+abbrev pub Restarts : List Mark → ℕ → Edge → Type 0
+Restarts marks place edge =
+    (outer : ℕ) × Passes marks outer edge × StandsInside marks place outer
+
+-- there is a last one of these edges, and it is such a one
+abbrev pub EndsIn : (Edge → Type 0) → List Edge → Type 0
+EndsIn Such edges =
+    (earlier : List Edge) × (last : Edge) × (edges ≡ earlier ++ last ∷ []) × Such last
+
+-- So often the mark at this place was passed since the last of these edges that restarts its count,
+-- or since the beginning where none does.
+pub record IsCountSince (marks : List Mark) (place : ℕ) (edges : List Edge)
+    (count : ℕ) : Type 0 where
+  pub before : List Edge
+  pub since : List Edge
+  pub split : edges ≡ before ++ since
+  pub begins : (before ≡ []) ⊎ EndsIn (Restarts marks place) before
+  pub unbroken : All (λ edge. ¬ Restarts marks place edge) since
+  pub counted : count ≡ passes_of marks place since
+
+-- the edge that a step from a location takes, as a list of one, or of none where the step stops
+abbrev pub edge_by : ℕ → Stepped → List Edge
+edge_by from (on next) = record { from = from; onto = next.sought } ∷ []
+edge_by from (stopped held because moment) = []
+
+-- the edges that turns take, in their order
+abbrev pub edges_of : List Turn → List Edge
+edges_of turns = flat_map (λ turn. edge_by turn.origin.sought turn.outcome) turns
+
+-- the counts when the turn at a place begins
+abbrev pub counts_before : Notes → List Turn → ℕ → List ℕ
+counts_before notes turns place =
+    counts_along notes.marks (no_counts notes.marks) (edges_of (take place turns))
