@@ -3,7 +3,7 @@ use Rattle.std.proofs.Common.{◌≡◌, ℕ, zero, suc, ◌+◌, ◌<◌, ◌�
 use Rattle.std.proofs.Common.{get_or, Option, Some, None, refl, ap, sym, ◌∙◌, subst, inl, inr, ◌⊎◌, arith}
 use Rattle.std.specs.Prelude.{slice_get, Contains, if◌then◌else◌, ◌||◌, filter_map}
 use Rattle.std.specs.List.{list_any}
-use Rattle.std.proofs.lemmas.Bool.{cases_lt, eqb-true}
+use Rattle.std.proofs.lemmas.Bool.{cases_lt, eq-eqb, eqb-true, or_right}
 use Rattle.std.proofs.lemmas.List.Elements.{Contains-append_cases, Contains-push}
 use Rattle.std.proofs.lemmas.Option.{slice_get_within, slice_get-get_or, slice_get_past}
 use Rattle.drum_core.specs.declared.instruction.Instruction.{Instruction}
@@ -19,7 +19,8 @@ use Rattle.drum_flow.specs.Executed.{target_of, successors, with_new, added_by, 
 use Rattle.drum_flow.specs.Flow.{AreExecuted}
 use Rattle.drum_flow.specs.Hops.{Hop, hops, IsEdge, Lead, IsExecuted}
 use Rattle.drum_flow.proofs.Lists.{contains_here, contains_there, contains_cases, contains_none, contains_at}
-use Rattle.drum_flow.proofs.Lists.{contains_from_get}
+use Rattle.drum_flow.proofs.Lists.{contains_from_get, distinct_push}
+use Rattle.drum_flow.specs.Graph.{AreDifferent}
 
 get_push : (xs : List ℕ) (y k x : ℕ) → slice_get xs k ≡ Some x → slice_get (xs ++ y ∷ []) k ≡ Some x
 get_push [] y k x e = cc
@@ -34,6 +35,15 @@ any_contains (x ∷ xs) y e = go (eqb x y) refl e (any_contains xs y)
         → (list_any (λ z. eqb z y) xs ≡ true → Contains xs y) → Contains (x ∷ xs) y
     go true same h others = subst (λ (z : ℕ). Contains (x ∷ xs) z) (eqb-true x y same) (contains_here x xs)
     go false ne h others = contains_there x y xs (others h)
+
+contains_any : (xs : List ℕ) (y : ℕ) → Contains xs y → list_any (λ x. eqb x y) xs ≡ true
+contains_any [] y there = absurd (contains_none y there)
+contains_any (x ∷ xs) y there = go (contains_cases x y xs there) (contains_any xs y)
+  where
+    go : (x ≡ y) ⊎ Contains xs y → (Contains xs y → list_any (λ z. eqb z y) xs ≡ true)
+        → (eqb x y || list_any (λ z. eqb z y) xs) ≡ true
+    go (inl same) others = rw (eq-eqb x y same) refl
+    go (inr behind) others = or_right (eqb x y) (list_any (λ z. eqb z y) xs) (others behind)
 
 -- what was there stays where it was
 pub with_new_keeps : (places xs : List ℕ) (k x : ℕ) → slice_get places k ≡ Some x
@@ -95,6 +105,20 @@ with_new_only places (y ∷ xs) x there =
       ])
       | inr right ↦ inr (contains_there y x xs right)
     ]
+
+-- where none is there twice, none is then
+pub with_new_different : (places xs : List ℕ) → AreDifferent places → AreDifferent (with_new places xs)
+with_new_different places [] different = different
+with_new_different places (y ∷ xs) different =
+    go (list_any (λ place. eqb place y) places) refl (with_new_different places xs different)
+    (with_new_different (places ++ y ∷ []) xs)
+  where
+    go : (b : Bool) → list_any (λ place. eqb place y) places ≡ b → AreDifferent (with_new places xs)
+        → (AreDifferent (places ++ y ∷ []) → AreDifferent (with_new (places ++ y ∷ []) xs))
+        → AreDifferent (if b then with_new places xs else with_new (places ++ y ∷ []) xs)
+    go true found others more = others
+    go false new others more = more (distinct_push places y different
+        (λ there. let clash : ◌≡◌ {A = Bool} true false = sym (contains_any places y there) ∙ new in cc))
 
 -- what stands where something was is what was there
 pub with_new_before : (places xs : List ℕ) (k x : ℕ) → k < length places → slice_get (with_new places xs) k ≡ Some x
@@ -170,6 +194,13 @@ module _ (loads : ℕ → Option Word) (notes : Notes) (start : ℕ) where
         (added_by loads notes (slice_get (found_after loads notes start after) after)) k x
         (found_later before after k x earlier e)
   ]
+
+  -- nothing is found twice
+  pub found_different : (turns : ℕ) → AreDifferent (found_after loads notes start turns)
+  found_different zero = (contains_none start, tt)
+  found_different (suc turns) =
+      with_new_different (found_after loads notes start turns)
+      (added_by loads notes (slice_get (found_after loads notes start turns) turns)) (found_different turns)
 
   -- a member was there at its turn
   member_at : (turns k x : ℕ) → k < turns → slice_get (found_after loads notes start turns) k ≡ Some x
@@ -250,22 +281,29 @@ module _ (loads : ℕ → Option Word) (notes : Notes) (start : ℕ) where
     along node place [] there lead = subst (λ (n : ℕ). Contains places n) lead there
     along node place (next ∷ through) there lead = along next place through (closed node next there lead.0) lead.1
 
+    begun : Contains places start
+    begun =
+        contains_from_get places 0 start
+        (sym (ap (λ (xs : List ℕ). slice_get xs 0) after) ∙ found_later 0 turns 0 start (omega arith) refl)
+
+    -- each executed location is a member, and each member is executed
+    pub has_executed : (place : ℕ) → IsExecuted loads notes start place → Contains places place
+    has_executed place executed = along start place executed.0 begun executed.1
+
+    pub has_only : (place : ℕ) → Contains places place → IsExecuted loads notes start place
+    has_only place there = only_executed turns place (subst (λ (xs : List ℕ). Contains xs place) (sym after) there)
+
     -- the members are the executed locations
     pub all_executed : ((k place : ℕ) → k < turns → slice_get places k ≡ Some place → IsGood loads notes place)
         → AreExecuted loads notes start places
     all_executed good = record {
       order = record { count = turns; after = after; all = all };
-      all = λ place executed. along start place executed.0 begun executed.1;
-      only = λ place there. only_executed turns place (subst (λ (xs : List ℕ). Contains xs place) (sym after) there);
+      all = has_executed;
+      only = has_only;
       good = λ place there.
           let at : (k : ℕ) × (slice_get places k ≡ Some place) = contains_at places place there in
           good at.0 place (omega (arith, slice_get_within places at.0 place at.1, all)) at.1;
     }
-      where
-        begun : Contains places start
-        begun =
-            contains_from_get places 0 start
-            (sym (ap (λ (xs : List ℕ). slice_get xs 0) after) ∙ found_later 0 turns 0 start (omega arith) refl)
 
 -- what is good stays so where more is added
 pub good_more : (loads : ℕ → Option Word) (notes : Notes) (places xs : List ℕ) (turn place : ℕ)

@@ -5,7 +5,7 @@ use Rattle.drum_core.specs.declared.word.Word.{Word}
 use Rattle.drum_times.specs.Allowed.{Notes, allowed}
 use Rattle.drum_flow.specs.declared.fixed.Fixed.{Fixed}
 use Rattle.drum_flow.specs.declared.refusal.Refusal.{Refusal}
-use Rattle.drum_flow.specs.declared.refusal.Refusal.TheVariants.{Memory, NotLoaded, NotInProfile, Alters, Unbounded, TooLarge}
+use Rattle.drum_flow.specs.declared.refusal.Refusal.TheVariants.{Alters}
 use Rattle.drum_flow.specs.Accepted as said
 use Rattle.drum_flow.specs.Accepted.{IsFixed, IsFirstIn, IsLowestAltered, IsAltered}
 use Rattle.drum_flow.specs.Fixed.{IsFlagged}
@@ -16,7 +16,7 @@ pub record FlagsFixed (loads : ℕ → Option Word) (notes : Notes) (start : ℕ
   pub only : (place : ℕ) → IsFlagged fixed place → IsFixed loads notes start place
   pub all : (place : ℕ) → IsFixed loads notes start place → IsFlagged fixed place
 
--- the word is the lowest that the first of the instructions alters which alters any
+-- of the first of the instructions that alters a word, this is the lowest that it alters
 pub record IsFirstAltered (loads : ℕ → Option Word) (notes : Notes) (start : ℕ)
     (instructions : List Instruction) (word : ℕ) : Type 0 where
   pub ins : Instruction
@@ -36,8 +36,4 @@ AltersNone loads notes start place = NoneAlters loads notes start (allowed loads
 abbrev pub IsAlteredBy : (ℕ → Option Word) → Notes → ℕ → Refusal → Type 0
 IsAlteredBy loads notes start (Alters writer word) =
     IsAltered loads notes start writer.number word.number
-IsAlteredBy loads notes start Memory = ⊥
-IsAlteredBy loads notes start (NotLoaded location) = ⊥
-IsAlteredBy loads notes start (NotInProfile location op) = ⊥
-IsAlteredBy loads notes start (Unbounded cycle) = ⊥
-IsAlteredBy loads notes start (TooLarge product) = ⊥
+IsAlteredBy loads notes start _ = ⊥

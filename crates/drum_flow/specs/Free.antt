@@ -5,7 +5,7 @@ use Rattle.drum_times.specs.Allowed.{Notes}
 use Rattle.drum_times.specs.declared.notes.mark.Mark.{Mark}
 use Rattle.drum_times.specs.Marks.{mark_on}
 use Rattle.drum_flow.specs.declared.refusal.Refusal.{Refusal}
-use Rattle.drum_flow.specs.declared.refusal.Refusal.TheVariants.{Memory, NotLoaded, NotInProfile, Alters, Unbounded, TooLarge}
+use Rattle.drum_flow.specs.declared.refusal.Refusal.TheVariants.{Memory, Unbounded}
 use Rattle.drum_flow.specs.Accepted.{IsFree, IsSmallestFirst}
 use Rattle.drum_flow.specs.Graph.{AreDifferent, GoOn, IsClosed}
 
@@ -51,7 +51,4 @@ abbrev pub IsCycleRefusal : (ℕ → Option Word) → Notes → List ℕ → Ref
 IsCycleRefusal loads notes executed (Unbounded cycle) =
     IsFreeCycle loads notes executed (map (λ location. location.number) cycle.locations.items)
 IsCycleRefusal loads notes executed Memory = Unit {0}
-IsCycleRefusal loads notes executed (NotLoaded location) = ⊥
-IsCycleRefusal loads notes executed (NotInProfile location op) = ⊥
-IsCycleRefusal loads notes executed (Alters writer word) = ⊥
-IsCycleRefusal loads notes executed (TooLarge product) = ⊥
+IsCycleRefusal loads notes executed _ = ⊥

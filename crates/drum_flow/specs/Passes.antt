@@ -2,17 +2,13 @@
 use Rattle.std.proofs.Common.{◌≡◌, ℕ, zero, suc, ◌+◌, ◌*◌, ◌<◌, ◌≤◌, Bool, true, false, cond, List, [], ◌∷◌, length, Option, Some, None, refl, inl, inr, ◌⊎◌, arith}
 use Rattle.std.proofs.Math.Nat.{mul-le-mul_left}
 use Rattle.std.proofs.lemmas.Bool.{cases_lt, false_from_ne_true, eq-eqb}
-use borrow.Author.Tests.{eqb-true, ne_eqb}
-use Rattle.std.specs.Prelude.{◌==◌, ◌||◌, slice_get}
+use borrow.Author.Tests.{ne_eqb}
 use Rattle.drum_times.specs.declared.notes.mark.Mark.{Mark}
-use Rattle.drum_times.specs.Allowed.{IsEarlier, StandInEarlier}
+use Rattle.drum_times.specs.Allowed.{StandInEarlier}
 use Rattle.drum_times.specs.Marks.{mark_from, mark_on, is_on}
-use Rattle.drum_machine.specs.Counts.{outer_of, is_inside_by, is_inside, passed_from, after_pass, AreWithin}
+use Rattle.drum_machine.proofs.SinceLaws.{leads_earlier, leads_from_inside}
+use Rattle.drum_machine.specs.Counts.{is_inside, passed_from, after_pass, AreWithin}
 use Rattle.drum_flow.specs.Accepted.{counts_of}
-
-either : (a b : Bool) → (a || b) ≡ true → (a ≡ true) ⊎ (b ≡ true)
-either true b h = inl refl
-either false b h = inr h
 
 -- counts as one number, with the first mark's leading
 abbrev pub leading : List Mark → List ℕ → ℕ
@@ -32,44 +28,12 @@ leading-< (mark ∷ marks) (count ∷ counts) within =
     mul-le-mul_left (counts_of marks) within.0 in
     omega (arith, others, most)
 
--- a mark's outer one stands before it
-earlier_of : (place : ℕ) (marks : List Mark) → StandInEarlier place marks → (inner outer : ℕ)
-    → outer_of (slice_get marks inner) ≡ Some outer → outer < place + inner
-earlier_of place [] nested inner outer e = absurd (none_is_none e)
-  where
-    none_is_none : outer_of None ≡ Some outer → ⊥
-    none_is_none h = cc
-earlier_of place (mark ∷ marks) nested zero outer e = go mark.inside e nested.0
-  where
-    go : (inside : Option ℕ) → inside ≡ Some outer → IsEarlier place inside → outer < place + 0
-    go None h is_earlier = cc
-    go (Some one) h is_earlier =
-        let same : one ≡ outer = cc in
-        omega (arith, same, is_earlier)
-earlier_of place (mark ∷ marks) nested (suc inner) outer e =
-    omega (arith, earlier_of (place + 1) marks nested.1 inner outer e)
-
--- and so does each one that it stands inside of
-outer_is_earlier : (more : ℕ) (marks : List Mark) → StandInEarlier 0 marks → (inner outer : ℕ)
-    → is_inside_by more marks inner outer ≡ true → outer < inner
-outer_is_earlier zero marks nested inner outer e = cc
-outer_is_earlier (suc more) marks nested inner outer e =
-    go (outer_of (slice_get marks inner)) (λ next here. earlier_of 0 marks nested inner next here)
-    refl (λ next. outer_is_earlier more marks nested next outer) e
-  where
-    go : (found : Option ℕ) → ((next : ℕ) → found ≡ Some next → next < 0 + inner) → found ≡ found
-        → ((next : ℕ) → is_inside_by more marks next outer ≡ true → outer < next)
-        → (elim found [
-          | None ↦ false
-          | Some next ↦ next == outer || is_inside_by more marks next outer
-        ]) ≡ true → outer < inner
-    go None earlier same further h = cc
-    go (Some next) earlier same further h =
-        let before : next < 0 + inner = earlier next refl in
-        elim (either (next == outer) (is_inside_by more marks next outer) h) [
-          | inl here ↦ let at : next ≡ outer = eqb-true next outer here in omega (arith, before, at)
-          | inr there ↦ omega (arith, before, further next there)
-        ]
+-- a mark that another stands inside of stands before it
+outer_is_earlier : (marks : List Mark) → StandInEarlier 0 marks → (inner outer : ℕ)
+    → is_inside marks inner outer ≡ true → outer < inner
+outer_is_earlier marks nested inner outer e =
+    let leads = leads_from_inside (length marks) marks inner outer e in
+    leads_earlier marks nested leads.0 inner outer leads.1
 
 -- the mark that is found is one of these
 found_within : (place : ℕ) (marks : List Mark) (from onto k : ℕ)
@@ -111,5 +75,5 @@ pub pass_raises : (marks : List Mark) (counts : List ℕ) (from onto k : ℕ) �
 pass_raises marks counts from onto k nested within e =
     let found = found_within 0 marks from onto k e in
     let raised = raises_from marks k 0 marks counts
-    (λ inner. outer_is_earlier (length marks) marks nested inner k) within found.0 found.1 in
+    (λ inner. outer_is_earlier marks nested inner k) within found.0 found.1 in
     rw (e, after_pass) raised

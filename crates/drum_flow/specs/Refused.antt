@@ -4,7 +4,7 @@ use Rattle.std.specs.Prelude.{◌≡◌, ℕ, Option}
 use Rattle.drum_core.specs.declared.word.Word.{Word}
 use Rattle.drum_times.specs.Allowed.{Notes}
 use Rattle.drum_flow.specs.declared.refusal.Refusal.{Refusal}
-use Rattle.drum_flow.specs.declared.refusal.Refusal.TheVariants.{Memory, NotLoaded, NotInProfile, Alters, Unbounded, TooLarge}
+use Rattle.drum_flow.specs.declared.refusal.Refusal.TheVariants.{Memory, NotLoaded, NotInProfile}
 use Rattle.drum_flow.specs.Accepted.{IsThere, IsFirstOutside, IsNotLoaded, IsNotInProfile}
 
 -- what is wrong with a location, whatever comes before it
@@ -13,10 +13,7 @@ IsWrong loads notes place (NotLoaded location) =
     (location.number ≡ place) × ¬ IsThere loads notes place
 IsWrong loads notes place (NotInProfile location op) =
     (location.number ≡ place) × IsThere loads notes place × IsFirstOutside loads notes place op
-IsWrong loads notes place Memory = ⊥
-IsWrong loads notes place (Alters writer word) = ⊥
-IsWrong loads notes place (Unbounded cycle) = ⊥
-IsWrong loads notes place (TooLarge product) = ⊥
+IsWrong loads notes place _ = ⊥
 
 -- the first location that discovery meets with something wrong, or want of memory
 abbrev pub IsFlowRefusal : (ℕ → Option Word) → Notes → ℕ → Refusal → Type 0
@@ -24,6 +21,4 @@ IsFlowRefusal loads notes start (NotLoaded location) = IsNotLoaded loads notes s
 IsFlowRefusal loads notes start (NotInProfile location op) =
     IsNotInProfile loads notes start location.number op
 IsFlowRefusal loads notes start Memory = Unit {0}
-IsFlowRefusal loads notes start (Alters writer word) = ⊥
-IsFlowRefusal loads notes start (Unbounded cycle) = ⊥
-IsFlowRefusal loads notes start (TooLarge product) = ⊥
+IsFlowRefusal loads notes start _ = ⊥

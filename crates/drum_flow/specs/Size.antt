@@ -1,13 +1,9 @@
 -- When the analysis of a deck is too large.
 use Rattle.std.specs.Prelude.{◌≡◌, ℕ, ◌<◌}
 use Rattle.drum_flow.specs.declared.refusal.Refusal.{Refusal}
-use Rattle.drum_flow.specs.declared.refusal.Refusal.TheVariants.{Memory, NotLoaded, NotInProfile, Alters, Unbounded, TooLarge}
+use Rattle.drum_flow.specs.declared.refusal.Refusal.TheVariants.{TooLarge}
 
 -- the refusal has this product, which is too large
 abbrev pub IsTooMuch : ℕ → Refusal → Type 0
 IsTooMuch product (TooLarge told) = (told ≡ product) × (4000000 < product)
-IsTooMuch product Memory = ⊥
-IsTooMuch product (NotLoaded location) = ⊥
-IsTooMuch product (NotInProfile location op) = ⊥
-IsTooMuch product (Alters writer word) = ⊥
-IsTooMuch product (Unbounded cycle) = ⊥
+IsTooMuch product _ = ⊥

@@ -11,8 +11,8 @@ ghost use Rattle.drum_flow.specs.Alike.{with_d, branches_with};
 use drum_core::{Instruction, Location, Op, Operand};
 use drum_times::Notes;
 
-/// The end of the data addresses, from the instruction's own on, with which it writes the same
-/// words.
+/// One past the last data address up to which, from the instruction's own on, it writes the same
+/// words with each.
 pub fn same_writes_end(instruction: Instruction) -> u16
     ensures past { instruction.d < result }
     ensures same { (d : ℕ) → instruction.d ≤ d → d < result
@@ -32,7 +32,8 @@ pub fn same_writes_end(instruction: Instruction) -> u16
     }
 }
 
-/// The end of the data addresses, from the instruction's own on, with which it has the same ways.
+/// One past the last data address up to which, from the instruction's own on, it has the same ways
+/// with each.
 pub fn same_ways_end(notes: &Notes, instruction: Instruction) -> u16
     ensures past { instruction.d < result }
     ensures same { (d : ℕ) → instruction.d ≤ d → d < result
@@ -63,8 +64,8 @@ fn may_branch(notes: &Notes, number: u8) -> bool
     }
 }
 
-/// The end of the addresses, from this one on, that are in the same part: the drum, those behind
-/// it, the locations beside it, the rest.
+/// One past the last address of the part that this one is in: the drum, the addresses behind it, the
+/// locations beside it, the rest.
 fn part_end(address: u16) -> u16
     requires { address < 10 ^ 4 }
     ensures past { address < result }

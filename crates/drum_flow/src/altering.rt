@@ -33,7 +33,7 @@ fn lowest_altered(flow: &Flow<'_>, fixed: &Fixed, instruction: Instruction) -> O
     None
 }
 
-/// The lowest word that the first instruction of a pattern alters which alters any.
+/// Of a pattern's first instruction that alters a word, the lowest that it alters.
 fn first_altered_in(flow: &Flow<'_>, fixed: &Fixed, pattern: Pattern) -> Option<Location>
     requires { of_flow FlagsFixed flow.now fixed.now }
     ensures some { IfSome result (λ word.
@@ -51,7 +51,7 @@ fn first_altered_in(flow: &Flow<'_>, fixed: &Fixed, pattern: Pattern) -> Option<
     None
 }
 
-/// The lowest word that the first instruction of a location alters which alters any.
+/// Of a location's first instruction that alters a word, the lowest that it alters.
 fn first_altered(flow: &Flow<'_>, fixed: &Fixed, location: Location) -> Option<Location>
     requires { of_flow FlagsFixed flow.now fixed.now }
     ensures some { IfSome result (λ word. of_flow IsFirstAltered flow.now

@@ -60,7 +60,7 @@ impl Executed {
         self.locations.as_slice()
     }
 
-    /// The index of a location in the order; `None` for one that isn't executed.
+    /// The index of a location in the order; `None` for one that isn't there.
     pub fn index_of(&self, location: Location) -> Option<usize>
         ensures found { IfSome result (λ index.
             slice_get (places_of self.now) index ≡ Some location.number) }

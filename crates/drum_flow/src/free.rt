@@ -56,10 +56,8 @@ fn free_rows(alloc: Global, flow: &Flow<'_>) -> Result<Vec<Vec<usize>>, AllocErr
 {
     let mut rows = Vec::new(alloc);
     for from in flow.executed() {
-        match free_row(alloc, flow, *from) {
-            Ok(row) => rows.push(row)?,
-            Err(error) => return Err(error),
-        }
+        let row = free_row(alloc, flow, *from)?;
+        rows.push(row)?;
     }
     Ok(rows)
 }

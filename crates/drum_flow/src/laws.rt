@@ -1,6 +1,6 @@
 //! Laws of the definitions, each the contract of a function that does nothing.
 
-ghost use Rattle.std.specs.Prelude.{◌≡◌, ℕ, ◌<◌, List, Option, Some};
+ghost use Rattle.std.specs.Prelude.{◌≡◌, ℕ, ◌<◌, List, Option, Some, Contains};
 ghost use Rattle.drum_core.specs.declared.op.Op.{Op};
 ghost use Rattle.drum_core.specs.declared.word.Word.{Word};
 ghost use Rattle.drum_times.specs.declared.notes.mark.Mark.{Mark};
@@ -16,10 +16,25 @@ ghost use Rattle.drum_flow.specs.declared.refusal.Refusal.{Refusal};
 ghost use Rattle.drum_flow.specs.declared.refusal.Refusal.TheVariants.{Memory};
 ghost use Rattle.drum_flow.specs.Acceptance.{IsRefusal};
 ghost use Rattle.drum_flow.specs.Accepted.{IsAccepted, IsFixed};
+ghost use Rattle.drum_flow.specs.Executed.{IsOrder};
+ghost use Rattle.drum_flow.specs.Graph.{AreDifferent};
+ghost use Rattle.drum_flow.specs.Hops.{IsExecuted};
 ghost use Rattle.drum_flow.specs.Passes.{leading};
 ghost use Rattle.drum_flow.specs.RunHops.{hops_taken};
 ghost use Rattle.drum_flow.specs.Walk.{Setting, IsProper, Taken, MayHaveUnits, IsWalk, time_of};
 ghost use Rattle.drum_flow.specs.WalkTime.{AreAlike};
+
+/// The order of discovery has each executed location once, and nothing else.
+pub fn order_is_executed()
+    ensures all { (loads : ℕ → Option Word) (notes : Notes) (start place : ℕ) (order : List ℕ)
+        → IsOrder loads notes start order
+        → IsExecuted loads notes start place → Contains order place }
+    ensures only { (loads : ℕ → Option Word) (notes : Notes) (start place : ℕ) (order : List ℕ)
+        → IsOrder loads notes start order
+        → Contains order place → IsExecuted loads notes start place }
+    ensures once { (loads : ℕ → Option Word) (notes : Notes) (start : ℕ) (order : List ℕ)
+        → IsOrder loads notes start order → AreDifferent order }
+{}
 
 /// A pass raises the counts, read as one number with the first mark's leading.
 pub fn passes_raise()

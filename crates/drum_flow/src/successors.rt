@@ -27,9 +27,7 @@ impl Executed {
             (successors (loads_in deck.now) notes.now location.number)) }
     {
         for pattern in Patterns::at(deck, notes, location) {
-            if let Err(error) = self.add_pattern(notes, pattern) {
-                return Err(error);
-            }
+            self.add_pattern(notes, pattern)?;
         }
         Ok(())
     }
@@ -43,9 +41,7 @@ impl Executed {
         let mut d = pattern.d_from;
         while d <= pattern.d_to {
             let instruction = instruction_of(pattern, d);
-            if let Err(error) = self.add_ways(Ways::of(notes, instruction)) {
-                return Err(error);
-            }
+            self.add_ways(Ways::of(notes, instruction))?;
             d = same_ways_end(notes, instruction);
         }
         Ok(())
@@ -60,9 +56,7 @@ impl Executed {
             let Way::To(location) = way else {
                 continue;
             };
-            if let Err(error) = self.add(location) {
-                return Err(error);
-            }
+            self.add(location)?;
         }
         Ok(())
     }

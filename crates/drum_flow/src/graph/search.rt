@@ -163,10 +163,8 @@ impl Search {
             (λ cycle. IsCycle (row graph.now) (size graph.now) cycle.items)) }
     {
         while let Some(node) = self.last() {
-            match self.step(alloc, graph, node) {
-                Err(error) => return Err(error),
-                Ok(Some(cycle)) => return Ok(Some(cycle)),
-                Ok(None) => {}
+            if let Some(cycle) = self.step(alloc, graph, node)? {
+                return Ok(Some(cycle));
             }
         }
         Ok(None)

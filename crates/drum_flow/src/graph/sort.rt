@@ -13,10 +13,8 @@ pub fn sort(alloc: Global, graph: &Graph) -> Result<Sorted, AllocError>
 {
     let mut search = Search::new(alloc, graph)?;
     for root in 0..graph.size() {
-        match search.finish_root(alloc, graph, root) {
-            Err(error) => return Err(error),
-            Ok(Some(cycle)) => return Ok(Sorted::Cyclic(cycle)),
-            Ok(None) => {}
+        if let Some(cycle) = search.finish_root(alloc, graph, root)? {
+            return Ok(Sorted::Cyclic(cycle));
         }
     }
     Ok(Sorted::Ordered(search.into_order()))

@@ -18,20 +18,20 @@ loop-from-preserved c =
     let k = c.loop-from.from-index in
     let rows = c.loop-from.rows.items in
     let from = c.from-item.result in
-    let pushed = c.in_ok-push-in-Ok.ensures.items in
+    let pushed = c.in_ok-push.ensures.items in
     let here : slice_get (executed_in flow) k ≡ Some from.number =
     number_at c.executed-from-items.result.now (executed_in flow) k from c.executed-from-items.ensures.all
     c.loop-from-test.true c.from-item.is in
     record {
       long =
-          ap (λ (all : List (Vec ℕ Global)). length all) pushed ∙ length_push rows c.in-Ok.row
+          ap (λ (all : List (Vec ℕ Global)). length all) pushed ∙ length_push rows c.in_ok-row.row
           ∙ ap (λ (n : ℕ). n + 1) c.loop-from.invariant.long;
       rows =
           λ place other lt at. subst
           (λ (all : List (Vec ℕ Global)). IsFreeRow (loads_in flow.deck.now) flow.notes.now (executed_in flow) other
           (targets_in all place)) (sym pushed)
-          (rows_more (loads_in flow.deck.now) flow.notes.now (executed_in flow) rows c.in-Ok.row k from.number
-          c.loop-from.invariant.long c.loop-from.invariant.rows here c.in-Ok.ensures place other lt at);
+          (rows_more (loads_in flow.deck.now) flow.notes.now (executed_in flow) rows c.in_ok-row.row k from.number
+          c.loop-from.invariant.long c.loop-from.invariant.rows here c.in_ok-row.ensures place other lt at);
     }
 
 pub returns-clause-rows : goal.returns-clause-rows

@@ -19,7 +19,7 @@ loop-d-preserved c =
     let at : ins.d ≡ d = ap (λ (one : Instruction). one.d) made ∙ matching_d pattern d c.loop-d-test.true in
     let here : ways notes ins ≡ ways notes (matching_at pattern d) = ap (ways notes) made in
     let grown : places_of c.add_ways.new.self ≡ with_new before (targets_of (ways notes (matching_at pattern d))) =
-    c.in_default.ensures ∙ ap (λ (all : List Way). with_new before (targets_of all)) (c.of.ensures ∙ here) in
+    c.in_ok-add_ways.ensures ∙ ap (λ (all : List Way). with_new before (targets_of all)) (c.of.ensures ∙ here) in
     ap (λ (places : List ℕ). with_new places (targets_by notes (matching_from pattern next))) grown
     ∙ sym (added_alike notes pattern before d next c.loop-d-test.true
     (omega (arith, at, c.same_ways_end-d.ensures.past))

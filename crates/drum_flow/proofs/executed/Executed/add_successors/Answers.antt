@@ -26,6 +26,6 @@ pub loop-pattern-preserved : goal.loop-pattern-preserved
 loop-pattern-preserved c =
     let notes = c.args.notes.now in
     let rest = patterns_left c.next.new.self in
-    ap (λ (places : List ℕ). with_new places (targets_by notes (flat_map matching rest))) c.in_default.ensures
+    ap (λ (places : List ℕ). with_new places (targets_by notes (flat_map matching rest))) c.in_ok-add_pattern.ensures
     ∙ sym (added_more notes (places_of c.loop-pattern.self) c.in-Some.pattern
     (patterns_left c.loop-pattern.pattern-iterator) rest c.in-Some.ensures.steps) ∙ c.loop-pattern.invariant
