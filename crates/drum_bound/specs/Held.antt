@@ -60,6 +60,14 @@ pub record AreHeld (cells : Cells) : Type 0 where
   pub soon : (place : ℕ) (entry : Worst) → slice_get cells.entries.items place ≡ Some entry
       → cells.angle + entry.time < 2 ^ 64
 
+-- what no raise changes: the ends that were made, the start angle, and how many locations and counts
+-- there are
+pub record SameScan (old new : Cells) : Type 0 where
+  pub made : new.made ≡ old.made
+  pub angle : new.angle ≡ old.angle
+  pub words : new.words ≡ old.words
+  pub counts : new.counts ≡ old.counts
+
 -- Each key's entry says where the key is, with which counts, and the angle at its time.
 abbrev pub HaveEntries : (ℕ → ℕ) → (ℕ → ℕ) → Cells → Type 0
 HaveEntries place_of counts_of cells =

@@ -1,5 +1,5 @@
--- What is known of a hop before the scan: how long it takes from the angle that it begins at, and
--- where it goes on.
+-- What is known of a hop before the scan: how long it takes from the angle at which its instruction
+-- is found, and where it goes on.
 use Rattle.std.specs.Prelude.{◌≡◌, ℕ, ◌+◌, ◌%◌, ◌<◌, List, length, map, slice_get, Option, Some, Contains}
 use Rattle.std.proofs.Common.{Vec, Global}
 use Rattle.drum_times.specs.Marks.{mark_on}

@@ -38,7 +38,7 @@ pub record Begins (g : Setting) (order : List ℕ) (cells : List (Option Latest)
   pub there : cell_at cells key ≡ Some kept
   pub after : start_angle g.start ≤ kept.clock
 
--- the latest end of a hop from what is kept at a key
+-- the latest end of a hop of a key whose search begins at this clock
 abbrev pub end_from : Setting → List ℕ → ℕ → Hop → ℕ → ℕ
 end_from g order key hop clock = longest g.times (place_at order key) hop.ins hop.way clock
 

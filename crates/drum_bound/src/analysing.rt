@@ -136,10 +136,8 @@ pub fn analyse(
     // What `marks` promises: the marks are eight at most.
     let _marks = notes.marks();
     let accepted = AcceptedFlow::of(alloc, deck, notes)?;
-    // The clause `accepted` names these.
+    // What `executed` promises: no location is there twice.
     let _executed = accepted.flow().executed();
-    let Ok(analysis) = analysis_of(alloc, &accepted, times) else {
-        return Err(Refusal::Memory);
-    };
+    let analysis = analysis_of(alloc, &accepted, times)?;
     Ok(analysis)
 }

@@ -87,7 +87,7 @@ impl Analysis {
         &self.walk
     }
 
-    /// How many counts the marks can have: the product of `most` and one over them, 1 to 4,000,000.
+    /// How many counts the marks can have: the product of `most + 1` over them, 1 to 4,000,000.
     pub fn counts(&self) -> usize
         ensures { result ≡ counts_in_all self.now }
     {

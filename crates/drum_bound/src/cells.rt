@@ -48,12 +48,13 @@ impl Cells {
     ghost use Rattle.drum_machine.specs.WaysLeft.{seen_way};
     ghost use Rattle.drum_flow.specs.Walk.{Setting};
     ghost use Rattle.drum_bound.specs.EndOf.{latest_in};
-    ghost use Rattle.drum_bound.specs.Held.{AreHeld, HaveEntries, entry_of, kept_in};
+    ghost use Rattle.drum_bound.specs.Held.{AreHeld, HaveEntries, SameScan, entry_of, kept_in};
     ghost use Rattle.drum_bound.specs.LeapOf.{IsLeap};
     ghost use Rattle.drum_bound.specs.Longest.{longest};
     ghost use Rattle.drum_bound.specs.Profile.{MayEnd};
     ghost use Rattle.drum_bound.specs.Scanned.{cell_at, later, raised};
     ghost use Rattle.drum_bound.specs.KeyHops.{IsLater, KeepsAt};
+    ghost use Rattle.drum_bound.specs.SearchOf.{hop_sought};
 
     /// The cells of so many executed locations and counts: the start's key keeps the moment of the
     /// start, at this angle, and no other keeps anything.
@@ -80,7 +81,7 @@ impl Cells {
             → start.number ≡ place_of start_key → 0 ≡ counts_of start_key
             → HaveEntries place_of counts_of cells) }
         ensures made { IfOk result (λ cells. cells.made.count ≡ 0) }
-        ensures unmade { IfOk result (λ cells. cells.made.last ≡ None) }
+        ensures none_made { IfOk result (λ cells. cells.made.last ≡ None) }
         ensures angle { IfOk result (λ cells. cells.angle ≡ angle) }
         ensures words { IfOk result (λ cells. cells.words ≡ words) }
         ensures counts { IfOk result (λ cells. cells.counts ≡ counts) }
@@ -225,19 +226,15 @@ impl Cells {
         requires kept { KeepsAt (kept_in self.old) search.now.key search.now.begun }
         requires found { search.now.found
             ≡ first (is_available search.now.location.number) search.now.begun }
-        requires later { IsLater self.old.made.last (record {
-          key = search.now.key;
-          number = number;
-        }) }
+        requires later { IsLater self.old.made.last (hop_sought search.now number) }
         requires few { self.old.made.count < 2 ^ 62 }
         requires narrow { search.now.key < 2 ^ 32 }
         requires few_hops { number < 2 ^ 32 }
         requires soon { search.now.found ≤ 2 ^ 62 }
         ensures same { self.new ≡ record self.old { made = self.new.made } }
         ensures counted { self.new.made.count ≡ self.old.made.count + 1 }
-        ensures now_last { self.new.made.last
-            ≡ Some (record { key = search.now.key; number = number }) }
-        ensures origin { result.origin ≡ record { key = search.now.key; number = number } }
+        ensures now_last { self.new.made.last ≡ Some (hop_sought search.now number) }
+        ensures origin { result.origin ≡ hop_sought search.now number }
         ensures clock { (g : Setting) (order : List ℕ)
             → MayEnd leap.now.hop.instruction (seen_way leap.now.hop.way)
             → IsLeap g order search.now.location.number (search.now.found % 50) leap.now
@@ -268,10 +265,7 @@ impl Cells {
         ensures entries { (place_of counts_of : ℕ → ℕ) → location.number ≡ place_of key
             → counts ≡ counts_of key
             → HaveEntries place_of counts_of self.old → HaveEntries place_of counts_of self.new }
-        ensures made { self.new.made ≡ self.old.made }
-        ensures angle { self.new.angle ≡ self.old.angle }
-        ensures words { self.new.words ≡ self.old.words }
-        ensures counts { self.new.counts ≡ self.old.counts }
+        ensures same { SameScan self.old self.new }
     {
         match self.entry_of(key) {
             Some(place) => self.raise_entry(key, place, end),
@@ -284,17 +278,14 @@ impl Cells {
     fn raise_entry(&mut self, key: usize, place: usize, end: &End)
         requires held { AreHeld self.old }
         requires there { entry_of self.old.places.items key ≡ suc place }
-        requires from { end.now.origin.key < key }
+        requires onward { end.now.origin.key < key }
         requires after { self.old.angle ≤ end.now.clock }
         ensures held { AreHeld self.new }
         ensures kept { kept_in self.new ≡ raised (kept_in self.old) key (latest_in end.now) }
         ensures entries { (place_of counts_of : ℕ → ℕ)
             → HaveEntries place_of counts_of self.old → HaveEntries place_of counts_of self.new }
         ensures last { self.new.last ≡ self.old.last }
-        ensures made { self.new.made ≡ self.old.made }
-        ensures angle { self.new.angle ≡ self.old.angle }
-        ensures words { self.new.words ≡ self.old.words }
-        ensures counts { self.new.counts ≡ self.old.counts }
+        ensures same { SameScan self.old self.new }
     {
         let time = end.clock() - self.angle;
         if self.entries[place].time < time {
@@ -312,7 +303,7 @@ impl Cells {
         requires held { AreHeld self.old }
         requires there { key < length self.old.places.items }
         requires none { entry_of self.old.places.items key ≡ 0 }
-        requires from { end.now.origin.key < key }
+        requires onward { end.now.origin.key < key }
         requires after { self.old.angle ≤ end.now.clock }
         ensures held { AreHeld self.new }
         ensures kept { kept_in self.new ≡ raised (kept_in self.old) key (latest_in end.now) }
@@ -320,10 +311,7 @@ impl Cells {
             → counts ≡ counts_of key
             → HaveEntries place_of counts_of self.old → HaveEntries place_of counts_of self.new }
         ensures last { self.new.last ≡ self.old.last }
-        ensures made { self.new.made ≡ self.old.made }
-        ensures angle { self.new.angle ≡ self.old.angle }
-        ensures words { self.new.words ≡ self.old.words }
-        ensures counts { self.new.counts ≡ self.old.counts }
+        ensures same { SameScan self.old self.new }
     {
         let entry = Worst {
             place: location,

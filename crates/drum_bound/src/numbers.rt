@@ -12,7 +12,7 @@ use drum_machine::Counts;
 use drum_times::Mark;
 
 /// The counts that a number below 4,000,000 stands for: the last mark's, and in units of its
-/// `most` and one the number of the others'.
+/// `most + 1` the number of the others'.
 pub fn counts_at(marks: &[Mark], number: usize) -> Counts
     requires few { length marks.now ≤ 8 }
     requires below { number < counts_of marks.now }
@@ -44,7 +44,7 @@ pub fn leading(marks: &[Mark], counts: Counts) -> usize
 }
 
 /// The number of the counts as in the table of worst times: the first mark's, and in units of
-/// its `most` and one the number of the others'.
+/// its `most + 1` the number of the others'.
 pub fn table_number(marks: &[Mark], counts: Counts) -> u32
     requires few { length marks.now ≤ 8 }
     requires small { counts_of marks.now ≤ 4000000 }

@@ -37,7 +37,7 @@ impl<'a> Scan<'a> {
     ghost use Rattle.drum_bound.specs.Scanned.{Taking};
     ghost use Rattle.drum_bound.specs.Table.{start_angle};
     ghost use Rattle.drum_bound.specs.ScanOf.{AreCells, Goes, HasRound, IsAgreed, IsDone, IsReady, IsScanned, hops_of, order_of, place_in, setting_in};
-    ghost use Rattle.drum_bound.specs.SearchOf.{IsSearch};
+    ghost use Rattle.drum_bound.specs.SearchOf.{IsSearch, hop_sought};
     ghost use Rattle.drum_bound.specs.KeyHops.{IsLater};
 
     /// The latest ends at all keys, and of all: each key is taken once, after all that can raise
@@ -55,8 +55,8 @@ impl<'a> Scan<'a> {
         ensures keys { IfOk result (λ scan. scan.keys.now ≡ keys.now) }
     {
         let mut scan = Scan::new(alloc, times, keys, leaps)?;
-        for counts in 0..keys.counts {
-            scan.take_round(counts);
+        for leading in 0..keys.counts {
+            scan.take_round(leading);
         }
         Ok(scan)
     }
@@ -125,14 +125,12 @@ impl<'a> Scan<'a> {
     #[inline(always)]
     fn take_leap(&mut self, round: &Round, search: &Search, number: usize, leap: &Leap)
         requires ready { IsReady self.old round.now search.now number leap.now }
-        requires later { IsLater self.old.cells.made.last
-            (record { key = search.now.key; number = number }) }
+        requires later { IsLater self.old.cells.made.last (hop_sought search.now number) }
         requires soon { search.now.found ≤ 2 ^ 62 }
         requires few { self.old.cells.made.count < 2 ^ 62 }
         ensures same { self.new ≡ record self.old { cells = self.new.cells } }
         ensures counted { self.new.cells.made.count ≡ self.old.cells.made.count + 1 }
-        ensures last { self.new.cells.made.last
-            ≡ Some (record { key = search.now.key; number = number }) }
+        ensures last { self.new.cells.made.last ≡ Some (hop_sought search.now number) }
         ensures cells { AreCells (setting_in self.old) (order_of self.old) self.new.cells }
         ensures agreed { IsAgreed search.now.key (kept_in self.old.cells) (kept_in self.new.cells) }
         ensures taken { (left : List HopOf)
@@ -213,18 +211,18 @@ impl<'a> Scan<'a> {
     }
 
     /// Takes the keys with the counts of this number, with the first mark's leading.
-    fn take_round(&mut self, counts: usize)
-        requires scanned { IsScanned self.old (counts * length (order_of self.old)) }
-        requires below { counts < self.old.keys.now.counts }
-        ensures scanned { IsScanned self.new ((counts + 1) * length (order_of self.old)) }
+    fn take_round(&mut self, leading: usize)
+        requires scanned { IsScanned self.old (leading * length (order_of self.old)) }
+        requires below { leading < self.old.keys.now.counts }
+        ensures scanned { IsScanned self.new ((leading + 1) * length (order_of self.old)) }
         ensures same { self.new ≡ record self.old { cells = self.new.cells } }
     {
         let words = self.keys.nodes.len();
-        let first = counts * words;
+        let first = leading * words;
         if !self.cells.keeps_any(first, first + words) {
             return;
         }
-        let round = self.keys.round(counts);
+        let round = self.keys.round(leading);
         for index in 0..words {
             self.take_key(&round, index);
         }

@@ -10,8 +10,8 @@ pub struct Worst {
     pub place: Location,
     /// The drum's angle then, from the one start angle, that behind the start's.
     pub angle: u8,
-    /// The counts of the marks, as one number: the first mark's, and in units of its `most` and one
-    /// the number of the others'.
+    /// The counts of the marks, as one number: the first mark's, and in units of its `most + 1` the
+    /// number of the others'.
     pub counts: u32,
     /// The word times.
     pub time: u64,

@@ -53,7 +53,7 @@ returns-clause-accepted c =
     (deck_of accepted.flow) notes
     (notes_of accepted.flow) (sym ensures.deck) (sym ensures.notes) ensures.order)
     (subst (λ (f : Flow). AreDifferent (executed_in f)) c.flow.ensures c.executed-executed.ensures.different) in
-    (executed_in accepted.flow, ensures.accepted, c.in-Ok.ensures.executed ∙ same)
+    (executed_in accepted.flow, ensures.accepted, c.in_ok-analysis.ensures.executed ∙ same)
 
 pub returns-clause-kept : goal.returns-clause-kept
 returns-clause-kept c = λ s turns first is_run kept.
@@ -61,12 +61,12 @@ returns-clause-kept c = λ s turns first is_run kept.
     let deck = c.args.deck.now in
     let notes = c.args.notes.now in
     let times = c.args.times.now in
-    let analysis = c.in-Ok.analysis in
+    let analysis = c.in_ok-analysis.analysis in
     let ensures = c.in_ok-accepted.ensures in
     let analysed : IsAnalysis (setting deck times notes) (length (in_order accepted)) analysis =
     moved (λ d n. IsAnalysis (setting d times n) (length (in_order accepted)) analysis) (deck_of accepted.flow) deck
     (notes_of accepted.flow)
-    notes ensures.deck ensures.notes c.in-Ok.ensures in
+    notes ensures.deck ensures.notes c.in_ok-analysis.ensures in
     let walked = kept_walk (setting deck times notes) (executed_in accepted.flow) s turns
     (is_proper deck times notes c.marks-marks.ensures.sound) ensures.accepted first is_run kept in
     omega (arith, analysed.worst.most s.start (hops_taken turns) walked.0, walked.1)
@@ -77,11 +77,11 @@ returns-clause-under c = λ s turns first is_run kept.
     let deck = c.args.deck.now in
     let notes = c.args.notes.now in
     let times = c.args.times.now in
-    let analysis = c.in-Ok.analysis in
+    let analysis = c.in_ok-analysis.analysis in
     let ensures = c.in_ok-accepted.ensures in
     let analysed : IsAnalysis (setting deck times notes) (length (in_order accepted)) analysis =
     moved (λ d n. IsAnalysis (setting d times n) (length (in_order accepted)) analysis) (deck_of accepted.flow) deck
     (notes_of accepted.flow)
-    notes ensures.deck ensures.notes c.in-Ok.ensures in
+    notes ensures.deck ensures.notes c.in_ok-analysis.ensures in
     arrive_under (setting deck times notes) (rows_of analysis) (executed_in accepted.flow) s turns analysed.table
     (is_proper deck times notes c.marks-marks.ensures.sound) ensures.accepted first is_run kept

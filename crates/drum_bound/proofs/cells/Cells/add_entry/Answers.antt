@@ -133,7 +133,7 @@ returns-clause-kept c =
     ≡ latest_of c.args.end.now.clock (Some c.args.end.now.origin) =
     latest_came cells.angle key c.args.end.now.clock entry c.origin.result
     (omega (arith, c.requires.after, c.clock.ensures))
-    (omega (arith, c.requires.from, ap (λ (o : KeyHop). o.key) c.origin.ensures))
+    (omega (arith, c.requires.onward, ap (λ (o : KeyHop). o.key) c.origin.ensures))
     ∙ ap (λ (o : KeyHop). latest_of c.args.end.now.clock (Some o)) c.origin.ensures in
     ap (λ (all : List Worst).
     kept_at cells.angle all c.push-2.new.self.items 0 (set places key (c.len-before.result + 1))) entries

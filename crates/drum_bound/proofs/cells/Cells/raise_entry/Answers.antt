@@ -75,7 +75,7 @@ returns-then-index-time-clause-kept c =
     } in
     let came : latest_at cells.angle key entry c.origin.result ≡ latest_of clock (Some c.args.end.now.origin) =
     latest_came cells.angle key clock entry c.origin.result (omega (arith, c.requires.after, c.clock.ensures))
-    (omega (arith, c.requires.from, ap (λ (o : KeyHop). o.key) c.origin.ensures))
+    (omega (arith, c.requires.onward, ap (λ (o : KeyHop). o.key) c.origin.ensures))
     ∙ ap (λ (o : KeyHop). latest_of clock (Some o)) c.origin.ensures in
     raised_is cells.angle cells.entries.items cells.origins.items cells.places.items key entry c.origin.result
     c.requires.held.linked c.requires.held.paired c.args.place c.requires.there

@@ -193,7 +193,7 @@ returns-clause-cells c =
       held = c.raise.ensures.held;
       entries = c.raise.ensures.entries (place_at (order_of scan)) (counts_number marks (order_of scan)) (sym is.at)
           (to_it.0.number ∙ ap (number_of marks) (sym is.passed)) are.entries;
-      angle = c.raise.ensures.angle ∙ are.angle;
-      words = c.raise.ensures.words ∙ are.words;
-      counts = c.raise.ensures.counts ∙ are.counts;
+      angle = c.raise.ensures.same.angle ∙ are.angle;
+      words = c.raise.ensures.same.words ∙ are.words;
+      counts = c.raise.ensures.same.counts ∙ are.counts;
     }

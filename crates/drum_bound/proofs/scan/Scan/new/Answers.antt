@@ -48,5 +48,5 @@ returns-clause-scanned c =
           (subst (λ (all : List (Option Latest)). Scanned g order 0 0 all start) (sym cells)
           (begun g order key start c.start_key-key.ensures c.start_angle-angle.ensures refl));
       turns = c.in_ok-cells.ensures.made;
-      before = subst (λ (last : Option KeyHop). IsBefore last 0) (sym c.in_ok-cells.ensures.unmade) tt;
+      before = subst (λ (last : Option KeyHop). IsBefore last 0) (sym c.in_ok-cells.ensures.none_made) tt;
     }

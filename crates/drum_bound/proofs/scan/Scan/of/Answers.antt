@@ -4,8 +4,8 @@ use Rattle.drum_bound.specs.declared.keys.Keys.{Keys}
 use Rattle.drum_bound.specs.ScanOf.{IsScanned, order_of, setting_in}
 use Rattle.drum_bound.proofs.scan.Scan.of.Goals as goal
 
-pub loop-counts-init : goal.loop-counts-init
-loop-counts-init c =
+pub loop-leading-init : goal.loop-leading-init
+loop-leading-init c =
     let none : 0 ≡ 0 * length (order_of c.in_ok-scan.scan) = omega arith in
     record {
       scanned = subst (IsScanned c.in_ok-scan.scan) none c.in_ok-scan.ensures.scanned;
@@ -16,9 +16,9 @@ loop-counts-init c =
 
 pub returns-clause-done : goal.returns-clause-done
 returns-clause-done c =
-    let known = c.loop-counts.invariant in
-    let scan = c.loop-counts.scan in
+    let known = c.loop-leading.invariant in
+    let scan = c.loop-leading.scan in
     let counts : scan.keys.now.counts ≡ c.args.keys.now.counts = ap (λ (keys : Keys). keys.counts) known.keys in
-    let all : c.loop-counts.counts ≡ counts_of (setting_in scan).notes.marks =
-    omega (arith, c.loop-counts-test.false, c.loop-counts.auto.counts-end, counts, known.scanned.keys.counts) in
+    let all : c.loop-leading.leading ≡ counts_of (setting_in scan).notes.marks =
+    omega (arith, c.loop-leading-test.false, c.loop-leading.auto.leading-end, counts, known.scanned.keys.counts) in
     subst (IsScanned scan) (ap (λ (n : ℕ). n * length (order_of scan)) all) known.scanned

@@ -36,9 +36,9 @@ keeps_any-requires-clause-there c =
     let scan = c.args.self.now in
     let words : c.len-words.result ≡ length (order_of scan) =
     as_long scan.keys.now c.len-words.result c.requires.scanned.keys c.len-words.ensures in
-    let product : c.args.counts * c.len-words.result ≡ c.args.counts * length (order_of scan) =
-    ap (λ (n : ℕ). c.args.counts * n) words in
-    let up : length (order_of scan) * suc c.args.counts
+    let product : c.args.leading * c.len-words.result ≡ c.args.leading * length (order_of scan) =
+    ap (λ (n : ℕ). c.args.leading * n) words in
+    let up : length (order_of scan) * suc c.args.leading
     ≤ length (order_of scan) * counts_of (setting_in scan).notes.marks =
     mul-le-mul_left (length (order_of scan)) (omega (arith, c.requires.below, c.requires.scanned.keys.counts)) in
     omega (
@@ -56,22 +56,22 @@ returns-then-not-keeps_any-clause-scanned c =
     let n : ℕ = length (order_of scan) in
     let words : c.len-words.result ≡ n =
     as_long scan.keys.now c.len-words.result c.requires.scanned.keys c.len-words.ensures in
-    let product : c.args.counts * c.len-words.result ≡ c.args.counts * n = ap (λ (w : ℕ). c.args.counts * w) words in
-    subst (IsScanned scan) (next_round c.args.counts n)
-    (skipped_all scan (c.args.counts * n) n c.requires.scanned
+    let product : c.args.leading * c.len-words.result ≡ c.args.leading * n = ap (λ (w : ℕ). c.args.leading * w) words in
+    subst (IsScanned scan) (next_round c.args.leading n)
+    (skipped_all scan (c.args.leading * n) n c.requires.scanned
     (λ key from below. c.if-not-keeps_any.ensures.none refl key (omega (arith, from, product))
     (omega (arith, below, product, words))))
 
 pub loop-index-init : goal.loop-index-init
 loop-index-init c =
     let scan = c.args.self.now in
-    let same : c.args.counts * length (order_of scan) ≡ c.args.counts * length (order_of scan) + 0 = omega arith in
+    let same : c.args.leading * length (order_of scan) ≡ c.args.leading * length (order_of scan) + 0 = omega arith in
     record { same = refl; scanned = subst (IsScanned scan) same c.requires.scanned }
 
 pub take_key-requires-clause-scanned : goal.take_key-requires-clause-scanned
 take_key-requires-clause-scanned c =
     let scan = c.args.self.now in
-    let first = first_is scan c.args.counts (c.args.counts * length (order_of scan)) c.round-round.result
+    let first = first_is scan c.args.leading (c.args.leading * length (order_of scan)) c.round-round.result
     c.requires.scanned c.requires.below c.round-round.ensures in
     subst (λ (n : ℕ). IsScanned c.loop-index.self (n + c.loop-index.index)) (sym first) c.loop-index.invariant.scanned
 
@@ -81,11 +81,11 @@ take_key-requires-clause-below c =
     let n : ℕ = length (order_of scan) in
     let words : c.len-words.result ≡ n =
     as_long scan.keys.now c.len-words.result c.requires.scanned.keys c.len-words.ensures in
-    let first = first_is scan c.args.counts (c.args.counts * n) c.round-round.result c.requires.scanned c.requires.below
+    let first = first_is scan c.args.leading (c.args.leading * n) c.round-round.result c.requires.scanned c.requires.below
     c.round-round.ensures in
     subst (λ (s : Scan). c.round-round.result.own.first + c.loop-index.index < s.keys.now.size)
     (sym c.loop-index.invariant.same)
-    (round_below scan c.args.counts c.loop-index.index (c.args.counts * n) c.round-round.result.own.first
+    (round_below scan c.args.leading c.loop-index.index (c.args.leading * n) c.round-round.result.own.first
     c.requires.scanned c.requires.below (omega (arith, c.loop-index-test.true, words)) first)
 
 pub take_key-requires-clause-round : goal.take_key-requires-clause-round
@@ -94,11 +94,11 @@ take_key-requires-clause-round c =
     let n : ℕ = length (order_of scan) in
     let words : c.len-words.result ≡ n =
     as_long scan.keys.now c.len-words.result c.requires.scanned.keys c.len-words.ensures in
-    let first = first_is scan c.args.counts (c.args.counts * n) c.round-round.result c.requires.scanned c.requires.below
+    let first = first_is scan c.args.leading (c.args.leading * n) c.round-round.result c.requires.scanned c.requires.below
     c.round-round.ensures in
-    let whole : (c.round-round.result.own.first + c.loop-index.index) / n ≡ c.args.counts =
+    let whole : (c.round-round.result.own.first + c.loop-index.index) / n ≡ c.args.leading =
     ap (λ (f : ℕ). (f + c.loop-index.index) / n) first
-    ∙ div-mul-add c.args.counts n c.loop-index.index (omega (arith, c.loop-index-test.true, words)) in
+    ∙ div-mul-add c.args.leading n c.loop-index.index (omega (arith, c.loop-index-test.true, words)) in
     subst (λ (s : Scan).
     IsRound s.keys.now.accepted.now ((c.round-round.result.own.first + c.loop-index.index) / length (order_of s))
     c.round-round.result) (sym c.loop-index.invariant.same)
@@ -110,11 +110,11 @@ take_key-requires-clause-rest c =
     let n : ℕ = length (order_of scan) in
     let words : c.len-words.result ≡ n =
     as_long scan.keys.now c.len-words.result c.requires.scanned.keys c.len-words.ensures in
-    let first = first_is scan c.args.counts (c.args.counts * n) c.round-round.result c.requires.scanned c.requires.below
+    let first = first_is scan c.args.leading (c.args.leading * n) c.round-round.result c.requires.scanned c.requires.below
     c.round-round.ensures in
     let rest : (c.round-round.result.own.first + c.loop-index.index) % n ≡ c.loop-index.index =
     ap (λ (f : ℕ). (f + c.loop-index.index) % n) first
-    ∙ mod-mul-add c.args.counts n c.loop-index.index (omega (arith, c.loop-index-test.true, words)) in
+    ∙ mod-mul-add c.args.leading n c.loop-index.index (omega (arith, c.loop-index-test.true, words)) in
     subst (λ (s : Scan). (c.round-round.result.own.first + c.loop-index.index) % length (order_of s)
     ≡ c.loop-index.index) (sym c.loop-index.invariant.same) rest
 
@@ -122,9 +122,9 @@ pub loop-index-preserved : goal.loop-index-preserved
 loop-index-preserved c =
     let scan = c.args.self.now in
     let n : ℕ = length (order_of scan) in
-    let first = first_is scan c.args.counts (c.args.counts * n) c.round-round.result c.requires.scanned c.requires.below
+    let first = first_is scan c.args.leading (c.args.leading * n) c.round-round.result c.requires.scanned c.requires.below
     c.round-round.ensures in
-    let next : c.round-round.result.own.first + c.loop-index.index + 1 ≡ c.args.counts * n + (c.loop-index.index + 1) =
+    let next : c.round-round.result.own.first + c.loop-index.index + 1 ≡ c.args.leading * n + (c.loop-index.index + 1) =
     omega (arith, first) in
     record {
       same = c.take_key.ensures.same
@@ -139,5 +139,5 @@ returns-clause-scanned c =
     let words : c.len-words.result ≡ n =
     as_long scan.keys.now c.len-words.result c.requires.scanned.keys c.len-words.ensures in
     let all : c.loop-index.index ≡ n = omega (arith, c.loop-index-test.false, c.loop-index.auto.index-end, words) in
-    subst (IsScanned c.loop-index.self) (ap (λ (k : ℕ). c.args.counts * n + k) all ∙ next_round c.args.counts n)
+    subst (IsScanned c.loop-index.self) (ap (λ (k : ℕ). c.args.leading * n + k) all ∙ next_round c.args.leading n)
     c.loop-index.invariant.scanned

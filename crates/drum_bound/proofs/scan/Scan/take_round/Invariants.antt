@@ -6,5 +6,5 @@ use Rattle.drum_bound.proofs.scan.Scan.take_round.Given as goal
 abbrev pub invariant-loop-index : goal.invariant-loop-index
 invariant-loop-index l = record {
   same : l.self ≡ record l.fn.self { cells = l.self.cells };
-  scanned : IsScanned l.self (l.counts * length (order_of l.fn.self) + l.index);
+  scanned : IsScanned l.self (l.leading * length (order_of l.fn.self) + l.index);
 }
