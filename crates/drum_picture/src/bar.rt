@@ -1,7 +1,8 @@
-//! The bar of the cards' shares.
+//! The bar: where all word times of the walk go.
 
 use crate::scale::scaled;
 use crate::shares::Shares;
+use crate::tenths::Tenths;
 use std::alloc::AllocError;
 
 /// How wide the bar is, in pixels.
@@ -44,8 +45,9 @@ fn parts_of(shares: Shares) -> [Share; 4] {
 /// Writes what a part is, below the bar.
 fn draw_name(text: &mut String, share: Share, bound: u64, x: u64) -> Result<(), AllocError> {
     let Share { class, name, time } = share;
-    let thousandths = scaled(time, bound, 2000).saturating_add(1) / 2;
-    let (whole, tenths) = (thousandths / 10, thousandths % 10);
+    let percent = Tenths {
+        count: scaled(time, bound, 2000).saturating_add(1) / 2,
+    };
     let beside = x.saturating_add(18);
     write!(
         text,
@@ -54,12 +56,12 @@ fn draw_name(text: &mut String, share: Share, bound: u64, x: u64) -> Result<(), 
     write!(text, "<text x='{beside}' y='48'>{name}</text>")?;
     write!(
         text,
-        "<text x='{beside}' y='66'>{time} ({whole}.{tenths} %)</text>\n"
+        "<text x='{beside}' y='66'>{time} ({percent} %)</text>\n"
     )
 }
 
 /// Draws where the word times of a walk go: a bar, with its parts' names and numbers.
-pub(crate) fn draw_bar(text: &mut String, shares: Shares, bound: u64) -> Result<(), AllocError> {
+pub fn draw_bar(text: &mut String, shares: Shares, bound: u64) -> Result<(), AllocError> {
     text.push_str("<g transform='translate(30 742)'>")?;
     write!(
         text,

@@ -12,7 +12,7 @@ const LEFT: i64 = -2800;
 const TOP: i64 = 2560;
 
 /// Whether a location stands beside the drum.
-pub(crate) fn is_beside(number: u16) -> bool {
+pub fn is_beside(number: u16) -> bool {
     number >= 8000
 }
 

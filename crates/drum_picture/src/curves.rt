@@ -1,17 +1,17 @@
-//! The ways from word to word.
+//! The curves from word to word.
 
 use crate::beside::{beside_top, is_beside};
-use crate::hops::{MOST_HOPS, TakenHop};
+use crate::edges::{MOST_EDGES, TakenEdge};
 use crate::point::Point;
 use crate::rings::{RIM, Ring, ring_of};
 use crate::scale::scaled;
 use crate::word::plural;
 use std::alloc::AllocError;
 
-/// With more ways than this arrows only hide them.
+/// With more edges than this arrows only hide them.
 const MOST_ARROWS: usize = 150;
 
-/// Where the curve of a way ends at a word.
+/// Where the curve of an edge ends at a word.
 fn end_at(rings: &[Ring], number: u16) -> Option<Point> {
     if is_beside(number) {
         return Some(beside_top(number));
@@ -20,7 +20,7 @@ fn end_at(rings: &[Ring], number: u16) -> Option<Point> {
     Some(Point::at(number % 50, ring.inner))
 }
 
-/// Writes the curve of a way between two different words: it bends inward.
+/// Writes the curve of an edge between two different words: it bends inward.
 fn write_bow(text: &mut String, start: Point, end: Point) -> Result<(), AllocError> {
     let between = start.inward(end);
     let (x, y) = (start.x, start.y);
@@ -31,7 +31,7 @@ fn write_bow(text: &mut String, start: Point, end: Point) -> Result<(), AllocErr
     write!(text, " {x} {y}'")
 }
 
-/// Writes the curve of a way from a word to itself.
+/// Writes the curve of an edge from a word to itself.
 fn write_loop(text: &mut String, rings: &[Ring], number: u16) -> Result<(), AllocError> {
     let radius = ring_of(rings, number).map_or(RIM, |ring| ring.inner);
     let angle = number % 50;
@@ -46,14 +46,14 @@ fn write_loop(text: &mut String, rings: &[Ring], number: u16) -> Result<(), Allo
     write!(text, " {x} {y}'")
 }
 
-/// Draws a way between two words as a curve, this wide in tenths of a pixel.
+/// Draws an edge as a curve, this wide in tenths of a pixel.
 fn draw_curve(
     text: &mut String,
     rings: &[Ring],
-    hop: TakenHop,
+    one: TakenEdge,
     width: u64,
 ) -> Result<(), AllocError> {
-    let (from, onto, taken) = (hop.ends.from, hop.ends.onto, hop.taken);
+    let (from, onto, taken) = (one.edge.from, one.edge.onto, one.taken);
     let (Some(start), Some(end)) = (end_at(rings, from), end_at(rings, onto)) else {
         return Ok(());
     };
@@ -70,26 +70,30 @@ fn draw_curve(
     )
 }
 
-/// Draws the ways between words that the walk takes most, those that it takes more often wider.
-pub fn draw_curves(text: &mut String, rings: &[Ring], hops: &[TakenHop]) -> Result<(), AllocError> {
-    let class = if hops.len() > MOST_ARROWS {
+/// Draws the edges that the walk takes most, those that it takes more often wider.
+pub fn draw_curves(
+    text: &mut String,
+    rings: &[Ring],
+    edges: &[TakenEdge],
+) -> Result<(), AllocError> {
+    let class = if edges.len() > MOST_ARROWS {
         "hops many"
     } else {
         "hops tipped"
     };
     write!(text, "<g class='{class}'>\n")?;
-    let most = hops.first().map_or(1, |hop| hop.taken);
-    let wide = if most < 2 || hops.len() > MOST_ARROWS {
+    let most = edges.first().map_or(1, |one| one.taken);
+    let wide = if most < 2 || edges.len() > MOST_ARROWS {
         8
     } else {
         28
     };
-    for hop in hops.iter().take(MOST_HOPS) {
+    for one in edges.iter().take(MOST_EDGES) {
         draw_curve(
             text,
             rings,
-            *hop,
-            scaled(hop.taken, most, wide).saturating_add(7),
+            *one,
+            scaled(one.taken, most, wide).saturating_add(7),
         )?;
     }
     text.push_str("</g>\n")

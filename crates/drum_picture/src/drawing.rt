@@ -4,7 +4,7 @@ use crate::bar::draw_bar;
 use crate::beside::draw_beside;
 use crate::curves::draw_curves;
 use crate::drum::{draw_rim, draw_rings, draw_words};
-use crate::hops::taken_hops;
+use crate::edges::taken_edges;
 use crate::labels::draw_labels;
 use crate::page::{begin, draw_drum_title, draw_rows_key};
 use crate::revolutions::{draw_revolutions, draw_revolutions_title};
@@ -21,7 +21,7 @@ use std::alloc::{AllocError, Global};
 /// What stands in the place of an empty walk.
 const NO_HOP: &str = "<text class='title' x='690' y='112'>The worst walk has no hop</text>\n";
 
-/// Draws the drum: its words, and the ways of the walk between them.
+/// Draws the drum: its words, and the edges of the walk between them.
 fn draw_drum(
     alloc: Global,
     text: &mut String,
@@ -29,13 +29,13 @@ fn draw_drum(
     tallies: &Tallies,
 ) -> Result<(), AllocError> {
     let rings = rings_of(alloc, tallies)?;
-    let hops = taken_hops(alloc, walk)?;
-    draw_drum_title(text, &rings, hops.len())?;
+    let edges = taken_edges(alloc, walk)?;
+    draw_drum_title(text, &rings, edges.len())?;
     text.push_str("<g class='drum' transform='translate(310 396) scale(.1)'>\n")?;
     draw_rings(text, &rings)?;
     draw_rim(text)?;
     draw_words(text, &rings, tallies)?;
-    draw_curves(text, &rings, &hops)?;
+    draw_curves(text, &rings, &edges)?;
     draw_labels(text, &rings, tallies)?;
     draw_beside(text, tallies)?;
     text.push_str("</g>\n")
@@ -58,8 +58,8 @@ fn draw_walk(
     draw_bar(text, Shares::of(walk, times), walk.bound)
 }
 
-/// The picture of an analysis, an SVG document: the drum with the words of the deck and the ways of
-/// the worst walk between them, the walk's first revolutions, and where all its word times go. It
+/// The picture of an analysis, an SVG document: the drum with the words of the deck and the edges
+/// of the worst walk between them, the walk's first revolutions, and where all its word times go. It
 /// is well-formed and has some hundred thousand bytes at most, whatever analysis, deck and timing
 /// table are handed in; it means something where the analysis is of this deck and timing table.
 ///

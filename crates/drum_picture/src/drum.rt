@@ -3,6 +3,7 @@
 use crate::point::Point;
 use crate::rings::{RIM, Ring};
 use crate::tallies::Tallies;
+use crate::tenths::Tenths;
 use crate::word::Word;
 use std::alloc::AllocError;
 
@@ -14,12 +15,12 @@ fn draw_ring(text: &mut String, ring: Ring) -> Result<(), AllocError> {
         text,
         "<circle class='track' r='{middle}' stroke-width='{height}'/>"
     )?;
-    let far_right = outer.saturating_mul(58) / 1000;
-    let far_left = 0i64.saturating_sub(far_right);
-    let far_up = outer.saturating_mul(-998) / 1000;
-    let near_right = inner.saturating_mul(58) / 1000;
-    let near_left = 0i64.saturating_sub(near_right);
-    let near_up = inner.saturating_mul(-998) / 1000;
+    let (far, near) = (Point::end_of_word(outer), Point::end_of_word(inner));
+    let (far_right, far_up, near_right, near_up) = (far.x, far.y, near.x, near.y);
+    let (far_left, near_left) = (
+        0i64.saturating_sub(far_right),
+        0i64.saturating_sub(near_right),
+    );
     write!(
         text,
         "<defs><path id='b{band}' d='M{near_left} {near_up}L{far_left} {far_up}"
@@ -63,14 +64,13 @@ fn draw_ring_words(
     tallies: &Tallies,
     most: u64,
 ) -> Result<(), AllocError> {
-    let band = ring.band.min(39);
+    let band = ring.band;
     for angle in 0..50u16 {
-        if let Some(word) = Word::of(tallies, band * 50 + angle, most) {
-            let (degrees, tenths) = (angle * 72 / 10, angle * 72 % 10);
-            write!(
-                text,
-                "<use href='#b{band}' transform='rotate({degrees}.{tenths})'"
-            )?;
+        if let Some(word) = Word::of(tallies, ring.first() + angle, most) {
+            let degrees = Tenths {
+                count: u64::from(angle) * 72,
+            };
+            write!(text, "<use href='#b{band}' transform='rotate({degrees})'")?;
             word.finish(text)?;
         }
     }

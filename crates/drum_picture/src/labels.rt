@@ -1,7 +1,9 @@
 //! What is written on words.
 
+use crate::point::Point;
 use crate::rings::Ring;
 use crate::tallies::Tallies;
+use crate::tenths::Tenths;
 use crate::word::Word;
 use std::alloc::AllocError;
 
@@ -14,59 +16,73 @@ const LARGE: i64 = 255;
 /// The height that a ring must have for locations to be written beside its words.
 const BESIDE: i64 = 88;
 
+/// Between a word and the label beside it, in tenths of a pixel.
+const GAP: i64 = 20;
+
+/// How long a label is along the ring, in angles times the ring's radius.
+const LABEL: i64 = 3600;
+
+/// The most angles that a label takes, which is one on the innermost ring.
+const MOST_ANGLES: u16 = 6;
+
+/// So many tenths of a degree.
+fn tenths(count: u16) -> Tenths {
+    Tenths {
+        count: u64::from(count),
+    }
+}
+
 /// Writes a location on its word, along the radius, so that it is never upside down.
 fn draw_inside(text: &mut String, ring: Ring, word: Word) -> Result<(), AllocError> {
-    let turn = word.number % 50 * 72;
+    let word_at = word.number % 50 * 72;
     let middle = ring.middle();
-    let (turn, along) = if turn < 1800 {
-        ((turn + 2700) % 3600, middle)
+    let (label_at, along) = if word_at < 1800 {
+        ((word_at + 2700) % 3600, middle)
     } else {
-        ((turn + 900) % 3600, 0i64.saturating_sub(middle))
+        ((word_at + 900) % 3600, 0i64.saturating_sub(middle))
     };
     let size = if ring.height() < LARGE {
         "small"
     } else {
         "large"
     };
-    let (degrees, tenths, ink, number) = (turn / 10, turn % 10, word.ink(), word.number);
+    let (degrees, ink, number) = (tenths(label_at), word.ink(), word.number);
     write!(
         text,
-        "<text class='{size}{ink}' transform='rotate({degrees}.{tenths}) "
+        "<text class='{size}{ink}' transform='rotate({degrees}) "
     )?;
     write!(text, "translate({along} 34)'>{number:04}</text>\n")
 }
 
 /// Writes a location beside its word, along the ring, so that it is never upside down.
 fn draw_after(text: &mut String, ring: Ring, number: u16) -> Result<(), AllocError> {
-    let turn = number % 50 * 72;
+    let word_at = number % 50 * 72;
     let middle = ring.middle();
-    // half a word, and a gap
-    let along = middle.saturating_mul(58) / 1000 + 20;
-    let (turn, anchor, along, up) = if turn <= 900 || turn > 2700 {
-        (turn, "start", along, 0i64.saturating_sub(middle))
+    let along = Point::end_of_word(middle).x.saturating_add(GAP);
+    let (label_at, anchor, along, up) = if word_at <= 900 || word_at > 2700 {
+        (word_at, "start", along, 0i64.saturating_sub(middle))
     } else {
         (
-            (turn + 1800) % 3600,
+            (word_at + 1800) % 3600,
             "end",
             0i64.saturating_sub(along),
             middle,
         )
     };
-    let (degrees, tenths, base) = (turn / 10, turn % 10, up.saturating_add(28));
+    let (degrees, base) = (tenths(label_at), up.saturating_add(28));
     write!(
         text,
-        "<text class='small {anchor}' transform='rotate({degrees}.{tenths}) "
+        "<text class='small {anchor}' transform='rotate({degrees}) "
     )?;
     write!(text, "translate({along} {base})'>{number:04}</text>\n")
 }
 
 /// Whether a location has room behind its word: no other word of the band stands there.
 fn has_room(ring: Ring, number: u16, tallies: &Tallies) -> bool {
-    // how many angles a label takes, which are the shorter, the farther inside
-    let angles = 3600 / ring.middle().max(700) + 1;
-    let first = ring.band.min(39) * 50;
-    for step in 1..7u16 {
-        let next = first + number.saturating_add(step) % 50;
+    // an angle is the shorter, the farther inside the ring is
+    let angles = LABEL / ring.middle().max(1) + 1;
+    for step in 1..=MOST_ANGLES {
+        let next = ring.first() + number.saturating_add(step) % 50;
         if i64::from(step) <= angles && tallies.at(next).is_used() {
             return false;
         }
@@ -97,7 +113,7 @@ fn draw_ring_labels(
     tallies: &Tallies,
     most: u64,
 ) -> Result<(), AllocError> {
-    let first = ring.band.min(39) * 50;
+    let first = ring.first();
     for number in first..first + 50 {
         if let Some(word) = Word::of(tallies, number, most) {
             draw_label(text, ring, word, tallies)?;

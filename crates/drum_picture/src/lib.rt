@@ -1,6 +1,6 @@
 //! The picture of an analysis: its worst walk, drawn as an SVG document of bounded size.
 //!
-//! Each of `tallies`, `hops` and `shares` counts something in one pass over the `walk`, of which
+//! Each of `tallies`, `edges` and `shares` counts something in one pass over the `walk`, of which
 //! `parts` says when the parts of one hop begin and end, and `rows` which revolutions are shown.
 //! `drum`, with `rings`, `word`, `labels`, `curves` and `beside`, draws the drum; `revolutions`,
 //! with `spans`, draws the walk a revolution a row; `page` and `bar` draw what stands around them.
@@ -11,7 +11,7 @@ mod beside;
 mod curves;
 mod drawing;
 mod drum;
-mod hops;
+mod edges;
 mod labels;
 mod page;
 mod parts;
@@ -23,6 +23,7 @@ mod scale;
 mod shares;
 mod spans;
 mod tallies;
+mod tenths;
 mod walk;
 mod word;
 

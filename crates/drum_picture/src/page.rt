@@ -1,6 +1,6 @@
-//! What stands around the drawings: how the picture begins and ends, and its keys.
+//! What stands around the drawings: how the picture begins, its titles, and the keys to its colours.
 
-use crate::hops::MOST_HOPS;
+use crate::edges::MOST_EDGES;
 use crate::rings::Ring;
 use crate::walk::Walk;
 use std::alloc::AllocError;
@@ -73,16 +73,14 @@ pub fn begin(text: &mut String, walk: Walk<'_>) -> Result<(), AllocError> {
         text,
         "<text class='head' x='28' y='46'>bound {bound} word times</text>\n"
     )?;
-    let (time, turns) = (walk.tenths_of_milliseconds(), walk.tenths_of_revolutions());
-    let (whole, tenths) = (time / 10, time % 10);
+    let (time, revolutions) = (walk.milliseconds(), walk.revolutions());
     write!(
         text,
-        "<text class='faint' x='29' y='70'>{whole}.{tenths} milliseconds at 96 "
+        "<text class='faint' x='29' y='70'>{time} milliseconds at 96 "
     )?;
-    let (whole, tenths) = (turns / 10, turns % 10);
     write!(
         text,
-        "microseconds a word time, {whole}.{tenths} revolutions of the drum</text>\n"
+        "microseconds a word time, {revolutions} revolutions of the drum</text>\n"
     )
 }
 
@@ -103,16 +101,16 @@ fn draw_bands(text: &mut String, count: usize, first: u16, last: u16) -> Result<
 }
 
 /// Writes what the drawing of the drum shows.
-pub fn draw_drum_title(text: &mut String, rings: &[Ring], hops: usize) -> Result<(), AllocError> {
+pub fn draw_drum_title(text: &mut String, rings: &[Ring], edges: usize) -> Result<(), AllocError> {
     text.push_str("<text class='title' x='28' y='112'>The drum, seen from its end</text>\n")?;
     text.push_str("<text class='faint' x='28' y='131'>")?;
     if let (Some(first), Some(last)) = (rings.first(), rings.last()) {
         draw_bands(text, rings.len(), first.band, last.band)?;
     }
     text.push_str("</text>\n")?;
-    if hops > MOST_HOPS {
+    if edges > MOST_EDGES {
         text.push_str("<text class='faint' x='28' y='149'>")?;
-        write!(text, "The {MOST_HOPS} hops taken most of {hops}</text>\n")?;
+        write!(text, "The {MOST_EDGES} hops taken most of {edges}</text>\n")?;
     }
     text.push_str(DRUM_KEY)
 }

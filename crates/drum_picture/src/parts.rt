@@ -2,6 +2,7 @@
 
 use drum_bound::{Visit, Way};
 use drum_core::{Location, Op};
+use drum_machine::chain::to_operand;
 use drum_machine::moments;
 use drum_times::{Entry, Times};
 
@@ -20,7 +21,7 @@ pub struct Parts {
     pub ready: u64,
     /// The data is found.
     pub reached: u64,
-    /// Its work is done, and a card machine waited for.
+    /// Its work is done; from here on a card machine is waited for.
     pub worked: u64,
     /// It ends.
     pub ended: u64,
@@ -30,25 +31,19 @@ pub struct Parts {
 pub fn data_of(visit: &Visit) -> Option<Location> {
     let op = Op::of(visit.instruction.op())?;
     let d = visit.instruction.d();
-    match op {
-        Op::Add(_)
-        | Op::ResetAdd(_)
-        | Op::Divide
-        | Op::DivideReset
-        | Op::Multiply
-        | Op::Store(_)
-        | Op::LoadDistributor
-            if op.operand().suits(d) => Location::new(d),
-        _ => None,
+    if op.operand().suits(d) && to_operand(op, d).is_some() {
+        Location::new(d)
+    } else {
+        None
     }
 }
 
-/// The longest wait for the card machine of an operation that has ended, in word times.
-fn card_wait(op: Op, entry: Entry, way: Way) -> u64 {
-    match (op, way) {
-        (_, Way::Early) => 0,
-        (Op::Read | Op::Punch, _) => u64::from(entry.wait_max),
-        _ => 0,
+/// How long a hop with this entry waits for the card machine at most, in word times: not at all where
+/// it stops before it acts. (The entry of an operation without a card machine has no wait.)
+fn card_wait(entry: Entry, way: Way) -> u64 {
+    match way {
+        Way::Early => 0,
+        Way::To(_) | Way::Late => u64::from(entry.wait_max),
     }
 }
 
@@ -63,7 +58,7 @@ pub fn next_found(visit: &Visit, parts: Parts) -> u64 {
 impl Parts {
     /// The parts of a hop of a walk from this angle.
     pub fn of(visit: &Visit, angle: u64, times: &Times) -> Parts {
-        let angle = angle.min(50);
+        let angle = angle.min(49);
         let begun = visit.begun.min(LATEST) + angle;
         let ended = visit.ended.min(LATEST) + angle;
         let found = moments::found(visit.place, begun);
@@ -91,7 +86,7 @@ impl Parts {
         } else {
             ready
         };
-        let wait = card_wait(op, entry, visit.way);
+        let wait = card_wait(entry, visit.way);
         Parts {
             begun,
             found,

@@ -53,6 +53,9 @@ const DIRECTIONS: [(i64, i64); 50] = [
     (-125, -992),
 ];
 
+/// From the middle of a word to its end, as a direction: half an angle, to the right and up.
+const HALF: (i64, i64) = (58, 998);
+
 /// A point of the drum's drawing, in tenths of a pixel from its centre.
 #[derive(Clone, Copy, Debug, PartialEq, Eq)]
 pub struct Point {
@@ -69,6 +72,15 @@ impl Point {
         Point {
             x: radius.saturating_mul(right) / 1000,
             y: radius.saturating_mul(down) / 1000,
+        }
+    }
+
+    /// The end of the word at angle 0, to the right, so far from the centre.
+    pub fn end_of_word(radius: i64) -> Point {
+        let (right, up) = HALF;
+        Point {
+            x: radius.saturating_mul(right) / 1000,
+            y: radius.saturating_mul(0 - up) / 1000,
         }
     }
 

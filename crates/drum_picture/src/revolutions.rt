@@ -14,16 +14,12 @@ pub fn draw_revolutions_title(
     rows: &Rows,
 ) -> Result<(), AllocError> {
     let shown = rows.shown.last().map_or(0, |last| last.saturating_add(1));
-    let turns = walk.tenths_of_revolutions();
-    let (whole, tenths) = (turns / 10, turns % 10);
+    let all = walk.revolutions();
     text.push_str("<text class='title' x='690' y='112'>The worst walk: ")?;
     if shown.saturating_mul(50) >= walk.angle.saturating_add(walk.bound) {
-        write!(text, "all {whole}.{tenths} revolutions</text>\n")
+        write!(text, "all {all} revolutions</text>\n")
     } else {
-        write!(
-            text,
-            "first {shown} of {whole}.{tenths} revolutions</text>\n"
-        )
+        write!(text, "first {shown} of {all} revolutions</text>\n")
     }
 }
 

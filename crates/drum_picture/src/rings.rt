@@ -1,5 +1,7 @@
 //! The rings of the drum.
 
+ghost use Rattle.std.specs.Prelude.{◌<◌, ◌≤◌};
+
 use crate::tallies::Tallies;
 use std::alloc::{AllocError, Global};
 
@@ -15,15 +17,23 @@ const HIGHEST: i64 = 420;
 /// A band in use, drawn as a ring.
 #[derive(Clone, Copy, Debug, PartialEq, Eq)]
 pub struct Ring {
-    /// The band: its locations are from 50 times this on.
+    /// The band, 0 to 39.
     pub band: u16,
     /// The ring's radius at its outer side, in tenths of a pixel.
     pub outer: i64,
     /// At its inner side.
     pub inner: i64,
+    pub ghost on_drum: { band < 40 },
 }
 
 impl Ring {
+    /// The number of the band's first location.
+    pub fn first(self) -> u16
+        ensures { result ≤ 1950 }
+    {
+        self.band * 50
+    }
+
     /// The radius of its middle.
     pub fn middle(self) -> i64 {
         self.outer.saturating_add(self.inner) / 2
@@ -35,33 +45,32 @@ impl Ring {
     }
 }
 
-/// The numbers of the bands in use.
-fn bands_in_use(alloc: Global, tallies: &Tallies) -> Result<Vec<u16>, AllocError> {
-    let mut bands = Vec::new(alloc);
-    for band in 0..40u16 {
-        if tallies.any_used(band * 50, band * 50 + 49) {
-            bands.push(band)?;
-        }
+/// Lays rings into one another, the first at the rim.
+fn lay(rings: &mut [Ring]) {
+    let count = i64::try_from(rings.len()).unwrap_or(40).max(1);
+    let height = (ROOM / count).min(HIGHEST);
+    let mut outer = RIM;
+    for ring in rings.iter_mut() {
+        let next = outer.saturating_sub(height);
+        ring.outer = outer;
+        ring.inner = next.saturating_add(height / 20);
+        outer = next;
     }
-    Ok(bands)
 }
 
 /// A ring for each band in use, the lowest at the rim.
 pub fn rings_of(alloc: Global, tallies: &Tallies) -> Result<Vec<Ring>, AllocError> {
-    let bands = bands_in_use(alloc, tallies)?;
-    let count = i64::try_from(bands.len()).unwrap_or(40).max(1);
-    let height = (ROOM / count).min(HIGHEST);
     let mut rings = Vec::new(alloc);
-    let mut outer = RIM;
-    for band in bands.iter() {
-        let next = outer.saturating_sub(height);
-        rings.push(Ring {
-            band: *band,
-            outer,
-            inner: next.saturating_add(height / 20),
-        })?;
-        outer = next;
+    for band in 0..40u16 {
+        if tallies.any_used(band * 50, band * 50 + 49) {
+            rings.push(Ring {
+                band,
+                outer: RIM,
+                inner: RIM,
+            })?;
+        }
     }
+    lay(&mut rings);
     Ok(rings)
 }
 

@@ -91,6 +91,7 @@ pub fn draw_visit(
     text.push_str("<g>")?;
     draw_visit_title(text, visit, parts)?;
     draw_span(text, rows, "seek", parts.begun, parts.found)?;
+    // the wait for data is drawn over it
     draw_span(text, rows, "work", parts.found, parts.worked)?;
     draw_span(text, rows, "data", parts.ready, parts.reached)?;
     draw_span(text, rows, "cards", parts.worked, parts.ended)?;

@@ -7,7 +7,7 @@ use drum_core::{Deck, Location};
 use std::alloc::{AllocError, Global};
 
 /// How many locations there are: those of the drum, then 8000 to 8003.
-const LOCATIONS: usize = 2004;
+const LOCATIONS: usize = Location::DRUM as usize + 4;
 
 /// What a walk and a deck have to do with a location.
 #[derive(Clone, Copy, Debug, PartialEq, Eq)]
@@ -99,7 +99,7 @@ impl Tallies {
     }
 
     fn note_loaded(&mut self, deck: &Deck) {
-        for (number, tally) in (0..2000u16).zip(self.all.iter_mut()) {
+        for (number, tally) in (0..Location::DRUM).zip(self.all.iter_mut()) {
             let word = Location::new(number).and_then(|location| deck.word(location));
             tally.loaded = word.is_some();
         }

@@ -1,3 +1,4 @@
+use crate::tenths::Tenths;
 use drum_bound::{Analysis, Visit};
 
 /// The walk that is drawn.
@@ -21,15 +22,19 @@ impl<'a> Walk<'a> {
         }
     }
 
-    /// How many revolutions it takes, in tenths, rounded.
-    pub fn tenths_of_revolutions(self) -> u64 {
-        self.bound.saturating_add(2) / 5
+    /// How many revolutions it takes, rounded.
+    pub fn revolutions(self) -> Tenths {
+        Tenths {
+            count: self.bound.saturating_add(2) / 5,
+        }
     }
 
-    /// How many milliseconds it takes at 96 microseconds a word time, in tenths, rounded.
-    pub fn tenths_of_milliseconds(self) -> u64 {
-        // 24 to 25 word times: the whole ones first, so that the product fits
+    /// How many milliseconds it takes at 96 microseconds a word time, rounded.
+    pub fn milliseconds(self) -> Tenths {
+        // 24 tenths to 25 word times: the whole ones first, so that the product fits
         let rest = (self.bound % 25 * 24 + 12) / 25;
-        (self.bound / 25 * 24).saturating_add(rest)
+        Tenths {
+            count: (self.bound / 25 * 24).saturating_add(rest),
+        }
     }
 }
