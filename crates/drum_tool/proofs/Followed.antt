@@ -26,7 +26,8 @@ use Rattle.drum_machine.specs.Step.{State, Stepped, on, stopped, contents_after,
 use Rattle.drum_flow.specs.Walk.{Setting}
 use Rattle.drum_lines.specs.declared.verdict.Verdict.TheVariants.{Kept, Left}
 use Rattle.drum_tool.specs.declared.following.Following.{Following}
-use Rattle.drum_tool.specs.Following.{IsBounded, CanBegin, AreGiven, AreOfRun, IsFollowed, IsFollowing, state_of}
+use Rattle.drum_tool.specs.Documents.{IsBounded}
+use Rattle.drum_tool.specs.Following.{CanBegin, AreGiven, AreOfRun, IsFollowed, IsFollowing, state_of}
 use Rattle.drum_tool.specs.Following.{waits_of, turn_of, used_so_far}
 use Rattle.drum_tool.specs.Replay.{Given, AreFed, LeavesAt, IsLeft}
 use Rattle.drum_tool.proofs.Leading.{lead_run, lead_fed, lead_more, lead_used, used_more}

@@ -1,13 +1,15 @@
 -- What an input gives, and how many reads failed of it.
 use Rattle.std.proofs.Common.{◌≡◌, ℕ, ◌+◌, ◌≤◌, suc, zero, List, Option, Some, None, Result, Ok, Err, IfErr, IfSome}
-use Rattle.std.proofs.Common.{length, refl, subst, arith}
+use Rattle.std.proofs.Common.{length, refl, inl, inr, ap, subst, arith}
 use Rattle.drum_core.specs.declared.deck.fault.DeckFault.TheVariants as deck
 use Rattle.drum_tool.specs.declared.documents.Documents.{Documents}
 use Rattle.drum_lines.specs.declared.fault.Fault.{Fault}
 use Rattle.drum_lines.specs.declared.fault.Fault.TheVariants.{NoPart, Part, Memory, Deck, Times, Notes, Inputs, Refused}
 use Rattle.drum_lines.specs.declared.fault.Fault.TheVariants.{Loaded}
+use Rattle.drum_lines.specs.declared.part.Part.TheVariants as part
+use Rattle.drum_lines.specs.declared.part.PartFault.TheVariants as what
 use Rattle.drum_lines.specs.FaultStatus.{failed_by, reads_failed}
-use Rattle.drum_tool.specs.Joined.{Gives, GivesNone, Joins, JoinsNone}
+use Rattle.drum_tool.specs.Joined.{Gives, GivesNone, IsPastLimit, Joins, JoinsNone}
 
 given_none : (bytes : List ℕ) (fault : Fault) → length bytes ≤ 16777216 → JoinsNone bytes fault → GivesNone bytes fault
 given_none bytes NoPart short is = (short, is)
@@ -63,3 +65,9 @@ joined_unread text (Err fault) is = unread text fault is
 pub unfailing : (old new failures : ℕ) → new ≡ old + failures → new ≤ old + 1 → (new ≡ old + 1 → ⊥) → failures ≡ 0
 unfailing old new zero is once never = refl
 unfailing old new (suc n) is once never = absurd (never (omega (arith, is, once)))
+
+-- a fault that is past the limit is, whatever there would be without it
+pub past_limit : {A B : Type 0} (fault : Fault) → IsPastLimit {A = A} (Err fault) → IsPastLimit {A = B} (Err fault)
+past_limit fault (inl is) =
+    let same : fault ≡ Part part.Input what.TooLong = cc in inl (ap (λ (f : Fault). Err f) same)
+past_limit fault (inr is) = let same : fault ≡ Memory = cc in inr (ap (λ (f : Fault). Err f) same)

@@ -1,14 +1,32 @@
 -- Replies to documents that may be given, or to a fault of theirs.
 use Rattle.std.proofs.Common.{◌≡◌, ℕ, ◌+◌, List, Option, Some, None, Result, Ok, Err, IfOk, IfErr, IfSome, refl, inl}
-use Rattle.std.proofs.Common.{inr, subst, arith}
+use Rattle.std.proofs.Common.{◌≢◌, inr, ap, sym, ◌∙◌, subst, arith}
+use Rattle.std.specs.Prelude.{string_bytes}
+use Rattle.drum_core.specs.declared.deck.fault.DeckFault.{DeckFault}
+use Rattle.drum_core.specs.declared.deck.fault.DeckFault.TheVariants as of_deck
+use Rattle.drum_times.specs.declared.fault.NoteFault.{NoteFault}
+use Rattle.drum_times.specs.declared.fault.NoteFault.TheVariants as of_note
+use Rattle.drum_inputs.specs.declared.fault.InputFault.{InputFault}
+use Rattle.drum_inputs.specs.declared.fault.InputFault.TheVariants as of_input
+use Rattle.drum_flow.specs.declared.refusal.Refusal.{Refusal}
+use Rattle.drum_flow.specs.declared.refusal.Refusal.TheVariants as refusal
+use Rattle.drum_command.specs.declared.command.Command.{Command}
+use Rattle.drum_command.specs.declared.refused.Refused.{Refused}
+use Rattle.drum_command.specs.declared.refused.Refused.TheVariants.{Help, Usage, Memory}
+use Rattle.drum_lines.specs.declared.status.Status as statuses
+use Rattle.drum_lines.specs.declared.status.Status.TheVariants as status
 use Rattle.drum_tool.specs.declared.documents.Documents.{Documents}
 use Rattle.drum_lines.specs.declared.fault.Fault.{Fault}
 use Rattle.drum_lines.specs.declared.fault.Fault.TheVariants as faults
 use Rattle.drum_flow.specs.Walk.{Setting}
 use Rattle.drum_tool.specs.Replay.{Given, IsReplayFault}
-use Rattle.drum_lines.specs.FaultStatus.{failed_by, reads_failed}
+use Rattle.drum_lines.specs.FaultStatus.{after_deck, after_input, after_note, after_refusal, failed_by, reads_failed}
+use Rattle.drum_lines.specs.FaultStatus.{status_after}
 use Rattle.drum_tool.specs.Documents.{IsAnalysisFault, IsBound}
-use Rattle.drum_tool.specs.Reply.{AnswersOn, IsFault, Reply, SaysBound, bound_reply, fault_reply}
+use Rattle.drum_tool.specs.Files.{AreTold}
+use Rattle.drum_tool.specs.Reply.{AnswersCommand, AnswersOn, IsFault, Reply, SaysBound, SaysTrace, TellsOfReads}
+use Rattle.drum_tool.specs.Reply.{bound_reply, breaks_off, complains, cut_reply, fault_reply, says, trace_reply}
+use Rattle.drum_tool.specs.Words.{refused_reply}
 
 module _ {Are : Documents → Type 0} {No : Fault → Type 0} where
   -- there is nothing to say of documents, for a fault of theirs
@@ -83,3 +101,92 @@ known left P bytes is p = subst (λ (l : Option (List ℕ)). IfSome l P) is p
 pub counted : (P : ℕ → Type 0) (old new failures n : ℕ) → new ≡ old + n → new ≡ old + failures → P n → P failures
 counted P old new failures n first second p =
     let same : n ≡ failures = omega (arith, first, second) in subst P same p
+
+-- a result is no fault's line
+pub result_of_no_read : (text : List ℕ) (ends : statuses.Status) → TellsOfReads 0 (says text ends)
+result_of_no_read text ends = inr (refl, λ fault is. cc)
+
+-- nor is a text that is given up
+pub trace_of_no_read : (g : Setting) (given : Given) (reply : Reply) → SaysTrace g given reply → TellsOfReads 0 reply
+trace_of_no_read g given reply (inl (turns, verdict, traced, is)) = inr (
+  refl,
+  λ fault clash.
+      let bad : trace_reply g turns verdict ≡ fault_reply fault = sym is ∙ clash in cc,
+)
+trace_of_no_read g given reply (inr (turns, replayed, is)) = inr (
+  refl,
+  λ fault clash.
+      let bad : cut_reply g turns ≡ fault_reply fault = sym is ∙ clash in cc,
+)
+
+-- a fault's line tells of as many as the fault does
+pub fault_of_reads : (fault : Fault) → TellsOfReads (reads_failed fault) (fault_reply fault)
+fault_of_reads fault = inl (fault, refl, refl)
+
+-- after no fault the program ends as it does where the words are wrong
+after_deck_fault : (fault : DeckFault) → after_deck fault ≢ status.Usage
+after_deck_fault of_deck.Read = λ is. cc
+after_deck_fault of_deck.Memory = λ is. cc
+after_deck_fault (of_deck.Card line) = λ is. cc
+after_deck_fault (of_deck.Twice location) = λ is. cc
+after_deck_fault of_deck.NoStart = λ is. cc
+after_deck_fault (of_deck.TwoStarts line) = λ is. cc
+after_deck_fault (of_deck.PastDrum line) = λ is. cc
+after_deck_fault of_deck.TooLong = λ is. cc
+
+after_note_fault : (fault : NoteFault) → after_note fault ≢ status.Usage
+after_note_fault of_note.Toml = λ is. cc
+after_note_fault of_note.Memory = λ is. cc
+after_note_fault (of_note.Missing key) = λ is. cc
+after_note_fault (of_note.Unknown key) = λ is. cc
+after_note_fault (of_note.Range key) = λ is. cc
+after_note_fault (of_note.Kind key) = λ is. cc
+after_note_fault (of_note.TwoMarks from onto) = λ is. cc
+after_note_fault (of_note.TwoLists location) = λ is. cc
+
+after_input_fault : (fault : InputFault) → after_input fault ≢ status.Usage
+after_input_fault of_input.Read = λ is. cc
+after_input_fault of_input.Memory = λ is. cc
+after_input_fault (of_input.Line line) = λ is. cc
+after_input_fault (of_input.Repeated line) = λ is. cc
+after_input_fault (of_input.PastDrum line) = λ is. cc
+after_input_fault of_input.TooLong = λ is. cc
+
+after_refusal_fault : (fault : Refusal) → after_refusal fault ≢ status.Usage
+after_refusal_fault refusal.Memory = λ is. cc
+after_refusal_fault (refusal.NotInProfile location op) = λ is. cc
+after_refusal_fault (refusal.NotLoaded location) = λ is. cc
+after_refusal_fault (refusal.Alters writer word) = λ is. cc
+after_refusal_fault (refusal.Unbounded cycle) = λ is. cc
+after_refusal_fault (refusal.TooLarge product) = λ is. cc
+
+after_fault : (fault : Fault) → status_after fault ≢ status.Usage
+after_fault faults.NoPart = λ is. cc
+after_fault (faults.Part part what) = λ is. cc
+after_fault faults.Memory = λ is. cc
+after_fault (faults.Deck fault) = after_deck_fault fault
+after_fault (faults.Times fault) = after_note_fault fault
+after_fault (faults.Notes fault) = after_note_fault fault
+after_fault (faults.Inputs fault) = after_input_fault fault
+after_fault (faults.Refused refused) = after_refusal_fault refused
+after_fault (faults.Loaded location) = λ is. cc
+
+abbrev status_in : Reply → statuses.Status
+status_in (says text ends) = ends
+status_in (complains text ends) = ends
+status_in (breaks_off text) = status.Failed
+
+-- so what is wrong with words is no fault's line
+pub usage_of_no_read : (text : List ℕ) → TellsOfReads 0 (complains text status.Usage)
+usage_of_no_read text = inr (refl, λ fault clash. after_fault fault (sym (ap status_in clash)))
+
+pub refused_of_no_read : (refused : Refused) → TellsOfReads 0 (refused_reply refused)
+refused_of_no_read (Help text) = result_of_no_read (string_bytes text) status.Done
+refused_of_no_read (Usage text) = usage_of_no_read (string_bytes text)
+refused_of_no_read Memory = fault_of_reads faults.Memory
+
+-- what holds of the reply to a command where so many reads failed
+abbrev pub Replied : (List ℕ → Option (Option (List ℕ))) → Command → Reply → ℕ → Type 0
+Replied files command reply failures =
+    TellsOfReads failures reply
+    × ((held : List ℕ → Option (List ℕ)) → AreTold files held → AnswersCommand held command failures reply)

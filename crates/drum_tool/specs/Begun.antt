@@ -9,7 +9,8 @@ use Rattle.drum_bound.specs.Worst.{IsWorst}
 use Rattle.drum_lines.specs.declared.verdict.Verdict.{Verdict}
 use Rattle.drum_lines.specs.declared.verdict.Verdict.TheVariants.{Left}
 use Rattle.drum_tool.specs.declared.replaying.Begun.{Begun}
-use Rattle.drum_tool.specs.Following.{AreGiven, CanBegin, IsBounded, IsFollowing, state_of, waits_of}
+use Rattle.drum_tool.specs.Documents.{IsBounded}
+use Rattle.drum_tool.specs.Following.{AreGiven, CanBegin, IsFollowing, state_of, waits_of}
 use Rattle.drum_tool.specs.Replay.{Given}
 
 -- the verdict on a run that leaves the notes before any step

@@ -1,6 +1,6 @@
 -- The documents of a program, a deck, a timing table and notes: what is known of them, and which
 -- texts say them.
-use Rattle.std.specs.Prelude.{ℕ, List}
+use Rattle.std.specs.Prelude.{ℕ, ◌≤◌, List}
 use Rattle.drum_core.specs.declared.deck.Deck.{Deck}
 use Rattle.drum_core.specs.declared.deck.fault.DeckFault.{DeckFault}
 use Rattle.drum_core.specs.declared.deck.fault.DeckFault.TheVariants as of_deck
@@ -9,7 +9,11 @@ use Rattle.drum_core.specs.Holds.{IsDeckOf}
 use Rattle.drum_core.specs.Loads.{loads_in, start_in}
 use Rattle.drum_times.specs.declared.times.Times.{Times}
 use Rattle.drum_times.specs.Says.{SayTimes, SayNotes, AreNoTimes, AreNoNotes}
+use Rattle.drum_machine.specs.Keeps.{IsKept}
+use Rattle.drum_machine.specs.Run.{Turn, IsRun, IsFirstState, used_from}
+use Rattle.drum_machine.specs.Step.{State}
 use Rattle.drum_flow.specs.Acceptance.{IsRefusal}
+use Rattle.drum_flow.specs.Accepted.{IsFixed}
 use Rattle.drum_flow.specs.Walk.{Setting}
 use Rattle.drum_bound.specs.AnalysisOf.{setting}
 use Rattle.drum_bound.specs.Visited.{Visited, IsWalkOf}
@@ -17,11 +21,16 @@ use Rattle.drum_bound.specs.Worst.{IsWorst}
 use Rattle.drum_tool.specs.declared.documents.Documents.{Documents}
 use Rattle.drum_lines.specs.declared.fault.Fault.{Fault}
 use Rattle.drum_lines.specs.declared.fault.Fault.TheVariants as fault
-use Rattle.drum_tool.specs.Following.{IsBounded}
 
 -- what their walks are in
 abbrev pub setting_of : Documents → Setting
 setting_of documents = setting documents.deck documents.times documents.notes
+
+-- each run that keeps to the notes uses so many word times at most
+abbrev pub IsBounded : Setting → ℕ → Type 0
+IsBounded g bound = (s : State) (steps : List Turn)
+    → IsFirstState g.loads (IsFixed g.loads g.notes g.start) g.start s
+    → IsRun g.times s steps → IsKept g.loads g.notes s steps → used_from 0 steps ≤ bound
 
 -- Their bound: some walk takes this time and none takes more, and no run that keeps to the notes
 -- ever uses more.

@@ -4,22 +4,16 @@ use Rattle.drum_core.specs.declared.op.Op.{Op}
 use Rattle.drum_times.specs.declared.entry.Entry.{Entry}
 use Rattle.drum_machine.specs.Feed.{cards_left, waits_left}
 use Rattle.drum_machine.specs.FirstState.{IsSetUp}
-use Rattle.drum_machine.specs.Keeps.{IsAsDeclared, IsKept}
+use Rattle.drum_machine.specs.Keeps.{IsAsDeclared}
 use Rattle.drum_machine.specs.Machine.{GoesOn, op_in, state_in, used_by, wait_with, waits_with}
 use Rattle.drum_machine.specs.Monitor.{HasSeen, answer_of}
-use Rattle.drum_machine.specs.Run.{Turn, IsRun, IsTurn, IsFirstState, used_from}
+use Rattle.drum_machine.specs.Run.{Turn, IsTurn, IsFirstState}
 use Rattle.drum_machine.specs.Step.{State, Stepped, on, stopped, step}
 use Rattle.drum_flow.specs.Accepted.{IsFixed}
 use Rattle.drum_flow.specs.Walk.{Setting}
 use Rattle.drum_lines.specs.declared.verdict.Verdict.{Verdict}
 use Rattle.drum_tool.specs.declared.following.Following.{Following}
 use Rattle.drum_tool.specs.Replay.{Given, IsReplayed, IsVerdict, used_in}
-
--- each run that keeps to the notes uses so many word times at most
-abbrev pub IsBounded : Setting → ℕ → Type 0
-IsBounded g bound = (s : State) (steps : List Turn)
-    → IsFirstState g.loads (IsFixed g.loads g.notes g.start) g.start s
-    → IsRun g.times s steps → IsKept g.loads g.notes s steps → used_from 0 steps ≤ bound
 
 -- a state in which a kept run may begin
 pub record CanBegin (g : Setting) (s : State) : Type 0 where

@@ -1,6 +1,6 @@
 -- The joined form (this project's choice): a deck, a timing table and notes in one text, told apart
 -- by lines.
-use Rattle.std.specs.Prelude.{◌≡◌, ℕ, ◌<◌, ◌≤◌, List, [], ◌++◌, codes, length, Contains, ◌⊎◌}
+use Rattle.std.specs.Prelude.{◌≡◌, ℕ, ◌<◌, ◌≤◌, List, [], ◌++◌, codes, length, Contains, ◌⊎◌, Result, IsErrOf}
 use Rattle.drum_core.specs.Lines.{lines_of}
 use Rattle.drum_tool.specs.declared.documents.Documents.{Documents}
 use Rattle.drum_lines.specs.declared.fault.Fault.{Fault}
@@ -58,3 +58,8 @@ GivesNone bytes (fault.Part part.Input what.Read) = Unit {0}
 GivesNone bytes (fault.Part part.Input what.TooLong) = 16777216 < length bytes
 GivesNone bytes fault.Memory = Unit {0}
 GivesNone bytes one = (length bytes ≤ 16777216) × JoinsNone bytes one
+
+-- the input is past its limit, or memory was wanting
+abbrev pub IsPastLimit : {A : Type 0} → Result A Fault → Type 0
+IsPastLimit result =
+    IsErrOf result (fault.Part part.Input what.TooLong) ⊎ IsErrOf result fault.Memory

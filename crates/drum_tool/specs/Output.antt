@@ -19,20 +19,21 @@ GetsAll before after text =
     Appends before.written after.written text × (after.failures ≡ before.failures)
 
 -- a write fails, and it has got a prefix of the text
-abbrev pub GetsFront : Device → Device → List ℕ → Type 0
-GetsFront before after text =
+abbrev pub GetsPrefix : Device → Device → List ℕ → Type 0
+GetsPrefix before after text =
     (count : ℕ) × (count < length text) × Appends before.written after.written (take count text)
     × (after.failures ≡ before.failures + 1)
 
 -- of a complaint it gets all, or a prefix
 abbrev pub GetsComplaint : Device → Device → List ℕ → Type 0
-GetsComplaint before after text = GetsAll before after text ⊎ GetsFront before after text
+GetsComplaint before after text = GetsAll before after text ⊎ GetsPrefix before after text
 
--- of a result too, and the program ends as the result says, or it has failed with the write
+-- of a result it gets all, and the program ends as the result says; or a prefix, and the program has
+-- failed
 abbrev pub GetsResult : Device → Device → List ℕ → Status → Status → Type 0
 GetsResult before after text done status =
     (GetsAll before after text × (status ≡ done))
-    ⊎ (GetsFront before after text × (status ≡ Failed))
+    ⊎ (GetsPrefix before after text × (status ≡ Failed))
 
 -- how the program ends once a result was written
 abbrev pub ended_with : {A E : Type 0} → Result A E → Status → Status
@@ -48,4 +49,4 @@ Tells (says text done) out out' err err' status =
 Tells (complains text after) out out' err err' status =
     (out' ≡ out) × GetsComplaint err err' text × (status ≡ after)
 Tells (breaks_off text) out out' err err' status =
-    GetsFront out out' text × (status ≡ Failed) × (err' ≡ err)
+    GetsPrefix out out' text × (status ≡ Failed) × (err' ≡ err)

@@ -1,5 +1,5 @@
 -- What the program has to say, and when it says it (this project's choice).
-use Rattle.std.specs.Prelude.{◌≡◌, ℕ, List, ◌++◌, Option, ◌⊎◌}
+use Rattle.std.specs.Prelude.{◌≡◌, ◌≢◌, ℕ, List, ◌++◌, Option, ◌⊎◌}
 use Rattle.drum_times.specs.Entries.{entry_in}
 use Rattle.drum_machine.specs.Run.{Turn}
 use Rattle.drum_flow.specs.Walk.{Setting}
@@ -53,6 +53,13 @@ picture_reply picture = says picture Done
 abbrev pub fault_reply : Fault → Reply
 fault_reply fault = complains (fault_text fault) (status_after fault)
 
+-- That so many reads failed is told by the reply: it is the line of a fault that tells of as many; or
+-- none failed, and it is no fault's line.
+abbrev pub TellsOfReads : ℕ → Reply → Type 0
+TellsOfReads failures reply =
+    ((fault : Fault) × (failures ≡ reads_failed fault) × (reply ≡ fault_reply fault))
+    ⊎ ((failures ≡ 0) × ((fault : Fault) → reply ≢ fault_reply fault))
+
 -- a verdict, with the turns of its run before it, and turns alone, on which a write fails
 abbrev pub verdict_reply : Verdict → Reply
 verdict_reply verdict = says (verdict_text verdict) (status_of verdict)
@@ -104,25 +111,25 @@ SaysTrace g given reply =
 
 -- ---- to commands
 
--- a fault of documents, where these may be given or there are none for these faults
+-- why there are no documents, or why the analysis refuses those that there are
 abbrev pub IsFault : (Documents → Type 0) → (Fault → Type 0) → Fault → Type 0
-IsFault Are None fault =
-    None fault ⊎ ((documents : Documents) × Are documents × IsAnalysisFault documents fault)
+IsFault Are AreNone fault =
+    AreNone fault ⊎ ((documents : Documents) × Are documents × IsAnalysisFault documents fault)
 
 -- To a command on documents, where so many reads failed: what it says of them, or why there is
 -- nothing to say.
 abbrev pub AnswersOn : (Documents → Reply → Type 0) → (Documents → Type 0) → (Fault → Type 0)
     → ℕ → Reply → Type 0
-AnswersOn Says Are None failures reply =
+AnswersOn Says Are AreNone failures reply =
     ((documents : Documents) × Are documents × (failures ≡ 0) × Says documents reply)
-    ⊎ ((fault : Fault) × IsFault Are None fault
+    ⊎ ((fault : Fault) × IsFault Are AreNone fault
     × (failures ≡ reads_failed fault) × (reply ≡ fault_reply fault))
 
--- a fault of a replay: of the documents; else of the inputs; else of both
+-- why there are no documents, else why there are no inputs, else why there is no replay
 abbrev pub IsFaultWith : (Documents → Type 0) → (Fault → Type 0) → (Inputs → Type 0)
     → (Fault → Type 0) → Fault → Type 0
-IsFaultWith Are None AreInputs NoInputs fault =
-    None fault
+IsFaultWith Are AreNone AreInputs NoInputs fault =
+    AreNone fault
     ⊎ ((documents : Documents) × Are documents × (NoInputs fault
     ⊎ ((inputs : Inputs) × AreInputs inputs
     × IsReplayFault (setting_of documents) (given inputs) fault)))
@@ -131,10 +138,10 @@ IsFaultWith Are None AreInputs NoInputs fault =
 -- nothing to say.
 abbrev pub AnswersRun : (Setting → Given → Reply → Type 0) → (Documents → Type 0)
     → (Fault → Type 0) → (Inputs → Type 0) → (Fault → Type 0) → ℕ → Reply → Type 0
-AnswersRun Says Are None AreInputs NoInputs failures reply =
+AnswersRun Says Are AreNone AreInputs NoInputs failures reply =
     ((documents : Documents) × Are documents × (inputs : Inputs) × AreInputs inputs
     × (failures ≡ 0) × Says (setting_of documents) (given inputs) reply)
-    ⊎ ((fault : Fault) × IsFaultWith Are None AreInputs NoInputs fault
+    ⊎ ((fault : Fault) × IsFaultWith Are AreNone AreInputs NoInputs fault
     × (failures ≡ reads_failed fault) × (reply ≡ fault_reply fault))
 
 -- the reply to a joined form, where so many reads failed

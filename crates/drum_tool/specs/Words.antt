@@ -8,6 +8,7 @@ use Rattle.drum_command.specs.Line.{drum650, said_by, said_by_words}
 use Rattle.drum_command.specs.Refusal.{FitsAmong}
 use Rattle.drum_lines.specs.declared.fault.Fault.TheVariants as fault
 use Rattle.drum_lines.specs.declared.status.Status.TheVariants as status
+use Rattle.drum_tool.specs.Files.{AreTold}
 use Rattle.drum_tool.specs.Reply.{Reply, says, complains, fault_reply, AnswersCommand, AnswersJoined}
 
 -- the reply to words that name no command: help, or what is wrong with them
@@ -22,14 +23,16 @@ pub record AreRefused (words : List Text) (refused : Refused) : Type 0 where
   pub fits : FitsAmong (fault_of drum650 words) refused
   pub taken : takes drum650 words ≡ true → refused ≡ Memory
 
--- The reply to words, where the input gives these bytes, files hold these, and so many reads of
--- them failed: with no words that to the joined form; else that to the command that clap finds in
--- them; else why they are refused.
-abbrev pub Answers :
-    List Text → List ℕ → ℕ → (List ℕ → Option (List ℕ)) → Reply → Type 0
-Answers [] bytes failures held reply = AnswersJoined bytes failures reply
-Answers (word ∷ words) bytes failures held reply =
+-- The reply to words, where this is told of the input and of files, and so many reads of them failed:
+-- with no words that to the joined form, whose bytes are told; else that to the command that clap
+-- finds in them, whose files are told; else why they are refused.
+abbrev pub Answers : List Text → Option (List ℕ) → (List ℕ → Option (Option (List ℕ))) → ℕ → Reply
+    → Type 0
+Answers [] input files failures reply =
+    (bytes : List ℕ) → input ≡ Some bytes → AnswersJoined bytes failures reply
+Answers (word ∷ words) input files failures reply =
     ((command : Command) × (said_by_words (word ∷ words) ≡ Some (said_by command))
-    × AnswersCommand held command failures reply)
+    × ((held : List ℕ → Option (List ℕ)) → AreTold files held
+    → AnswersCommand held command failures reply))
     ⊎ ((refused : Refused) × AreRefused (word ∷ words) refused
     × (failures ≡ 0) × (reply ≡ refused_reply refused))

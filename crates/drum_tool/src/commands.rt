@@ -18,6 +18,7 @@ ghost use Rattle.drum_tool.specs.Reply.{
   SaysPicture,
   SaysTrace,
   SaysVerdict,
+  TellsOfReads,
   fault_reply,
   picture_reply,
   verdict_reply,
@@ -189,10 +190,10 @@ pub fn obey<S: Source, O: Output, E: Output>(
         (device (O.written out.new) (O.failed out.new))
         (device (E.written err.old) (E.failed err.old))
         (device (E.written err.new) (E.failed err.new)) result
-        × ((held : List ℕ → Option (List ℕ)) (failures : ℕ)
-        → AreTold (S.file source.old) held
-        → S.failed source.new ≡ S.failed source.old + failures
-        → AnswersCommand held command.entry failures reply) }
+        × ((failures : ℕ) → S.failed source.new ≡ S.failed source.old + failures
+        → TellsOfReads failures reply
+        × ((held : List ℕ → Option (List ℕ)) → AreTold (S.file source.old) held
+        → AnswersCommand held command.entry failures reply)) }
 {
     match command {
         Command::Bound(files) => match analysis(alloc, source, files) {

@@ -47,8 +47,8 @@ fn read_part<S: Source>(
     requires few { S.failed source.old ≤ 2 ^ 62 }
     ensures stays { S.file source.new ≡ S.file source.old }
     ensures counted { S.failed source.new ≡ S.failed source.old + failed_by result }
-    ensures bytes { IfOk result (λ text. (file : Option (List ℕ))
-        → S.file source.old name.now ≡ Some file → Holds file text.items) }
+    ensures bytes { IfOk result (λ bytes. (file : Option (List ℕ))
+        → S.file source.old name.now ≡ Some file → Holds file bytes.items) }
     ensures fault { IfErr result (λ fault. (file : Option (List ℕ))
         → S.file source.old name.now ≡ Some file → HoldsNone part file fault) }
 {
@@ -91,8 +91,8 @@ fn times_of<S: Source>(alloc: Global, source: &mut S, name: &str) -> Result<Time
     ensures fault { IfErr result (λ fault. (file : Option (List ℕ))
         → S.file source.old name.now ≡ Some file → HoldsNoTimes file fault) }
 {
-    let text = read_part(alloc, source, Part::Times, name)?;
-    match read_times(alloc, &text) {
+    let bytes = read_part(alloc, source, Part::Times, name)?;
+    match read_times(alloc, &bytes) {
         Ok(times) => Ok(times),
         Err(fault) => Err(Fault::Times(fault)),
     }
@@ -108,8 +108,8 @@ fn notes_of<S: Source>(alloc: Global, source: &mut S, name: &str) -> Result<Note
     ensures fault { IfErr result (λ fault. (file : Option (List ℕ))
         → S.file source.old name.now ≡ Some file → HoldsNoNotes file fault) }
 {
-    let text = read_part(alloc, source, Part::Notes, name)?;
-    match read_notes(alloc, &text) {
+    let bytes = read_part(alloc, source, Part::Notes, name)?;
+    match read_notes(alloc, &bytes) {
         Ok(notes) => Ok(notes),
         Err(fault) => Err(Fault::Notes(fault)),
     }

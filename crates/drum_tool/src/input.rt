@@ -2,7 +2,7 @@
 
 ghost use Rattle.std.specs.Prelude.{◌≡◌, ◌+◌, ◌^◌, ◌≤◌, ℕ, IfOk, IfErr, IfSome};
 ghost use Rattle.drum_lines.specs.FaultStatus.{failed_by};
-ghost use Rattle.drum_tool.specs.Joined.{Gives, GivesNone, Joins, JoinsNone};
+ghost use Rattle.drum_tool.specs.Joined.{Gives, GivesNone, IsPastLimit, Joins, JoinsNone};
 
 use crate::documents::Documents;
 use crate::held::Held;
@@ -56,6 +56,7 @@ impl Documents {
             IfSome (I.left input.old) (λ bytes. GivesNone bytes fault)) }
         ensures counted { (failures : ℕ) → I.failed input.new ≡ I.failed input.old + failures
             → failures ≡ failed_by result }
+        ensures full { I.given input.new ≡ I.given input.old + 16777217 → IsPastLimit result }
         ensures asked { I.called input.new ≤ I.called input.old + 16777217 }
         ensures taken { I.given input.new ≤ I.given input.old + 16777217 }
         ensures each { I.called input.new + I.given input.old

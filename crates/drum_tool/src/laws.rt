@@ -1,6 +1,6 @@
 //! Laws of the definitions, each the contract of a function that does nothing.
 
-ghost use Rattle.std.specs.Prelude.{◌≡◌, ℕ, List, [], ◌∷◌, Option, codes, length, take};
+ghost use Rattle.std.specs.Prelude.{◌≡◌, ℕ, List, [], ◌∷◌, Option, Some, codes, length, take};
 ghost use Rattle.clap.specs.Words.{Text};
 ghost use Rattle.drum_machine.specs.Run.{Turn};
 ghost use Rattle.drum_flow.specs.Walk.{Setting};
@@ -8,6 +8,7 @@ ghost use Rattle.drum_lines.specs.declared.status.Status.{Status};
 ghost use Rattle.drum_lines.specs.declared.status.Status.TheVariants.{Done};
 ghost use Rattle.drum_lines.specs.declared.verdict.Verdict.{Verdict};
 ghost use Rattle.drum_lines.specs.BoundText.{bound_text};
+ghost use Rattle.drum_tool.specs.Files.{AreTold};
 ghost use Rattle.drum_tool.specs.Replay.{Given, IsReplayed, IsVerdict};
 ghost use Rattle.drum_tool.specs.Reply.{says};
 ghost use Rattle.drum_tool.specs.Told.{AreNames, IsBoundOfFiles, IsBoundOfJoined};
@@ -35,10 +36,11 @@ pub fn one_verdict()
 /// A result that `bound` writes, with the names of three files, is the line of their bound, the
 /// worst of what they hold.
 pub fn bound_is_of_the_files()
-    ensures { (deck times notes : Text) (bytes : List ℕ) (failures : ℕ)
-        (held : List ℕ → Option (List ℕ)) (text : List ℕ) (status : Status)
-        → AreNames (deck ∷ times ∷ notes ∷ [])
-        → Answers (codes "bound" ∷ deck ∷ times ∷ notes ∷ []) bytes failures held
+    ensures { (deck times notes : Text) (input : Option (List ℕ))
+        (files : List ℕ → Option (Option (List ℕ))) (failures : ℕ) (text : List ℕ) (status : Status)
+        (held : List ℕ → Option (List ℕ)) → AreNames (deck ∷ times ∷ notes ∷ [])
+        → AreTold files held
+        → Answers (codes "bound" ∷ deck ∷ times ∷ notes ∷ []) input files failures
         (says text status)
         → (bound : ℕ) × IsBoundOfFiles held deck times notes bound
         × (text ≡ bound_text bound) × (status ≡ Done) }
@@ -48,9 +50,9 @@ pub fn bound_is_of_the_files()
 
 /// A result that is written with no words is the line of the bound of the joined form.
 pub fn bound_is_of_the_input()
-    ensures { (bytes : List ℕ) (failures : ℕ) (held : List ℕ → Option (List ℕ))
+    ensures { (bytes : List ℕ) (files : List ℕ → Option (Option (List ℕ))) (failures : ℕ)
         (text : List ℕ) (status : Status)
-        → Answers [] bytes failures held (says text status)
+        → Answers [] (Some bytes) files failures (says text status)
         → (bound : ℕ) × IsBoundOfJoined bytes bound
         × (text ≡ bound_text bound) × (status ≡ Done) }
 {}

@@ -3,9 +3,9 @@
 ghost use Rattle.std.specs.Prelude.{◌≡◌, ◌+◌, ◌^◌, ◌<◌, ◌≤◌, ℕ, List, Option, Some, IfOk, IfErr, IfSome, length};
 ghost use Rattle.clap.specs.Walk.{texts};
 ghost use Rattle.drum_lines.specs.FaultStatus.{failed_by, reads_failed};
-ghost use Rattle.drum_tool.specs.Files.{AreTold};
+ghost use Rattle.drum_tool.specs.Joined.{IsPastLimit};
 ghost use Rattle.drum_tool.specs.Output.{Tells, device};
-ghost use Rattle.drum_tool.specs.Reply.{AnswersJoined, Reply, bound_reply, fault_reply};
+ghost use Rattle.drum_tool.specs.Reply.{AnswersJoined, Reply, TellsOfReads, bound_reply, fault_reply};
 ghost use Rattle.drum_command.specs.Refusal.{IsShort};
 ghost use Rattle.drum_tool.specs.Words.{Answers, refused_reply};
 
@@ -27,6 +27,7 @@ fn joined_bound<I: Input>(alloc: Global, input: &mut I) -> Result<u64, Fault>
         AnswersJoined bytes (reads_failed fault) (fault_reply fault))) }
     ensures counted { (failures : ℕ) → I.failed input.new ≡ I.failed input.old + failures
         → failures ≡ failed_by result }
+    ensures full { I.given input.new ≡ I.given input.old + 16777217 → IsPastLimit result }
     ensures asked { I.called input.new ≤ I.called input.old + 16777217 }
     ensures taken { I.given input.new ≤ I.given input.old + 16777217 }
     ensures each { I.called input.new + I.given input.old
@@ -56,9 +57,11 @@ pub fn run_joined<I: Input, O: Output, E: Output>(
         (device (O.written out.new) (O.failed out.new))
         (device (E.written err.old) (E.failed err.old))
         (device (E.written err.new) (E.failed err.new)) result
-        × ((bytes : List ℕ) (failures : ℕ)
-        → I.left input.old ≡ Some bytes → I.failed input.new ≡ I.failed input.old + failures
-        → AnswersJoined bytes failures reply) }
+        × ((failures : ℕ) → I.failed input.new ≡ I.failed input.old + failures
+        → TellsOfReads failures reply
+        × ((bytes : List ℕ) → I.left input.old ≡ Some bytes
+        → AnswersJoined bytes failures reply)) }
+    ensures full { I.given input.new ≡ I.given input.old + 16777217 → result ≡ Status.Failed }
     ensures asked { I.called input.new ≤ I.called input.old + 16777217 }
     ensures taken { I.given input.new ≤ I.given input.old + 16777217 }
     ensures each { I.called input.new + I.given input.old
@@ -109,11 +112,11 @@ pub fn run<'a, S: Source, I: Input, O: Output, E: Output>(
         (device (O.written out.new) (O.failed out.new))
         (device (E.written err.old) (E.failed err.old))
         (device (E.written err.new) (E.failed err.new)) result
-        × ((bytes : List ℕ) (failures : ℕ) (held : List ℕ → Option (List ℕ))
-        → I.left input.old ≡ Some bytes → AreTold (S.file source.old) held
-        → I.failed input.new + S.failed source.new
+        × ((failures : ℕ) → I.failed input.new + S.failed source.new
         ≡ I.failed input.old + S.failed source.old + failures
-        → Answers (texts words.entry.now) bytes failures held reply) }
+        → TellsOfReads failures reply
+        × Answers (texts words.entry.now) (I.left input.old) (S.file source.old) failures reply) }
+    ensures full { I.given input.new ≡ I.given input.old + 16777217 → result ≡ Status.Failed }
     ensures asked { I.called input.new ≤ I.called input.old + 16777217 }
     ensures taken { I.given input.new ≤ I.given input.old + 16777217 }
     ensures each { I.called input.new + I.given input.old

@@ -108,7 +108,7 @@ pub fn tell_trace<O: Output>(out: &mut O, documents: &Documents, begun: Begun) -
     }
 }
 
-/// As [`tell_fault`], of a fault that is done with then.
+/// As [`tell_fault`], and the fault is dropped.
 pub fn complain<E: Output>(err: &mut E, fault: Fault) -> Status
     requires { E.called err.old ≤ 2 ^ 62 }
     ensures line { GetsComplaint (device (E.written err.old) (E.failed err.old))

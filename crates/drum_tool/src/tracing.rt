@@ -7,11 +7,10 @@ ghost use Rattle.drum_bound.specs.AnalysisOf.{setting};
 ghost use Rattle.drum_lines.specs.Sent.{IsWritten, fails_by};
 ghost use Rattle.drum_listing.specs.TraceText.{turn_lines};
 ghost use Rattle.drum_tool.specs.Begun.{IsBegun, IsReady};
-ghost use Rattle.drum_tool.specs.Documents.{setting_of};
+ghost use Rattle.drum_tool.specs.Documents.{IsBounded, setting_of};
 ghost use Rattle.drum_tool.specs.Following.{
   AreOfRun,
   CanBegin,
-  IsBounded,
   IsFollowed,
   IsFollowing,
   state_of,

@@ -5,9 +5,9 @@ use Rattle.drum_lines.specs.FaultStatus.{reads_failed}
 use Rattle.drum_lines.specs.declared.status.Status.TheVariants.{Done}
 use Rattle.drum_tool.specs.Documents.{IsBound}
 use Rattle.drum_tool.specs.Output.{GetsResult, device}
-use Rattle.drum_tool.specs.Reply.{AnswersCommand, bound_reply, fault_reply, picture_reply, report_reply, verdict_reply}
+use Rattle.drum_tool.specs.Reply.{bound_reply, fault_reply, picture_reply, report_reply, verdict_reply}
 use Rattle.drum_tool.specs.Reply.{walk_reply}
-use Rattle.drum_tool.proofs.Replies.{counted}
+use Rattle.drum_tool.proofs.Replies.{Replied, counted, fault_of_reads, result_of_no_read, trace_of_no_read}
 use Rattle.drum_tool.proofs.commands.obey.Goals as goal
 
 pub returns-in-Ok : goal.returns-in-Ok
@@ -18,9 +18,9 @@ returns-in-Ok g c =
     let reply = bound_reply c.bound.result in (
       reply,
       (c.tell_bound.ensures, refl),
-      (λ held failures told count.
-          counted (λ (n : ℕ). AnswersCommand held c.args.command n reply) _ _ failures 0 c.in-Ok.ensures.counted count
-          (rw c.in-Bound.is (inl (documents, c.in-Ok.ensures.held held told, refl, (c.bound.result, is, refl))))),
+      (λ failures count.
+          counted (Replied (g.S.Source.file c.args.source.now) c.args.command reply) _ _ failures 0 c.in-Ok.ensures.counted count
+          (result_of_no_read _ _, λ held told. rw c.in-Bound.is (inl (documents, c.in-Ok.ensures.held held told, refl, (c.bound.result, is, refl))))),
     )
 
 pub returns-in-Bound : goal.returns-in-Bound
@@ -28,10 +28,10 @@ returns-in-Bound g c =
     let fault = c.in-Err.fault in (
       fault_reply fault,
       (refl, c.complain.ensures.line, c.complain.ensures.status),
-      (λ held failures told count.
-          counted (λ (n : ℕ). AnswersCommand held c.args.command n (fault_reply fault)) _ _ failures
+      (λ failures count.
+          counted (Replied (g.S.Source.file c.args.source.now) c.args.command (fault_reply fault)) _ _ failures
           (reads_failed fault) c.in-Err.ensures.counted count
-          (rw c.in-Bound.is (inr (fault, c.in-Err.ensures.fault held told, refl, refl)))),
+          (fault_of_reads fault, λ held told. rw c.in-Bound.is (inr (fault, c.in-Err.ensures.fault held told, refl, refl)))),
     )
 
 pub returns-in-Ok-analysis : goal.returns-in-Ok-analysis
@@ -41,22 +41,24 @@ returns-in-Ok-analysis g c =
     let reply = report_reply documents (visits_of analysis) in (
       reply,
       (c.tell_report.ensures, refl),
-      (λ held failures told count.
-          counted (λ (n : ℕ). AnswersCommand held c.args.command n reply) _ _ failures 0
-          c.in-Ok-analysis.ensures.counted count
-          (rw c.in-Report.is (inl (
-            documents,
-            c.in-Ok-analysis.ensures.held held told,
-            refl,
-            (
-              bound_of analysis,
-              c.in-Ok-analysis.ensures.bound,
-              angle_of analysis,
-              visits_of analysis,
-              c.in-Ok-analysis.ensures.walk,
+      (λ failures count.
+          counted (Replied (g.S.Source.file c.args.source.now) c.args.command reply) _ _ failures 0
+          c.in-Ok-analysis.ensures.counted count (
+            result_of_no_read _ _,
+            λ held told. rw c.in-Report.is (inl (
+              documents,
+              c.in-Ok-analysis.ensures.held held told,
               refl,
-            ),
-          )))),
+              (
+                bound_of analysis,
+                c.in-Ok-analysis.ensures.bound,
+                angle_of analysis,
+                visits_of analysis,
+                c.in-Ok-analysis.ensures.walk,
+                refl,
+              ),
+            )),
+          )),
     )
 
 pub returns-in-Report : goal.returns-in-Report
@@ -64,10 +66,10 @@ returns-in-Report g c =
     let fault = c.in-Err-analysis.fault in (
       fault_reply fault,
       (refl, c.complain-in-Err-analysis.ensures.line, c.complain-in-Err-analysis.ensures.status),
-      (λ held failures told count.
-          counted (λ (n : ℕ). AnswersCommand held c.args.command n (fault_reply fault)) _ _ failures
+      (λ failures count.
+          counted (Replied (g.S.Source.file c.args.source.now) c.args.command (fault_reply fault)) _ _ failures
           (reads_failed fault) c.in-Err-analysis.ensures.counted count
-          (rw c.in-Report.is (inr (fault, c.in-Err-analysis.ensures.fault held told, refl, refl)))),
+          (fault_of_reads fault, λ held told. rw c.in-Report.is (inr (fault, c.in-Err-analysis.ensures.fault held told, refl, refl)))),
     )
 
 pub returns-in-Ok-analysis-2 : goal.returns-in-Ok-analysis-2
@@ -77,22 +79,24 @@ returns-in-Ok-analysis-2 g c =
     let reply = walk_reply documents (angle_of analysis) (visits_of analysis) (bound_of analysis) in (
       reply,
       (c.tell_walk.ensures, refl),
-      (λ held failures told count.
-          counted (λ (n : ℕ). AnswersCommand held c.args.command n reply) _ _ failures 0
-          c.in-Ok-analysis-2.ensures.counted count
-          (rw c.in-Walk.is (inl (
-            documents,
-            c.in-Ok-analysis-2.ensures.held held told,
-            refl,
-            (
-              bound_of analysis,
-              c.in-Ok-analysis-2.ensures.bound,
-              angle_of analysis,
-              visits_of analysis,
-              c.in-Ok-analysis-2.ensures.walk,
+      (λ failures count.
+          counted (Replied (g.S.Source.file c.args.source.now) c.args.command reply) _ _ failures 0
+          c.in-Ok-analysis-2.ensures.counted count (
+            result_of_no_read _ _,
+            λ held told. rw c.in-Walk.is (inl (
+              documents,
+              c.in-Ok-analysis-2.ensures.held held told,
               refl,
-            ),
-          )))),
+              (
+                bound_of analysis,
+                c.in-Ok-analysis-2.ensures.bound,
+                angle_of analysis,
+                visits_of analysis,
+                c.in-Ok-analysis-2.ensures.walk,
+                refl,
+              ),
+            )),
+          )),
     )
 
 pub returns-in-Walk : goal.returns-in-Walk
@@ -100,10 +104,10 @@ returns-in-Walk g c =
     let fault = c.in-Err-analysis-2.fault in (
       fault_reply fault,
       (refl, c.complain-in-Err-analysis-2.ensures.line, c.complain-in-Err-analysis-2.ensures.status),
-      (λ held failures told count.
-          counted (λ (n : ℕ). AnswersCommand held c.args.command n (fault_reply fault)) _ _ failures
+      (λ failures count.
+          counted (Replied (g.S.Source.file c.args.source.now) c.args.command (fault_reply fault)) _ _ failures
           (reads_failed fault) c.in-Err-analysis-2.ensures.counted count
-          (rw c.in-Walk.is (inr (fault, c.in-Err-analysis-2.ensures.fault held told, refl, refl)))),
+          (fault_of_reads fault, λ held told. rw c.in-Walk.is (inr (fault, c.in-Err-analysis-2.ensures.fault held told, refl, refl)))),
     )
 
 pub returns-in-Ok-picture_of : goal.returns-in-Ok-picture_of
@@ -116,10 +120,10 @@ returns-in-Ok-picture_of g c =
     let reply = picture_reply (string_bytes c.in-Ok-picture_of.picture) in (
       reply,
       (gets, refl),
-      (λ held failures told count.
-          counted (λ (n : ℕ). AnswersCommand held c.args.command n reply) _ _ failures 0
+      (λ failures count.
+          counted (Replied (g.S.Source.file c.args.source.now) c.args.command reply) _ _ failures 0
           c.in-Ok-picture_of.ensures.counted count
-          (rw c.in-Draw.is (c.in-Ok-picture_of.ensures.picture held told))),
+          (result_of_no_read _ _, λ held told. rw c.in-Draw.is (c.in-Ok-picture_of.ensures.picture held told))),
     )
 
 pub returns-in-Draw : goal.returns-in-Draw
@@ -127,10 +131,10 @@ returns-in-Draw g c =
     let fault = c.in-Err-picture_of.fault in (
       fault_reply fault,
       (refl, c.complain-in-Err-picture_of.ensures.line, c.complain-in-Err-picture_of.ensures.status),
-      (λ held failures told count.
-          counted (λ (n : ℕ). AnswersCommand held c.args.command n (fault_reply fault)) _ _ failures
+      (λ failures count.
+          counted (Replied (g.S.Source.file c.args.source.now) c.args.command (fault_reply fault)) _ _ failures
           (reads_failed fault) c.in-Err-picture_of.ensures.counted count
-          (rw c.in-Draw.is (inr (fault, c.in-Err-picture_of.ensures.fault held told, refl, refl)))),
+          (fault_of_reads fault, λ held told. rw c.in-Draw.is (inr (fault, c.in-Err-picture_of.ensures.fault held told, refl, refl)))),
     )
 
 pub returns-in-Ok-verdict : goal.returns-in-Ok-verdict
@@ -138,10 +142,10 @@ returns-in-Ok-verdict g c =
     let reply = verdict_reply c.in-Ok-verdict.verdict in (
       reply,
       (c.tell_verdict.ensures, refl),
-      (λ held failures told count.
-          counted (λ (n : ℕ). AnswersCommand held c.args.command n reply) _ _ failures 0 c.in-Ok-verdict.ensures.counted
+      (λ failures count.
+          counted (Replied (g.S.Source.file c.args.source.now) c.args.command reply) _ _ failures 0 c.in-Ok-verdict.ensures.counted
           count
-          (rw c.in-Replay.is (c.in-Ok-verdict.ensures.verdict held told))),
+          (result_of_no_read _ _, λ held told. rw c.in-Replay.is (c.in-Ok-verdict.ensures.verdict held told))),
     )
 
 pub returns-in-Replay : goal.returns-in-Replay
@@ -149,10 +153,10 @@ returns-in-Replay g c =
     let fault = c.in-Err-verdict.fault in (
       fault_reply fault,
       (refl, c.complain-in-Err-verdict.ensures.line, c.complain-in-Err-verdict.ensures.status),
-      (λ held failures told count.
-          counted (λ (n : ℕ). AnswersCommand held c.args.command n (fault_reply fault)) _ _ failures
+      (λ failures count.
+          counted (Replied (g.S.Source.file c.args.source.now) c.args.command (fault_reply fault)) _ _ failures
           (reads_failed fault) c.in-Err-verdict.ensures.counted count
-          (rw c.in-Replay.is (inr (fault, c.in-Err-verdict.ensures.fault held told, refl, refl)))),
+          (fault_of_reads fault, λ held told. rw c.in-Replay.is (inr (fault, c.in-Err-verdict.ensures.fault held told, refl, refl)))),
     )
 
 pub returns-in-Ok-begun : goal.returns-in-Ok-begun
@@ -161,10 +165,10 @@ returns-in-Ok-begun g c =
     let told_so = c.tell_trace.ensures begun.0 begun.1 in (
       told_so.0,
       told_so.2 (device (g.E.Output.written c.args.err.now) (g.E.Output.failed c.args.err.now)),
-      (λ held failures told count.
-          counted (λ (n : ℕ). AnswersCommand held c.args.command n told_so.0) _ _ failures 0
+      (λ failures count.
+          counted (Replied (g.S.Source.file c.args.source.now) c.args.command told_so.0) _ _ failures 0
           c.in-Ok-begun.ensures.counted count
-          (rw c.in-Trace.is (begun.2 held told_so.0 told told_so.1))),
+          (trace_of_no_read _ _ told_so.0 told_so.1, λ held told. rw c.in-Trace.is (begun.2 held told_so.0 told told_so.1))),
     )
 
 pub returns : goal.returns
@@ -172,8 +176,8 @@ returns g c =
     let fault = c.in-Err-begun.fault in (
       fault_reply fault,
       (refl, c.complain-in-Err-begun.ensures.line, c.complain-in-Err-begun.ensures.status),
-      (λ held failures told count.
-          counted (λ (n : ℕ). AnswersCommand held c.args.command n (fault_reply fault)) _ _ failures
+      (λ failures count.
+          counted (Replied (g.S.Source.file c.args.source.now) c.args.command (fault_reply fault)) _ _ failures
           (reads_failed fault) c.in-Err-begun.ensures.counted count
-          (rw c.in-Trace.is (inr (fault, c.in-Err-begun.ensures.fault held told, refl, refl)))),
+          (fault_of_reads fault, λ held told. rw c.in-Trace.is (inr (fault, c.in-Err-begun.ensures.fault held told, refl, refl)))),
     )

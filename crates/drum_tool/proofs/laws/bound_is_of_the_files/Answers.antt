@@ -5,11 +5,12 @@ use Rattle.drum_tool.proofs.ToldOf.{no_result, of_files}
 use Rattle.drum_tool.proofs.laws.bound_is_of_the_files.Goals as goal
 
 pub returns : goal.returns
-returns c deck times notes bytes failures held text status names answers =
-    let files = deck ∷ times ∷ notes ∷ [] in
-    let taken = c.each_line_is_taken.ensures.taken 0 bound (omega arith) files (refl, names) in
-    let said = c.each_line_is_taken.ensures.said 0 bound (omega arith) files (refl, names) in
+returns c deck times notes input files failures text status held names told answers =
+    let named = deck ∷ times ∷ notes ∷ [] in
+    let taken = c.each_line_is_taken.ensures.taken 0 bound (omega arith) named (refl, names) in
+    let said = c.each_line_is_taken.ensures.said 0 bound (omega arith) named (refl, names) in
     elim answers [
-      | inl (command, found, is) ↦ of_files held deck times notes command failures text status (sym found ∙ said) is
-      | inr (refused, are, none, reply) ↦ absurd (no_result (codes "bound" ∷ files) refused text status are taken reply)
+      | inl (command, found, is) ↦ of_files held deck times notes command failures text status (sym found ∙ said)
+          (is held told)
+      | inr (refused, are, none, reply) ↦ absurd (no_result (codes "bound" ∷ named) refused text status are taken reply)
     ]

@@ -8,7 +8,7 @@ use Rattle.drum_bound.specs.AnalysisOf.{setting}
 use Rattle.drum_bound.specs.Worst.{IsWorst}
 use Rattle.drum_tool.specs.Begun.{left_before}
 use Rattle.drum_tool.specs.declared.following.Following.{Following}
-use Rattle.drum_tool.specs.Following.{IsBounded}
+use Rattle.drum_tool.specs.Documents.{IsBounded}
 use Rattle.drum_tool.proofs.Beginning.{no_answer, of_switch}
 use Rattle.drum_tool.proofs.Followed.{can_begin, none_yet}
 use Rattle.drum_tool.proofs.replaying.begin.Goals as goal

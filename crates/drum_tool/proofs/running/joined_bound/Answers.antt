@@ -1,5 +1,6 @@
-use Rattle.std.proofs.Common.{sym, ◌∙◌}
+use Rattle.std.proofs.Common.{inl, inr, sym, ◌∙◌}
 use Rattle.std.proofs.lemmas.Result.{err_from_is_err_and}
+use Rattle.drum_tool.proofs.Giving.{past_limit}
 use Rattle.drum_tool.proofs.Replies.{analysed_unread, bound_refused, bound_with, bound_without, err_map, ok_map}
 use Rattle.drum_tool.proofs.Replies.{some_map}
 use Rattle.drum_tool.proofs.running.joined_bound.Goals as goal
@@ -31,3 +32,11 @@ pub returns-clause-counted : goal.returns-clause-counted
 returns-clause-counted g c failures failed =
     c.in_ok-documents.ensures.counted failures failed
     ∙ sym (analysed_unread c.in_ok-documents.documents c.bound.result c.bound.ensures.fault)
+
+pub returns-in_err-documents-clause-full : goal.returns-in_err-documents-clause-full
+returns-in_err-documents-clause-full g c =
+    let p = err_from_is_err_and c.from_residual.result c.from_residual.ensures.1 in
+    rw (p.1, p.2) (λ given. past_limit c.in_err-documents.field-0.0 (c.in_err-documents.ensures.full given))
+
+pub returns-clause-full : goal.returns-clause-full
+returns-clause-full g c given = absurd (elim (c.in_ok-documents.ensures.full given) [ inl is ↦ cc | inr is ↦ cc ])

@@ -1,5 +1,7 @@
-use Rattle.std.proofs.Common.{refl, arith}
+use Rattle.std.proofs.Common.{◌≡◌, ℕ, refl, sym, subst, arith}
+use Rattle.drum_tool.specs.Reply.{TellsOfReads}
 use Rattle.drum_tool.specs.Words.{refused_reply}
+use Rattle.drum_tool.proofs.Replies.{refused_of_no_read}
 use Rattle.drum_tool.proofs.Worded.{with_command, with_refused, without_words}
 use Rattle.drum_tool.proofs.running.run.Goals as goal
 
@@ -8,9 +10,12 @@ returns-then-is_empty-clause-told g c =
     let told = c.run_joined.ensures.told in (
       told.0,
       told.1,
-      (λ bytes failures held left files count.
-          without_words bytes failures held told.0 c.args.words.now c.if-is_empty.ensures
-          (told.2 bytes failures left (omega (arith, count)))),
+      (λ failures count.
+          let so = told.2 failures (omega (arith, count)) in (
+            so.0,
+            without_words (g.I.Input.left c.args.input.now) (g.S.Source.file c.args.source.now) failures told.0
+                c.args.words.now c.if-is_empty.ensures so.1,
+          )),
     )
 
 pub returns-in-Ok-clause-told : goal.returns-in-Ok-clause-told
@@ -18,17 +23,24 @@ returns-in-Ok-clause-told g c =
     let told = c.obey.ensures in (
       told.0,
       told.1,
-      (λ bytes failures held left files count.
-          with_command bytes failures held told.0 c.args.words.now c.if-is_empty.ensures c.in-Ok.command
-          c.in-Ok.ensures.told
-          (told.2 held failures files (omega (arith, count)))),
+      (λ failures count.
+          let so = told.2 failures (omega (arith, count)) in (
+            so.0,
+            with_command (g.I.Input.left c.args.input.now) (g.S.Source.file c.args.source.now) failures told.0
+                c.args.words.now c.if-is_empty.ensures c.in-Ok.command c.in-Ok.ensures.told so.1,
+          )),
     )
 
 pub returns-in-Err-clause-told : goal.returns-in-Err-clause-told
-returns-in-Err-clause-told g c = (
-  refused_reply c.in-Err.refused,
-  c.refuse.ensures,
-  (λ bytes failures held left files count.
-      with_refused bytes failures held _ c.args.words.now c.if-is_empty.ensures c.in-Err.refused
-      (record { fits = c.in-Err.ensures.kinds; taken = c.in-Err.ensures.taken }) (omega (arith, count)) refl),
-)
+returns-in-Err-clause-told g c =
+    let refused = c.in-Err.refused in (
+      refused_reply refused,
+      c.refuse.ensures,
+      (λ failures count.
+          let none : failures ≡ 0 = omega (arith, count) in (
+            subst (λ (n : ℕ). TellsOfReads n (refused_reply refused)) (sym none) (refused_of_no_read refused),
+            with_refused (g.I.Input.left c.args.input.now) (g.S.Source.file c.args.source.now) failures _
+                c.args.words.now c.if-is_empty.ensures refused
+                (record { fits = c.in-Err.ensures.kinds; taken = c.in-Err.ensures.taken }) none refl,
+          )),
+    )

@@ -1,7 +1,14 @@
-use Rattle.std.proofs.Common.{ℕ, List, refl, sym, subst}
-use Rattle.drum_lines.specs.FaultStatus.{reads_failed}
-use Rattle.drum_tool.specs.Reply.{AnswersJoined, bound_reply, fault_reply}
-use Rattle.drum_tool.proofs.Replies.{known}
+use Rattle.std.proofs.Common.{◌≡◌, ℕ, List, Err, refl, inl, inr, ap, sym, ◌∙◌, subst}
+use Rattle.drum_lines.specs.declared.fault.Fault.{Fault}
+use Rattle.drum_lines.specs.declared.fault.Fault.TheVariants as faults
+use Rattle.drum_lines.specs.declared.part.Part.TheVariants as part
+use Rattle.drum_lines.specs.declared.part.PartFault.TheVariants as what
+use Rattle.drum_lines.specs.declared.status.Status.TheVariants.{Done, Failed}
+use Rattle.drum_lines.specs.BoundText.{bound_text}
+use Rattle.drum_lines.specs.FaultStatus.{reads_failed, status_after}
+use Rattle.drum_tool.specs.Joined.{IsPastLimit}
+use Rattle.drum_tool.specs.Reply.{AnswersJoined, TellsOfReads, bound_reply, fault_reply}
+use Rattle.drum_tool.proofs.Replies.{fault_of_reads, known, result_of_no_read}
 use Rattle.drum_tool.proofs.running.run_joined.Goals as goal
 
 pub returns-in-Ok-clause-told : goal.returns-in-Ok-clause-told
@@ -9,9 +16,12 @@ returns-in-Ok-clause-told g c =
     let reply = bound_reply c.in-Ok.bound in (
       reply,
       (c.tell_bound.ensures, refl),
-      (λ bytes failures left failed.
-          subst (λ (n : ℕ). AnswersJoined bytes n reply) (sym (c.in-Ok.ensures.counted failures failed))
-          (known _ (λ (bytes : List ℕ). AnswersJoined bytes 0 reply) bytes left c.in-Ok.ensures.bound)),
+      (λ failures failed.
+          let none = sym (c.in-Ok.ensures.counted failures failed) in (
+            subst (λ (n : ℕ). TellsOfReads n reply) none (result_of_no_read (bound_text c.in-Ok.bound) Done),
+            (λ bytes left. subst (λ (n : ℕ). AnswersJoined bytes n reply) none
+                (known _ (λ (bytes : List ℕ). AnswersJoined bytes 0 reply) bytes left c.in-Ok.ensures.bound)),
+          )),
     )
 
 pub returns-in-Err-clause-told : goal.returns-in-Err-clause-told
@@ -19,8 +29,22 @@ returns-in-Err-clause-told g c =
     let fault = c.in-Err.fault in (
       fault_reply fault,
       (refl, c.tell_fault.ensures.line, c.tell_fault.ensures.status),
-      (λ bytes failures left failed.
-          subst (λ (n : ℕ). AnswersJoined bytes n (fault_reply fault)) (sym (c.in-Err.ensures.counted failures failed))
-          (known _ (λ (bytes : List ℕ). AnswersJoined bytes (reads_failed fault) (fault_reply fault)) bytes left
-          c.in-Err.ensures.fault)),
+      (λ failures failed.
+          let many = sym (c.in-Err.ensures.counted failures failed) in (
+            subst (λ (n : ℕ). TellsOfReads n (fault_reply fault)) many (fault_of_reads fault),
+            (λ bytes left. subst (λ (n : ℕ). AnswersJoined bytes n (fault_reply fault)) many
+                (known _ (λ (bytes : List ℕ). AnswersJoined bytes (reads_failed fault) (fault_reply fault)) bytes left
+                c.in-Err.ensures.fault)),
+          )),
     )
+
+pub returns-in-Ok-clause-full : goal.returns-in-Ok-clause-full
+returns-in-Ok-clause-full g c given = absurd (elim (c.in-Ok.ensures.full given) [ inl is ↦ cc | inr is ↦ cc ])
+
+pub returns-in-Err-clause-full : goal.returns-in-Err-clause-full
+returns-in-Err-clause-full g c given =
+    c.tell_fault.ensures.status ∙ failed c.in-Err.fault (c.in-Err.ensures.full given)
+  where
+    failed : (fault : Fault) → IsPastLimit {A = ℕ} (Err fault) → status_after fault ≡ Failed
+    failed fault (inl is) = let same : fault ≡ faults.Part part.Input what.TooLong = cc in ap status_after same
+    failed fault (inr is) = let same : fault ≡ faults.Memory = cc in ap status_after same

@@ -1,4 +1,4 @@
-use Rattle.std.proofs.Common.{sym, ◌∙◌, arith}
+use Rattle.std.proofs.Common.{inl, inr, sym, ◌∙◌, arith}
 use Rattle.drum_tool.proofs.Giving.{joined_unread, known_documents, known_none, unfailing}
 use Rattle.drum_tool.proofs.Replies.{err_map, ok_map}
 use Rattle.drum_tool.proofs.documents.Documents.of_input.Goals as goal
@@ -19,3 +19,6 @@ returns-in-Ok-clause-gives g c =
     ok_map _ _ c.of_joined.result c.of_joined.ensures.joins (λ documents is.
     known_documents (g.I.Input.left c.args.input.now) c.deref.result.now documents
     (rw c.deref.ensures.value c.in-Ok.ensures.all) (omega (arith, c.deref.ensures.len, c.in-Ok.ensures.within)) is)
+
+pub returns-in-Ok-clause-full : goal.returns-in-Ok-clause-full
+returns-in-Ok-clause-full g c given = absurd (elim (c.in-Ok.ensures.full (omega (arith, given))) [ inl is ↦ cc | inr is ↦ cc ])
