@@ -1,6 +1,6 @@
 //! The commands over files: what they say, and which file's fault decides.
 
-use crate::support::{complains, says};
+use crate::support::{FILES, Shelf, complains, run_words, says};
 use drum_tool::Status;
 use std::test::Fail;
 
@@ -86,6 +86,29 @@ fn files_that_cannot_be_opened(rt: HostRuntime) -> Result<(), Fail> {
     }
     let words = ["replay", "deck", "times", "notes", "none"];
     complains(&rt, &words, Status::Failed, "fault 52 inputs open\n")?;
+    Ok(())
+}
+
+#[test]
+fn no_file_behind_a_fault_is_sought(rt: HostRuntime) -> Result<(), Fail> {
+    for (deck, times, notes, inputs, sought) in [
+        ("none", "times", "notes", "stop", 1),
+        ("no deck", "times", "notes", "stop", 1),
+        ("deck", "none", "notes", "stop", 2),
+        ("deck", "no times", "notes", "stop", 2),
+        ("deck", "times", "none", "stop", 3),
+        ("deck", "times", "empty", "stop", 3),
+        ("deck", "times", "notes", "none", 4),
+        ("deck", "times", "notes", "stop", 4),
+    ] {
+        let words = ["replay", deck, times, notes, inputs];
+        let mut shelf = Shelf::of(FILES);
+        run_words(rt.alloc(), &words, &mut shelf, "x")?;
+        assert_eq!(rt; shelf.sought, sought, "{words:?}");
+        let mut shelf = Shelf::of(FILES);
+        run_words(rt.alloc(), &words[..1], &mut shelf, "x")?;
+        assert_eq!(rt; shelf.sought, 0);
+    }
     Ok(())
 }
 

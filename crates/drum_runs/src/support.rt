@@ -76,6 +76,8 @@ pub const FILES: &[(&str, &str)] = &[
 #[derive(Drop)]
 pub struct Shelf<'a> {
     pub files: &'a [(&'a str, &'a str)],
+    /// How many files were sought.
+    pub sought: u64,
     /// How many reads failed.
     pub failures: u64,
 }
@@ -85,7 +87,11 @@ impl<'a> Shelf<'a> {
     pub(crate) fn of(files: &'a [(&'a str, &'a str)]) -> Shelf<'a>
         ensures { result.failures ≡ 0 }
     {
-        Shelf { files, failures: 0 }
+        Shelf {
+            files,
+            sought: 0,
+            failures: 0,
+        }
     }
 
     /// The text of the file of this name.
@@ -107,6 +113,7 @@ impl<'a> Source for Shelf<'a> {
     ghost failed = { λ shelf. shelf.failures };
 
     fn fetch(&mut self, name: &str) -> Option<Reading<&'a [u8]>> {
+        self.sought = self.sought.saturating_add(1);
         match self.text(name) {
             Some(text) => Some(Reading::new(text.as_bytes())),
             None => None,
