@@ -60,8 +60,8 @@ pub record AreHeld (cells : Cells) : Type 0 where
   pub soon : (place : ℕ) (entry : Worst) → slice_get cells.entries.items place ≡ Some entry
       → cells.angle + entry.time < 2 ^ 64
 
--- what no raise changes: the ends that were made, the start angle, and how many locations and counts
--- there are
+-- what no raise changes: the ends that were made, the start angle, and how many locations and
+-- counts there are
 pub record SameScan (old new : Cells) : Type 0 where
   pub made : new.made ≡ old.made
   pub angle : new.angle ≡ old.angle

@@ -64,8 +64,8 @@ fn may_branch(notes: &Notes, number: u8) -> bool
     }
 }
 
-/// One past the last address of the part that this one is in: the drum, the addresses behind it, the
-/// locations beside it, the rest.
+/// One past the last address of the part that this one is in: the drum, the addresses behind it,
+/// the locations beside it, the rest.
 fn part_end(address: u16) -> u16
     requires { address < 10 ^ 4 }
     ensures past { address < result }

@@ -61,7 +61,7 @@ fn draw_name(text: &mut String, share: Share, bound: u64, x: u64) -> Result<(), 
 }
 
 /// Draws where the word times of a walk go: a bar, with its parts' names and numbers.
-pub fn draw_bar(text: &mut String, shares: Shares, bound: u64) -> Result<(), AllocError> {
+pub(crate) fn draw_bar(text: &mut String, shares: Shares, bound: u64) -> Result<(), AllocError> {
     text.push_str("<g transform='translate(30 742)'>")?;
     write!(
         text,

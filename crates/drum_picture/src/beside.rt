@@ -12,7 +12,7 @@ const LEFT: i64 = -2800;
 const TOP: i64 = 2560;
 
 /// Whether a location stands beside the drum.
-pub fn is_beside(number: u16) -> bool {
+pub(crate) fn is_beside(number: u16) -> bool {
     number >= 8000
 }
 
@@ -22,7 +22,7 @@ fn left_of(number: u16) -> i64 {
 }
 
 /// The middle of the upper side of a location's box.
-pub fn beside_top(number: u16) -> Point {
+pub(crate) fn beside_top(number: u16) -> Point {
     Point {
         x: left_of(number).saturating_add(200),
         y: TOP,
@@ -43,7 +43,7 @@ fn draw_box(text: &mut String, word: Word) -> Result<(), AllocError> {
 }
 
 /// Draws those of 8000 to 8003 that the walk has to do with.
-pub fn draw_beside(text: &mut String, tallies: &Tallies) -> Result<(), AllocError> {
+pub(crate) fn draw_beside(text: &mut String, tallies: &Tallies) -> Result<(), AllocError> {
     let most = tallies.most_time();
     text.push_str("<defs><rect id='beside' width='400' height='220' rx='30'/></defs>\n")?;
     for number in 8000..8004u16 {

@@ -71,7 +71,7 @@ fn draw_curve(
 }
 
 /// Draws the edges that the walk takes most, those that it takes more often wider.
-pub fn draw_curves(
+pub(crate) fn draw_curves(
     text: &mut String,
     rings: &[Ring],
     edges: &[TakenEdge],

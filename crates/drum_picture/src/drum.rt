@@ -36,7 +36,7 @@ fn draw_ring(text: &mut String, ring: Ring) -> Result<(), AllocError> {
 }
 
 /// Draws the rings without their words.
-pub fn draw_rings(text: &mut String, rings: &[Ring]) -> Result<(), AllocError> {
+pub(crate) fn draw_rings(text: &mut String, rings: &[Ring]) -> Result<(), AllocError> {
     for ring in rings {
         draw_ring(text, *ring)?;
     }
@@ -44,7 +44,7 @@ pub fn draw_rings(text: &mut String, rings: &[Ring]) -> Result<(), AllocError> {
 }
 
 /// Writes the angles around the drum.
-pub fn draw_rim(text: &mut String) -> Result<(), AllocError> {
+pub(crate) fn draw_rim(text: &mut String) -> Result<(), AllocError> {
     for five in 0..10u16 {
         let angle = five * 5;
         let Point { x, y } = Point::at(angle, RIM + 160);
@@ -78,7 +78,11 @@ fn draw_ring_words(
 }
 
 /// Draws the words of the drum.
-pub fn draw_words(text: &mut String, rings: &[Ring], tallies: &Tallies) -> Result<(), AllocError> {
+pub(crate) fn draw_words(
+    text: &mut String,
+    rings: &[Ring],
+    tallies: &Tallies,
+) -> Result<(), AllocError> {
     let most = tallies.most_time();
     for ring in rings {
         draw_ring_words(text, *ring, tallies, most)?;

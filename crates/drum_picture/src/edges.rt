@@ -40,7 +40,7 @@ fn counted(alloc: Global, walk: Walk<'_>) -> Result<HashMap<Edge, u64>, AllocErr
 }
 
 /// The edges that the walk takes, those first that it takes most.
-pub fn taken_edges(alloc: Global, walk: Walk<'_>) -> Result<Vec<TakenEdge>, AllocError> {
+pub(crate) fn taken_edges(alloc: Global, walk: Walk<'_>) -> Result<Vec<TakenEdge>, AllocError> {
     let counts = counted(alloc, walk)?;
     let mut edges = Vec::new(alloc);
     for (edge, taken) in counts.iter() {

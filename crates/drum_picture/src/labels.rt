@@ -123,7 +123,11 @@ fn draw_ring_labels(
 }
 
 /// Writes the locations of the words of the drum, where there is room.
-pub fn draw_labels(text: &mut String, rings: &[Ring], tallies: &Tallies) -> Result<(), AllocError> {
+pub(crate) fn draw_labels(
+    text: &mut String,
+    rings: &[Ring],
+    tallies: &Tallies,
+) -> Result<(), AllocError> {
     let most = tallies.most_time();
     for ring in rings {
         draw_ring_labels(text, *ring, tallies, most)?;

@@ -1,4 +1,4 @@
-//! What stands around the drawings: how the picture begins, its titles, and the keys to its colours.
+//! What stands around the drawings: how the picture begins, its titles, and what its colours mean.
 
 use crate::edges::MOST_EDGES;
 use crate::rings::Ring;
@@ -65,7 +65,7 @@ const DRUM_KEY: &str = "<g class='key' transform='translate(240 674)'>
 ";
 
 /// Begins the picture, with its heading.
-pub fn begin(text: &mut String, walk: Walk<'_>) -> Result<(), AllocError> {
+pub(crate) fn begin(text: &mut String, walk: Walk<'_>) -> Result<(), AllocError> {
     let bound = walk.bound;
     text.push_str(HEAD)?;
     write!(text, "<title>The worst walk: {bound} word times</title>\n")?;
@@ -101,7 +101,11 @@ fn draw_bands(text: &mut String, count: usize, first: u16, last: u16) -> Result<
 }
 
 /// Writes what the drawing of the drum shows.
-pub fn draw_drum_title(text: &mut String, rings: &[Ring], edges: usize) -> Result<(), AllocError> {
+pub(crate) fn draw_drum_title(
+    text: &mut String,
+    rings: &[Ring],
+    edges: usize,
+) -> Result<(), AllocError> {
     text.push_str("<text class='title' x='28' y='112'>The drum, seen from its end</text>\n")?;
     text.push_str("<text class='faint' x='28' y='131'>")?;
     if let (Some(first), Some(last)) = (rings.first(), rings.last()) {
@@ -116,6 +120,6 @@ pub fn draw_drum_title(text: &mut String, rings: &[Ring], edges: usize) -> Resul
 }
 
 /// Writes what the colours of the rows mean.
-pub fn draw_rows_key(text: &mut String) -> Result<(), AllocError> {
+pub(crate) fn draw_rows_key(text: &mut String) -> Result<(), AllocError> {
     text.push_str(ROWS_KEY)
 }

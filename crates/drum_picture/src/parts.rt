@@ -28,7 +28,7 @@ pub struct Parts {
 }
 
 /// Where the instruction has its data, for which it waits; `None` where it waits for none.
-pub fn data_of(visit: &Visit) -> Option<Location> {
+pub(crate) fn data_of(visit: &Visit) -> Option<Location> {
     let op = Op::of(visit.instruction.op())?;
     let d = visit.instruction.d();
     if op.operand().suits(d) && to_operand(op, d).is_some() {
@@ -38,8 +38,8 @@ pub fn data_of(visit: &Visit) -> Option<Location> {
     }
 }
 
-/// How long a hop with this entry waits for the card machine at most, in word times: not at all where
-/// it stops before it acts. (The entry of an operation without a card machine has no wait.)
+/// How long a hop with this entry waits for the card machine at most, in word times: not at all
+/// where it stops before it acts. (The entry of an operation without a card machine has no wait.)
 fn card_wait(entry: Entry, way: Way) -> u64 {
     match way {
         Way::Early => 0,
@@ -48,7 +48,7 @@ fn card_wait(entry: Entry, way: Way) -> u64 {
 }
 
 /// When the instruction is found that a hop goes on at; never where it goes on at none.
-pub fn next_found(visit: &Visit, parts: Parts) -> u64 {
+pub(crate) fn next_found(visit: &Visit, parts: Parts) -> u64 {
     match visit.way {
         Way::To(onto) => moments::found(onto, parts.ended.min(LATEST)),
         Way::Early | Way::Late => u64::MAX,
@@ -57,7 +57,7 @@ pub fn next_found(visit: &Visit, parts: Parts) -> u64 {
 
 impl Parts {
     /// The parts of a hop of a walk from this angle.
-    pub fn of(visit: &Visit, angle: u64, times: &Times) -> Parts {
+    pub(crate) fn of(visit: &Visit, angle: u64, times: &Times) -> Parts {
         let angle = angle.min(49);
         let begun = visit.begun.min(LATEST) + angle;
         let ended = visit.ended.min(LATEST) + angle;

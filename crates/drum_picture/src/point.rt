@@ -67,7 +67,7 @@ pub struct Point {
 
 impl Point {
     /// The point at an angle of the drum, so far from its centre.
-    pub fn at(angle: u16, radius: i64) -> Point {
+    pub(crate) fn at(angle: u16, radius: i64) -> Point {
         let (right, down) = DIRECTIONS[usize::from(angle % 50)];
         Point {
             x: radius.saturating_mul(right) / 1000,
@@ -76,7 +76,7 @@ impl Point {
     }
 
     /// The end of the word at angle 0, to the right, so far from the centre.
-    pub fn end_of_word(radius: i64) -> Point {
+    pub(crate) fn end_of_word(radius: i64) -> Point {
         let (right, up) = HALF;
         Point {
             x: radius.saturating_mul(right) / 1000,
@@ -86,7 +86,7 @@ impl Point {
 
     /// Between two points, a little nearer to the centre than they are: a curve from one to the
     /// other that is drawn to it bends inward.
-    pub fn inward(self, other: Point) -> Point {
+    pub(crate) fn inward(self, other: Point) -> Point {
         Point {
             x: self.x.saturating_add(other.x).saturating_mul(4) / 10,
             y: self.y.saturating_add(other.y).saturating_mul(4) / 10,

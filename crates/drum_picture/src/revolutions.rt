@@ -8,7 +8,7 @@ use drum_times::Times;
 use std::alloc::AllocError;
 
 /// Writes which part of the walk is shown.
-pub fn draw_revolutions_title(
+pub(crate) fn draw_revolutions_title(
     text: &mut String,
     walk: Walk<'_>,
     rows: &Rows,
@@ -62,7 +62,7 @@ fn draw_rows(text: &mut String, rows: &Rows) -> Result<(), AllocError> {
 }
 
 /// Draws the walk's first revolutions, one a row, each from angle 0.
-pub fn draw_revolutions(
+pub(crate) fn draw_revolutions(
     text: &mut String,
     walk: Walk<'_>,
     times: &Times,

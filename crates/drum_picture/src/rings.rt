@@ -28,19 +28,19 @@ pub struct Ring {
 
 impl Ring {
     /// The number of the band's first location.
-    pub fn first(self) -> u16
+    pub(crate) fn first(self) -> u16
         ensures { result ≤ 1950 }
     {
         self.band * 50
     }
 
     /// The radius of its middle.
-    pub fn middle(self) -> i64 {
+    pub(crate) fn middle(self) -> i64 {
         self.outer.saturating_add(self.inner) / 2
     }
 
     /// How high it is.
-    pub fn height(self) -> i64 {
+    pub(crate) fn height(self) -> i64 {
         self.outer.saturating_sub(self.inner)
     }
 }
@@ -59,7 +59,7 @@ fn lay(rings: &mut [Ring]) {
 }
 
 /// A ring for each band in use, the lowest at the rim.
-pub fn rings_of(alloc: Global, tallies: &Tallies) -> Result<Vec<Ring>, AllocError> {
+pub(crate) fn rings_of(alloc: Global, tallies: &Tallies) -> Result<Vec<Ring>, AllocError> {
     let mut rings = Vec::new(alloc);
     for band in 0..40u16 {
         if tallies.any_used(band * 50, band * 50 + 49) {
@@ -75,7 +75,7 @@ pub fn rings_of(alloc: Global, tallies: &Tallies) -> Result<Vec<Ring>, AllocErro
 }
 
 /// The ring of a location on the drum.
-pub fn ring_of(rings: &[Ring], number: u16) -> Option<Ring> {
+pub(crate) fn ring_of(rings: &[Ring], number: u16) -> Option<Ring> {
     for ring in rings {
         if ring.band == number / 50 {
             return Some(*ring);

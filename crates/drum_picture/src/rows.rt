@@ -19,7 +19,7 @@ pub struct Rows {
 
 impl Rows {
     /// The rows of a walk.
-    pub fn of(alloc: Global, walk: Walk<'_>, times: &Times) -> Result<Rows, AllocError> {
+    pub(crate) fn of(alloc: Global, walk: Walk<'_>, times: &Times) -> Result<Rows, AllocError> {
         let mut rows = Rows {
             shown: Vec::new(alloc),
         };

@@ -32,7 +32,7 @@ impl Shares {
     }
 
     /// Where the word times of a walk go: one pass over it.
-    pub fn of(walk: Walk<'_>, times: &Times) -> Shares {
+    pub(crate) fn of(walk: Walk<'_>, times: &Times) -> Shares {
         let mut shares = Shares {
             instructions: 0,
             data: 0,

@@ -15,7 +15,7 @@ const PITCH: u64 = 22;
 const LABEL: u64 = 3;
 
 /// Where the rows' upper sides are, in pixels from the first's.
-pub fn top_of(row: u64) -> u64 {
+pub(crate) fn top_of(row: u64) -> u64 {
     row.saturating_mul(PITCH)
 }
 
@@ -82,7 +82,7 @@ fn draw_visit_title(text: &mut String, visit: &Visit, parts: Parts) -> Result<()
 }
 
 /// Draws a hop: its parts, and the stroke.
-pub fn draw_visit(
+pub(crate) fn draw_visit(
     text: &mut String,
     rows: &Rows,
     visit: &Visit,

@@ -35,7 +35,7 @@ impl Tally {
     };
 
     /// Whether the location is drawn.
-    pub fn is_used(self) -> bool {
+    pub(crate) fn is_used(self) -> bool {
         self.loaded || self.executed || self.visits > 0 || self.data > 0
     }
 }
@@ -58,7 +58,7 @@ fn place_of(location: Location) -> usize {
 
 impl Tallies {
     /// The tallies of a walk, of the locations that a table of worst times has, and of a deck.
-    pub fn of(
+    pub(crate) fn of(
         alloc: Global,
         walk: Walk<'_>,
         table: &[Worst],
@@ -106,7 +106,7 @@ impl Tallies {
     }
 
     /// The tally of the location of this number.
-    pub fn at(&self, number: u16) -> Tally {
+    pub(crate) fn at(&self, number: u16) -> Tally {
         match Location::new(number) {
             Some(location) => self
                 .all
@@ -118,12 +118,12 @@ impl Tallies {
     }
 
     /// Whether a location from the first to the last is drawn.
-    pub fn any_used(&self, first: u16, last: u16) -> bool {
+    pub(crate) fn any_used(&self, first: u16, last: u16) -> bool {
         (first..=last).any(|number| self.at(number).is_used())
     }
 
     /// The most word times that the walk spends at one location.
-    pub fn most_time(&self) -> u64 {
+    pub(crate) fn most_time(&self) -> u64 {
         let mut most = 0u64;
         for tally in self.all.iter() {
             most = most.max(tally.time);

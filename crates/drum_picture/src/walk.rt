@@ -14,7 +14,7 @@ pub struct Walk<'a> {
 
 impl<'a> Walk<'a> {
     /// The walk of an analysis.
-    pub fn of(analysis: &'a Analysis) -> Walk<'a> {
+    pub(crate) fn of(analysis: &'a Analysis) -> Walk<'a> {
         Walk {
             visits: analysis.walk(),
             angle: u64::from(analysis.angle()),
@@ -23,14 +23,14 @@ impl<'a> Walk<'a> {
     }
 
     /// How many revolutions it takes, rounded.
-    pub fn revolutions(self) -> Tenths {
+    pub(crate) fn revolutions(self) -> Tenths {
         Tenths {
             count: self.bound.saturating_add(2) / 5,
         }
     }
 
     /// How many milliseconds it takes at 96 microseconds a word time, rounded.
-    pub fn milliseconds(self) -> Tenths {
+    pub(crate) fn milliseconds(self) -> Tenths {
         // 24 tenths to 25 word times: the whole ones first, so that the product fits
         let rest = (self.bound % 25 * 24 + 12) / 25;
         Tenths {

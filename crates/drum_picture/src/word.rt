@@ -18,14 +18,14 @@ pub struct Word {
 }
 
 /// An s behind the name of what there is more than one of.
-pub fn plural(count: u64) -> &'static str {
+pub(crate) fn plural(count: u64) -> &'static str {
     if count == 1 { "" } else { "s" }
 }
 
 impl Word {
     /// The word of a location; `None` where none is drawn. The most word times are those of the
     /// word that has most.
-    pub fn of(tallies: &Tallies, number: u16, most: u64) -> Option<Word> {
+    pub(crate) fn of(tallies: &Tallies, number: u16, most: u64) -> Option<Word> {
         let tally = tallies.at(number);
         if !tally.is_used() {
             return None;
@@ -43,12 +43,12 @@ impl Word {
     }
 
     /// What is added to the class of a label on this word, so that it can be read.
-    pub fn ink(self) -> &'static str {
+    pub(crate) fn ink(self) -> &'static str {
         if self.shade >= DARK { " white" } else { "" }
     }
 
     /// Ends the element of the word, of which the shape is written: its colour, and its title.
-    pub fn finish(self, text: &mut String) -> Result<(), AllocError> {
+    pub(crate) fn finish(self, text: &mut String) -> Result<(), AllocError> {
         let Word {
             number,
             tally,

@@ -28,8 +28,8 @@ GetsPrefix before after text =
 abbrev pub GetsComplaint : Device → Device → List ℕ → Type 0
 GetsComplaint before after text = GetsAll before after text ⊎ GetsPrefix before after text
 
--- of a result it gets all, and the program ends as the result says; or a prefix, and the program has
--- failed
+-- of a result it gets all, and the program ends as the result says; or a prefix, and the program
+-- has failed
 abbrev pub GetsResult : Device → Device → List ℕ → Status → Status → Type 0
 GetsResult before after text done status =
     (GetsAll before after text × (status ≡ done))

@@ -53,8 +53,8 @@ picture_reply picture = says picture Done
 abbrev pub fault_reply : Fault → Reply
 fault_reply fault = complains (fault_text fault) (status_after fault)
 
--- That so many reads failed is told by the reply: it is the line of a fault that tells of as many; or
--- none failed, and it is no fault's line.
+-- That so many reads failed is told by the reply: it is the line of a fault that tells of as many;
+-- or none failed, and it is no fault's line.
 abbrev pub TellsOfReads : ℕ → Reply → Type 0
 TellsOfReads failures reply =
     ((fault : Fault) × (failures ≡ reads_failed fault) × (reply ≡ fault_reply fault))

@@ -23,9 +23,9 @@ pub record AreRefused (words : List Text) (refused : Refused) : Type 0 where
   pub fits : FitsAmong (fault_of drum650 words) refused
   pub taken : takes drum650 words ≡ true → refused ≡ Memory
 
--- The reply to words, where this is told of the input and of files, and so many reads of them failed:
--- with no words that to the joined form, whose bytes are told; else that to the command that clap
--- finds in them, whose files are told; else why they are refused.
+-- The reply to words, where this is told of the input and of files, and so many reads of them
+-- failed: with no words that to the joined form, whose bytes are told; else that to the command that
+-- clap finds in them, whose files are told; else why they are refused.
 abbrev pub Answers : List Text → Option (List ℕ) → (List ℕ → Option (Option (List ℕ))) → ℕ → Reply
     → Type 0
 Answers [] input files failures reply =
