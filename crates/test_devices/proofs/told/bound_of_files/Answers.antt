@@ -1,0 +1,34 @@
+use Rattle.std.proofs.Common.{◌≡◌, ℕ, ◌+◌, List, None, Some, ap, sym, ◌∙◌, subst, inl, inr, arith}
+use Rattle.drum_lines.specs.declared.status.Status.TheVariants.{Done, Failed}
+use Rattle.drum_tool.specs.Output.{Tells, device}
+use Rattle.drum_tool.specs.Reply.{Reply, bound_reply, fault_reply}
+use Rattle.test_devices.specs.Told.{text_of}
+use Rattle.test_devices.specs.declared.told.File.{File}
+use Rattle.test_devices.proofs.told.bound_of_files.Goals as goal
+
+pub returns : goal.returns
+returns g c = record {
+  printed = λ done.
+      let told = c.run.ensures.told in
+      let failures = c.run.new.input.failures + c.run.new.source.failures in
+      let so = told.2 failures (omega (arith, c.new-input.ensures.failures, c.of-source.ensures.failures)) in
+      let held = text_of c.args.files.now in
+      let file = λ (name : List ℕ). Some (text_of c.of-source.result.files.now name) in
+      let same = λ (name : List ℕ). ap (λ (files : List File). Some (text_of files name)) c.of-source.ensures.files in
+      let out = device (g.O.Output.written c.args.out.now) (g.O.Output.failed c.args.out.now) in
+      let out' = device (g.O.Output.written c.run.new.out) (g.O.Output.failed c.run.new.out) in
+      let err = device (g.E.Output.written c.args.err.now) (g.E.Output.failed c.args.err.now) in
+      let err' = device (g.E.Output.written c.run.new.err) (g.E.Output.failed c.run.new.err) in
+      let tells = λ (reply : Reply). Tells reply out out' err err' c.run.result in
+      elim (c.bound_is_of_the_files.ensures c.args.deck.now c.args.times.now c.args.notes.now None file failures told.0 held
+      c.requires.names (same c.args.deck.now, (same c.args.times.now, (same c.args.notes.now, tt))) so.1) [
+        | inl (bound, is, line) ↦
+            let gets = subst tells line told.1 in
+            elim gets.0 [
+              | inl (all, ends) ↦ (bound, is, all.0, all.1)
+              | inr (part, ends) ↦ absurd (let clash : Failed ≡ Done = sym ends ∙ done in cc)
+            ]
+        | inr (fault, line) ↦
+            let gets = subst tells line told.1 in absurd (c.no_fault_is_done.ensures fault (sym gets.2 ∙ done))
+      ];
+}

@@ -1,0 +1,161 @@
+//! Commands over files, with what they say. The answers are worked out by hand.
+
+use crate::devices::Tap;
+use drum_tool::Status;
+use test_texts::{NOTES, STOPS, STORES, TIMES, TWO_WORDS};
+
+/// A command, its files but for the timing table, how it ends, and what goes out: a result, or a
+/// complaint.
+pub(crate) struct Subject {
+    pub(crate) command: &'static str,
+    pub(crate) files: Files,
+    pub(crate) status: Status,
+    pub(crate) out: &'static str,
+    pub(crate) err: &'static str,
+}
+
+/// The deck, the notes and the inputs of a command.
+pub(crate) type Files = (&'static str, &'static str, &'static str);
+
+/// The report of the deck of two words, which has 84 bytes.
+pub(crate) const REPORT: &str =
+    "card 0001 visits 1 time 55\ncard 0002 visits 1 time 1\nother visits 0 time 0\nbound 56\n";
+
+/// 8000 is no location to store at: from clock 50 on 24 is ready at 53, and stops there.
+const NOWHERE: &str = "0100 +2480000106\nSTART 0100\n";
+
+/// The same word twice behind the other.
+const ROUND: &str = "0100 +0000000106\n0106 +0000000100\nSTART 0100\n";
+
+/// From angle 1, 24 is ready at clock 53, and 0106 comes at 56; 56 + 3 = 59, and 0106 comes at 106.
+/// There 69 is ready at clock 109, and 0000 comes at 150.
+const NO_STOP: &str = "\
+step 1 0100 +2401060106 found 49 ready 52 data 55 ended 58\n\
+step 2 0106 +6900000000 found 105 ready 108 data 149 ended 152\n\
+left unlisted 0106 +6900000000 step 2 used 58\n\
+";
+
+/// The subjects, by each command and with each status.
+pub(crate) const SUBJECTS: &[Subject] = &[
+    Subject {
+        command: "bound",
+        files: (TWO_WORDS, NOTES, ""),
+        status: Status::Done,
+        out: "bound 56\n",
+        err: "",
+    },
+    Subject {
+        command: "report",
+        files: (TWO_WORDS, NOTES, ""),
+        status: Status::Done,
+        out: REPORT,
+        err: "",
+    },
+    Subject {
+        command: "walk",
+        files: (NOWHERE, NOTES, ""),
+        status: Status::Done,
+        out: "0100 24 8000 0106 early begun 0 found 49 ready 52 ended 52\nbound 52\n",
+        err: "",
+    },
+    Subject {
+        command: "replay",
+        files: (TWO_WORDS, NOTES, "ANGLE 01\n"),
+        status: Status::Done,
+        out: "kept used 56 bound 56 stop programmed\n",
+        err: "",
+    },
+    Subject {
+        command: "replay",
+        files: (STORES, STOPS, "ANGLE 01\nDISTRIBUTOR +6900000000\n"),
+        status: Status::Left,
+        out: "left unlisted 0106 +6900000000 step 2 used 58\n",
+        err: "",
+    },
+    Subject {
+        command: "replay",
+        files: (TWO_WORDS, NOTES, "PROGRAMMED RUN\n"),
+        status: Status::Left,
+        out: "left switch step 0 used 0\n",
+        err: "",
+    },
+    Subject {
+        command: "trace",
+        files: (STORES, STOPS, "ANGLE 01\nDISTRIBUTOR +6900000000\n"),
+        status: Status::Left,
+        out: NO_STOP,
+        err: "",
+    },
+    Subject {
+        command: "bound",
+        files: (ROUND, NOTES, ""),
+        status: Status::Refused,
+        out: "",
+        err: "fault 35 unbounded 0100 0106\n",
+    },
+    Subject {
+        command: "report",
+        files: ("0100 +8400000106\nSTART 0100\n", NOTES, ""),
+        status: Status::Refused,
+        out: "",
+        err: "fault 32 notinprofile 0100 84\n",
+    },
+    Subject {
+        command: "draw",
+        files: (STORES, NOTES, ""),
+        status: Status::Refused,
+        out: "",
+        err: "fault 34 alters 0100 0106\n",
+    },
+    Subject {
+        command: "bound",
+        files: (
+            TWO_WORDS,
+            "mark = [{ most = 1 }]\nprogrammed = \"stop\"\nload_cards = \"none\"\n",
+            "",
+        ),
+        status: Status::Refused,
+        out: "",
+        err: "fault 13 notes missing mark.1.from\n",
+    },
+    Subject {
+        command: "trace",
+        files: (TWO_WORDS, NOTES, "0100 +0000000000\n"),
+        status: Status::Refused,
+        out: "",
+        err: "fault 47 inputs loaded 0100\n",
+    },
+];
+
+/// The words of a command, and the names of its files.
+pub(crate) const WORDS: [&str; 5] = ["replay", "deck", "times", "notes", "inputs"];
+
+/// The files of a command, each under its name.
+pub(crate) fn shelf_of<'a>(
+    (deck, notes, inputs): (&'a str, &'a str, &'a str),
+) -> [(&'a str, Tap<'a>); 4] {
+    [
+        ("deck", Tap::of(deck.as_bytes())),
+        ("times", Tap::of(TIMES.as_bytes())),
+        ("notes", Tap::of(notes.as_bytes())),
+        ("inputs", Tap::of(inputs.as_bytes())),
+    ]
+}
+
+impl Subject {
+    /// Its words.
+    pub(crate) fn words(&self) -> [&'static str; 5] {
+        let mut words = WORDS;
+        words[0] = self.command;
+        words
+    }
+
+    /// How many words its command takes.
+    pub(crate) fn count(&self) -> usize {
+        if matches!(self.command, "replay" | "trace") {
+            5
+        } else {
+            4
+        }
+    }
+}
