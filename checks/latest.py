@@ -1,5 +1,6 @@
-"""The reports of a deck's longest walks, by the plain model (checks/model.py). Of the longest walks those are taken that
-arrive as late as any walk does wherever they come; where these don't all have the same report, there is none."""
+"""The reports of a deck's longest walks, by the plain model (checks/model.py). Of the longest walks
+those are taken that arrive as late as any walk does wherever they come; where these don't all have
+the same report, there is none."""
 
 from model import found
 
@@ -7,7 +8,8 @@ MANY = "more than one"
 
 
 class Tally:
-    """What a report counts of a walk: at each card visits and time, and for each mark its passes."""
+    """What a report counts of a walk: at each card visits and time, and for each mark its
+    passes."""
 
     def __init__(self, cards, marks):
         self.visits, self.times, self.passes = [0] * cards, [0] * cards, [0] * marks
@@ -27,7 +29,8 @@ class Tally:
 
 
 class Latest:
-    """The latest arrivals at each location with counts of the marks, each with the tally of the walks that make it."""
+    """The latest arrivals at each location with counts of the marks, each with the tally of the
+    walks that make it."""
 
     def __init__(self, walks, deck):
         self.walks, self.arrivals, self.ended = walks, {}, (0, MANY)
@@ -35,7 +38,8 @@ class Latest:
         for number, line in enumerate(open(deck).read().splitlines(), 1):
             first, *words = line.split(" ")
             if first.isdigit():
-                self.card_of.update((int(first) + place, len(self.lines)) for place in range(len(words)))
+                places = range(int(first), int(first) + len(words))
+                self.card_of.update(dict.fromkeys(places, len(self.lines)))
                 self.lines.append(number)
 
     def mark_of(self, place, onto):
@@ -43,7 +47,8 @@ class Latest:
         return edges.index((place, onto)) if (place, onto) in edges else None
 
     def later(self, one, end, tally):
-        """The later of an arrival and another; MANY tallies where both are as late, and not alike."""
+        """The later of an arrival and another; MANY tallies where both are as late, and not
+        alike."""
         if one is None or one[0] < end:
             return end, tally
         if one[0] == end and one[1] != tally:
@@ -51,7 +56,8 @@ class Latest:
         return one
 
     def hops(self, key):
-        """The hops of a location with counts: the instruction, the way, and the location with counts behind it, if any."""
+        """The hops of a location with counts: the instruction, the way, and the location with
+        counts behind it, if any."""
         place, counts = key
         for op, d, i in self.walks.instructions(place):
             for way in self.walks.ways(op, d, i):
@@ -95,8 +101,10 @@ class Latest:
         end, tally = self.ended
         if tally is MANY:
             return None
-        lines = ["card %04d visits %d time %d" % one for one in zip(self.lines, tally.visits, tally.times)]
+        cards = zip(self.lines, tally.visits, tally.times)
+        lines = ["card %04d visits %d time %d" % one for one in cards]
         lines.append("other visits %d time %d" % (tally.visits[-1], tally.times[-1]))
         for mark, passes in zip(self.walks.marks, tally.passes):
-            lines.append("mark %04d %04d passed %d of %d" % (mark["from"], mark["to"], passes, mark["most"]))
+            told = mark["from"], mark["to"], passes, mark["most"]
+            lines.append("mark %04d %04d passed %d of %d" % told)
         return lines + ["bound %d" % (end - angle)]

@@ -1,6 +1,7 @@
-"""A plain model of the machine and of its walks, written from docs/MACHINE.md and docs/FORMATS.md apart from the product:
-it shares no code with it, and its search for the longest walk doesn't know that an earlier clock is never overtaken.
-`checks/examples` and `checks/stored-run` use it."""
+"""A plain model of the machine and of its walks, written from docs/MACHINE.md and docs/FORMATS.md
+apart from the product: it shares no code with it, and its search for the longest walk doesn't know
+that an earlier clock is never overtaken. `checks/examples` and `checks/stored-run` use it, and of
+its rules of waiting `checks/results.py` does."""
 
 import functools
 import sys
@@ -90,7 +91,8 @@ class Machine:
         sign = self.accumulator < 0
         if not is_upper:
             return sign, abs(self.accumulator) % HALF
-        return sign if self.upper_is_minus is None else self.upper_is_minus, abs(self.accumulator) // HALF
+        is_minus = sign if self.upper_is_minus is None else self.upper_is_minus
+        return is_minus, abs(self.accumulator) // HALF
 
     def word(self, location):
         if location < 2000:
@@ -128,7 +130,8 @@ class Machine:
             raise Stopped("programmed")
 
     def work(self, op, d, i):
-        """What an operation does: its units, its wait, and the next location. The examples come to no other stop."""
+        """What an operation does: its units, its wait, and the next location. The examples come to
+        no other stop."""
         units = wait = 0
         if op in WANTS_ANY:
             units = self.calculate(op, self.word(d))
@@ -161,7 +164,8 @@ class Machine:
             units = sum(map(int, str(upper)))
         elif op != 69:
             before = 0 if op >= 60 else self.accumulator
-            sums = {0: value * HALF, 1: -value * HALF, 5: value, 6: -value, 7: abs(value), 8: -abs(value)}
+            sums = {0: value * HALF, 1: -value * HALF, 5: value, 6: -value}
+            sums.update({7: abs(value), 8: -abs(value)})
             self.accumulator, self.upper_is_minus = before + sums[op % 10], None
         assert abs(self.accumulator) < HALF * HALF
         self.distributor = word
@@ -186,7 +190,8 @@ class Machine:
     def branches(self, op):
         """Whether a branch goes on at D."""
         if op < 90:
-            return {44: abs(self.accumulator) >= HALF, 45: self.accumulator != 0, 46: self.accumulator < 0}[op]
+            number = self.accumulator
+            return {44: abs(number) >= HALF, 45: number != 0, 46: number < 0}[op]
         digit = self.distributor[1] // 10 ** ((op % 10 or 10) - 1) % 10
         assert digit in (8, 9)
         return digit == 8
@@ -204,7 +209,8 @@ class Machine:
 
 
 class Walks:
-    """The walks of a deck with its notes, under the programmed switch at STOP and with no load cards."""
+    """The walks of a deck with its notes, under the programmed switch at STOP and with no load
+    cards."""
 
     def __init__(self, deck, times, notes):
         self.words, self.start = read_deck(deck)
@@ -235,16 +241,20 @@ class Walks:
         return {way if way in ("early", "late") or is_location(way) else "late" for way in ways}
 
     def units(self, op, d):
-        return range(91) if op in (14, 19, 64) else [(d % 10) or (10 if op == 31 else 0)] if op in (30, 31, 35) else [0]
+        if op in (30, 31, 35):
+            return [d % 10 or (10 if op == 31 else 0)]
+        return range(91) if op in (14, 19, 64) else [0]
 
     def ends(self, op, d, ready):
-        """When an instruction may end. Of the waits that end at one angle the longest stands for all."""
+        """When an instruction may end. Of the waits that end at one angle the longest stands for
+        all."""
         entry = self.times[op]
         data = found(d, ready) if op in WAITS_FOR_DATA else ready
         acts = at_parity(entry["parity"], data) + entry["after"]
         if op in (70, 71):
             longest = entry["wait_max"]
-            return [acts + longest - less for less in range(min(50, longest - entry["wait_min"] + 1))]
+            shorter = range(min(50, longest - entry["wait_min"] + 1))
+            return [acts + longest - less for less in shorter]
         return sorted({acts + entry.get("per", 0) * units for units in self.units(op, d)})
 
     def allows(self, place, word):
@@ -271,7 +281,8 @@ class Walks:
         return outer is not None and (outer == number or self.is_inside(outer - 1, number))
 
     def longest(self):
-        """The most word times of all walks from all start angles: through all instructions, units, waits and angles."""
+        """The most word times of all walks from all start angles: through all instructions, units,
+        waits and angles."""
         sys.setrecursionlimit(1_000_000)
 
         @functools.lru_cache(maxsize=None)
@@ -303,7 +314,8 @@ def verdict(machine, walks, bound):
         place, used = machine.sought, machine.used
         sign, digits = word = machine.word(place)
         if not walks.allows(place, word):
-            return "left unlisted %04d %s%010d step %d used %d" % (place, "-" if sign else "+", digits, step, used)
+            told = place, "-" if sign else "+", digits, step, used
+            return "left unlisted %04d %s%010d step %d used %d" % told
         try:
             machine.step()
         except Stopped as stopped:

@@ -1,12 +1,16 @@
-"""What a page shows: a fenced block that is named after a file is that file; one named `console`, and an indented block that
-begins with `$`, has commands, each with its output."""
+"""What a page shows: a fenced block that is named after a file is that file; one named `console`,
+and an indented block that begins with `$`, has commands, each with its output."""
 
 import re
 
 
+BLOCK = re.compile(r"^```(\S+)\n(.*?)^```$|((?:^    [^\n]*\n)+)", re.M | re.S)
+
+
 def blocks_of(text):
-    """The blocks of a page, each with its name; an indented one is named `console` where it begins with `$`."""
-    for name, fenced, indented in re.findall(r"^```(\S+)\n(.*?)^```$|((?:^    [^\n]*\n)+)", text, re.M | re.S):
+    """The blocks of a page, each with its name; an indented one is named `console` where it begins
+    with `$`."""
+    for name, fenced, indented in BLOCK.findall(text):
         if fenced:
             yield name, fenced
         elif indented.startswith("    $ "):

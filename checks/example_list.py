@@ -1,0 +1,73 @@
+"""The examples, as checks/examples and checks/stored-run go through them. All share one timing
+table."""
+
+from collections import namedtuple
+
+TIMES = "examples/times.toml"
+
+# A title, a folder of examples/, in it a deck with its notes, and the files of inputs of its
+# replays: each with what the drum holds in the end, a number for a location, or None where the run
+# leaves the notes.
+Example = namedtuple("Example", "title folder deck notes runs")
+
+UNSORTED = [31, 41, -59, 26, 53, 58, 97, 93, 23, 84]
+
+
+def from_300(numbers):
+    return dict(enumerate(numbers, 300))
+
+
+EXAMPLES = [
+    Example("two words", "first", "deck", "notes.toml", {"inputs": {}}),
+    Example("an altered word", "altered", "deck", "notes.toml", {"inputs": {106: 112340106}}),
+    Example("a loop", "loop", "deck", "notes.toml", {"inputs": None}),
+    Example("a count", "count", "deck", "notes.toml", {"inputs": {}}),
+    Example("a sum, in order", "sum", "in-order.deck", "in-order.toml", {"inputs": {25: 46050}}),
+    Example("a sum, placed", "sum", "placed.deck", "placed.toml", {"inputs": {18: 46050}}),
+    Example("a search", "search", "deck", "notes.toml", {"inputs": {41: 49}, "no-digit": None}),
+    Example(
+        "a subroutine",
+        "subroutine",
+        "deck",
+        "notes.toml",
+        {"inputs": {51: 300**2 + 400**2}, "largest": {51: 2 * 70000**2}},
+    ),
+    Example(
+        "a square root",
+        "root",
+        "deck",
+        "notes.toml",
+        {
+            "inputs-3": {101: 1},
+            "inputs-2000000": {101: 1414},
+            "inputs-9999999999": {101: 99999},
+        },
+    ),
+    Example(
+        "cards",
+        "cards",
+        "deck",
+        "notes.toml",
+        {
+            "inputs": {20: 6912, 177: 6912},
+            "full": {20: 210, 177: 210},
+            "no-last": {20: 3},
+        },
+    ),
+    Example(
+        "a sort",
+        "sort",
+        "deck",
+        "notes.toml",
+        {"inputs": from_300(sorted(UNSORTED)), "backwards": from_300(range(1, 11))},
+    ),
+]
+
+
+def files_of(example):
+    """The names of an example's deck and notes, from the repository's top on."""
+    return ["examples/%s/%s" % (example.folder, name) for name in (example.deck, example.notes)]
+
+
+def file_of(example, name):
+    return "examples/%s/%s" % (example.folder, name)

@@ -1,0 +1,184 @@
+"""What is to hold of every run of the program, whatever its words and texts say.
+checks/damaged-inputs holds to it the cases of checks/damage.py."""
+
+from collections import namedtuple
+
+from damage import FILES, files_of_joined, joined
+from faults import fault_of, has_its_form, is_accepted, names_what_is_there
+from results import (
+    bound_of,
+    kept_of,
+    left_of,
+    pictured_bound,
+    report_of_walk,
+    reported_bound,
+    traced_verdict,
+    walked_bound,
+)
+
+# What a run gave: its status and both outputs.
+Ran = namedtuple("Ran", "status out err")
+# What is told: its kind, a bound, the word times used, and a fault.
+Told = namedtuple("Told", "kind bound used fault", defaults=[None, None, None])
+
+DONE, REFUSED, USAGE, FAILED, LEFT = range(5)
+
+
+class Broken(Exception):
+    """The property that a run breaks."""
+
+
+def hold(property, is_kept):
+    if not is_kept:
+        raise Broken(property)
+
+
+# What a run told.
+
+
+def verdict_of(line, status):
+    kept, left = kept_of(line), left_of(line)
+    if kept and status == DONE:
+        return Told("kept", kept[1], kept[0])
+    return Told("left", None, left[1]) if left and status == LEFT else None
+
+
+def result_of(asked, status, text):
+    """What a result tells that was asked for; None where it is none."""
+    command, files = asked
+    if command == "replay":
+        return verdict_of(text, status)
+    if command == "trace":
+        line = traced_verdict(text, files)
+        return line and verdict_of(line, status)
+    kinds = {
+        "report": ("report", lambda: reported_bound(text, files)),
+        "walk": ("walk", lambda: walked_bound(text, files)),
+        "draw": ("picture", lambda: pictured_bound(text)),
+    }
+    kind, read = kinds.get(command, ("bound", lambda: bound_of(text)))
+    bound = read()
+    return Told(kind, bound) if bound is not None and status == DONE else None
+
+
+def told_of(asked, ran):
+    """What a run told that was asked for this, or for no command over files that there are; None
+    where it is nothing that may be told then."""
+    try:
+        out, err = ran.out.decode(), ran.err.decode()
+    except UnicodeDecodeError:
+        return None
+    if ran.status in (DONE, LEFT):
+        if asked:
+            return result_of(asked, ran.status, out)
+        return Told("help") if ran.status == DONE else None
+    if ran.status == USAGE:
+        return None if asked else Told("usage")
+    fault = fault_of(err, ran.status)
+    kind = "unopened" if fault and fault.ending == "open" else "refused"
+    return fault and Told(kind, fault=fault)
+
+
+# That the commands agree with one another.
+
+
+def ends_alike(long, bound):
+    """Whether a longer result ends in the line of the bound, or both have one fault."""
+    is_one = (long.status, long.err) == (bound.status, bound.err)
+    return is_one and long.out.endswith(bound.out)
+
+
+def is_said_of_joined(files, bound, run):
+    """Whether the joined form gives the same, where its parts can be told apart."""
+    text = joined(files)
+    return files_of_joined(text, files["inputs"]) != files or run([], files, text) == bound
+
+
+def is_counted(walk, report, files):
+    """Whether a report is what its walk counts up to."""
+    return walk.status != DONE or report_of_walk(walk.out.decode(), files) == report.out.decode()
+
+
+def is_within(told, bound, files):
+    """Whether a verdict goes with what `bound` gives: no time in it is above the bound, and without
+    a bound it has the same fault, or one of the inputs, which are looked at before."""
+    other = told_of(("bound", files), bound)
+    if other is None:
+        return False
+    if told.fault:
+        is_of_inputs = told.fault.about == "inputs"
+        if other.fault:
+            return told.fault == other.fault or is_of_inputs and other.fault.about == "analysis"
+        return is_of_inputs
+    return other.fault is None and told.used <= other.bound and told.bound in (None, other.bound)
+
+
+def agrees(asked, ran, told, run):
+    """Whether a run agrees with what the other commands tell of the same files."""
+    command, files = asked
+    words = lambda command: [command] + FILES[: 4 if command in ("replay", "trace") else 3]
+    other = lambda command: run(words(command), files, b"")
+    bound = other("bound")
+    if command == "joined":
+        return ran == bound
+    if command == "bound":
+        return ends_alike(other("report"), ran) and is_said_of_joined(files, ran, run)
+    if command in ("report", "walk"):
+        walk, report = (other("walk"), ran) if command == "report" else (ran, other("report"))
+        is_one = ends_alike(walk, bound) and ends_alike(report, bound)
+        return is_one and is_counted(walk, report, files)
+    if command == "draw":
+        is_one = (ran.status, ran.err) == (bound.status, bound.err)
+        return is_one and (told.fault is not None or bound.out == b"bound %d\n" % told.bound)
+    trace, replay = (other("trace"), ran) if command == "replay" else (ran, other("replay"))
+    is_one = ends_alike(trace, replay) and told_of(("trace", files), trace) == told
+    return is_one and is_within(told, bound, files)
+
+
+# The properties.
+
+
+def writes_where_its_status_says(ran):
+    """Whether a run wrote to the one output that goes with its status, and nothing to the other."""
+    is_line = {DONE: ran.out, LEFT: ran.out, REFUSED: ran.err, FAILED: ran.err}
+    written = is_line.get(ran.status, b"")
+    if ran.status == USAGE:
+        return ran.out == b"" and ran.err != b""
+    return written.endswith(b"\n") and b"" in (ran.out, ran.err)
+
+
+def tells_why_it_does_nothing(case, told):
+    """Whether a run that wasn't asked for a command over files that there are told why: help where
+    that was asked for; with no words, that a part is missing; else what is wrong with the words, or
+    a fault before the file that there isn't."""
+    if told.kind == "help":
+        return "--help" in case.words or "-h" in case.words
+    if told.kind == "usage":
+        return case.words != []
+    return told.fault is not None and (case.words == []) == (told.fault.about == "joined")
+
+
+def judged(case, ran, run):
+    """What a run told, where it keeps to every property. `run` takes words, the files' texts and
+    the standard input."""
+    hold("writes where its status says", writes_where_its_status_says(ran))
+    hold("says the same once more", run(case.words, case.files, case.text) == ran)
+    # An escape in a document may spell a key with a line feed.
+    has_escape = any(b"\\" in text for text in [case.text, *case.files.values()])
+    is_fault = ran.status in (REFUSED, FAILED)
+    hold("tells a fault in one line", not is_fault or has_escape or ran.err.count(b"\n") == 1)
+    asked = case.asked()
+    told = told_of(asked, ran)
+    hold("says what may be said", told is not None)
+    hold("wants for nothing", not told.fault or told.fault.ending != "fail")
+    if not asked:
+        hold("tells why it does nothing", tells_why_it_does_nothing(case, told))
+        return told
+    command, files = asked
+    if told.fault:
+        hold("names what is there", names_what_is_there(told.fault, files))
+    for part in FILES[: 4 if command in ("replay", "trace") else 3]:
+        is_taken = is_accepted(told.fault, part)
+        hold("takes what has its form", not is_taken or has_its_form(part, files[part]))
+    hold("agrees with other commands", agrees(asked, ran, told, run))
+    return told

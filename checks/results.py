@@ -1,0 +1,306 @@
+"""Whether a result has its form and its lines go together: a bound, a report, a walk, a picture, a
+verdict or a trace, of a deck, a timing table, notes and inputs that are accepted. Each function
+gives what the result tells, or None where it isn't as docs/FORMATS.md says."""
+
+import functools
+import re
+import tomllib
+import xml.etree.ElementTree as xml
+
+from model import WAITS_FOR_DATA, at_parity, found
+
+NUMBER = "(0|[1-9][0-9]*)"
+PLACE = "([01][0-9]{3}|800[0-3])"
+WORD = "([+-][0-9]{10})"
+STOPS = "programmed|operation|operand|card|quotient|overflow|digit|next"
+
+BOUND = re.compile("bound %s\n" % NUMBER)
+KEPT = re.compile("kept used {0} bound {0} stop ({1})\n".format(NUMBER, STOPS))
+LEFT = re.compile(
+    "left (?:switch|loadcard|unlisted {0} {1}|toooften {0} {0}) step {2} used {2}\n".format(
+        PLACE, WORD, NUMBER
+    )
+)
+SPENT = "visits {0} time {0}".format(NUMBER)
+CARD = re.compile("card ([0-9]{4}) " + SPENT)
+OTHER = re.compile("other " + SPENT)
+MARK = re.compile("mark {0} {0} passed {1} of {1}".format(PLACE, NUMBER))
+VISIT = re.compile(
+    "{0} ([0-9][0-9]) ([0-9]{{4}}) ([0-9]{{4}}) (?:to {0}|(late)|(early)) "
+    "begun {1} found {1} ready {1}(?: data {1})? ended {1}".format(PLACE, NUMBER)
+)
+STEP = re.compile(
+    "step {2} {0} {1} found {2}(?: ready {2}(?: data {2})?)? ended {2}".format(PLACE, WORD, NUMBER)
+)
+# The operations whose units a walk reckons at their most.
+COUNTING = (14, 19, 64)
+
+
+@functools.lru_cache(maxsize=64)
+def entries_of(times):
+    """The entries of a timing table, by their operations."""
+    return {int(op): entry for op, entry in tomllib.loads(times.decode())["op"].items()}
+
+
+def start_of(deck):
+    return int(re.search(rb"^START ([0-9]{4})$", deck, re.M).group(1))
+
+
+def cards_of(deck):
+    """The cards of a deck: their lines, first locations and words."""
+    for number, line in enumerate(deck.decode("latin-1").split("\n"), 1):
+        first, *words = line.split(" ")
+        if first.isdigit():
+            yield number, int(first), words
+
+
+def number_of(text):
+    """The number that a text matched, and None where it matched nothing."""
+    return None if text is None else int(text)
+
+
+def bound_of(text):
+    matched = BOUND.fullmatch(text)
+    return matched and int(matched.group(1))
+
+
+# Verdicts.
+
+
+def kept_of(text):
+    """The word times used and the bound of a run that keeps to the notes."""
+    matched = KEPT.fullmatch(text)
+    used, bound = map(int, matched.group(1, 2)) if matched else (1, 0)
+    return (used, bound) if used <= bound else None
+
+
+def left_of(text):
+    """The step with which a run leaves the notes, and the word times used before it."""
+    matched = LEFT.fullmatch(text)
+    if not matched:
+        return None
+    step, used = int(matched.group(5)), int(matched.group(6))
+    is_switch = text.startswith("left switch")
+    return (step, used) if is_switch == (step == 0) and (step > 1 or used == 0) else None
+
+
+# Reports.
+
+
+def is_spent(visits, time):
+    """Each visit takes a word time at least, and without one there is no time."""
+    return visits <= time and (visits > 0 or time == 0)
+
+
+def reported_bound(text, files):
+    """The bound that ends a report, to which its times add up."""
+    *lines, last = text.splitlines(keepends=True) or [""]
+    marks = tomllib.loads(files["notes"].decode()).get("mark", [])
+    numbers = [number for number, _, _ in cards_of(files["deck"])]
+    if len(lines) != len(numbers) + 1 + len(marks):
+        return None
+    spent = []
+    for number, line in zip(numbers, lines):
+        matched = CARD.fullmatch(line[:-1])
+        if not matched or int(matched.group(1)) != number:
+            return None
+        spent.append(matched.group(2, 3))
+    other = OTHER.fullmatch(lines[len(numbers)][:-1])
+    if not other:
+        return None
+    spent = [tuple(map(int, pair)) for pair in spent + [other.group(1, 2)]]
+    for mark, line in zip(marks, lines[len(numbers) + 1 :]):
+        matched = MARK.fullmatch(line[:-1])
+        told = matched and [int(matched.group(place)) for place in (1, 2, 4)]
+        if told != [mark["from"], mark["to"], mark["most"]]:
+            return None
+    bound = bound_of(last)
+    adds_up = sum(time for _, time in spent) == bound
+    return bound if adds_up and all(is_spent(*pair) for pair in spent) else None
+
+
+def report_of_walk(walk, files):
+    """The report that is counted from the lines of a walk."""
+    visits = [VISIT.fullmatch(line) for line in walk.splitlines()[:-1]]
+    card_of, lines = {}, []
+    for number, first, words in cards_of(files["deck"]):
+        card_of.update((first + place, len(lines)) for place in range(len(words)))
+        lines.append("card %04d" % number)
+    spent, passes = [[0, 0] for _ in lines + ["other"]], {}
+    for visit in visits:
+        place, onto = int(visit.group(1)), number_of(visit.group(5))
+        tally = spent[card_of.get(place, -1)]
+        tally[0] += 1
+        tally[1] += int(visit.group(12)) - int(visit.group(8))
+        passes[place, onto] = passes.get((place, onto), 0) + 1
+    lines.append("other")
+    text = ["%s visits %d time %d" % (line, *tally) for line, tally in zip(lines, spent)]
+    for mark in tomllib.loads(files["notes"].decode()).get("mark", []):
+        edge = mark["from"], mark["to"]
+        text.append("mark %04d %04d passed %d of %d" % (*edge, passes.get(edge, 0), mark["most"]))
+    return "\n".join(text + walk.splitlines()[-1:]) + "\n"
+
+
+# Moments, in walks and in traces.
+
+
+def extras(op, d, entry, is_worst):
+    """What an operation may take beside what is before and after: its units, or a wait."""
+    if op in (70, 71):
+        most = entry["wait_max"]
+        return [most] if is_worst else range(entry["wait_min"], most + 1)
+    if op in (30, 31, 35):
+        return [(d % 10 or (10 if op == 31 else 0)) * entry["per"]]
+    if op in COUNTING:
+        return [entry["per"] * units for units in ([90] if is_worst else range(91))]
+    return [0]
+
+
+def are_moments(angle, entry, place, instruction, moments, is_worst):
+    """Whether an instruction is found, ready, has its data and ends when the machine says. Without
+    data it stops early, and outside of the profile where it is found."""
+    op, d, _ = instruction
+    begun, at, ready, data, ended = moments
+    if angle + at != found(place, angle + begun):
+        return False
+    if entry is None or ready is None:
+        return entry is None and ready is None and ended == at
+    if ready != at + entry["before"]:
+        return False
+    if data is None:
+        return ended == ready
+    had = found(d, angle + ready) - angle if op in WAITS_FOR_DATA else ready
+    acted = at_parity(entry["parity"], angle + data) - angle + entry["after"]
+    return data == had and ended - acted in extras(op, d, entry, is_worst)
+
+
+# Walks.
+
+
+def words_of(files):
+    """The words that the deck has at its locations."""
+    cards = cards_of(files["deck"])
+    return {first + place: word for _, first, words in cards for place, word in enumerate(words)}
+
+
+def instruction_of(word):
+    return int(word[1:3]), int(word[3:7]), int(word[7:])
+
+
+def lists_of(files):
+    lists = tomllib.loads(files["notes"].decode()).get("list", [])
+    return {one["location"]: one["pattern"] for one in lists}
+
+
+def is_allowed(at, lists, place, instruction):
+    """Whether an instruction is what the deck or a list of the notes has at a location."""
+    op, d, i = instruction
+    return (place in at and instruction_of(at[place]) == instruction) or any(
+        pattern["op"] == op and pattern["d_from"] <= d <= pattern["d_to"] and pattern["i"] == i
+        for pattern in lists.get(place, [])
+    )
+
+
+def goes_on(visit, is_last):
+    """Whether a visit goes on at its D or its I where another follows, and has data unless it
+    stops early."""
+    onto, late, early, data = visit.group(5, 6, 7, 11)
+    if (data is None) != (early is not None) or (onto is None and not is_last):
+        return False
+    return onto is None or onto in visit.group(3, 4)
+
+
+def walked_bound(text, files):
+    """The bound that ends a walk, whose visits follow one another from 0 to the bound."""
+    *lines, last = text.splitlines(keepends=True) or [""]
+    entries, at, lists = entries_of(files["times"]), words_of(files), lists_of(files)
+    place = start_of(files["deck"])
+    angle, clock = place % 50 + 1, 0
+    for number, line in enumerate(lines, 1):
+        visit = VISIT.fullmatch(line[:-1])
+        if not visit or int(visit.group(1)) != place or not goes_on(visit, number == len(lines)):
+            return None
+        instruction = tuple(map(int, visit.group(2, 3, 4)))
+        moments = [number_of(moment) for moment in visit.group(8, 9, 10, 11, 12)]
+        entry = entries.get(instruction[0])
+        if moments[0] != clock or entry is None:
+            return None
+        if not is_allowed(at, lists, place, instruction):
+            return None
+        if not are_moments(angle, entry, place, instruction, moments, True):
+            return None
+        clock, place = moments[-1], number_of(visit.group(5))
+    return clock if bound_of(last) == clock else None
+
+
+# Pictures.
+
+
+def pictured_bound(text):
+    """The bound that a picture names, where it is well-formed."""
+    if not text.startswith("<svg") or not text.endswith("</svg>\n"):
+        return None
+    try:
+        root = xml.fromstring(text)
+    except xml.ParseError:
+        return None
+    named = [re.fullmatch("bound %s word times" % NUMBER, part.text or "") for part in root.iter()]
+    bounds = [int(matched.group(1)) for matched in named if matched]
+    return bounds[0] if len(bounds) == 1 else None
+
+
+# Traces.
+
+
+def angle_of(inputs):
+    stated = re.search(rb"^ANGLE ([0-9]{2})$", inputs, re.M)
+    return int(stated.group(1)) if stated else 0
+
+
+def written_by(op, d):
+    """The locations that an operation may write."""
+    if op == 70:
+        return range(d // 50 * 50, d // 50 * 50 + 50)
+    return [d] if 20 <= op <= 24 else []
+
+
+def traced_end(text, files):
+    """How many steps a trace has, when the one before the last ends, and when the last does, at
+    which location with which word, and where it may go on. The steps are numbered from 1, follow
+    one another in time, and have the deck's words where none is written."""
+    lines = text.splitlines()[:-1]
+    entries, angle = entries_of(files["times"]), angle_of(files["inputs"])
+    ends, onto, at, place, word = [0, 0], [start_of(files["deck"])], words_of(files), None, None
+    for number, line in enumerate(lines, 1):
+        step = STEP.fullmatch(line)
+        if not step or int(step.group(1)) != number or int(step.group(2)) not in onto:
+            return None
+        place, word = int(step.group(2)), step.group(3)
+        instruction = instruction_of(word)
+        moments = [ends[-1]] + [number_of(moment) for moment in step.group(4, 5, 6, 7)]
+        entry = entries.get(instruction[0])
+        if at.get(place, word) != word:
+            return None
+        if not are_moments(angle, entry, place, instruction, moments, False):
+            return None
+        ends, onto = [ends[-1], moments[-1]], instruction[1:]
+        for written in written_by(*instruction[:2]):
+            at.pop(written, None)
+    return len(lines), *ends, place, word, onto
+
+
+def traced_verdict(text, files):
+    """The line of the verdict, where the steps before it go with it: a run that is kept ends with
+    the last step, and one that leaves the notes does so with it."""
+    verdict = "".join(text.splitlines(keepends=True)[-1:])
+    traced = traced_end(text, files)
+    kept, left = kept_of(verdict), left_of(verdict)
+    if traced is None or not (kept or left):
+        return None
+    steps, before, ended, place, word, onto = traced
+    if kept:
+        return verdict if ended == kept[0] and steps > 0 else None
+    at, listed, source, target = LEFT.fullmatch(verdict).group(1, 2, 3, 4)
+    is_of_step = at is None or (int(at), listed) == (place, word)
+    is_of_edge = source is None or int(source) == place and int(target) in onto
+    return verdict if (steps, before) == left and is_of_step and is_of_edge else None
