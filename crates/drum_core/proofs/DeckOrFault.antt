@@ -1,6 +1,6 @@
 -- Every text is a deck, or it has its fault.
 use Rattle.std.proofs.Common.{◌≡◌, ℕ, zero, suc, ◌+◌, ◌<◌, List, [], ◌∷◌, ◌++◌, length, refl, ap, sym, ◌∙◌, subst}
-use Rattle.std.proofs.Common.{arith, inl, inr, ◌⊎◌, append_assoc, length-append}
+use Rattle.std.proofs.Common.{arith, inl, inr, ◌⊎◌, length-append}
 use Rattle.std.proofs.lemmas.Bool.{cases_lt, cases_eq}
 use Rattle.std.proofs.lemmas.List.{append-nil}
 use Rattle.std.specs.Prelude.{Any}
@@ -12,9 +12,9 @@ use Rattle.drum_core.specs.DeckText.{AreSound, IsTooLong, IsDeck, IsFaultOfLine,
 use Rattle.drum_core.specs.Lines.{lines_of}
 use Rattle.drum_core.proofs.DeckLaws.{line_one}
 use Rattle.drum_core.proofs.FaultLaws.{starts-append}
-use Rattle.drum_core.proofs.FirstFaults.{say_one, say_append}
-use Rattle.drum_core.proofs.LineCases.{least_or_none, line_cases}
-use Rattle.drum_core.proofs.LineLemmas.{long_among, long_behind}
+use Rattle.drum_core.proofs.FirstFaults as firsts
+use Rattle.drum_core.proofs.FirstFaults.{all_or_first, say_one}
+use Rattle.drum_core.proofs.LineCases.{least_or_none, line_cases, longer_or_not}
 use Rattle.drum_core.proofs.Loads.{sound_more, sound_card}
 use Rattle.drum_core.proofs.Progress.{first_refused}
 
@@ -32,29 +32,8 @@ given_cases (one ∷ given) location = elim (cases_eq one.location location) [
     neither other none (zero, first, within, here, at) = other (ap (λ (g : Given). g.location) here ∙ at)
     neither other none (suc k, first, within, here, at) = none (k, first, omega arith, here, at)
 
-long_cases : (lines : List (List ℕ)) → Any (λ line. 100 < length line) lines
-    ⊎ (Any (λ line. 100 < length line) lines → ⊥)
-long_cases [] = inr (λ long. omega (arith, long.2))
-long_cases (line ∷ lines) = elim (cases_lt 100 (length line)) [
-  | inl long ↦ inl (0, line, omega arith, refl, long)
-  | inr short ↦ elim (long_cases lines) [
-    | inl long ↦ inl (long_among 100 line lines long)
-    | inr none ↦ inr (λ long. none (long_behind 100 line lines short long))
-  ]
-]
-
-long_or_not : (text : List ℕ) → IsTooLong text ⊎ (IsTooLong text → ⊥)
-long_or_not text = elim (cases_lt 4000 (length (lines_of text))) [
-  | inl many ↦ inl (inl many)
-  | inr few ↦ elim (long_cases (lines_of text)) [
-    | inl long ↦ inl (inr long)
-    | inr none ↦ inr (λ too_long. elim too_long [ inl many ↦ omega arith | inr long ↦ none long ])
-  ]
-]
-
 abbrev Goes : List Line → ℕ → List ℕ → Type 0
-Goes before number text = ((line : Line) × IsLine text line × AreSound (before ++ line ∷ []))
-    ⊎ ((fault : DeckFault) × IsFaultOfLine before number text fault)
+Goes before number text = firsts.Goes IsLine AreSound IsFaultOfLine before number text
 
 -- what a line says leaves the lines sound, or it has a fault
 line_goes : (before : List Line) (number : ℕ) (text : List ℕ) (line : Line) → AreSound before → IsLine text line
@@ -102,32 +81,6 @@ goes_on before number text sound = elim (line_cases text) [
   | inr none ↦ inr (Card number, (refl, none))
 ]
 
--- behind sound lines all are sound, or one is the first with a fault
-all_or_first : (text : List ℕ) (texts rest : List (List ℕ)) (before : List Line) → lines_of text ≡ texts ++ rest
-    → Say texts before → AreSound before
-    → ((lines : List Line) × Say (lines_of text) lines × AreSound lines)
-    ⊎ ((fault : DeckFault) × IsFirstFault text fault)
-all_or_first text texts [] before split said sound =
-    inl (before, subst (λ (ts : List (List ℕ)). Say ts before) (sym (split ∙ append-nil texts)) said, sound)
-all_or_first text texts (line ∷ rest) before split said sound = elim (goes_on before (length texts + 1) line sound) [
-  | inr fault ↦ inr (
-    fault.0,
-    record {
-      texts = texts;
-      line = line;
-      others = rest;
-      split = split;
-      before = before;
-      said =
-          said;
-      sound = sound;
-      first = fault.1;
-    },
-  )
-  | inl says ↦ all_or_first text (texts ++ line ∷ []) rest (before ++ says.0 ∷ []) (split
-      ∙ sym (append_assoc texts (line ∷ []) rest)) (say_append IsLine texts before line says.0 said says.1) says.2
-]
-
 -- sound lines are a deck's, or none says where to start
 deck_or_no_start : (text : List ℕ) (lines : List Line) → (IsTooLong text → ⊥) → Say (lines_of text) lines
     → AreSound lines → IsDeck text lines ⊎ LacksStart text
@@ -145,9 +98,9 @@ deck_or_no_start text lines short said sound = go (starts lines) refl
 
 pub deck_or_fault : (text : List ℕ) → ((lines : List Line) × IsDeck text lines)
     ⊎ ((fault : DeckFault) × IsRefused text fault)
-deck_or_fault text = elim (long_or_not text) [
+deck_or_fault text = elim (longer_or_not 4000 100 text) [
   | inl long ↦ inr (TooLong, long)
-  | inr short ↦ elim (all_or_first text [] (lines_of text) [] refl tt
+  | inr short ↦ elim (all_or_first IsLine AreSound IsFaultOfLine goes_on text [] (lines_of text) [] refl tt
       (record { on_drum = tt; once = tt; one_start = omega arith })) [
         | inr fault ↦ inr (fault.0, first_refused text fault.0 short fault.1)
         | inl all ↦ elim (deck_or_no_start text all.0 short all.1 all.2) [

@@ -1,6 +1,8 @@
 -- Laws of texts by lines, whatever a line says: what a text says is one, and so is its first fault.
-use Rattle.std.proofs.Common.{◌≡◌, ℕ, ◌+◌, ◌<◌, List, [], ◌∷◌, ◌++◌, length, refl, ap, sym, ◌∙◌, subst, arith, inl, inr}
+use Rattle.std.proofs.Common.{◌≡◌, ℕ, ◌+◌, ◌<◌, List, [], ◌∷◌, ◌++◌, length, refl, ap, sym, ◌∙◌, subst, arith, inl, inr, ◌⊎◌}
+use Rattle.std.proofs.Common.{append_assoc}
 use Rattle.std.proofs.lemmas.Bool.{cases_lt}
+use Rattle.std.proofs.lemmas.List.{append-nil}
 use Rattle.drum_core.specs.Lines.{lines_of, EachSays, HasFirstFault}
 use Rattle.drum_core.proofs.DeckLaws.{same_prefix}
 
@@ -139,4 +141,46 @@ first_fault_one {Line} Says AreSound IsFault laws text fault other p q =
             (subst (λ (n : ℕ). IsFault p.before (n + 1) p.line fault) long p.first)) in
             laws.one_fault q.before (length q.texts + 1) q.line fault other here q.first
       ]
+    ]
+
+-- behind sound lines a line leaves them sound, or it has a fault
+abbrev pub Goes : {Line Fault : Type 0} → (List ℕ → Line → Type 0) → (List Line → Type 0)
+    → (List Line → ℕ → List ℕ → Fault → Type 0) → List Line → ℕ → List ℕ → Type 0
+Goes {Line} {Fault} Says AreSound IsFault before number text =
+    ((line : Line) × Says text line × AreSound (before ++ line ∷ []))
+    ⊎ ((fault : Fault) × IsFault before number text fault)
+
+-- behind sound lines all are sound, or one is the first with a fault
+pub all_or_first : {Line Fault : Type 0} (Says : List ℕ → Line → Type 0) (AreSound : List Line → Type 0)
+    (IsFault : List Line → ℕ → List ℕ → Fault → Type 0)
+    → ((before : List Line) (number : ℕ) (text : List ℕ) → AreSound before
+    → Goes Says AreSound IsFault before number text)
+    → (text : List ℕ) (texts rest : List (List ℕ)) (before : List Line) → lines_of text ≡ texts ++ rest
+    → EachSays Says texts before → AreSound before
+    → ((lines : List Line) × EachSays Says (lines_of text) lines × AreSound lines)
+    ⊎ ((fault : Fault) × HasFirstFault Says AreSound IsFault text fault)
+all_or_first Says AreSound IsFault goes_on text texts [] before split said sound =
+    inl (
+      before,
+      subst (λ (ts : List (List ℕ)). EachSays Says ts before) (sym (split ∙ append-nil texts)) said,
+      sound,
+    )
+all_or_first Says AreSound IsFault goes_on text texts (line ∷ rest) before split said sound =
+    elim (goes_on before (length texts + 1) line sound) [
+      | inr fault ↦ inr (
+        fault.0,
+        record {
+          texts = texts;
+          line = line;
+          others = rest;
+          split = split;
+          before = before;
+          said = said;
+          sound = sound;
+          first = fault.1;
+        },
+      )
+      | inl says ↦ all_or_first Says AreSound IsFault goes_on text (texts ++ line ∷ []) rest (before ++ says.0 ∷ [])
+          (split ∙ sym (append_assoc texts (line ∷ []) rest)) (say_append Says texts before line says.0 said says.1)
+          says.2
     ]

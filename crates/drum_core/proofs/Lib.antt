@@ -9,7 +9,7 @@ pub mod FaultLaws
 pub mod FirstFaults
 pub mod Firsts
 pub mod Handed
-mod LineCases
+pub mod LineCases
 pub mod LineLemmas
 mod Loads
 pub mod Numerals

@@ -1,14 +1,16 @@
--- Each text is a line of a deck, or it is none.
+-- Each text is a line of a deck, or it is none; and it is longer than so many lines and bytes, or it isn't.
 use Rattle.std.proofs.Common.{◌≡◌, ℕ, zero, suc, ◌+◌, ◌^◌, ◌<◌, ◌≤◌, Bool, true, false, cond, List, [], ◌∷◌, ◌++◌}
 use Rattle.std.proofs.Common.{length, take, drop, refl, ap, sym, ◌∙◌, subst, arith, inl, inr, ◌⊎◌, take-append-drop}
 use Rattle.std.proofs.Math.Seq.{take-append_seam, drop-append_seam}
 use Rattle.std.proofs.lemmas.Bool.{cases_lt, cases_eq}
-use Rattle.std.specs.Prelude.{codes}
+use Rattle.std.specs.Prelude.{codes, Any}
 use Rattle.drum_core.specs.declared.word.Word.{Word}
 use Rattle.drum_core.specs.DeckText.{Line, comment, start, card, IsLine}
+use Rattle.drum_core.specs.Lines.{lines_of, IsLonger}
 use Rattle.drum_core.specs.Numeral.{digits_of}
 use Rattle.drum_core.specs.Word.{spelling, spaced}
 use Rattle.drum_core.proofs.DeckLaws.{length-spelling}
+use Rattle.drum_core.proofs.LineLemmas.{long_among, long_behind}
 use Rattle.drum_core.proofs.Numerals.{length-digits_of}
 
 -- the least of so many numbers with a property; or none of them has it
@@ -72,7 +74,7 @@ length-word : (word : Word) → length (32 ∷ spelling word) ≡ 12
 length-word word = ap suc (length-spelling word)
 
 -- so many words, each with a space before it
-words_cases : (count : ℕ) (text : List ℕ) → ((words : List Word) × (length words ≡ count) × (text ≡ spaced words))
+pub words_cases : (count : ℕ) (text : List ℕ) → ((words : List Word) × (length words ≡ count) × (text ≡ spaced words))
     ⊎ ((words : List Word) → length words ≡ count → text ≡ spaced words → ⊥)
 words_cases zero [] = inl ([], refl, refl)
 words_cases zero (byte ∷ text) = inr none
@@ -113,7 +115,7 @@ words_cases (suc count) text = elim (word_cases (take 12 text)) [
     no_more none [] same is = omega arith
     no_more none (word ∷ words) same is = none words (omega arith) (split word words is).1
 
-comment_cases : (text : List ℕ) → IsLine text comment ⊎ (IsLine text comment → ⊥)
+pub comment_cases : (text : List ℕ) → IsLine text comment ⊎ (IsLine text comment → ⊥)
 comment_cases [] = inr (λ is. let e : [] ≡ 42 ∷ is.0 = is.1 in cc)
 comment_cases (byte ∷ rest) = elim (cases_eq byte 42) [
   | inl same ↦ inl (rest, ap (λ (b : ℕ). b ∷ rest) same)
@@ -127,7 +129,7 @@ start_cases text = elim (least_or_none (λ n. text ≡ codes "START " ++ digits_
       | inr none ↦ inr (λ n is. none n (omega arith) (omega (arith, is.0)) is.1)
     ]
 
-card_cases : (text : List ℕ) → ((n : ℕ) × (words : List Word) × IsLine text (card n words))
+pub card_cases : (text : List ℕ) → ((n : ℕ) × (words : List Word) × IsLine text (card n words))
     ⊎ ((n : ℕ) (words : List Word) → IsLine text (card n words) → ⊥)
 card_cases text =
     let Words : ℕ → Type 0 = λ count. (words : List Word) × (length words ≡ count) × (drop 4 text ≡ spaced words) in
@@ -186,3 +188,24 @@ line_cases text = elim (comment_cases text) [
     none no_comment no_start no_card comment is = no_comment is
     none no_comment no_start no_card (start n) is = no_start n is
     none no_comment no_start no_card (card n words) is = no_card n words is
+
+long_cases : (longest : ℕ) (lines : List (List ℕ)) → Any (λ line. longest < length line) lines
+    ⊎ (Any (λ line. longest < length line) lines → ⊥)
+long_cases longest [] = inr (λ long. omega (arith, long.2))
+long_cases longest (line ∷ lines) = elim (cases_lt longest (length line)) [
+  | inl long ↦ inl (0, line, omega arith, refl, long)
+  | inr short ↦ elim (long_cases longest lines) [
+    | inl long ↦ inl (long_among longest line lines long)
+    | inr none ↦ inr (λ long. none (long_behind longest line lines short long))
+  ]
+]
+
+-- a text is longer, or it isn't
+pub longer_or_not : (most longest : ℕ) (text : List ℕ) → IsLonger most longest text ⊎ (IsLonger most longest text → ⊥)
+longer_or_not most longest text = elim (cases_lt most (length (lines_of text))) [
+  | inl many ↦ inl (inl many)
+  | inr few ↦ elim (long_cases longest (lines_of text)) [
+    | inl long ↦ inl (inr long)
+    | inr none ↦ inr (λ too_long. elim too_long [ inl many ↦ omega arith | inr long ↦ none long ])
+  ]
+]

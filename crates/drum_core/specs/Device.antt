@@ -1,11 +1,16 @@
 -- What a device tells of its calls (this project's choice).
 use Rattle.std.specs.Borrow.{Bor}
-use Rattle.std.specs.Prelude.{ℕ, ◌==◌, ◌&&◌, Bool, true, List, flat_map, length, not, Result, Ok, Err}
+use Rattle.std.specs.Prelude.{ℕ, ◌==◌, ◌&&◌, Bool, true, false, List, flat_map, length, not, Result, Ok, Err}
 
 -- a write that failed, or that took none of some bytes
 abbrev pub took_none : {E : Type 0} → Result ℕ E → List ℕ → Bool
 took_none (Ok n) bytes = n == 0 && not (length bytes == 0)
 took_none (Err e) bytes = true
+
+-- a read that gave nothing, though there was room: it met the end
+abbrev pub met_end : {E : Type 0} → Result ℕ E → List ℕ → Bool
+met_end (Ok n) buffer = n == 0 && not (length buffer == 0)
+met_end (Err e) buffer = false
 
 -- how many bytes a read gave
 abbrev pub given_by : {E : Type 0} → Result ℕ E → ℕ

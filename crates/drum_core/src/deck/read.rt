@@ -37,7 +37,13 @@ pub fn read_deck<I: Input>(alloc: Global, reader: &mut I) -> Result<Deck, DeckFa
     ensures full { I.given reader.new ≡ I.given reader.old + 404001
         → IsErrOf result DeckFault.TooLong ⊎ IsErrOf result DeckFault.Memory }
     ensures read { IsErrOf result DeckFault.Read ↔ (I.failed reader.new ≡ I.failed reader.old + 1) }
+    // The whole text is read first: to its end, or one byte past the limit.
+    ensures whole { ¬ IsErrOf result DeckFault.Read → ¬ IsErrOf result DeckFault.Memory
+        → (I.ended reader.new ≡ I.ended reader.old + 1)
+        ⊎ (I.given reader.new ≡ I.given reader.old + 404001) }
+    ensures ended { I.ended reader.new ≤ I.ended reader.old + 1 }
     ensures once { I.failed reader.new ≤ I.failed reader.old + 1 }
+    ensures counted { I.failed reader.old ≤ I.failed reader.new }
     ensures asked { I.called reader.new ≤ I.called reader.old + 404001 }
     ensures taken { I.given reader.new ≤ I.given reader.old + 404001 }
     ensures each { I.called reader.new + I.given reader.old

@@ -1,7 +1,7 @@
 ghost use Rattle.std.specs.Prelude.{◌≡◌, ℕ, ◌+◌, ◌^◌, ◌≤◌, List, Option, is_err, if◌then◌else◌};
 ghost use Rattle.std.specs.Io.{ReadsAtMost};
 ghost use Rattle.std.specs.Io.KnownBytes.{ReadConsumes};
-ghost use Rattle.drum_core.specs.Device.{given_by};
+ghost use Rattle.drum_core.specs.Device.{given_by, met_end};
 
 use super::Failed;
 
@@ -19,6 +19,9 @@ pub trait Input {
     /// How many bytes its reads gave, in all.
     ghost given: { Self → ℕ };
 
+    /// How many reads met the end: they gave nothing, though there was room.
+    ghost ended: { Self → ℕ };
+
     /// Reads some bytes into the beginning of the buffer and says how many: none only at the end,
     /// or where the buffer has no room.
     ///
@@ -31,7 +34,9 @@ pub trait Input {
         ensures bytes { ReadConsumes (left self.old) (left self.new) result buf.new }
         ensures calls { called self.new ≡ called self.old + 1 }
         ensures failures { failed self.new ≡ failed self.old + (if is_err result then 1 else 0) }
-        ensures given { given self.new ≡ given self.old + given_by result };
+        ensures given { given self.new ≡ given self.old + given_by result }
+        ensures ended { ended self.new
+            ≡ ended self.old + (if met_end result buf.new then 1 else 0) };
 
     /// How often it was read.
     fn calls(&self) -> u64
@@ -40,6 +45,10 @@ pub trait Input {
     /// How many reads failed.
     fn failures(&self) -> u64
         ensures { result ≡ failed self.now };
+
+    /// How many reads met the end.
+    fn ends(&self) -> u64
+        ensures { result ≡ ended self.now };
 
     /// How many bytes its reads gave, in all.
     fn bytes(&self) -> u128

@@ -1,4 +1,4 @@
-ghost use Rattle.std.specs.Prelude.{◌≡◌, ◌*◌, ◌^◌, ◌≤◌};
+ghost use Rattle.std.specs.Prelude.{◌≡◌, ◌+◌, ◌*◌, ◌^◌, ◌≤◌};
 
 use super::Failed;
 use super::input::Input;
@@ -11,8 +11,9 @@ pub struct Reading<R: Read> {
     pub reader: R,
     calls: u64,
     failures: u64,
+    ends: u64,
     bytes: u128,
-    ghost within: { failures ≤ calls },
+    ghost within: { failures + ends ≤ calls },
     ghost counted: { bytes ≤ calls * 2 ^ 64 },
 }
 
@@ -23,11 +24,13 @@ impl<R: Read> Reading<R> {
         ensures calls { ⟦<Reading<R> as Input>⟧.called result ≡ 0 }
         ensures failures { ⟦<Reading<R> as Input>⟧.failed result ≡ 0 }
         ensures given { ⟦<Reading<R> as Input>⟧.given result ≡ 0 }
+        ensures ended { ⟦<Reading<R> as Input>⟧.ended result ≡ 0 }
     {
         Reading {
             reader,
             calls: 0,
             failures: 0,
+            ends: 0,
             bytes: 0,
         }
     }
@@ -42,10 +45,15 @@ impl<R: Read> Input for Reading<R> {
 
     ghost given = { λ reading. reading.bytes };
 
+    ghost ended = { λ reading. reading.ends };
+
     fn read(&mut self, buf: &mut [u8]) -> Result<usize, Failed> {
         self.calls += 1;
         match self.reader.read(buf) {
             Ok(count) => {
+                if count == 0 && !buf.is_empty() {
+                    self.ends += 1;
+                }
                 self.bytes += count as u128;
                 Ok(count)
             }
@@ -62,6 +70,10 @@ impl<R: Read> Input for Reading<R> {
 
     fn failures(&self) -> u64 {
         self.failures
+    }
+
+    fn ends(&self) -> u64 {
+        self.ends
     }
 
     fn bytes(&self) -> u128 {

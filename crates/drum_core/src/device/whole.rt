@@ -1,4 +1,4 @@
-ghost use Rattle.std.specs.Prelude.{◌≡◌, ◌+◌, ◌^◌, ◌<◌, ◌≤◌, ◌↔◌, ◌⊎◌, IfOk, IfSome, IsErrOf, vec_len, length};
+ghost use Rattle.std.specs.Prelude.{◌≡◌, ◌+◌, ◌^◌, ◌<◌, ◌≤◌, ◌↔◌, ◌⊎◌, IfOk, IfSome, OnOk, IsErrOf, vec_len, length};
 
 use super::input::Input;
 use std::alloc::Global;
@@ -29,6 +29,9 @@ pub fn read_whole<I: Input>(
     requires calls { I.called input.old ≤ 2 ^ 62 }
     ensures all { IfOk result (λ text. IfSome (I.left input.old) (λ bytes. text.items ≡ bytes)) }
     ensures within { IfOk result (λ text. vec_len text ≤ limit) }
+    // It has all bytes where the end was met, and an end that is met isn't asked for again.
+    ensures whole { OnOk result (I.ended input.new ≡ I.ended input.old + 1) }
+    ensures ended { I.ended input.new ≤ I.ended input.old + 1 }
     ensures long { IsErrOf result WholeError.TooLong
         → IfSome (I.left input.old) (λ bytes. limit < length bytes) }
     ensures past { IsErrOf result WholeError.TooLong
@@ -37,6 +40,7 @@ pub fn read_whole<I: Input>(
         → IsErrOf result WholeError.TooLong ⊎ IsErrOf result WholeError.Memory }
     ensures read { IsErrOf result WholeError.Read ↔ (I.failed input.new ≡ I.failed input.old + 1) }
     ensures once { I.failed input.new ≤ I.failed input.old + 1 }
+    ensures counted { I.failed input.old ≤ I.failed input.new }
     ensures asked { I.called input.new ≤ I.called input.old + limit + 1 }
     ensures taken { I.given input.new ≤ I.given input.old + limit + 1 }
     ensures each { I.called input.new + I.given input.old

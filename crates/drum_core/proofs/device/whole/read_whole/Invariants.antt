@@ -2,7 +2,7 @@ use Rattle.std.proofs.Common.{◌≡◌, ◌+◌, ◌≤◌, vec_len}
 use Rattle.std.specs.Io.KnownBytes.{Consumes}
 use Rattle.drum_core.proofs.device.whole.read_whole.Given as goal
 
--- the text so far is what the input lost, each call gave some of it, and none failed
+-- the text so far is what the input lost, each call gave some of it, and none failed or met the end
 abbrev pub invariant-loop : goal.invariant-loop
 invariant-loop g l = record {
   within : vec_len l.text ≤ l.limit;
@@ -10,5 +10,6 @@ invariant-loop g l = record {
   calls : g.I.Input.called l.input ≡ g.I.Input.called l.fn.input + l.counter;
   each : l.counter ≤ vec_len l.text;
   failed : g.I.Input.failed l.input ≡ g.I.Input.failed l.fn.input;
+  ended : g.I.Input.ended l.input ≡ g.I.Input.ended l.fn.input;
   given : g.I.Input.given l.input ≡ g.I.Input.given l.fn.input + vec_len l.text;
 }
