@@ -48,7 +48,7 @@ one_more text rest rest' stating stating' number line says p steps is_line holds
   counted = omega (arith, p.counted, length-append p.texts (line ∷ []));
 }
 
-first_refused : (text : List ℕ) (fault : InputFault) → (IsTooLong text → ⊥) → IsFirstFault text fault
+pub first_refused : (text : List ℕ) (fault : InputFault) → (IsTooLong text → ⊥) → IsFirstFault text fault
     → IsRefused text fault
 first_refused text faults.Read short p = absurd p.first
 first_refused text faults.Memory short p = absurd p.first

@@ -1,8 +1,15 @@
 //! Laws of the definitions, each the contract of a function that does nothing.
 
-ghost use Rattle.std.specs.Prelude.{◌≡◌, ◌≢◌, ℕ, ◌<◌, List, All, AllPairs};
+ghost use Rattle.std.specs.Prelude.{◌≡◌, ◌≢◌, ◌⊎◌, ℕ, ◌<◌, List, All, AllPairs};
 ghost use Rattle.drum_inputs.specs.InputsText.{Line, IsLine, AreInputs, AreSound, IsRefused, given_in};
 ghost use Rattle.drum_inputs.specs.declared.fault.InputFault.{InputFault};
+
+/// Every text is inputs, or it has its fault. (That it is not both, and has no other fault, two of the
+/// laws below say.)
+pub fn inputs_or_fault()
+    ensures { (text : List ℕ) → ((lines : List Line) × AreInputs text lines)
+        ⊎ ((fault : InputFault) × IsRefused text fault) }
+{}
 
 /// A text that is no inputs has one fault.
 pub fn one_fault()

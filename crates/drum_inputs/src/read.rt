@@ -36,7 +36,13 @@ pub fn read_inputs<I: Input>(alloc: Global, reader: &mut I) -> Result<Inputs, In
         → IsErrOf result InputFault.TooLong ⊎ IsErrOf result InputFault.Memory }
     ensures read { IsErrOf result InputFault.Read
         ↔ (I.failed reader.new ≡ I.failed reader.old + 1) }
+    // The whole text is read first: to its end, or one byte past the limit.
+    ensures whole { ¬ IsErrOf result InputFault.Read → ¬ IsErrOf result InputFault.Memory
+        → (I.ended reader.new ≡ I.ended reader.old + 1)
+        ⊎ (I.given reader.new ≡ I.given reader.old + 804001) }
+    ensures ended { I.ended reader.new ≤ I.ended reader.old + 1 }
     ensures once { I.failed reader.new ≤ I.failed reader.old + 1 }
+    ensures counted { I.failed reader.old ≤ I.failed reader.new }
     ensures asked { I.called reader.new ≤ I.called reader.old + 804001 }
     ensures taken { I.given reader.new ≤ I.given reader.old + 804001 }
     ensures each { I.called reader.new + I.given reader.old
