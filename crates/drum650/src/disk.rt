@@ -21,11 +21,17 @@ impl Source for Disk<'_> {
 
     ghost failed = { λ disk. disk.failures };
 
+    ghost asked = { λ _. None };
+
     fn fetch(&mut self, name: &str) -> Option<Reading<File>> {
         match File::open(self.rt, name) {
             Ok(file) => Some(Reading::new(file)),
             Err(_) => None,
         }
+    }
+
+    fn failures(&self) -> u64 {
+        self.failures
     }
 
     fn close(&mut self, text: Reading<File>) {

@@ -1,4 +1,5 @@
 pub mod Answering
+pub mod Asking
 pub mod Beginning
 pub mod Cuts
 pub mod Followed

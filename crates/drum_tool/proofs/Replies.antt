@@ -1,6 +1,6 @@
 -- Replies to documents that may be given, or to a fault of theirs.
 use Rattle.std.proofs.Common.{◌≡◌, ℕ, ◌+◌, List, Option, Some, None, Result, Ok, Err, IfOk, IfErr, IfSome, refl, inl}
-use Rattle.std.proofs.Common.{◌≢◌, inr, ap, sym, ◌∙◌, subst, arith}
+use Rattle.std.proofs.Common.{◌≢◌, ◌⊎◌, inr, ap, sym, ◌∙◌, subst, arith}
 use Rattle.std.specs.Prelude.{string_bytes}
 use Rattle.drum_core.specs.declared.deck.fault.DeckFault.{DeckFault}
 use Rattle.drum_core.specs.declared.deck.fault.DeckFault.TheVariants as of_deck
@@ -23,6 +23,7 @@ use Rattle.drum_tool.specs.Replay.{Given, IsReplayFault}
 use Rattle.drum_lines.specs.FaultStatus.{after_deck, after_input, after_note, after_refusal, failed_by, reads_failed}
 use Rattle.drum_lines.specs.FaultStatus.{status_after}
 use Rattle.drum_tool.specs.Documents.{IsAnalysisFault, IsBound}
+use Rattle.drum_tool.specs.Asked.{files_of}
 use Rattle.drum_tool.specs.Files.{AreTold}
 use Rattle.drum_tool.specs.Reply.{AnswersCommand, AnswersOn, IsFault, Reply, SaysBound, SaysTrace, TellsOfReads}
 use Rattle.drum_tool.specs.Reply.{bound_reply, breaks_off, complains, cut_reply, fault_reply, says, trace_reply}
@@ -123,53 +124,68 @@ trace_of_no_read g given reply (inr (turns, replayed, is)) = inr (
 pub fault_of_reads : (fault : Fault) → TellsOfReads (reads_failed fault) (fault_reply fault)
 fault_of_reads fault = inl (fault, refl, refl)
 
--- after no fault the program ends as it does where the words are wrong
-after_deck_fault : (fault : DeckFault) → after_deck fault ≢ status.Usage
-after_deck_fault of_deck.Read = λ is. cc
-after_deck_fault of_deck.Memory = λ is. cc
-after_deck_fault (of_deck.Card line) = λ is. cc
-after_deck_fault (of_deck.Twice location) = λ is. cc
-after_deck_fault of_deck.NoStart = λ is. cc
-after_deck_fault (of_deck.TwoStarts line) = λ is. cc
-after_deck_fault (of_deck.PastDrum line) = λ is. cc
-after_deck_fault of_deck.TooLong = λ is. cc
+-- after a fault the program ends as after a refusal or as one that failed
+abbrev IsBad : statuses.Status → Type 0
+IsBad ends = (ends ≡ status.Refused) ⊎ (ends ≡ status.Failed)
 
-after_note_fault : (fault : NoteFault) → after_note fault ≢ status.Usage
-after_note_fault of_note.Toml = λ is. cc
-after_note_fault of_note.Memory = λ is. cc
-after_note_fault (of_note.Missing key) = λ is. cc
-after_note_fault (of_note.Unknown key) = λ is. cc
-after_note_fault (of_note.Range key) = λ is. cc
-after_note_fault (of_note.Kind key) = λ is. cc
-after_note_fault (of_note.TwoMarks from onto) = λ is. cc
-after_note_fault (of_note.TwoLists location) = λ is. cc
+after_deck_fault : (fault : DeckFault) → IsBad (after_deck fault)
+after_deck_fault of_deck.Read = inr refl
+after_deck_fault of_deck.Memory = inr refl
+after_deck_fault (of_deck.Card line) = inl refl
+after_deck_fault (of_deck.Twice location) = inl refl
+after_deck_fault of_deck.NoStart = inl refl
+after_deck_fault (of_deck.TwoStarts line) = inl refl
+after_deck_fault (of_deck.PastDrum line) = inl refl
+after_deck_fault of_deck.TooLong = inl refl
 
-after_input_fault : (fault : InputFault) → after_input fault ≢ status.Usage
-after_input_fault of_input.Read = λ is. cc
-after_input_fault of_input.Memory = λ is. cc
-after_input_fault (of_input.Line line) = λ is. cc
-after_input_fault (of_input.Repeated line) = λ is. cc
-after_input_fault (of_input.PastDrum line) = λ is. cc
-after_input_fault of_input.TooLong = λ is. cc
+after_note_fault : (fault : NoteFault) → IsBad (after_note fault)
+after_note_fault of_note.Toml = inl refl
+after_note_fault of_note.Memory = inr refl
+after_note_fault (of_note.Missing key) = inl refl
+after_note_fault (of_note.Unknown key) = inl refl
+after_note_fault (of_note.Range key) = inl refl
+after_note_fault (of_note.Kind key) = inl refl
+after_note_fault (of_note.TwoMarks from onto) = inl refl
+after_note_fault (of_note.TwoLists location) = inl refl
 
-after_refusal_fault : (fault : Refusal) → after_refusal fault ≢ status.Usage
-after_refusal_fault refusal.Memory = λ is. cc
-after_refusal_fault (refusal.NotInProfile location op) = λ is. cc
-after_refusal_fault (refusal.NotLoaded location) = λ is. cc
-after_refusal_fault (refusal.Alters writer word) = λ is. cc
-after_refusal_fault (refusal.Unbounded cycle) = λ is. cc
-after_refusal_fault (refusal.TooLarge product) = λ is. cc
+after_input_fault : (fault : InputFault) → IsBad (after_input fault)
+after_input_fault of_input.Read = inr refl
+after_input_fault of_input.Memory = inr refl
+after_input_fault (of_input.Line line) = inl refl
+after_input_fault (of_input.Repeated line) = inl refl
+after_input_fault (of_input.PastDrum line) = inl refl
+after_input_fault of_input.TooLong = inl refl
 
-after_fault : (fault : Fault) → status_after fault ≢ status.Usage
-after_fault faults.NoPart = λ is. cc
-after_fault (faults.Part part what) = λ is. cc
-after_fault faults.Memory = λ is. cc
+after_refusal_fault : (fault : Refusal) → IsBad (after_refusal fault)
+after_refusal_fault refusal.Memory = inr refl
+after_refusal_fault (refusal.NotInProfile location op) = inl refl
+after_refusal_fault (refusal.NotLoaded location) = inl refl
+after_refusal_fault (refusal.Alters writer word) = inl refl
+after_refusal_fault (refusal.Unbounded cycle) = inl refl
+after_refusal_fault (refusal.TooLarge product) = inl refl
+
+after_fault : (fault : Fault) → IsBad (status_after fault)
+after_fault faults.NoPart = inl refl
+after_fault (faults.Part part what) = inr refl
+after_fault faults.Memory = inr refl
 after_fault (faults.Deck fault) = after_deck_fault fault
 after_fault (faults.Times fault) = after_note_fault fault
 after_fault (faults.Notes fault) = after_note_fault fault
 after_fault (faults.Inputs fault) = after_input_fault fault
 after_fault (faults.Refused refused) = after_refusal_fault refused
-after_fault (faults.Loaded location) = λ is. cc
+after_fault (faults.Loaded location) = inl refl
+
+-- which is neither as where the words are wrong, nor as after a result that is done
+no_usage : (ends : statuses.Status) → IsBad ends → ends ≢ status.Usage
+no_usage ends (inl bad) is = let clash : status.Refused ≡ status.Usage = sym bad ∙ is in cc
+no_usage ends (inr bad) is = let clash : status.Failed ≡ status.Usage = sym bad ∙ is in cc
+
+pub not_done : (fault : Fault) → status_after fault ≢ status.Done
+not_done fault is = go (status_after fault) (after_fault fault) is
+  where
+    go : (ends : statuses.Status) → IsBad ends → ends ≢ status.Done
+    go ends (inl bad) is = let clash : status.Refused ≡ status.Done = sym bad ∙ is in cc
+    go ends (inr bad) is = let clash : status.Failed ≡ status.Done = sym bad ∙ is in cc
 
 abbrev status_in : Reply → statuses.Status
 status_in (says text ends) = ends
@@ -178,7 +194,7 @@ status_in (breaks_off text) = status.Failed
 
 -- so what is wrong with words is no fault's line
 pub usage_of_no_read : (text : List ℕ) → TellsOfReads 0 (complains text status.Usage)
-usage_of_no_read text = inr (refl, λ fault clash. after_fault fault (sym (ap status_in clash)))
+usage_of_no_read text = inr (refl, λ fault clash. no_usage (status_after fault) (after_fault fault) (sym (ap status_in clash)))
 
 pub refused_of_no_read : (refused : Refused) → TellsOfReads 0 (refused_reply refused)
 refused_of_no_read (Help text) = result_of_no_read (string_bytes text) status.Done
@@ -189,4 +205,5 @@ refused_of_no_read Memory = fault_of_reads faults.Memory
 abbrev pub Replied : (List ℕ → Option (Option (List ℕ))) → Command → Reply → ℕ → Type 0
 Replied files command reply failures =
     TellsOfReads failures reply
-    × ((held : List ℕ → Option (List ℕ)) → AreTold files held → AnswersCommand held command failures reply)
+    × ((held : List ℕ → Option (List ℕ)) → AreTold files held (files_of command)
+    → AnswersCommand held command failures reply)

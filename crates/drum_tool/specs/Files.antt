@@ -1,6 +1,6 @@
 -- Files, each by its name (this project's choice): the documents and the inputs that they hold, and
 -- why they hold none.
-use Rattle.std.specs.Prelude.{◌≡◌, ℕ, ◌<◌, ◌≤◌, List, length, Option, Some, None, IsSome, ◌⊎◌}
+use Rattle.std.specs.Prelude.{◌≡◌, ℕ, ◌<◌, ◌≤◌, List, [], ◌∷◌, length, Option, Some, None, IsSome, ◌⊎◌}
 use Rattle.drum_command.specs.declared.command.Files.{Files}
 use Rattle.drum_core.specs.declared.deck.Deck.{Deck}
 use Rattle.drum_core.specs.declared.deck.fault.DeckFault.TheVariants as of_deck
@@ -18,6 +18,7 @@ use Rattle.drum_lines.specs.declared.fault.Fault.TheVariants as fault
 use Rattle.drum_lines.specs.declared.part.Part as parts
 use Rattle.drum_lines.specs.declared.part.Part.TheVariants as part
 use Rattle.drum_lines.specs.declared.part.PartFault.TheVariants as what
+use Rattle.drum_tool.specs.Asked.{Named}
 use Rattle.drum_tool.specs.Documents.{SaysDeck, IsNoDeck}
 
 -- What a fetch gives by what is told of the file: of an untold one anything, of one that can't be
@@ -27,9 +28,12 @@ IsFetched None fetched = Unit {0}
 IsFetched (Some None) fetched = fetched ≡ None
 IsFetched (Some (Some bytes)) fetched = fetched ≡ Some (Some bytes)
 
--- all files are told: by its name, the bytes of each, and of one that can't be opened none
-abbrev pub AreTold : (List ℕ → Option (Option (List ℕ))) → (List ℕ → Option (List ℕ)) → Type 0
-AreTold file held = (name : List ℕ) → file name ≡ Some (held name)
+-- these files are told: the bytes of each, and of one that can't be opened none
+abbrev pub AreTold : (List ℕ → Option (Option (List ℕ))) → (List ℕ → Option (List ℕ)) → List Named
+    → Type 0
+AreTold file held [] = Unit {0}
+AreTold file held (one ∷ others) =
+    (file one.name ≡ Some (held one.name)) × AreTold file held others
 
 -- a file's bytes, within the limit of a timing table and of notes
 abbrev pub Holds : Option (List ℕ) → List ℕ → Type 0

@@ -1,3 +1,4 @@
+pub mod Asked
 pub mod Begun
 pub mod Documents
 pub mod Files

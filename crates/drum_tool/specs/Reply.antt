@@ -1,5 +1,5 @@
 -- What the program has to say, and when it says it (this project's choice).
-use Rattle.std.specs.Prelude.{◌≡◌, ◌≢◌, ℕ, List, ◌++◌, Option, ◌⊎◌}
+use Rattle.std.specs.Prelude.{◌≡◌, ◌≢◌, ℕ, ◌+◌, List, ◌++◌, Option, Some, None, ◌⊎◌}
 use Rattle.drum_times.specs.Entries.{entry_in}
 use Rattle.drum_machine.specs.Run.{Turn}
 use Rattle.drum_flow.specs.Walk.{Setting}
@@ -10,6 +10,9 @@ use Rattle.drum_command.specs.declared.command.Command.TheVariants.{Bound, Repor
 use Rattle.drum_inputs.specs.declared.inputs.Inputs.{Inputs}
 use Rattle.drum_tool.specs.declared.documents.Documents.{Documents}
 use Rattle.drum_lines.specs.declared.fault.Fault.{Fault}
+use Rattle.drum_lines.specs.declared.fault.Fault.TheVariants as fault
+use Rattle.drum_lines.specs.declared.part.Part.TheVariants as part
+use Rattle.drum_lines.specs.declared.part.PartFault.TheVariants as what
 use Rattle.drum_lines.specs.declared.status.Status.{Status}
 use Rattle.drum_lines.specs.declared.status.Status.TheVariants.{Done}
 use Rattle.drum_lines.specs.declared.verdict.Verdict.{Verdict}
@@ -21,6 +24,7 @@ use Rattle.drum_lines.specs.VerdictText.{verdict_text}
 use Rattle.drum_report.specs.Report.{report_text}
 use Rattle.drum_listing.specs.TraceText.{turn_lines}
 use Rattle.drum_listing.specs.WalkText.{walk_text}
+use Rattle.drum_tool.specs.Asked.{Asked, Looks, Named}
 use Rattle.drum_tool.specs.Documents.{IsAnalysisFault, IsBound, IsWorstWalk, setting_of}
 use Rattle.drum_tool.specs.Files.{AreHeld, AreNotHeld, HoldsInputs, HoldsNoInputs}
 use Rattle.drum_tool.specs.Given.{given}
@@ -59,6 +63,24 @@ abbrev pub TellsOfReads : ℕ → Reply → Type 0
 TellsOfReads failures reply =
     ((fault : Fault) × (failures ≡ reads_failed fault) × (reply ≡ fault_reply fault))
     ⊎ ((failures ≡ 0) × ((fault : Fault) → reply ≢ fault_reply fault))
+
+-- the reply is the line of this fault, or of none
+abbrev pub IsLineOf : Option Fault → Reply → Type 0
+IsLineOf None reply = (fault : Fault) → reply ≢ fault_reply fault
+IsLineOf (Some fault) reply = reply ≡ fault_reply fault
+
+-- these files are looked at up to the fault that the reply tells, else all
+abbrev pub LooksAsTold : List Named → Reply → List Asked → Type 0
+LooksAsTold files reply asked =
+    (told : Option Fault) × IsLineOf told reply × Looks files told asked
+
+-- Unless the reply tells that a read of the input failed, or that memory is wanting, the input was
+-- read to its end, or one byte past the limit: by how many reads met the end, and how many bytes it
+-- gave, before and after.
+abbrev pub ReadsAll : Reply → ℕ → ℕ → ℕ → ℕ → Type 0
+ReadsAll reply ended ended' given given' =
+    reply ≢ fault_reply (fault.Part part.Input what.Read) → reply ≢ fault_reply fault.Memory
+    → (ended' ≡ ended + 1) ⊎ (given' ≡ given + 16777217)
 
 -- a verdict, with the turns of its run before it, and turns alone, on which a write fails
 abbrev pub verdict_reply : Verdict → Reply

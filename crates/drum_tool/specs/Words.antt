@@ -8,8 +8,9 @@ use Rattle.drum_command.specs.Line.{drum650, said_by, said_by_words}
 use Rattle.drum_command.specs.Refusal.{FitsAmong}
 use Rattle.drum_lines.specs.declared.fault.Fault.TheVariants as fault
 use Rattle.drum_lines.specs.declared.status.Status.TheVariants as status
+use Rattle.drum_tool.specs.Asked.{Asked, AsksFor, files_of}
 use Rattle.drum_tool.specs.Files.{AreTold}
-use Rattle.drum_tool.specs.Reply.{Reply, says, complains, fault_reply, AnswersCommand, AnswersJoined}
+use Rattle.drum_tool.specs.Reply.{Reply, says, complains, fault_reply, AnswersCommand, AnswersJoined, LooksAsTold}
 
 -- the reply to words that name no command: help, or what is wrong with them
 abbrev pub refused_reply : Refused → Reply
@@ -23,16 +24,31 @@ pub record AreRefused (words : List Text) (refused : Refused) : Type 0 where
   pub fits : FitsAmong (fault_of drum650 words) refused
   pub taken : takes drum650 words ≡ true → refused ≡ Memory
 
+-- clap finds no fault in the words, and finds this command in them
+pub record AreOf (words : List Text) (command : Command) : Type 0 where
+  pub faultless : fault_of drum650 words ≡ []
+  pub said : said_by_words words ≡ Some (said_by command)
+
 -- The reply to words, where this is told of the input and of files, and so many reads of them
--- failed: with no words that to the joined form, whose bytes are told; else that to the command that
--- clap finds in them, whose files are told; else why they are refused.
+-- failed: with no words that to the joined form, if its bytes are told; else that to the command
+-- that they are, if its files are told; else why they are refused.
 abbrev pub Answers : List Text → Option (List ℕ) → (List ℕ → Option (Option (List ℕ))) → ℕ → Reply
     → Type 0
 Answers [] input files failures reply =
     (bytes : List ℕ) → input ≡ Some bytes → AnswersJoined bytes failures reply
 Answers (word ∷ words) input files failures reply =
-    ((command : Command) × (said_by_words (word ∷ words) ≡ Some (said_by command))
-    × ((held : List ℕ → Option (List ℕ)) → AreTold files held
+    ((command : Command) × AreOf (word ∷ words) command
+    × ((held : List ℕ → Option (List ℕ)) → AreTold files held (files_of command)
     → AnswersCommand held command failures reply))
     ⊎ ((refused : Refused) × AreRefused (word ∷ words) refused
     × (failures ≡ 0) × (reply ≡ refused_reply refused))
+
+-- What is asked of a source for words: with none nothing; else the files of the command that they
+-- are, in its order and up to the fault that is told; and nothing where they are refused.
+abbrev pub Asks : List Text → Option (List Asked) → Option (List Asked) → Reply → Type 0
+Asks [] before after reply = after ≡ before
+Asks (word ∷ words) before after reply =
+    ((command : Command) × AreOf (word ∷ words) command
+    × AsksFor before after (LooksAsTold (files_of command) reply))
+    ⊎ ((refused : Refused) × AreRefused (word ∷ words) refused
+    × (reply ≡ refused_reply refused) × (after ≡ before))

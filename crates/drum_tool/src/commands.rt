@@ -5,6 +5,7 @@ ghost use Rattle.drum_bound.specs.AnalysisOf.{angle_of, bound_of, visits_of};
 ghost use Rattle.drum_lines.specs.FaultStatus.{failed_by};
 ghost use Rattle.drum_tool.specs.Begun.{IsBegun};
 ghost use Rattle.drum_tool.specs.Documents.{IsBound, IsWorstWalk, setting_of};
+ghost use Rattle.drum_tool.specs.Asked.{AsksFor, Looks, LooksFor, all_named_in, fault_in, files_of, named_in};
 ghost use Rattle.drum_tool.specs.Files.{AreHeld, AreNotHeld, AreTold, HoldsInputs, HoldsNoInputs};
 ghost use Rattle.drum_tool.specs.Output.{Tells, device};
 ghost use Rattle.drum_tool.specs.Replay.{Given};
@@ -14,6 +15,7 @@ ghost use Rattle.drum_tool.specs.Reply.{
   AnswersRunOfFiles,
   IsFault,
   IsFaultWith,
+  LooksAsTold,
   Reply,
   SaysPicture,
   SaysTrace,
@@ -50,14 +52,16 @@ fn analysis<S: Source>(
 ) -> Result<(Documents, Analysis), Fault>
     requires { S.failed source.old ≤ 2 ^ 61 }
     ensures held { IfOk result (λ done. (held : List ℕ → Option (List ℕ))
-        → AreTold (S.file source.old) held → AreHeld held files.entry done.0) }
+        → AreTold (S.file source.old) held (named_in files.entry) → AreHeld held files.entry done.0) }
     ensures bound { IfOk result (λ done. IsBound done.0 (bound_of done.1)) }
     ensures walk { IfOk result (λ done.
         IsWorstWalk done.0 (bound_of done.1) (angle_of done.1) (visits_of done.1)) }
     ensures fault { IfErr result (λ fault. (held : List ℕ → Option (List ℕ))
-        → AreTold (S.file source.old) held
+        → AreTold (S.file source.old) held (named_in files.entry)
         → IsFault (AreHeld held files.entry) (AreNotHeld held files.entry) fault) }
     ensures counted { S.failed source.new ≡ S.failed source.old + failed_by result }
+    ensures asked { AsksFor (S.asked source.old) (S.asked source.new)
+        (Looks (named_in files.entry) (fault_in result)) }
 {
     let documents = Documents::of_files(alloc, source, files)?;
     let analysis = documents.analyse(alloc)?;
@@ -80,12 +84,14 @@ fn picture_of<S: Source>(alloc: Global, source: &mut S, files: Files<'_>) -> Res
     requires { S.failed source.old ≤ 2 ^ 61 }
     ensures short { IfOk result (λ text. length (string_bytes text) ≤ 2 ^ 61) }
     ensures picture { IfOk result (λ text. (held : List ℕ → Option (List ℕ))
-        → AreTold (S.file source.old) held
+        → AreTold (S.file source.old) held (named_in files.entry)
         → AnswersOnFiles SaysPicture held files.entry 0 (picture_reply (string_bytes text))) }
     ensures fault { IfErr result (λ fault. (held : List ℕ → Option (List ℕ))
-        → AreTold (S.file source.old) held
+        → AreTold (S.file source.old) held (named_in files.entry)
         → IsFault (AreHeld held files.entry) (AreNotHeld held files.entry) fault) }
     ensures counted { S.failed source.new ≡ S.failed source.old + failed_by result }
+    ensures asked { AsksFor (S.asked source.old) (S.asked source.new)
+        (Looks (named_in files.entry) (fault_in result)) }
 {
     let (documents, analysis) = analysis(alloc, source, files)?;
     drawing(alloc, &documents, &analysis)
@@ -100,13 +106,15 @@ fn documents_with_inputs<S: Source>(
 ) -> Result<(Documents, Inputs), Fault>
     requires { S.failed source.old ≤ 2 ^ 61 }
     ensures held { IfOk result (λ done. (held : List ℕ → Option (List ℕ))
-        → AreTold (S.file source.old) held
+        → AreTold (S.file source.old) held (all_named_in files.entry inputs.entry.now)
         → AreHeld held files.entry done.0 × HoldsInputs (held inputs.entry.now) done.1) }
     ensures fault { IfErr result (λ fault. (held : List ℕ → Option (List ℕ))
-        → AreTold (S.file source.old) held
+        → AreTold (S.file source.old) held (all_named_in files.entry inputs.entry.now)
         → IsFaultWith (AreHeld held files.entry) (AreNotHeld held files.entry)
         (HoldsInputs (held inputs.entry.now)) (HoldsNoInputs (held inputs.entry.now)) fault) }
     ensures counted { S.failed source.new ≡ S.failed source.old + failed_by result }
+    ensures asked { AsksFor (S.asked source.old) (S.asked source.new)
+        (LooksFor (all_named_in files.entry inputs.entry.now) result) }
 {
     let documents = Documents::of_files(alloc, source, files)?;
     let inputs = inputs_of(alloc, source, inputs)?;
@@ -122,14 +130,16 @@ fn verdict<S: Source>(
 ) -> Result<Verdict, Fault>
     requires { S.failed source.old ≤ 2 ^ 61 }
     ensures verdict { IfOk result (λ verdict. (held : List ℕ → Option (List ℕ))
-        → AreTold (S.file source.old) held
+        → AreTold (S.file source.old) held (all_named_in files.entry inputs.entry.now)
         → AnswersRunOfFiles SaysVerdict held files.entry inputs.entry.now 0
         (verdict_reply verdict)) }
     ensures fault { IfErr result (λ fault. (held : List ℕ → Option (List ℕ))
-        → AreTold (S.file source.old) held
+        → AreTold (S.file source.old) held (all_named_in files.entry inputs.entry.now)
         → IsFaultWith (AreHeld held files.entry) (AreNotHeld held files.entry)
         (HoldsInputs (held inputs.entry.now)) (HoldsNoInputs (held inputs.entry.now)) fault) }
     ensures counted { S.failed source.new ≡ S.failed source.old + failed_by result }
+    ensures asked { AsksFor (S.asked source.old) (S.asked source.new)
+        (Looks (all_named_in files.entry inputs.entry.now) (fault_in result)) }
 {
     let (documents, inputs) = documents_with_inputs(alloc, source, files, inputs)?;
     replay(
@@ -150,14 +160,17 @@ fn begun<S: Source>(
 ) -> Result<(Documents, Begun), Fault>
     requires { S.failed source.old ≤ 2 ^ 61 }
     ensures begun { IfOk result (λ done. (given : Given) × IsBegun (setting_of done.0) given done.1
-        × ((held : List ℕ → Option (List ℕ)) (reply : Reply) → AreTold (S.file source.old) held
+        × ((held : List ℕ → Option (List ℕ)) (reply : Reply)
+        → AreTold (S.file source.old) held (all_named_in files.entry inputs.entry.now)
         → SaysTrace (setting_of done.0) given reply
         → AnswersRunOfFiles SaysTrace held files.entry inputs.entry.now 0 reply)) }
     ensures fault { IfErr result (λ fault. (held : List ℕ → Option (List ℕ))
-        → AreTold (S.file source.old) held
+        → AreTold (S.file source.old) held (all_named_in files.entry inputs.entry.now)
         → IsFaultWith (AreHeld held files.entry) (AreNotHeld held files.entry)
         (HoldsInputs (held inputs.entry.now)) (HoldsNoInputs (held inputs.entry.now)) fault) }
     ensures counted { S.failed source.new ≡ S.failed source.old + failed_by result }
+    ensures asked { AsksFor (S.asked source.old) (S.asked source.new)
+        (Looks (all_named_in files.entry inputs.entry.now) (fault_in result)) }
 {
     let (documents, inputs) = documents_with_inputs(alloc, source, files, inputs)?;
     let begun = begin(
@@ -185,15 +198,19 @@ pub fn obey<S: Source, O: Output, E: Output>(
     requires source { S.failed source.old ≤ 2 ^ 61 }
     requires out { O.called out.old ≤ 2 ^ 62 }
     requires err { E.called err.old ≤ 2 ^ 62 }
-    ensures { (reply : Reply)
+    ensures counted { S.failed source.old ≤ S.failed source.new }
+    ensures told { (reply : Reply)
         × Tells reply (device (O.written out.old) (O.failed out.old))
         (device (O.written out.new) (O.failed out.new))
         (device (E.written err.old) (E.failed err.old))
         (device (E.written err.new) (E.failed err.new)) result
         × ((failures : ℕ) → S.failed source.new ≡ S.failed source.old + failures
         → TellsOfReads failures reply
-        × ((held : List ℕ → Option (List ℕ)) → AreTold (S.file source.old) held
-        → AnswersCommand held command.entry failures reply)) }
+        × ((held : List ℕ → Option (List ℕ))
+        → AreTold (S.file source.old) held (files_of command.entry)
+        → AnswersCommand held command.entry failures reply))
+        × AsksFor (S.asked source.old) (S.asked source.new)
+        (LooksAsTold (files_of command.entry) reply) }
 {
     match command {
         Command::Bound(files) => match analysis(alloc, source, files) {

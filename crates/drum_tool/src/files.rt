@@ -2,6 +2,7 @@
 
 ghost use Rattle.std.specs.Prelude.{◌≡◌, ◌+◌, ◌^◌, ◌≤◌, ◌↔◌, ℕ, List, Option, Some, IfOk, IfErr, IfSome, IsErrOf};
 ghost use Rattle.drum_lines.specs.FaultStatus.{failed_by};
+ghost use Rattle.drum_tool.specs.Asked.{AsksFor, IsLookedAt, IsOfText, IsRead, LooksFor, fault_in, most_of, named_in, reading};
 ghost use Rattle.drum_tool.specs.Files.{AreHeld, AreNotHeld, AreTold, Holds, HoldsDeck, HoldsInputs, HoldsNoDeck, HoldsNoInputs, HoldsNone, HoldsNoNotes, HoldsNotes, HoldsNoTimes, HoldsTimes};
 
 use crate::documents::Documents;
@@ -28,6 +29,10 @@ fn bytes_of<I: Input>(alloc: Global, part: Part, text: &mut I) -> Result<Vec<u8>
         ↔ (I.failed text.new ≡ I.failed text.old + 1) }
     ensures counted { I.failed text.old ≡ 0 → I.failed text.new ≡ failed_by result }
     ensures asked { I.called text.new ≤ I.called text.old + 8388609 }
+    ensures of { IsOfText part (fault_in result) }
+    ensures all { I.called text.old ≡ 0 → I.failed text.old ≡ 0 → I.ended text.old ≡ 0
+        → I.given text.old ≡ 0 → IsRead 8388609 (fault_in result) (reading (I.called text.new)
+        (I.failed text.new) (I.ended text.new) (I.given text.new)) }
 {
     match read_whole(alloc, text, BYTES) {
         Ok(bytes) => Ok(bytes),
@@ -51,6 +56,8 @@ fn read_part<S: Source>(
         → S.file source.old name.now ≡ Some file → Holds file bytes.items) }
     ensures fault { IfErr result (λ fault. (file : Option (List ℕ))
         → S.file source.old name.now ≡ Some file → HoldsNone part file fault) }
+    ensures asked { most_of part ≡ 8388609 → AsksFor (S.asked source.old) (S.asked source.new)
+        (IsLookedAt part name.now (fault_in result)) }
 {
     let Some(mut text) = source.fetch(name) else {
         return Err(Fault::Part(part, PartFault::Open));
@@ -69,6 +76,8 @@ fn deck_of<S: Source>(alloc: Global, source: &mut S, name: &str) -> Result<Deck,
         → S.file source.old name.now ≡ Some file → HoldsDeck file deck) }
     ensures fault { IfErr result (λ fault. (file : Option (List ℕ))
         → S.file source.old name.now ≡ Some file → HoldsNoDeck file fault) }
+    ensures asked { AsksFor (S.asked source.old) (S.asked source.new)
+        (IsLookedAt Part.Deck name.now (fault_in result)) }
 {
     let Some(mut text) = source.fetch(name) else {
         return Err(Fault::Part(Part::Deck, PartFault::Open));
@@ -90,6 +99,8 @@ fn times_of<S: Source>(alloc: Global, source: &mut S, name: &str) -> Result<Time
         → S.file source.old name.now ≡ Some file → HoldsTimes file times) }
     ensures fault { IfErr result (λ fault. (file : Option (List ℕ))
         → S.file source.old name.now ≡ Some file → HoldsNoTimes file fault) }
+    ensures asked { AsksFor (S.asked source.old) (S.asked source.new)
+        (IsLookedAt Part.Times name.now (fault_in result)) }
 {
     let bytes = read_part(alloc, source, Part::Times, name)?;
     match read_times(alloc, &bytes) {
@@ -107,6 +118,8 @@ fn notes_of<S: Source>(alloc: Global, source: &mut S, name: &str) -> Result<Note
         → S.file source.old name.now ≡ Some file → HoldsNotes file notes) }
     ensures fault { IfErr result (λ fault. (file : Option (List ℕ))
         → S.file source.old name.now ≡ Some file → HoldsNoNotes file fault) }
+    ensures asked { AsksFor (S.asked source.old) (S.asked source.new)
+        (IsLookedAt Part.Notes name.now (fault_in result)) }
 {
     let bytes = read_part(alloc, source, Part::Notes, name)?;
     match read_notes(alloc, &bytes) {
@@ -129,6 +142,8 @@ pub fn inputs_of<S: Source>(alloc: Global, source: &mut S, name: &str) -> Result
         → S.file source.old name.now ≡ Some file → HoldsInputs file inputs) }
     ensures fault { IfErr result (λ fault. (file : Option (List ℕ))
         → S.file source.old name.now ≡ Some file → HoldsNoInputs file fault) }
+    ensures asked { AsksFor (S.asked source.old) (S.asked source.new)
+        (IsLookedAt Part.Inputs name.now (fault_in result)) }
 {
     let Some(mut text) = source.fetch(name) else {
         return Err(Fault::Part(Part::Inputs, PartFault::Open));
@@ -157,9 +172,13 @@ impl Documents {
         ensures stays { S.file source.new ≡ S.file source.old }
         ensures counted { S.failed source.new ≡ S.failed source.old + failed_by result }
         ensures held { IfOk result (λ documents. (held : List ℕ → Option (List ℕ))
-            → AreTold (S.file source.old) held → AreHeld held files.entry documents) }
+            → AreTold (S.file source.old) held (named_in files.entry)
+            → AreHeld held files.entry documents) }
         ensures fault { IfErr result (λ fault. (held : List ℕ → Option (List ℕ))
-            → AreTold (S.file source.old) held → AreNotHeld held files.entry fault) }
+            → AreTold (S.file source.old) held (named_in files.entry)
+            → AreNotHeld held files.entry fault) }
+        ensures asked { AsksFor (S.asked source.old) (S.asked source.new)
+            (LooksFor (named_in files.entry) result) }
     {
         let deck = deck_of(alloc, source, files.deck)?;
         let times = times_of(alloc, source, files.times)?;

@@ -8,7 +8,9 @@ use std::io::Read;
 pub struct Held<'a> {
     rest: &'a [u8],
     calls: u64,
+    ends: u64,
     bytes: u128,
+    ghost within: { ends ≤ calls },
     ghost counted: { bytes ≤ calls * 2 ^ 64 },
 }
 
@@ -21,6 +23,7 @@ impl<'a> Held<'a> {
         Held {
             rest: bytes,
             calls: 0,
+            ends: 0,
             bytes: 0,
         }
     }
@@ -35,10 +38,15 @@ impl Input for Held<'_> {
 
     ghost given = { λ held. held.bytes };
 
+    ghost ended = { λ held. held.ends };
+
     fn read(&mut self, buf: &mut [u8]) -> Result<usize, Failed> {
         self.calls += 1;
         match self.rest.read(buf) {
             Ok(count) => {
+                if count == 0 && !buf.is_empty() {
+                    self.ends += 1;
+                }
                 self.bytes += count as u128;
                 Ok(count)
             }
@@ -52,6 +60,10 @@ impl Input for Held<'_> {
 
     fn failures(&self) -> u64 {
         0
+    }
+
+    fn ends(&self) -> u64 {
+        self.ends
     }
 
     fn bytes(&self) -> u128 {

@@ -1,6 +1,6 @@
 //! The joined form, read from an input and taken apart.
 
-ghost use Rattle.std.specs.Prelude.{◌≡◌, ◌+◌, ◌^◌, ◌≤◌, ℕ, IfOk, IfErr, IfSome};
+ghost use Rattle.std.specs.Prelude.{◌≡◌, ◌+◌, ◌^◌, ◌≤◌, ◌⊎◌, ℕ, IfOk, IfErr, IfSome, IsErrOf};
 ghost use Rattle.drum_lines.specs.FaultStatus.{failed_by};
 ghost use Rattle.drum_tool.specs.Joined.{Gives, GivesNone, IsPastLimit, Joins, JoinsNone};
 
@@ -56,6 +56,11 @@ impl Documents {
             IfSome (I.left input.old) (λ bytes. GivesNone bytes fault)) }
         ensures counted { (failures : ℕ) → I.failed input.new ≡ I.failed input.old + failures
             → failures ≡ failed_by result }
+        ensures whole { ¬ IsErrOf result (Fault.Part Part.Input PartFault.Read)
+            → ¬ IsErrOf result Fault.Memory → (I.ended input.new ≡ I.ended input.old + 1)
+            ⊎ (I.given input.new ≡ I.given input.old + 16777217) }
+        ensures ended { I.ended input.new ≤ I.ended input.old + 1 }
+        ensures grows { I.failed input.old ≤ I.failed input.new }
         ensures full { I.given input.new ≡ I.given input.old + 16777217 → IsPastLimit result }
         ensures asked { I.called input.new ≤ I.called input.old + 16777217 }
         ensures taken { I.given input.new ≤ I.given input.old + 16777217 }

@@ -1,18 +1,21 @@
 //! Laws of the definitions, each the contract of a function that does nothing.
 
-ghost use Rattle.std.specs.Prelude.{◌≡◌, ℕ, List, [], ◌∷◌, Option, Some, codes, length, take};
-ghost use Rattle.clap.specs.Words.{Text};
+ghost use Rattle.std.specs.Prelude.{◌≡◌, ◌≢◌, ◌⊎◌, ℕ, List, [], ◌∷◌, Option, Some, codes, length, take};
+ghost use Rattle.clap.specs.Words.{Text, fault_of};
+ghost use Rattle.drum_command.specs.Line.{drum650};
+ghost use Rattle.drum_command.specs.declared.refused.Refused.{Refused};
 ghost use Rattle.drum_machine.specs.Run.{Turn};
 ghost use Rattle.drum_flow.specs.Walk.{Setting};
-ghost use Rattle.drum_lines.specs.declared.status.Status.{Status};
+ghost use Rattle.drum_lines.specs.declared.fault.Fault.{Fault};
 ghost use Rattle.drum_lines.specs.declared.status.Status.TheVariants.{Done};
 ghost use Rattle.drum_lines.specs.declared.verdict.Verdict.{Verdict};
-ghost use Rattle.drum_lines.specs.BoundText.{bound_text};
+ghost use Rattle.drum_lines.specs.FaultStatus.{status_after};
+ghost use Rattle.drum_tool.specs.Asked.{named};
 ghost use Rattle.drum_tool.specs.Files.{AreTold};
 ghost use Rattle.drum_tool.specs.Replay.{Given, IsReplayed, IsVerdict};
-ghost use Rattle.drum_tool.specs.Reply.{says};
+ghost use Rattle.drum_tool.specs.Reply.{Reply, bound_reply, fault_reply};
 ghost use Rattle.drum_tool.specs.Told.{AreNames, IsBoundOfFiles, IsBoundOfJoined};
-ghost use Rattle.drum_tool.specs.Words.{Answers};
+ghost use Rattle.drum_tool.specs.Words.{Answers, AreRefused, refused_reply};
 
 use drum_command::laws::each_line_is_taken;
 
@@ -33,26 +36,38 @@ pub fn one_verdict()
         → (verdict ≡ other) × (step ≡ last) }
 {}
 
-/// A result that `bound` writes, with the names of three files, is the line of their bound, the
-/// worst of what they hold.
+/// With the names of three files, `bound` is answered by the line of their bound, the worst of what
+/// they hold, or by a fault's.
 pub fn bound_is_of_the_files()
     ensures { (deck times notes : Text) (input : Option (List ℕ))
-        (files : List ℕ → Option (Option (List ℕ))) (failures : ℕ) (text : List ℕ) (status : Status)
+        (files : List ℕ → Option (Option (List ℕ))) (failures : ℕ) (reply : Reply)
         (held : List ℕ → Option (List ℕ)) → AreNames (deck ∷ times ∷ notes ∷ [])
-        → AreTold files held
-        → Answers (codes "bound" ∷ deck ∷ times ∷ notes ∷ []) input files failures
-        (says text status)
-        → (bound : ℕ) × IsBoundOfFiles held deck times notes bound
-        × (text ≡ bound_text bound) × (status ≡ Done) }
+        → AreTold files held (named deck times notes)
+        → Answers (codes "bound" ∷ deck ∷ times ∷ notes ∷ []) input files failures reply
+        → ((bound : ℕ) × IsBoundOfFiles held deck times notes bound × (reply ≡ bound_reply bound))
+        ⊎ ((fault : Fault) × (reply ≡ fault_reply fault)) }
 {
     each_line_is_taken();
 }
 
-/// A result that is written with no words is the line of the bound of the joined form.
+/// Words in which `clap` finds a fault are answered by why they are refused, and by nothing else:
+/// by help, by what is wrong with them, or by want of memory.
+pub fn faulty_words_are_refused()
+    ensures { (words : List Text) (input : Option (List ℕ))
+        (files : List ℕ → Option (Option (List ℕ))) (failures : ℕ) (reply : Reply) → words ≢ []
+        → fault_of drum650 words ≢ [] → Answers words input files failures reply
+        → (refused : Refused) × AreRefused words refused × (reply ≡ refused_reply refused) }
+{}
+
+/// With no words, the reply is the line of the bound of the joined form, or a fault's.
 pub fn bound_is_of_the_input()
     ensures { (bytes : List ℕ) (files : List ℕ → Option (Option (List ℕ))) (failures : ℕ)
-        (text : List ℕ) (status : Status)
-        → Answers [] (Some bytes) files failures (says text status)
-        → (bound : ℕ) × IsBoundOfJoined bytes bound
-        × (text ≡ bound_text bound) × (status ≡ Done) }
+        (reply : Reply) → Answers [] (Some bytes) files failures reply
+        → ((bound : ℕ) × IsBoundOfJoined bytes bound × (reply ≡ bound_reply bound))
+        ⊎ ((fault : Fault) × (reply ≡ fault_reply fault)) }
+{}
+
+/// After no fault's line does the program end as after a result that is done.
+pub fn no_fault_is_done()
+    ensures { (fault : Fault) → status_after fault ≢ Done }
 {}

@@ -1,13 +1,13 @@
 //! The program, over its words and devices.
 
-ghost use Rattle.std.specs.Prelude.{◌≡◌, ◌+◌, ◌^◌, ◌<◌, ◌≤◌, ℕ, List, Option, Some, IfOk, IfErr, IfSome, length};
+ghost use Rattle.std.specs.Prelude.{◌≡◌, ◌+◌, ◌^◌, ◌<◌, ◌≤◌, ◌⊎◌, ℕ, List, Option, Some, IfOk, IfErr, IfSome, IsErrOf, length};
 ghost use Rattle.clap.specs.Walk.{texts};
 ghost use Rattle.drum_lines.specs.FaultStatus.{failed_by, reads_failed};
 ghost use Rattle.drum_tool.specs.Joined.{IsPastLimit};
 ghost use Rattle.drum_tool.specs.Output.{Tells, device};
-ghost use Rattle.drum_tool.specs.Reply.{AnswersJoined, Reply, TellsOfReads, bound_reply, fault_reply};
+ghost use Rattle.drum_tool.specs.Reply.{AnswersJoined, ReadsAll, Reply, TellsOfReads, bound_reply, fault_reply};
 ghost use Rattle.drum_command.specs.Refusal.{IsShort};
-ghost use Rattle.drum_tool.specs.Words.{Answers, refused_reply};
+ghost use Rattle.drum_tool.specs.Words.{Answers, Asks, refused_reply};
 
 use crate::commands::obey;
 use crate::documents::Documents;
@@ -15,7 +15,7 @@ use crate::source::Source;
 use crate::telling::{tell_bound, tell_fault, tell_text, tell_usage};
 use drum_command::{Refused, read_words};
 use drum_core::{Input, Output};
-use drum_lines::{Fault, Status};
+use drum_lines::{Fault, Part, PartFault, Status};
 use std::alloc::Global;
 
 /// The bound of the joined form that an input gives.
@@ -27,6 +27,11 @@ fn joined_bound<I: Input>(alloc: Global, input: &mut I) -> Result<u64, Fault>
         AnswersJoined bytes (reads_failed fault) (fault_reply fault))) }
     ensures counted { (failures : ℕ) → I.failed input.new ≡ I.failed input.old + failures
         → failures ≡ failed_by result }
+    ensures whole { ¬ IsErrOf result (Fault.Part Part.Input PartFault.Read)
+        → ¬ IsErrOf result Fault.Memory → (I.ended input.new ≡ I.ended input.old + 1)
+        ⊎ (I.given input.new ≡ I.given input.old + 16777217) }
+    ensures ended { I.ended input.new ≤ I.ended input.old + 1 }
+    ensures grows { I.failed input.old ≤ I.failed input.new }
     ensures full { I.given input.new ≡ I.given input.old + 16777217 → IsPastLimit result }
     ensures asked { I.called input.new ≤ I.called input.old + 16777217 }
     ensures taken { I.given input.new ≤ I.given input.old + 16777217 }
@@ -60,7 +65,11 @@ pub fn run_joined<I: Input, O: Output, E: Output>(
         × ((failures : ℕ) → I.failed input.new ≡ I.failed input.old + failures
         → TellsOfReads failures reply
         × ((bytes : List ℕ) → I.left input.old ≡ Some bytes
-        → AnswersJoined bytes failures reply)) }
+        → AnswersJoined bytes failures reply))
+        × ReadsAll reply (I.ended input.old) (I.ended input.new)
+        (I.given input.old) (I.given input.new) }
+    ensures ended { I.ended input.new ≤ I.ended input.old + 1 }
+    ensures counted { I.failed input.old ≤ I.failed input.new }
     ensures full { I.given input.new ≡ I.given input.old + 16777217 → result ≡ Status.Failed }
     ensures asked { I.called input.new ≤ I.called input.old + 16777217 }
     ensures taken { I.given input.new ≤ I.given input.old + 16777217 }
@@ -115,7 +124,13 @@ pub fn run<'a, S: Source, I: Input, O: Output, E: Output>(
         × ((failures : ℕ) → I.failed input.new + S.failed source.new
         ≡ I.failed input.old + S.failed source.old + failures
         → TellsOfReads failures reply
-        × Answers (texts words.entry.now) (I.left input.old) (S.file source.old) failures reply) }
+        × Answers (texts words.entry.now) (I.left input.old) (S.file source.old) failures reply)
+        × Asks (texts words.entry.now) (S.asked source.old) (S.asked source.new) reply
+        × (length words.entry.now ≡ 0 → ReadsAll reply (I.ended input.old) (I.ended input.new)
+        (I.given input.old) (I.given input.new)) }
+    ensures ended { I.ended input.new ≤ I.ended input.old + 1 }
+    ensures counted { I.failed input.old ≤ I.failed input.new }
+    ensures files { S.failed source.old ≤ S.failed source.new }
     ensures full { I.given input.new ≡ I.given input.old + 16777217 → result ≡ Status.Failed }
     ensures asked { I.called input.new ≤ I.called input.old + 16777217 }
     ensures taken { I.given input.new ≤ I.given input.old + 16777217 }

@@ -1,5 +1,7 @@
 use Rattle.std.proofs.Common.{inl, inr}
 use Rattle.std.proofs.lemmas.Result.{err_from_is_err_and}
+use Rattle.drum_tool.specs.Asked.{named_in}
+use Rattle.drum_tool.proofs.Asking.{analysis_of_none, of_file, of_none}
 use Rattle.drum_tool.proofs.commands.analysis.Goals as goal
 
 pub returns-in_err-documents-clause-fault : goal.returns-in_err-documents-clause-fault
@@ -15,3 +17,17 @@ returns-in_err-analysis-clause-fault g c =
       c.in_ok-documents.ensures.held held told,
       c.in_err-analysis.ensures.fault,
     ))
+
+pub returns-in_err-documents-clause-asked : goal.returns-in_err-documents-clause-asked
+returns-in_err-documents-clause-asked g c =
+    let p = err_from_is_err_and c.from_residual.result c.from_residual.ensures.1 in
+    rw (p.1, p.2) (of_file (named_in c.args.files) (g.S.Source.asked c.args.source.now)
+    (g.S.Source.asked c.of_files.new.source) c.in_err-documents.field-0.0 c.in_err-documents.ensures.asked)
+
+pub returns-in_err-analysis-clause-asked : goal.returns-in_err-analysis-clause-asked
+returns-in_err-analysis-clause-asked g c =
+    let p = err_from_is_err_and c.from_residual-in_err-analysis.result c.from_residual-in_err-analysis.ensures.1 in
+    rw (p.1, p.2) (of_none (named_in c.args.files) (g.S.Source.asked c.args.source.now)
+    (g.S.Source.asked c.of_files.new.source) c.in_err-analysis.field-0.0
+    (analysis_of_none c.in_ok-documents.documents c.in_err-analysis.field-0.0 c.in_err-analysis.ensures.fault)
+    c.in_ok-documents.ensures.asked)

@@ -7,11 +7,13 @@ use Rattle.drum_tool.specs.Documents.{IsBound}
 use Rattle.drum_tool.specs.Output.{GetsResult, device}
 use Rattle.drum_tool.specs.Reply.{bound_reply, fault_reply, picture_reply, report_reply, verdict_reply}
 use Rattle.drum_tool.specs.Reply.{walk_reply}
+use Rattle.drum_tool.specs.Asked.{all_named_in, named_in}
+use Rattle.drum_tool.proofs.Asking.{no_line, no_line_of_trace, told_fault, told_well}
 use Rattle.drum_tool.proofs.Replies.{Replied, counted, fault_of_reads, result_of_no_read, trace_of_no_read}
 use Rattle.drum_tool.proofs.commands.obey.Goals as goal
 
-pub returns-in-Ok : goal.returns-in-Ok
-returns-in-Ok g c =
+pub returns-in-Ok-clause-told : goal.returns-in-Ok-clause-told
+returns-in-Ok-clause-told g c =
     let documents = c.in-Ok.field-0-0 in
     let is : IsBound documents c.bound.result =
     subst (IsBound documents) (sym c.bound.ensures.told) c.in-Ok.ensures.bound in
@@ -20,22 +22,26 @@ returns-in-Ok g c =
       (c.tell_bound.ensures, refl),
       (λ failures count.
           counted (Replied (g.S.Source.file c.args.source.now) c.args.command reply) _ _ failures 0 c.in-Ok.ensures.counted count
-          (result_of_no_read _ _, λ held told. rw c.in-Bound.is (inl (documents, c.in-Ok.ensures.held held told, refl, (c.bound.result, is, refl))))),
+          (result_of_no_read _ _, rw c.in-Bound.is (λ held told. inl (documents, c.in-Ok.ensures.held held told, refl, (c.bound.result, is, refl))))),
+      rw c.in-Bound.is (told_well (named_in c.in-Bound.files) (g.S.Source.asked c.args.source.now)
+          (g.S.Source.asked c.analysis.new.source) reply (no_line _ _) c.in-Ok.ensures.asked),
     )
 
-pub returns-in-Bound : goal.returns-in-Bound
-returns-in-Bound g c =
+pub returns-in-Bound-clause-told : goal.returns-in-Bound-clause-told
+returns-in-Bound-clause-told g c =
     let fault = c.in-Err.fault in (
       fault_reply fault,
       (refl, c.complain.ensures.line, c.complain.ensures.status),
       (λ failures count.
           counted (Replied (g.S.Source.file c.args.source.now) c.args.command (fault_reply fault)) _ _ failures
           (reads_failed fault) c.in-Err.ensures.counted count
-          (fault_of_reads fault, λ held told. rw c.in-Bound.is (inr (fault, c.in-Err.ensures.fault held told, refl, refl)))),
+          (fault_of_reads fault, rw c.in-Bound.is (λ held told. inr (fault, c.in-Err.ensures.fault held told, refl, refl)))),
+      rw c.in-Bound.is (told_fault (named_in c.in-Bound.files) (g.S.Source.asked c.args.source.now)
+          (g.S.Source.asked c.analysis.new.source) fault c.in-Err.ensures.asked),
     )
 
-pub returns-in-Ok-analysis : goal.returns-in-Ok-analysis
-returns-in-Ok-analysis g c =
+pub returns-in-Ok-analysis-clause-told : goal.returns-in-Ok-analysis-clause-told
+returns-in-Ok-analysis-clause-told g c =
     let documents = c.in-Ok-analysis.documents in
     let analysis = c.in-Ok-analysis.analysis in
     let reply = report_reply documents (visits_of analysis) in (
@@ -45,7 +51,7 @@ returns-in-Ok-analysis g c =
           counted (Replied (g.S.Source.file c.args.source.now) c.args.command reply) _ _ failures 0
           c.in-Ok-analysis.ensures.counted count (
             result_of_no_read _ _,
-            λ held told. rw c.in-Report.is (inl (
+            rw c.in-Report.is (λ held told. inl (
               documents,
               c.in-Ok-analysis.ensures.held held told,
               refl,
@@ -59,21 +65,25 @@ returns-in-Ok-analysis g c =
               ),
             )),
           )),
+      rw c.in-Report.is (told_well (named_in c.in-Report.files) (g.S.Source.asked c.args.source.now)
+          (g.S.Source.asked c.analysis-in-Report.new.source) reply (no_line _ _) c.in-Ok-analysis.ensures.asked),
     )
 
-pub returns-in-Report : goal.returns-in-Report
-returns-in-Report g c =
+pub returns-in-Report-clause-told : goal.returns-in-Report-clause-told
+returns-in-Report-clause-told g c =
     let fault = c.in-Err-analysis.fault in (
       fault_reply fault,
       (refl, c.complain-in-Err-analysis.ensures.line, c.complain-in-Err-analysis.ensures.status),
       (λ failures count.
           counted (Replied (g.S.Source.file c.args.source.now) c.args.command (fault_reply fault)) _ _ failures
           (reads_failed fault) c.in-Err-analysis.ensures.counted count
-          (fault_of_reads fault, λ held told. rw c.in-Report.is (inr (fault, c.in-Err-analysis.ensures.fault held told, refl, refl)))),
+          (fault_of_reads fault, rw c.in-Report.is (λ held told. inr (fault, c.in-Err-analysis.ensures.fault held told, refl, refl)))),
+      rw c.in-Report.is (told_fault (named_in c.in-Report.files) (g.S.Source.asked c.args.source.now)
+          (g.S.Source.asked c.analysis-in-Report.new.source) fault c.in-Err-analysis.ensures.asked),
     )
 
-pub returns-in-Ok-analysis-2 : goal.returns-in-Ok-analysis-2
-returns-in-Ok-analysis-2 g c =
+pub returns-in-Ok-analysis-2-clause-told : goal.returns-in-Ok-analysis-2-clause-told
+returns-in-Ok-analysis-2-clause-told g c =
     let documents = c.in-Ok-analysis-2.documents in
     let analysis = c.in-Ok-analysis-2.analysis in
     let reply = walk_reply documents (angle_of analysis) (visits_of analysis) (bound_of analysis) in (
@@ -83,7 +93,7 @@ returns-in-Ok-analysis-2 g c =
           counted (Replied (g.S.Source.file c.args.source.now) c.args.command reply) _ _ failures 0
           c.in-Ok-analysis-2.ensures.counted count (
             result_of_no_read _ _,
-            λ held told. rw c.in-Walk.is (inl (
+            rw c.in-Walk.is (λ held told. inl (
               documents,
               c.in-Ok-analysis-2.ensures.held held told,
               refl,
@@ -97,21 +107,25 @@ returns-in-Ok-analysis-2 g c =
               ),
             )),
           )),
+      rw c.in-Walk.is (told_well (named_in c.in-Walk.files) (g.S.Source.asked c.args.source.now)
+          (g.S.Source.asked c.analysis-in-Walk.new.source) reply (no_line _ _) c.in-Ok-analysis-2.ensures.asked),
     )
 
-pub returns-in-Walk : goal.returns-in-Walk
-returns-in-Walk g c =
+pub returns-in-Walk-clause-told : goal.returns-in-Walk-clause-told
+returns-in-Walk-clause-told g c =
     let fault = c.in-Err-analysis-2.fault in (
       fault_reply fault,
       (refl, c.complain-in-Err-analysis-2.ensures.line, c.complain-in-Err-analysis-2.ensures.status),
       (λ failures count.
           counted (Replied (g.S.Source.file c.args.source.now) c.args.command (fault_reply fault)) _ _ failures
           (reads_failed fault) c.in-Err-analysis-2.ensures.counted count
-          (fault_of_reads fault, λ held told. rw c.in-Walk.is (inr (fault, c.in-Err-analysis-2.ensures.fault held told, refl, refl)))),
+          (fault_of_reads fault, rw c.in-Walk.is (λ held told. inr (fault, c.in-Err-analysis-2.ensures.fault held told, refl, refl)))),
+      rw c.in-Walk.is (told_fault (named_in c.in-Walk.files) (g.S.Source.asked c.args.source.now)
+          (g.S.Source.asked c.analysis-in-Walk.new.source) fault c.in-Err-analysis-2.ensures.asked),
     )
 
-pub returns-in-Ok-picture_of : goal.returns-in-Ok-picture_of
-returns-in-Ok-picture_of g c =
+pub returns-in-Ok-picture_of-clause-told : goal.returns-in-Ok-picture_of-clause-told
+returns-in-Ok-picture_of-clause-told g c =
     let old = device (g.O.Output.written c.args.out.now) (g.O.Output.failed c.args.out.now) in
     let new = device (g.O.Output.written c.tell_text.new.out) (g.O.Output.failed c.tell_text.new.out) in
     let gets =
@@ -123,44 +137,52 @@ returns-in-Ok-picture_of g c =
       (λ failures count.
           counted (Replied (g.S.Source.file c.args.source.now) c.args.command reply) _ _ failures 0
           c.in-Ok-picture_of.ensures.counted count
-          (result_of_no_read _ _, λ held told. rw c.in-Draw.is (c.in-Ok-picture_of.ensures.picture held told))),
+          (result_of_no_read _ _, rw c.in-Draw.is (λ held told. c.in-Ok-picture_of.ensures.picture held told))),
+      rw c.in-Draw.is (told_well (named_in c.in-Draw.files) (g.S.Source.asked c.args.source.now)
+          (g.S.Source.asked c.picture_of.new.source) reply (no_line _ _) c.in-Ok-picture_of.ensures.asked),
     )
 
-pub returns-in-Draw : goal.returns-in-Draw
-returns-in-Draw g c =
+pub returns-in-Draw-clause-told : goal.returns-in-Draw-clause-told
+returns-in-Draw-clause-told g c =
     let fault = c.in-Err-picture_of.fault in (
       fault_reply fault,
       (refl, c.complain-in-Err-picture_of.ensures.line, c.complain-in-Err-picture_of.ensures.status),
       (λ failures count.
           counted (Replied (g.S.Source.file c.args.source.now) c.args.command (fault_reply fault)) _ _ failures
           (reads_failed fault) c.in-Err-picture_of.ensures.counted count
-          (fault_of_reads fault, λ held told. rw c.in-Draw.is (inr (fault, c.in-Err-picture_of.ensures.fault held told, refl, refl)))),
+          (fault_of_reads fault, rw c.in-Draw.is (λ held told. inr (fault, c.in-Err-picture_of.ensures.fault held told, refl, refl)))),
+      rw c.in-Draw.is (told_fault (named_in c.in-Draw.files) (g.S.Source.asked c.args.source.now)
+          (g.S.Source.asked c.picture_of.new.source) fault c.in-Err-picture_of.ensures.asked),
     )
 
-pub returns-in-Ok-verdict : goal.returns-in-Ok-verdict
-returns-in-Ok-verdict g c =
+pub returns-in-Ok-verdict-clause-told : goal.returns-in-Ok-verdict-clause-told
+returns-in-Ok-verdict-clause-told g c =
     let reply = verdict_reply c.in-Ok-verdict.verdict in (
       reply,
       (c.tell_verdict.ensures, refl),
       (λ failures count.
           counted (Replied (g.S.Source.file c.args.source.now) c.args.command reply) _ _ failures 0 c.in-Ok-verdict.ensures.counted
           count
-          (result_of_no_read _ _, λ held told. rw c.in-Replay.is (c.in-Ok-verdict.ensures.verdict held told))),
+          (result_of_no_read _ _, rw c.in-Replay.is (λ held told. c.in-Ok-verdict.ensures.verdict held told))),
+      rw c.in-Replay.is (told_well (all_named_in c.in-Replay.files c.in-Replay.inputs.now) (g.S.Source.asked c.args.source.now)
+          (g.S.Source.asked c.verdict.new.source) reply (no_line _ _) c.in-Ok-verdict.ensures.asked),
     )
 
-pub returns-in-Replay : goal.returns-in-Replay
-returns-in-Replay g c =
+pub returns-in-Replay-clause-told : goal.returns-in-Replay-clause-told
+returns-in-Replay-clause-told g c =
     let fault = c.in-Err-verdict.fault in (
       fault_reply fault,
       (refl, c.complain-in-Err-verdict.ensures.line, c.complain-in-Err-verdict.ensures.status),
       (λ failures count.
           counted (Replied (g.S.Source.file c.args.source.now) c.args.command (fault_reply fault)) _ _ failures
           (reads_failed fault) c.in-Err-verdict.ensures.counted count
-          (fault_of_reads fault, λ held told. rw c.in-Replay.is (inr (fault, c.in-Err-verdict.ensures.fault held told, refl, refl)))),
+          (fault_of_reads fault, rw c.in-Replay.is (λ held told. inr (fault, c.in-Err-verdict.ensures.fault held told, refl, refl)))),
+      rw c.in-Replay.is (told_fault (all_named_in c.in-Replay.files c.in-Replay.inputs.now) (g.S.Source.asked c.args.source.now)
+          (g.S.Source.asked c.verdict.new.source) fault c.in-Err-verdict.ensures.asked),
     )
 
-pub returns-in-Ok-begun : goal.returns-in-Ok-begun
-returns-in-Ok-begun g c =
+pub returns-in-Ok-begun-clause-told : goal.returns-in-Ok-begun-clause-told
+returns-in-Ok-begun-clause-told g c =
     let begun = c.in-Ok-begun.ensures.begun in
     let told_so = c.tell_trace.ensures begun.0 begun.1 in (
       told_so.0,
@@ -168,16 +190,20 @@ returns-in-Ok-begun g c =
       (λ failures count.
           counted (Replied (g.S.Source.file c.args.source.now) c.args.command told_so.0) _ _ failures 0
           c.in-Ok-begun.ensures.counted count
-          (trace_of_no_read _ _ told_so.0 told_so.1, λ held told. rw c.in-Trace.is (begun.2 held told_so.0 told told_so.1))),
+          (trace_of_no_read _ _ told_so.0 told_so.1, rw c.in-Trace.is (λ held told. begun.2 held told_so.0 told told_so.1))),
+      rw c.in-Trace.is (told_well (all_named_in c.in-Trace.files c.in-Trace.inputs.now) (g.S.Source.asked c.args.source.now)
+          (g.S.Source.asked c.begun.new.source) told_so.0 (no_line_of_trace _ _ told_so.0 told_so.1) c.in-Ok-begun.ensures.asked),
     )
 
-pub returns : goal.returns
-returns g c =
+pub returns-clause-told : goal.returns-clause-told
+returns-clause-told g c =
     let fault = c.in-Err-begun.fault in (
       fault_reply fault,
       (refl, c.complain-in-Err-begun.ensures.line, c.complain-in-Err-begun.ensures.status),
       (λ failures count.
           counted (Replied (g.S.Source.file c.args.source.now) c.args.command (fault_reply fault)) _ _ failures
           (reads_failed fault) c.in-Err-begun.ensures.counted count
-          (fault_of_reads fault, λ held told. rw c.in-Trace.is (inr (fault, c.in-Err-begun.ensures.fault held told, refl, refl)))),
+          (fault_of_reads fault, rw c.in-Trace.is (λ held told. inr (fault, c.in-Err-begun.ensures.fault held told, refl, refl)))),
+      rw c.in-Trace.is (told_fault (all_named_in c.in-Trace.files c.in-Trace.inputs.now) (g.S.Source.asked c.args.source.now)
+          (g.S.Source.asked c.begun.new.source) fault c.in-Err-begun.ensures.asked),
     )

@@ -1,9 +1,12 @@
-use Rattle.std.proofs.Common.{refl}
+use Rattle.std.proofs.Common.{refl, inl, inr}
 use Rattle.drum_tool.specs.Joined.{Gives, GivesNone}
-use Rattle.drum_tool.proofs.ToldOf.{result_of_bound}
+use Rattle.drum_tool.proofs.ToldOf.{reply_of_bound}
 use Rattle.drum_tool.proofs.laws.bound_is_of_the_input.Goals as goal
 
 pub returns : goal.returns
-returns c bytes files failures text status answers =
-    let found = result_of_bound (Gives bytes) (GivesNone bytes) failures text status (answers bytes refl) in
-    (found.2, record { documents = found.0; joins = found.1.1; is_bound = found.3 }, found.4, found.5)
+returns c bytes files failures reply answers =
+    elim (reply_of_bound (Gives bytes) (GivesNone bytes) failures reply (answers bytes refl)) [
+      | inl (documents, joins, bound, is, so) ↦
+          inl (bound, record { documents = documents; joins = joins.1; is_bound = is }, so)
+      | inr line ↦ inr line
+    ]

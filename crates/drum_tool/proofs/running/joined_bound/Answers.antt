@@ -40,3 +40,11 @@ returns-in_err-documents-clause-full g c =
 
 pub returns-clause-full : goal.returns-clause-full
 returns-clause-full g c given = absurd (elim (c.in_ok-documents.ensures.full given) [ inl is ↦ cc | inr is ↦ cc ])
+
+pub returns-in_err-documents-clause-whole : goal.returns-in_err-documents-clause-whole
+returns-in_err-documents-clause-whole g c =
+    let p = err_from_is_err_and c.from_residual.result c.from_residual.ensures.1 in
+    rw (p.1, p.2) (λ not_read not_memory. c.in_err-documents.ensures.whole (λ is. not_read (cc)) (λ is. not_memory (cc)))
+
+pub returns-clause-whole : goal.returns-clause-whole
+returns-clause-whole g c not_read not_memory = c.in_ok-documents.ensures.whole (λ is. cc) (λ is. cc)

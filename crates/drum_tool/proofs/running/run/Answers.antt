@@ -2,7 +2,8 @@ use Rattle.std.proofs.Common.{◌≡◌, ℕ, refl, sym, subst, arith}
 use Rattle.drum_tool.specs.Reply.{TellsOfReads}
 use Rattle.drum_tool.specs.Words.{refused_reply}
 use Rattle.drum_tool.proofs.Replies.{refused_of_no_read}
-use Rattle.drum_tool.proofs.Worded.{with_command, with_refused, without_words}
+use Rattle.drum_tool.proofs.Worded.{command_asked, nothing_asked, refused_unasked, some_words, with_command}
+use Rattle.drum_tool.proofs.Worded.{with_refused, without_words}
 use Rattle.drum_tool.proofs.running.run.Goals as goal
 
 pub returns-then-is_empty-clause-told : goal.returns-then-is_empty-clause-told
@@ -16,19 +17,25 @@ returns-then-is_empty-clause-told g c =
             without_words (g.I.Input.left c.args.input.now) (g.S.Source.file c.args.source.now) failures told.0
                 c.args.words.now c.if-is_empty.ensures so.1,
           )),
+      nothing_asked (g.S.Source.asked c.args.source.now) told.0 c.args.words.now c.if-is_empty.ensures,
+      (λ none. told.3),
     )
 
 pub returns-in-Ok-clause-told : goal.returns-in-Ok-clause-told
 returns-in-Ok-clause-told g c =
-    let told = c.obey.ensures in (
+    let told = c.obey.ensures.told in (
       told.0,
       told.1,
       (λ failures count.
           let so = told.2 failures (omega (arith, count)) in (
             so.0,
             with_command (g.I.Input.left c.args.input.now) (g.S.Source.file c.args.source.now) failures told.0
-                c.args.words.now c.if-is_empty.ensures c.in-Ok.command c.in-Ok.ensures.told so.1,
+                c.args.words.now c.if-is_empty.ensures c.in-Ok.command
+                (record { faultless = c.in-Ok.ensures.faultless; said = c.in-Ok.ensures.told }) so.1,
           )),
+      command_asked (g.S.Source.asked c.args.source.now) told.0 _ c.args.words.now c.if-is_empty.ensures c.in-Ok.command
+          (record { faultless = c.in-Ok.ensures.faultless; said = c.in-Ok.ensures.told }) told.3,
+      (λ none. absurd (some_words c.args.words.now c.if-is_empty.ensures none)),
     )
 
 pub returns-in-Err-clause-told : goal.returns-in-Err-clause-told
@@ -43,4 +50,7 @@ returns-in-Err-clause-told g c =
                 c.args.words.now c.if-is_empty.ensures refused
                 (record { fits = c.in-Err.ensures.kinds; taken = c.in-Err.ensures.taken }) none refl,
           )),
+      refused_unasked (g.S.Source.asked c.args.source.now) (refused_reply refused) c.args.words.now
+          c.if-is_empty.ensures refused (record { fits = c.in-Err.ensures.kinds; taken = c.in-Err.ensures.taken }) refl,
+      (λ none. absurd (some_words c.args.words.now c.if-is_empty.ensures none)),
     )

@@ -1,0 +1,253 @@
+-- What is asked of a source, piece by piece.
+use Rattle.std.proofs.Common.{◌≡◌, ◌≢◌, ℕ, ◌+◌, ◌≤◌, zero, suc, List, [], ◌∷◌, ◌++◌, Option, Some, None, Result, Ok, Err}
+use Rattle.std.proofs.Common.{IfErr, IsErrOf, ◌⊎◌, ◌↔◌, refl, inl, inr, ap, sym, ◌∙◌, subst, arith, append_assoc}
+use Rattle.std.proofs.Common.{append-nil}
+use Rattle.drum_core.specs.declared.deck.Deck.{Deck}
+use Rattle.drum_core.specs.declared.deck.fault.DeckFault.{DeckFault}
+use Rattle.drum_core.specs.declared.deck.fault.DeckFault.TheVariants as of_deck
+use Rattle.drum_inputs.specs.declared.fault.InputFault.{InputFault}
+use Rattle.drum_inputs.specs.declared.fault.InputFault.TheVariants as of_input
+use Rattle.drum_inputs.specs.declared.inputs.Inputs.{Inputs}
+use Rattle.drum_flow.specs.Walk.{Setting}
+use Rattle.drum_lines.specs.declared.fault.Fault.{Fault}
+use Rattle.drum_lines.specs.declared.fault.Fault.TheVariants as faults
+use Rattle.drum_lines.specs.declared.part.Part as parts
+use Rattle.drum_lines.specs.declared.part.Part.TheVariants as part
+use Rattle.drum_lines.specs.declared.part.PartFault.TheVariants as what
+use Rattle.drum_lines.specs.declared.status.Status as statuses
+use Rattle.drum_lines.specs.FaultStatus.{reads_failed}
+use Rattle.drum_tool.specs.declared.documents.Documents.{Documents}
+use Rattle.drum_tool.specs.Asked.{AreLookedAt, AreLookedAtUpTo, Asked, AsksFor, IsLookedAt, IsOfText, IsRead, Looks, MayWant}
+use Rattle.drum_tool.specs.Asked.{Named, Reading, failures_told, fault_in, most_of, part_of, reading}
+use Rattle.drum_tool.specs.Asked.{returned, sought}
+use Rattle.drum_tool.specs.Documents.{IsAnalysisFault}
+use Rattle.drum_tool.specs.Files.{AreTold}
+use Rattle.drum_tool.specs.Replay.{Given, IsReplayFault}
+use Rattle.drum_tool.specs.Reply.{IsLineOf, LooksAsTold, Reply, SaysTrace, cut_reply, fault_reply, says, trace_reply}
+
+-- what is asked is also something else
+pub asks_as : (before after : Option (List Asked)) (P Q : List Asked → Type 0)
+    → ((asked : List Asked) → P asked → Q asked) → AsksFor before after P → AsksFor before after Q
+asks_as before None P Q f asks = tt
+asks_as None (Some all) P Q f asks = absurd asks
+asks_as (Some earlier) (Some all) P Q f asks = (asks.0, asks.1, f asks.0 asks.2)
+
+-- one thing is asked for, and then another
+pub asks_then : (before between after : Option (List Asked)) (P Q R : List Asked → Type 0)
+    → ((first later : List Asked) → P first → Q later → R (first ++ later))
+    → AsksFor before between P → AsksFor between after Q → AsksFor before after R
+asks_then before between None P Q R f first later = tt
+asks_then before None (Some all) P Q R f first later = absurd later
+asks_then None (Some middle) (Some all) P Q R f first later = absurd first
+asks_then (Some earlier) (Some middle) (Some all) P Q R f first later =
+    let same : all ≡ earlier ++ (first.0 ++ later.0) =
+    later.1 ∙ ap (λ (m : List Asked). m ++ later.0) first.1 ∙ append_assoc earlier first.0 later.0 in
+    (first.0 ++ later.0, same, f first.0 later.0 first.2 later.2)
+
+-- ---- one file
+
+pub not_opened : (of : parts.Part) (name : List ℕ) (before after : Option (List Asked))
+    → AsksFor before after (λ more. more ≡ sought name ∷ [])
+    → AsksFor before after (IsLookedAt of name (Some (faults.Part of what.Open)))
+not_opened of name before after asks = asks_as before after _ _ (λ asked is. inl (refl, is)) asks
+
+pub read_back : (of : parts.Part) (name : List ℕ) (told : Option Fault) (read : Reading)
+    (before between after : Option (List Asked)) → IsOfText of told
+    → IsRead (most_of of) told read → AsksFor before between (λ more. more ≡ sought name ∷ [])
+    → AsksFor between after (λ more. more ≡ returned read ∷ []) → AsksFor before after (IsLookedAt of name told)
+read_back of name told read before between after own is first later =
+    asks_then before between after _ _ _ (λ one other seeks gives. inr (
+      own,
+      read,
+      is,
+      ap (λ (asked : List Asked). asked ++ other) seeks ∙ ap (λ (asked : List Asked). (sought name ∷ []) ++ asked) gives,
+    )) first later
+
+-- a text that was read is refused
+pub refused_later : (of : parts.Part) (name : List ℕ) (told : Fault) → reads_failed told ≡ 0
+    → IsOfText of (Some told) → (asked : List Asked) → IsLookedAt of name None asked
+    → IsLookedAt of name (Some told) asked
+refused_later of name told none own asked (inl is) = absurd (let bad = is.0 in cc)
+refused_later of name told none own asked (inr is) = inr (
+  own,
+  is.1,
+  record {
+    failures = is.2.failures ∙ sym none;
+    calls = is.2.calls;
+    ends = is.2.ends;
+    bytes = is.2.bytes;
+    whole = elim is.2.whole [
+      | inl met ↦ inl met
+      | inr (inl past) ↦ inr (inl past)
+      | inr (inr (inl failed)) ↦ inr (inr (inl failed))
+      | inr (inr (inr wants)) ↦ absurd wants
+    ];
+  },
+  is.3,
+)
+
+-- ---- a text
+
+-- how a text that was fresh was read
+pub text_read : (most : ℕ) (told : Option Fault) (called failed ended given calls failures ends bytes : ℕ)
+    → called ≡ 0 → failed ≡ 0 → ended ≡ 0 → given ≡ 0 → calls + given ≤ called + bytes + 1 → ends ≤ ended + 1
+    → bytes ≤ given + most → failures ≡ failed + failures_told told
+    → (ends ≡ ended + 1) ⊎ (bytes ≡ given + most) ⊎ (failures ≡ failed + 1) ⊎ MayWant told
+    → IsRead most told (reading calls failures ends bytes)
+text_read most told called failed ended given calls failures ends bytes uncalled unfailed unended ungiven each met taken
+    counted whole = record {
+      failures = omega (arith, counted, unfailed);
+      calls = omega (arith, each, uncalled, ungiven);
+      ends = omega (arith, met, unended);
+      bytes = omega (arith, taken, ungiven);
+      whole = elim whole [
+        | inl is ↦ inl (omega (arith, is, unended))
+        | inr (inl is) ↦ inr (inl (omega (arith, is, ungiven)))
+        | inr (inr (inl is)) ↦ inr (inr (inl (omega (arith, is, unfailed))))
+        | inr (inr (inr wants)) ↦ inr (inr (inr wants))
+      ];
+    }
+
+pub unfailed : (old new : ℕ) → (new ≡ old + 1 → ⊥) → new ≤ old + 1 → old ≤ new → new ≡ old + 0
+unfailed old new not_one once grows = omega (arith, not_one, once, grows)
+
+pub met_or_past : {Met Past Failed Wants : Type 0} → Met ⊎ Past → Met ⊎ Past ⊎ Failed ⊎ Wants
+met_or_past (inl met) = inl met
+met_or_past (inr past) = inr (inl past)
+
+-- ---- the files of a command
+
+-- nothing is wrong with one file, and the others come to this
+pub looked_well : (one : Named) (others : List Named) (before between after : Option (List Asked))
+    → AsksFor before between (IsLookedAt one.part one.name None) → AsksFor between after (AreLookedAt others)
+    → AsksFor before after (AreLookedAt (one ∷ others))
+looked_well one others before between after first later =
+    asks_then before between after _ _ _ (λ asked more is are. (asked, more, refl, is, are)) first later
+
+pub looked_first : (one : Named) (others : List Named) (told : Fault) (before between after : Option (List Asked))
+    → AsksFor before between (IsLookedAt one.part one.name None) → AsksFor between after (AreLookedAtUpTo others told)
+    → AsksFor before after (AreLookedAtUpTo (one ∷ others) told)
+looked_first one others told before between after first later =
+    asks_then before between after _ _ _ (λ asked more is are. inr (asked, more, refl, is, are)) first later
+
+-- one is the last, or has the fault
+pub looked_last : (one : Named) (before after : Option (List Asked))
+    → AsksFor before after (IsLookedAt one.part one.name None) → AsksFor before after (AreLookedAt (one ∷ []))
+looked_last one before after asks =
+    asks_as before after _ _ (λ asked is. (asked, [], sym (append-nil asked), is, refl)) asks
+
+pub looked_faulty : (one : Named) (others : List Named) (told : Fault) (before after : Option (List Asked))
+    → AsksFor before after (IsLookedAt one.part one.name (Some told))
+    → AsksFor before after (AreLookedAtUpTo (one ∷ others) told)
+looked_faulty one others told before after asks = asks_as before after _ _ (λ asked is. inl is) asks
+
+-- another file comes last
+well_then : (files : List Named) (one : Named) (first later : List Asked) → AreLookedAt files first
+    → IsLookedAt one.part one.name None later → AreLookedAt (files ++ one ∷ []) (first ++ later)
+well_then [] one first later are is =
+    (later, [], ap (λ (asked : List Asked). asked ++ later) are ∙ sym (append-nil later), is, refl)
+well_then (file ∷ files) one first later are is = (
+  are.0,
+  are.1 ++ later,
+  ap (λ (asked : List Asked). asked ++ later) are.2 ∙ append_assoc are.0 are.1 later,
+  are.3,
+  well_then files one are.1 later are.4 is,
+)
+
+upto_then : (files : List Named) (one : Named) (told : Fault) (first later : List Asked) → AreLookedAt files first
+    → IsLookedAt one.part one.name (Some told) later → AreLookedAtUpTo (files ++ one ∷ []) told (first ++ later)
+upto_then [] one told first later are is =
+    inl (subst (λ (asked : List Asked). IsLookedAt one.part one.name (Some told) (asked ++ later)) (sym are) is)
+upto_then (file ∷ files) one told first later are is = inr (
+  are.0,
+  are.1 ++ later,
+  ap (λ (asked : List Asked). asked ++ later) are.2 ∙ append_assoc are.0 are.1 later,
+  are.3,
+  upto_then files one told are.1 later are.4 is,
+)
+
+upto_more : (files others : List Named) (told : Fault) (asked : List Asked) → AreLookedAtUpTo files told asked
+    → AreLookedAtUpTo (files ++ others) told asked
+upto_more [] others told asked are = absurd are
+upto_more (file ∷ files) others told asked (inl is) = inl is
+upto_more (file ∷ files) others told asked (inr are) =
+    inr (are.0, are.1, are.2, are.3, upto_more files others told are.1 are.4)
+
+module _ (files : List Named) (one : Named) (before between after : Option (List Asked)) where
+  pub all_well : AsksFor before between (AreLookedAt files)
+      → AsksFor between after (IsLookedAt one.part one.name None)
+      → AsksFor before after (AreLookedAt (files ++ one ∷ []))
+  all_well first later = asks_then before between after _ _ _ (well_then files one) first later
+
+  pub last_faulty : (told : Fault) → AsksFor before between (AreLookedAt files)
+      → AsksFor between after (IsLookedAt one.part one.name (Some told))
+      → AsksFor before after (AreLookedAtUpTo (files ++ one ∷ []) told)
+  last_faulty told first later = asks_then before between after _ _ _ (upto_then files one told) first later
+
+  pub earlier_faulty : (told : Fault) → AsksFor before after (AreLookedAtUpTo files told)
+      → AsksFor before after (AreLookedAtUpTo (files ++ one ∷ []) told)
+  earlier_faulty told asks = asks_as before after _ _ (upto_more files (one ∷ []) told) asks
+
+-- where files are told, the first of them are
+pub first_told : (file : List ℕ → Option (Option (List ℕ))) (held : List ℕ → Option (List ℕ)) (files others : List Named)
+    → AreTold file held (files ++ others) → AreTold file held files
+first_told file held [] others told = tt
+first_told file held (one ∷ files) others told = (told.0, first_told file held files others told.1)
+
+-- ---- what is told then
+
+module _ (files : List Named) (before after : Option (List Asked)) where
+  -- a fault of a file, or one of none
+  pub of_file : (told : Fault) → AsksFor before after (AreLookedAtUpTo files told)
+      → AsksFor before after (Looks files (Some told))
+  of_file told asks = asks_as before after _ _ (λ asked are. inl are) asks
+
+  pub of_none : (told : Fault) → part_of told ≡ None → AsksFor before after (AreLookedAt files)
+      → AsksFor before after (Looks files (Some told))
+  of_none told none asks = asks_as before after _ _ (λ asked are. inr (none, are)) asks
+
+  pub of_result : {A : Type 0} (result : Result A Fault) → IfErr result (λ told. part_of told ≡ None)
+      → AsksFor before after (AreLookedAt files) → AsksFor before after (Looks files (fault_in result))
+  of_result (Ok found) none asks = asks
+  of_result (Err told) none asks = of_none told none asks
+
+  -- a result, or the line of a fault
+  pub told_well : (reply : Reply) → IsLineOf None reply → AsksFor before after (AreLookedAt files)
+      → AsksFor before after (LooksAsTold files reply)
+  told_well reply none asks = asks_as before after _ _ (λ asked are. (None, none, are)) asks
+
+  pub told_fault : (told : Fault) → AsksFor before after (Looks files (Some told))
+      → AsksFor before after (LooksAsTold files (fault_reply told))
+  told_fault told asks = asks_as before after _ _ (λ asked are. (Some told, refl, are)) asks
+
+pub no_line : (text : List ℕ) (ends : statuses.Status) → IsLineOf None (says text ends)
+no_line text ends fault is = cc
+
+pub no_line_of_trace : (g : Setting) (given : Given) (reply : Reply) → SaysTrace g given reply → IsLineOf None reply
+no_line_of_trace g given reply (inl (turns, verdict, traced, is)) fault clash =
+    let bad : trace_reply g turns verdict ≡ fault_reply fault = sym is ∙ clash in cc
+no_line_of_trace g given reply (inr (turns, replayed, is)) fault clash =
+    let bad : cut_reply g turns ≡ fault_reply fault = sym is ∙ clash in cc
+
+-- neither the analysis of documents nor a replay has a fault of a file
+pub analysis_of_none : (documents : Documents) (told : Fault) → IsAnalysisFault documents told → part_of told ≡ None
+analysis_of_none documents (faults.Refused refusal) is = refl
+analysis_of_none documents faults.NoPart is = absurd is
+analysis_of_none documents (faults.Part part what) is = absurd is
+analysis_of_none documents faults.Memory is = absurd is
+analysis_of_none documents (faults.Deck fault) is = absurd is
+analysis_of_none documents (faults.Times fault) is = absurd is
+analysis_of_none documents (faults.Notes fault) is = absurd is
+analysis_of_none documents (faults.Inputs fault) is = absurd is
+analysis_of_none documents (faults.Loaded location) is = absurd is
+
+pub replay_of_none : (g : Setting) (given : Given) (told : Fault) → IsReplayFault g given told → part_of told ≡ None
+replay_of_none g given (faults.Refused refusal) is = refl
+replay_of_none g given faults.NoPart is = absurd is
+replay_of_none g given (faults.Part part what) is = absurd is
+replay_of_none g given faults.Memory is = refl
+replay_of_none g given (faults.Deck fault) is = absurd is
+replay_of_none g given (faults.Times fault) is = absurd is
+replay_of_none g given (faults.Notes fault) is = absurd is
+replay_of_none g given (faults.Inputs fault) is = absurd is
+replay_of_none g given (faults.Loaded location) is = refl

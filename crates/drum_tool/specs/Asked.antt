@@ -1,0 +1,149 @@
+-- What is asked of a source: which files, in which order, and how they are read (this project's
+-- choice).
+use Rattle.std.specs.Prelude.{◌≡◌, ◌≢◌, ℕ, ◌+◌, ◌≤◌, List, [], ◌∷◌, ◌++◌, Option, Some, None, Result, Ok, Err, ◌⊎◌}
+use Rattle.drum_command.specs.declared.command.Command.{Command}
+use Rattle.drum_command.specs.declared.command.Command.TheVariants.{Bound, Report, Walk, Draw, Replay, Trace}
+use Rattle.drum_command.specs.declared.command.Files.{Files}
+use Rattle.drum_core.specs.declared.deck.fault.DeckFault.TheVariants as of_deck
+use Rattle.drum_inputs.specs.declared.fault.InputFault.TheVariants as of_inputs
+use Rattle.drum_lines.specs.declared.fault.Fault.{Fault}
+use Rattle.drum_lines.specs.declared.fault.Fault.TheVariants as fault
+use Rattle.drum_lines.specs.declared.part.Part as parts
+use Rattle.drum_lines.specs.declared.part.Part.TheVariants as part
+use Rattle.drum_lines.specs.declared.part.PartFault.TheVariants as what
+use Rattle.drum_lines.specs.FaultStatus.{reads_failed}
+
+-- How a text was read: how often, how many of these reads failed and how many met the end, and how
+-- many bytes they gave.
+pub record Reading : Type 0 where
+  pub calls : ℕ
+  pub failures : ℕ
+  pub ends : ℕ
+  pub bytes : ℕ
+
+abbrev pub reading : ℕ → ℕ → ℕ → ℕ → Reading
+reading many failed met gave =
+    record { calls = many; failures = failed; ends = met; bytes = gave }
+
+-- A file is sought by its name; a text, read so, is given back.
+pub data Asked : Type 0 where
+  sought : List ℕ → Asked
+  returned : Reading → Asked
+
+-- What was asked in between, of a source that told before and after all that was asked so far.
+abbrev pub AsksFor : Option (List Asked) → Option (List Asked) → (List Asked → Type 0) → Type 0
+AsksFor before None Is = Unit {0}
+AsksFor None (Some all) Is = ⊥
+AsksFor (Some earlier) (Some all) Is =
+    (asked : List Asked) × (all ≡ earlier ++ asked) × Is asked
+
+-- ---- a file
+
+-- the most bytes that a part is read to: one past its limit
+abbrev pub most_of : parts.Part → ℕ
+most_of part.Input = 16777217
+most_of part.Deck = 404001
+most_of part.Times = 8388609
+most_of part.Notes = 8388609
+most_of part.Inputs = 804001
+
+-- how many failed reads are told, and whether want of memory may be
+abbrev pub failures_told : Option Fault → ℕ
+failures_told None = 0
+failures_told (Some why) = reads_failed why
+
+abbrev pub MayWant : Option Fault → Type 0
+MayWant (Some fault.Memory) = Unit {0}
+MayWant (Some (fault.Deck of_deck.Memory)) = Unit {0}
+MayWant (Some (fault.Inputs of_inputs.Memory)) = Unit {0}
+MayWant _ = ⊥
+
+-- How a text is read, so many bytes at most, where this fault of it is told, or none: each read but
+-- the last gives a byte, and all of the text is read, unless a read fails or memory is wanting.
+pub record IsRead (most : ℕ) (told : Option Fault) (read : Reading) : Type 0 where
+  pub failures : read.failures ≡ failures_told told
+  pub calls : read.calls ≤ read.bytes + 1
+  pub ends : read.ends ≤ 1
+  pub bytes : read.bytes ≤ most
+  pub whole : (read.ends ≡ 1) ⊎ (read.bytes ≡ most) ⊎ (read.failures ≡ 1) ⊎ MayWant told
+
+-- the part that a fault is of, where it is of one that is told
+abbrev pub part_of : Fault → Option parts.Part
+part_of (fault.Part one why) = Some one
+part_of (fault.Deck why) = Some part.Deck
+part_of (fault.Times why) = Some part.Times
+part_of (fault.Notes why) = Some part.Notes
+part_of (fault.Inputs why) = Some part.Inputs
+part_of _ = None
+
+-- no fault, or one of the text of this part
+abbrev pub IsOfText : parts.Part → Option Fault → Type 0
+IsOfText of None = Unit {0}
+IsOfText of (Some told) =
+    ((part_of told ≡ Some of) ⊎ (told ≡ fault.Memory)) × (told ≢ fault.Part of what.Open)
+
+-- A part's file is sought; where it can be opened, its text is read and given back.
+abbrev pub IsLookedAt : parts.Part → List ℕ → Option Fault → List Asked → Type 0
+IsLookedAt of name told asked =
+    ((told ≡ Some (fault.Part of what.Open)) × (asked ≡ sought name ∷ []))
+    ⊎ (IsOfText of told × (read : Reading) × IsRead (most_of of) told read
+    × (asked ≡ sought name ∷ returned read ∷ []))
+
+-- ---- the files of a command
+
+-- which part is in the file of which name
+pub record Named : Type 0 where
+  pub part : parts.Part
+  pub name : List ℕ
+
+abbrev pub in_file : parts.Part → List ℕ → Named
+in_file one file = record { part = one; name = file }
+
+abbrev pub named : List ℕ → List ℕ → List ℕ → List Named
+named deck times notes =
+    in_file part.Deck deck ∷ in_file part.Times times ∷ in_file part.Notes notes ∷ []
+
+-- in the order of a command's words
+abbrev pub named_in : Files → List Named
+named_in files = named files.deck.now files.times.now files.notes.now
+
+abbrev pub all_named_in : Files → List ℕ → List Named
+all_named_in files inputs = named_in files ++ in_file part.Inputs inputs ∷ []
+
+abbrev pub files_of : Command → List Named
+files_of (Bound files) = named_in files
+files_of (Report files) = named_in files
+files_of (Walk files) = named_in files
+files_of (Draw files) = named_in files
+files_of (Replay files inputs) = all_named_in files inputs.now
+files_of (Trace files inputs) = all_named_in files inputs.now
+
+-- Files are looked at one after the other, and nothing is wrong with one.
+abbrev pub AreLookedAt : List Named → List Asked → Type 0
+AreLookedAt [] asked = asked ≡ []
+AreLookedAt (file ∷ files) asked =
+    (first later : List Asked) × (asked ≡ first ++ later)
+    × IsLookedAt file.part file.name None first × AreLookedAt files later
+
+-- They are up to the one that the fault is of, and no further.
+abbrev pub AreLookedAtUpTo : List Named → Fault → List Asked → Type 0
+AreLookedAtUpTo [] told asked = ⊥
+AreLookedAtUpTo (file ∷ files) told asked =
+    IsLookedAt file.part file.name (Some told) asked
+    ⊎ ((first later : List Asked) × (asked ≡ first ++ later)
+    × IsLookedAt file.part file.name None first × AreLookedAtUpTo files told later)
+
+-- So it comes to what is told: no fault, or this one, which may be of no file.
+abbrev pub Looks : List Named → Option Fault → List Asked → Type 0
+Looks files None asked = AreLookedAt files asked
+Looks files (Some told) asked =
+    AreLookedAtUpTo files told asked ⊎ ((part_of told ≡ None) × AreLookedAt files asked)
+
+-- and by what comes of reading them
+abbrev pub LooksFor : {A : Type 0} → List Named → Result A Fault → List Asked → Type 0
+LooksFor files (Ok found) asked = AreLookedAt files asked
+LooksFor files (Err told) asked = AreLookedAtUpTo files told asked
+
+abbrev pub fault_in : {A : Type 0} → Result A Fault → Option Fault
+fault_in (Ok found) = None
+fault_in (Err told) = Some told
