@@ -12,6 +12,11 @@ abbrev pub met_end : {E : Type 0} → Result ℕ E → List ℕ → Bool
 met_end (Ok n) buffer = n == 0 && not (length buffer == 0)
 met_end (Err e) buffer = false
 
+-- a read that gave no byte: it failed, met the end, or had no room
+abbrev pub gave_none : {E : Type 0} → Result ℕ E → Bool
+gave_none (Ok n) = n == 0
+gave_none (Err e) = true
+
 -- how many bytes a read gave
 abbrev pub given_by : {E : Type 0} → Result ℕ E → ℕ
 given_by (Ok n) = n

@@ -1,7 +1,7 @@
 ghost use Rattle.std.specs.Prelude.{◌≡◌, ℕ, ◌+◌, ◌^◌, ◌≤◌, List, Option, is_err, if◌then◌else◌};
 ghost use Rattle.std.specs.Io.{ReadsAtMost};
 ghost use Rattle.std.specs.Io.KnownBytes.{ReadConsumes};
-ghost use Rattle.drum_core.specs.Device.{given_by, met_end};
+ghost use Rattle.drum_core.specs.Device.{gave_none, given_by, met_end};
 
 use super::Failed;
 
@@ -22,6 +22,9 @@ pub trait Input {
     /// How many reads met the end: they gave nothing, though there was room.
     ghost ended: { Self → ℕ };
 
+    /// How many reads gave no byte: they failed, met the end, or had no room.
+    ghost idle: { Self → ℕ };
+
     /// Reads some bytes into the beginning of the buffer and says how many: none only at the end,
     /// or where the buffer has no room.
     ///
@@ -36,7 +39,8 @@ pub trait Input {
         ensures failures { failed self.new ≡ failed self.old + (if is_err result then 1 else 0) }
         ensures given { given self.new ≡ given self.old + given_by result }
         ensures ended { ended self.new
-            ≡ ended self.old + (if met_end result buf.new then 1 else 0) };
+            ≡ ended self.old + (if met_end result buf.new then 1 else 0) }
+        ensures idle { idle self.new ≡ idle self.old + (if gave_none result then 1 else 0) };
 
     /// How often it was read.
     fn calls(&self) -> u64
@@ -49,6 +53,10 @@ pub trait Input {
     /// How many reads met the end.
     fn ends(&self) -> u64
         ensures { result ≡ ended self.now };
+
+    /// How many reads gave no byte: they failed, met the end, or had no room.
+    fn idle(&self) -> u64
+        ensures { result ≡ idle self.now };
 
     /// How many bytes its reads gave, in all.
     fn bytes(&self) -> u128

@@ -12,8 +12,10 @@ pub struct Reading<R: Read> {
     calls: u64,
     failures: u64,
     ends: u64,
+    idle: u64,
     bytes: u128,
     ghost within: { failures + ends ≤ calls },
+    ghost some_idle: { idle ≤ calls },
     ghost counted: { bytes ≤ calls * 2 ^ 64 },
 }
 
@@ -25,12 +27,14 @@ impl<R: Read> Reading<R> {
         ensures failures { ⟦<Reading<R> as Input>⟧.failed result ≡ 0 }
         ensures given { ⟦<Reading<R> as Input>⟧.given result ≡ 0 }
         ensures ended { ⟦<Reading<R> as Input>⟧.ended result ≡ 0 }
+        ensures idle { ⟦<Reading<R> as Input>⟧.idle result ≡ 0 }
     {
         Reading {
             reader,
             calls: 0,
             failures: 0,
             ends: 0,
+            idle: 0,
             bytes: 0,
         }
     }
@@ -47,18 +51,24 @@ impl<R: Read> Input for Reading<R> {
 
     ghost ended = { λ reading. reading.ends };
 
+    ghost idle = { λ reading. reading.idle };
+
     fn read(&mut self, buf: &mut [u8]) -> Result<usize, Failed> {
         self.calls += 1;
         match self.reader.read(buf) {
             Ok(count) => {
-                if count == 0 && !buf.is_empty() {
-                    self.ends += 1;
+                if count == 0 {
+                    self.idle += 1;
+                    if !buf.is_empty() {
+                        self.ends += 1;
+                    }
                 }
                 self.bytes += count as u128;
                 Ok(count)
             }
             Err(_) => {
                 self.failures += 1;
+                self.idle += 1;
                 Err(Failed)
             }
         }
@@ -74,6 +84,10 @@ impl<R: Read> Input for Reading<R> {
 
     fn ends(&self) -> u64 {
         self.ends
+    }
+
+    fn idle(&self) -> u64 {
+        self.idle
     }
 
     fn bytes(&self) -> u128 {

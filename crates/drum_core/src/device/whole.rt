@@ -18,8 +18,8 @@ pub enum WholeError {
 const CHUNK: usize = 4096;
 
 /// All bytes of an input, of which there may be `limit`; one more is asked for at most, so that an
-/// input without end is too long. Each read but the last gives a byte at least: the end, once it is
-/// met, isn't asked for again.
+/// input without end is too long. One read at most gives no byte: the end, once it is met, isn't
+/// asked for again.
 pub fn read_whole<I: Input>(
     alloc: Global,
     input: &mut I,
@@ -32,6 +32,7 @@ pub fn read_whole<I: Input>(
     // It has all bytes where the end was met, and an end that is met isn't asked for again.
     ensures whole { OnOk result (I.ended input.new ≡ I.ended input.old + 1) }
     ensures ended { I.ended input.new ≤ I.ended input.old + 1 }
+    ensures idle { I.idle input.new ≤ I.idle input.old + 1 }
     ensures long { IsErrOf result WholeError.TooLong
         → IfSome (I.left input.old) (λ bytes. limit < length bytes) }
     ensures past { IsErrOf result WholeError.TooLong

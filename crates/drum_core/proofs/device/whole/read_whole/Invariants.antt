@@ -11,5 +11,6 @@ invariant-loop g l = record {
   each : l.counter ≤ vec_len l.text;
   failed : g.I.Input.failed l.input ≡ g.I.Input.failed l.fn.input;
   ended : g.I.Input.ended l.input ≡ g.I.Input.ended l.fn.input;
+  idle : g.I.Input.idle l.input ≡ g.I.Input.idle l.fn.input;
   given : g.I.Input.given l.input ≡ g.I.Input.given l.fn.input + vec_len l.text;
 }
