@@ -41,6 +41,7 @@ pub fn read_inputs<I: Input>(alloc: Global, reader: &mut I) -> Result<Inputs, In
         → (I.ended reader.new ≡ I.ended reader.old + 1)
         ⊎ (I.given reader.new ≡ I.given reader.old + 804001) }
     ensures ended { I.ended reader.new ≤ I.ended reader.old + 1 }
+    ensures idle { I.idle reader.new ≤ I.idle reader.old + 1 }
     ensures once { I.failed reader.new ≤ I.failed reader.old + 1 }
     ensures counted { I.failed reader.old ≤ I.failed reader.new }
     ensures asked { I.called reader.new ≤ I.called reader.old + 804001 }
