@@ -17,7 +17,7 @@ pub struct Disk<'a> {
 impl Source for Disk<'_> {
     type Text = Reading<File>;
 
-    ghost file = { λ _ _. None };
+    ghost files = { λ _ _ _. None };
 
     ghost failed = { λ disk. disk.failures };
 

@@ -21,7 +21,7 @@ use Rattle.drum_tool.specs.Asked.{AreLookedAt, AreLookedAtUpTo, Asked, AsksFor, 
 use Rattle.drum_tool.specs.Asked.{Named, Reading, failures_told, fault_in, most_of, part_of, reading}
 use Rattle.drum_tool.specs.Asked.{returned, sought}
 use Rattle.drum_tool.specs.Documents.{IsAnalysisFault}
-use Rattle.drum_tool.specs.Files.{AreTold}
+use Rattle.drum_tool.specs.Files.{AreTold, FilesTold, Held, behind}
 use Rattle.drum_tool.specs.Replay.{Given, IsReplayFault}
 use Rattle.drum_tool.specs.Reply.{IsLineOf, LooksAsTold, Reply, SaysTrace, cut_reply, fault_reply, says, trace_reply}
 
@@ -73,9 +73,12 @@ refused_later of name told none own asked (inr is) = inr (
   is.1,
   record {
     failures = is.2.failures ∙ sym none;
+    idle = is.2.idle;
     calls = is.2.calls;
+    each = is.2.each;
     ends = is.2.ends;
     bytes = is.2.bytes;
+    full = is.2.full;
     whole = elim is.2.whole [
       | inl met ↦ inl met
       | inr (inl past) ↦ inr (inl past)
@@ -89,17 +92,22 @@ refused_later of name told none own asked (inr is) = inr (
 -- ---- a text
 
 -- how a text that was fresh was read
-pub text_read : (most : ℕ) (told : Option Fault) (called failed ended given calls failures ends bytes : ℕ)
-    → called ≡ 0 → failed ≡ 0 → ended ≡ 0 → given ≡ 0 → calls + given ≤ called + bytes + 1 → ends ≤ ended + 1
-    → bytes ≤ given + most → failures ≡ failed + failures_told told
+pub text_read : (most : ℕ) (told : Option Fault)
+    (called failed ended given spare calls failures ends bytes idle : ℕ)
+    → called ≡ 0 → failed ≡ 0 → ended ≡ 0 → given ≡ 0 → spare ≡ 0 → calls ≤ called + most
+    → calls + given ≤ called + bytes + 1 → ends ≤ ended + 1 → idle ≤ spare + 1
+    → bytes ≤ given + most → (bytes ≡ given + most → failures ≡ failed) → failures ≡ failed + failures_told told
     → (ends ≡ ended + 1) ⊎ (bytes ≡ given + most) ⊎ (failures ≡ failed + 1) ⊎ MayWant told
-    → IsRead most told (reading calls failures ends bytes)
-text_read most told called failed ended given calls failures ends bytes uncalled unfailed unended ungiven each met taken
-    counted whole = record {
+    → IsRead most told (reading calls failures ends bytes idle)
+text_read most told called failed ended given spare calls failures ends bytes idle uncalled unfailed unended ungiven
+    unspared often each met idles taken full counted whole = record {
       failures = omega (arith, counted, unfailed);
-      calls = omega (arith, each, uncalled, ungiven);
+      idle = omega (arith, idles, unspared);
+      calls = omega (arith, often, uncalled);
+      each = omega (arith, each, uncalled, ungiven);
       ends = omega (arith, met, unended);
       bytes = omega (arith, taken, ungiven);
+      full = λ all. omega (arith, full (omega (arith, all, ungiven)), unfailed);
       whole = elim whole [
         | inl is ↦ inl (omega (arith, is, unended))
         | inr (inl is) ↦ inr (inl (omega (arith, is, ungiven)))
@@ -189,10 +197,10 @@ module _ (files : List Named) (one : Named) (before between after : Option (List
   earlier_faulty told asks = asks_as before after _ _ (upto_more files (one ∷ []) told) asks
 
 -- where files are told, the first of them are
-pub first_told : (file : List ℕ → Option (Option (List ℕ))) (held : List ℕ → Option (List ℕ)) (files others : List Named)
-    → AreTold file held (files ++ others) → AreTold file held files
-first_told file held [] others told = tt
-first_told file held (one ∷ files) others told = (told.0, first_told file held files others told.1)
+pub first_told : (told_of : FilesTold) (held : Held) (files others : List Named)
+    → AreTold told_of held (files ++ others) → AreTold told_of held files
+first_told told_of held [] others told = tt
+first_told told_of held (one ∷ files) others told = (told.0, first_told (behind told_of) held files others told.1)
 
 -- ---- what is told then
 

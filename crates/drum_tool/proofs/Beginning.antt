@@ -46,7 +46,7 @@ module _ (g : Setting) (given : Given) (begun : Begun) (is : IsBegun g given beg
   replay_before verdict at =
       let says = says_before verdict at in
       record {
-        own_words = is.own_words;
+        has = is.has;
         worst = begun.bound;
         is_worst = is.worst;
         step = 0;
@@ -65,7 +65,7 @@ module _ (g : Setting) (given : Given) (begun : Begun) (is : IsBegun g given beg
       → IsFollowed g (state_of begun.following) (waits_of begun.following) begun.bound turns verdict
       → IsReplay g given verdict
   replay_followed turns verdict followed = record {
-    own_words = is.own_words;
+    has = is.has;
     worst = begun.bound;
     is_worst = is.worst;
     step = length turns;

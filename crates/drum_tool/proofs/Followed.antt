@@ -29,7 +29,7 @@ use Rattle.drum_tool.specs.declared.following.Following.{Following}
 use Rattle.drum_tool.specs.Documents.{IsBounded}
 use Rattle.drum_tool.specs.Following.{CanBegin, AreGiven, AreOfRun, IsFollowed, IsFollowing, state_of}
 use Rattle.drum_tool.specs.Following.{waits_of, turn_of, used_so_far}
-use Rattle.drum_tool.specs.Replay.{Given, AreFed, LeavesAt, IsLeft}
+use Rattle.drum_tool.specs.Replay.{Given, AreFed, IsLeft, IsUnderWay, LeavesAt}
 use Rattle.drum_tool.proofs.Leading.{lead_run, lead_fed, lead_more, lead_used, used_more}
 
 -- A state that is set up is one in which a kept run may begin, where a new monitor has no answer.
@@ -85,7 +85,7 @@ module _ (g : Setting) where
 
   module _ (first : State) (waits : List ℕ) (bound : ℕ) (begins : CanBegin g first) (bounded : IsBounded g bound) where
     -- the notes and what is given agree on the programmed switch
-    as_declared : (given : Given) → AreGiven g given first waits
+    pub as_declared : (given : Given) → AreGiven g given first waits
         → IsAsDeclared g.notes.programmed given.setup.programmed
     as_declared given are = subst (IsAsDeclared g.notes.programmed) are.set_up.programmed begins.declared
 
@@ -132,6 +132,14 @@ module _ (g : Setting) where
           run = lead_run g.times first waits turns now left_waits takes.may_wait following.lead;
           fed = subst (λ (all : List ℕ). AreFed g.times all more) are.feed
               (lead_fed g.times first waits turns now left_waits following.lead);
+        }
+
+        -- they are under way, up to this one
+        pub under_way : (given : Given) → AreGiven g given first waits → IsUnderWay g given turns turn
+        under_way given are = record {
+          declared = as_declared given are;
+          replayed = replayed given are;
+          kept = following.seen.kept;
         }
 
         -- the run as it is followed further
@@ -231,11 +239,9 @@ module _ (g : Setting) where
             at : (given : Given) → AreGiven g given first waits
                 → LeavesAt g given (length more) (used_so_far before) what
             at given are = record {
-              declared = as_declared given are;
               turns = turns;
               last = turn;
-              replayed = replayed given are;
-              kept = following.seen.kept;
+              under_way = under_way given are;
               leaves = leaves;
               number = length-append turns (turn ∷ []);
               time = sym (subst (λ (time : ℕ). used_from time turns ≡ used_so_far before) begins.first.at_once

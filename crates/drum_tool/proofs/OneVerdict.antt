@@ -190,7 +190,8 @@ module _ (g : Setting) where
         record { replayed = at.replayed; kept = kept.0; ends = inl (kept.1, (at.held, because, used, at.stops)) }
 
     leaves_ended : (step used : ℕ) (what : lefts.Left) (at : LeavesAt g given step used what) → Ended at.turns at.last
-    leaves_ended step used what at = record { replayed = at.replayed; kept = at.kept; ends = inr (what, at.leaves) }
+    leaves_ended step used what at =
+        record { replayed = at.under_way.replayed; kept = at.under_way.kept; ends = inr (what, at.leaves) }
 
     -- it stops once, for one reason, at one time,
     one_stop : (step step' used used' : ℕ) (because because' : whys.Why) → StopsAt g given step used because
@@ -263,8 +264,8 @@ module _ (g : Setting) where
         → (what ≡ what') × (step ≡ step') × (used ≡ used')
     one_left step step' used used' what what' (inl is) (inl other) =
         (is.0 ∙ sym other.0, is.2 ∙ sym other.2, is.3 ∙ sym other.3)
-    one_left step step' used used' what what' (inl is) (inr at) = absurd (is.1 at.declared)
-    one_left step step' used used' what what' (inr at) (inl is) = absurd (is.1 at.declared)
+    one_left step step' used used' what what' (inl is) (inr at) = absurd (is.1 at.under_way.declared)
+    one_left step step' used used' what what' (inr at) (inl is) = absurd (is.1 at.under_way.declared)
     one_left step step' used used' what what' (inr at) (inr other) = one_leave step step' used used' what what' at other
 
     pub one_verdict : (worst step step' : ℕ) (verdict other : Verdict) → IsVerdict g given worst step verdict

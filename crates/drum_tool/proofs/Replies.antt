@@ -24,7 +24,7 @@ use Rattle.drum_lines.specs.FaultStatus.{after_deck, after_input, after_note, af
 use Rattle.drum_lines.specs.FaultStatus.{status_after}
 use Rattle.drum_tool.specs.Documents.{IsAnalysisFault, IsBound}
 use Rattle.drum_tool.specs.Asked.{files_of}
-use Rattle.drum_tool.specs.Files.{AreTold}
+use Rattle.drum_tool.specs.Files.{AreTold, FilesTold, Held}
 use Rattle.drum_tool.specs.Reply.{AnswersCommand, AnswersOn, IsFault, Reply, SaysBound, SaysTrace, TellsOfReads}
 use Rattle.drum_tool.specs.Reply.{bound_reply, breaks_off, complains, cut_reply, fault_reply, says, trace_reply}
 use Rattle.drum_tool.specs.Words.{refused_reply}
@@ -202,8 +202,8 @@ refused_of_no_read (Usage text) = usage_of_no_read (string_bytes text)
 refused_of_no_read Memory = fault_of_reads faults.Memory
 
 -- what holds of the reply to a command where so many reads failed
-abbrev pub Replied : (List ℕ → Option (Option (List ℕ))) → Command → Reply → ℕ → Type 0
+abbrev pub Replied : FilesTold → Command → Reply → ℕ → Type 0
 Replied files command reply failures =
     TellsOfReads failures reply
-    × ((held : List ℕ → Option (List ℕ)) → AreTold files held (files_of command)
+    × ((held : Held) → AreTold files held (files_of command)
     → AnswersCommand held command failures reply)

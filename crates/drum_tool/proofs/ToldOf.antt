@@ -11,7 +11,8 @@ use Rattle.drum_lines.specs.declared.fault.Fault.{Fault}
 use Rattle.drum_lines.specs.declared.fault.Fault.TheVariants as faults
 use Rattle.drum_tool.specs.Documents.{IsBound}
 use Rattle.drum_tool.specs.Asked.{files_of, named, named_in}
-use Rattle.drum_tool.specs.Files.{AreHeld, AreNotHeld, AreTold, HoldsDeck, HoldsTimes, HoldsNotes}
+use Rattle.drum_tool.specs.Files.{AreHeld, AreNotHeld, AreTold, FilesTold, Held}
+use Rattle.drum_lines.specs.declared.part.Part.TheVariants as part
 use Rattle.drum_tool.specs.Reply.{AnswersCommand, AnswersOn, Reply, SaysBound, bound_reply, fault_reply}
 use Rattle.drum_tool.specs.Told.{IsBoundOfFiles}
 use Rattle.drum_tool.specs.Words.{AreRefused, refused_reply}
@@ -56,46 +57,47 @@ same_first : (said other : Option (Text × List (Option Text))) → said ≡ oth
 same_first said other same = ap (λ (s : Option (Text × List (Option Text))). first_byte (name_in s)) same
 
 -- the command of these words is `bound`, with these names
-pub of_files : (file : List ℕ → Option (Option (List ℕ))) (held : List ℕ → Option (List ℕ)) (deck times notes : Text)
+pub of_files : (told_of : FilesTold) (held : Held) (deck times notes : Text)
     (command : Command) (failures : ℕ) (reply : Reply)
-    → AreTold file held (named deck times notes) → Some (said_by command) ≡ Some (codes "bound", Some deck ∷ Some times ∷ Some notes ∷ [])
-    → (AreTold file held (files_of command) → AnswersCommand held command failures reply)
-    → ((bound : ℕ) × IsBoundOfFiles held deck times notes bound × (reply ≡ bound_reply bound))
+    → AreTold told_of held (named deck times notes) → Some (said_by command) ≡ Some (codes "bound", Some deck ∷ Some times ∷ Some notes ∷ [])
+    → (AreTold told_of held (files_of command) → AnswersCommand held command failures reply)
+    → ((bound : ℕ) × IsBoundOfFiles (held part.Deck) (held part.Times) (held part.Notes) bound
+    × (reply ≡ bound_reply bound))
     ⊎ ((fault : Fault) × (reply ≡ fault_reply fault))
-of_files file held deck times notes (Bound files) failures reply told said answers =
+of_files told_of held deck times notes (Bound files) failures reply told said answers =
     let names = ap files_in said in
     let deck_is : files.deck.now ≡ deck = ap file_in names in
     let times_is : files.times.now ≡ times = ap (λ (files : List (Option Text)). file_in (behind_file files)) names in
     let notes_is : files.notes.now ≡ notes =
     ap (λ (files : List (Option Text)). file_in (behind_file (behind_file files))) names in
-    let told_so : AreTold file held (named_in files) = (
-      subst (λ (name : Text). file name ≡ Some (held name)) (sym deck_is) told.0,
+    let told_so : AreTold told_of held (named_in files) = (
+      subst (λ (name : Text). told_of 0 name ≡ Some (held part.Deck)) (sym deck_is) told.0,
       (
-        subst (λ (name : Text). file name ≡ Some (held name)) (sym times_is) told.1.0,
-        (subst (λ (name : Text). file name ≡ Some (held name)) (sym notes_is) told.1.1.0, tt),
+        subst (λ (name : Text). told_of 1 name ≡ Some (held part.Times)) (sym times_is) told.1.0,
+        (subst (λ (name : Text). told_of 2 name ≡ Some (held part.Notes)) (sym notes_is) told.1.1.0, tt),
       ),
     ) in
-    elim (reply_of_bound (AreHeld held files) (AreNotHeld held files) failures reply (answers told_so)) [
+    elim (reply_of_bound (AreHeld held) (AreNotHeld held) failures reply (answers told_so)) [
       | inl (documents, are, bound, is, so) ↦ inl (
         bound,
         record {
           documents = documents;
-          of_deck = subst (λ (name : Text). HoldsDeck (held name) documents.deck) deck_is are.deck;
-          of_times = subst (λ (name : Text). HoldsTimes (held name) documents.times) times_is are.times;
-          of_notes = subst (λ (name : Text). HoldsNotes (held name) documents.notes) notes_is are.notes;
+          of_deck = are.deck;
+          of_times = are.times;
+          of_notes = are.notes;
           is_bound = is;
         },
         so,
       )
       | inr line ↦ inr line
     ]
-of_files file held deck times notes (Report files) failures reply told said answers =
+of_files told_of held deck times notes (Report files) failures reply told said answers =
     absurd (let bad : 114 ≡ 98 = same_first _ _ said in omega (arith, bad))
-of_files file held deck times notes (Walk files) failures reply told said answers =
+of_files told_of held deck times notes (Walk files) failures reply told said answers =
     absurd (let bad : 119 ≡ 98 = same_first _ _ said in omega (arith, bad))
-of_files file held deck times notes (Draw files) failures reply told said answers =
+of_files told_of held deck times notes (Draw files) failures reply told said answers =
     absurd (let bad : 100 ≡ 98 = same_first _ _ said in omega (arith, bad))
-of_files file held deck times notes (Replay files inputs) failures reply told said answers =
+of_files told_of held deck times notes (Replay files inputs) failures reply told said answers =
     absurd (let bad : 114 ≡ 98 = same_first _ _ said in omega (arith, bad))
-of_files file held deck times notes (Trace files inputs) failures reply told said answers =
+of_files told_of held deck times notes (Trace files inputs) failures reply told said answers =
     absurd (let bad : 116 ≡ 98 = same_first _ _ said in omega (arith, bad))

@@ -6,7 +6,7 @@ use Rattle.clap.specs.Words.{Text}
 use Rattle.drum_command.specs.declared.command.Command.{Command}
 use Rattle.drum_command.specs.declared.refused.Refused.{Refused}
 use Rattle.drum_tool.specs.Asked.{Asked, AsksFor, files_of}
-use Rattle.drum_tool.specs.Files.{AreTold}
+use Rattle.drum_tool.specs.Files.{AreTold, FilesTold, Held}
 use Rattle.drum_tool.specs.Reply.{Reply, AnswersCommand, AnswersJoined, LooksAsTold}
 use Rattle.drum_tool.specs.Words.{AreOf, AreRefused, Answers, Asks, refused_reply}
 
@@ -15,7 +15,7 @@ pub some_words : (words : List (Bor Text)) → false ≡ (length words == 0) →
 some_words [] some none = let bad : false ≡ true = some in cc
 some_words (word ∷ words) some none = omega (arith, none)
 
-module _ (input : Option (List ℕ)) (files : List ℕ → Option (Option (List ℕ))) (failures : ℕ) (reply : Reply) where
+module _ (input : Option (List ℕ)) (files : FilesTold) (failures : ℕ) (reply : Reply) where
   pub without_words : (words : List (Bor Text)) → true ≡ (length words == 0)
       → ((bytes : List ℕ) → input ≡ Some bytes → AnswersJoined bytes failures reply)
       → Answers (texts words) input files failures reply
@@ -25,7 +25,7 @@ module _ (input : Option (List ℕ)) (files : List ℕ → Option (Option (List 
 
   pub with_command : (words : List (Bor Text)) → false ≡ (length words == 0) → (command : Command)
       → AreOf (texts words) command
-      → ((held : List ℕ → Option (List ℕ)) → AreTold files held (files_of command)
+      → ((held : Held) → AreTold files held (files_of command)
       → AnswersCommand held command failures reply)
       → Answers (texts words) input files failures reply
   with_command [] some command said is = absurd (let bad : false ≡ true = some in cc)

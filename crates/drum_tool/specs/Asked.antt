@@ -13,17 +13,18 @@ use Rattle.drum_lines.specs.declared.part.Part.TheVariants as part
 use Rattle.drum_lines.specs.declared.part.PartFault.TheVariants as what
 use Rattle.drum_lines.specs.FaultStatus.{reads_failed}
 
--- How a text was read: how often, how many of these reads failed and how many met the end, and how
--- many bytes they gave.
+-- How a text was read: how often, how many of these reads failed and how many met the end, how many
+-- bytes they gave, and how many of them gave none.
 pub record Reading : Type 0 where
   pub calls : ℕ
   pub failures : ℕ
   pub ends : ℕ
   pub bytes : ℕ
+  pub idle : ℕ
 
-abbrev pub reading : ℕ → ℕ → ℕ → ℕ → Reading
-reading many failed met gave =
-    record { calls = many; failures = failed; ends = met; bytes = gave }
+abbrev pub reading : ℕ → ℕ → ℕ → ℕ → ℕ → Reading
+reading many failed met gave none =
+    record { calls = many; failures = failed; ends = met; bytes = gave; idle = none }
 
 -- A file is sought by its name; a text, read so, is given back.
 pub data Asked : Type 0 where
@@ -58,13 +59,17 @@ MayWant (Some (fault.Deck of_deck.Memory)) = Unit {0}
 MayWant (Some (fault.Inputs of_inputs.Memory)) = Unit {0}
 MayWant _ = ⊥
 
--- How a text is read, so many bytes at most, where this fault of it is told, or none: each read but
--- the last gives a byte, and all of the text is read, unless a read fails or memory is wanting.
+-- How a text is read, so many bytes at most, where this fault of it is told, or none: one read at
+-- most gives no byte, and all of the text is read, unless a read fails or memory is wanting. Once
+-- the most bytes were given, no read fails.
 pub record IsRead (most : ℕ) (told : Option Fault) (read : Reading) : Type 0 where
   pub failures : read.failures ≡ failures_told told
-  pub calls : read.calls ≤ read.bytes + 1
+  pub idle : read.idle ≤ 1
+  pub calls : read.calls ≤ most
+  pub each : read.calls ≤ read.bytes + 1
   pub ends : read.ends ≤ 1
   pub bytes : read.bytes ≤ most
+  pub full : read.bytes ≡ most → read.failures ≡ 0
   pub whole : (read.ends ≡ 1) ⊎ (read.bytes ≡ most) ⊎ (read.failures ≡ 1) ⊎ MayWant told
 
 -- the part that a fault is of, where it is of one that is told

@@ -3,7 +3,6 @@ use Rattle.std.specs.Prelude.{◌≡◌, ◌^◌, ◌<◌, [], Some, None}
 use Rattle.drum_machine.specs.declared.left.Left as lefts
 use Rattle.drum_machine.specs.declared.left.Left.TheVariants as left
 use Rattle.drum_machine.specs.Keeps.{IsAsDeclared}
-use Rattle.drum_machine.specs.Setup.{first_loaded}
 use Rattle.drum_flow.specs.Walk.{Setting}
 use Rattle.drum_bound.specs.Worst.{IsWorst}
 use Rattle.drum_lines.specs.declared.verdict.Verdict.{Verdict}
@@ -11,7 +10,7 @@ use Rattle.drum_lines.specs.declared.verdict.Verdict.TheVariants.{Left}
 use Rattle.drum_tool.specs.declared.replaying.Begun.{Begun}
 use Rattle.drum_tool.specs.Documents.{IsBounded}
 use Rattle.drum_tool.specs.Following.{AreGiven, CanBegin, IsFollowing, state_of, waits_of}
-use Rattle.drum_tool.specs.Replay.{Given}
+use Rattle.drum_tool.specs.Replay.{Given, HasReplay}
 
 -- the verdict on a run that leaves the notes before any step
 abbrev pub left_before : lefts.Left → Verdict
@@ -31,7 +30,7 @@ pub record IsReady (g : Setting) (begun : Begun) : Type 0 where
 -- It is that of what is given.
 pub record IsBegun (g : Setting) (given : Given) (begun : Begun) : Type 0 where
   pub ready : IsReady g begun
-  pub own_words : first_loaded g.loads given.setup.words.items ≡ None
+  pub has : HasReplay g given
   pub worst : IsWorst g begun.bound
   pub are : AreGiven g given (state_of begun.following) (waits_of begun.following)
   pub before :

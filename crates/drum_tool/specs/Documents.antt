@@ -13,7 +13,7 @@ use Rattle.drum_machine.specs.Keeps.{IsKept}
 use Rattle.drum_machine.specs.Run.{Turn, IsRun, IsFirstState, used_from}
 use Rattle.drum_machine.specs.Step.{State}
 use Rattle.drum_flow.specs.Acceptance.{IsRefusal}
-use Rattle.drum_flow.specs.Accepted.{IsFixed}
+use Rattle.drum_flow.specs.Accepted.{IsAccepted, IsFixed}
 use Rattle.drum_flow.specs.Walk.{Setting}
 use Rattle.drum_bound.specs.AnalysisOf.{setting}
 use Rattle.drum_bound.specs.Visited.{Visited, IsWalkOf}
@@ -26,15 +26,20 @@ use Rattle.drum_lines.specs.declared.fault.Fault.TheVariants as fault
 abbrev pub setting_of : Documents → Setting
 setting_of documents = setting documents.deck documents.times documents.notes
 
+-- the deck with its notes is accepted
+abbrev pub IsDeckAccepted : Setting → Type 0
+IsDeckAccepted g = (executed : List ℕ) × IsAccepted g.loads g.notes g.start executed
+
 -- each run that keeps to the notes uses so many word times at most
 abbrev pub IsBounded : Setting → ℕ → Type 0
 IsBounded g bound = (s : State) (steps : List Turn)
     → IsFirstState g.loads (IsFixed g.loads g.notes g.start) g.start s
     → IsRun g.times s steps → IsKept g.loads g.notes s steps → used_from 0 steps ≤ bound
 
--- Their bound: some walk takes this time and none takes more, and no run that keeps to the notes
--- ever uses more.
+-- Their bound: the deck with its notes is accepted, some walk takes this time and none takes more,
+-- and no run that keeps to the notes ever uses more.
 pub record IsBound (documents : Documents) (bound : ℕ) : Type 0 where
+  pub accepted : IsDeckAccepted (setting_of documents)
   pub worst : IsWorst (setting_of documents) bound
   pub bounded : IsBounded (setting_of documents) bound
 

@@ -1,7 +1,6 @@
 -- Files, each by its name (this project's choice): the documents and the inputs that they hold, and
 -- why they hold none.
-use Rattle.std.specs.Prelude.{◌≡◌, ℕ, ◌<◌, ◌≤◌, List, [], ◌∷◌, length, Option, Some, None, IsSome, ◌⊎◌}
-use Rattle.drum_command.specs.declared.command.Files.{Files}
+use Rattle.std.specs.Prelude.{◌≡◌, ℕ, ◌+◌, ◌<◌, ◌≤◌, List, [], ◌∷◌, length, Option, Some, None, IsSome, ◌⊎◌}
 use Rattle.drum_core.specs.declared.deck.Deck.{Deck}
 use Rattle.drum_core.specs.declared.deck.fault.DeckFault.TheVariants as of_deck
 use Rattle.drum_times.specs.declared.times.Times.{Times}
@@ -21,6 +20,16 @@ use Rattle.drum_lines.specs.declared.part.PartFault.TheVariants as what
 use Rattle.drum_tool.specs.Asked.{Named}
 use Rattle.drum_tool.specs.Documents.{SaysDeck, IsNoDeck}
 
+-- What a source tells of its files, by how many are sought before and by the name: nothing; that the
+-- file can't be opened; or its bytes. (A name may give other bytes when it is sought again, as a
+-- pipe's does.)
+abbrev pub FilesTold : Type 0
+FilesTold = ℕ → List ℕ → Option (Option (List ℕ))
+
+-- what it tells once one more was sought
+abbrev pub behind : FilesTold → FilesTold
+behind files sought = files (sought + 1)
+
 -- What a fetch gives by what is told of the file: of an untold one anything, of one that can't be
 -- opened nothing, else its bytes.
 abbrev pub IsFetched : Option (Option (List ℕ)) → Option (Option (List ℕ)) → Type 0
@@ -28,12 +37,15 @@ IsFetched None fetched = Unit {0}
 IsFetched (Some None) fetched = fetched ≡ None
 IsFetched (Some (Some bytes)) fetched = fetched ≡ Some (Some bytes)
 
--- these files are told: the bytes of each, and of one that can't be opened none
-abbrev pub AreTold : (List ℕ → Option (Option (List ℕ))) → (List ℕ → Option (List ℕ)) → List Named
-    → Type 0
-AreTold file held [] = Unit {0}
-AreTold file held (one ∷ others) =
-    (file one.name ≡ Some (held one.name)) × AreTold file held others
+-- what the file of each part holds: its bytes; or none, where it can't be opened
+abbrev pub Held : Type 0
+Held = parts.Part → Option (List ℕ)
+
+-- it is told of these files, sought one after the other
+abbrev pub AreTold : FilesTold → Held → List Named → Type 0
+AreTold files held [] = Unit {0}
+AreTold files held (one ∷ others) =
+    (files 0 one.name ≡ Some (held one.part)) × AreTold (behind files) held others
 
 -- a file's bytes, within the limit of a timing table and of notes
 abbrev pub Holds : Option (List ℕ) → List ℕ → Type 0
@@ -79,27 +91,30 @@ abbrev pub HoldsNoNotes : Option (List ℕ) → Fault → Type 0
 HoldsNoNotes file (fault.Notes one) = (bytes : List ℕ) × Holds file bytes × AreNoNotes bytes one
 HoldsNoNotes file one = HoldsNone part.Notes file one
 
--- three files are those of documents
-pub record AreHeld (held : List ℕ → Option (List ℕ)) (files : Files) (documents : Documents) :
-    Type 0 where
-  pub deck : HoldsDeck (held files.deck.now) documents.deck
-  pub times : HoldsTimes (held files.times.now) documents.times
-  pub notes : HoldsNotes (held files.notes.now) documents.notes
+-- the files of three parts are those of documents
+pub record AreHeld (held : Held) (documents : Documents) : Type 0 where
+  pub deck : HoldsDeck (held part.Deck) documents.deck
+  pub times : HoldsTimes (held part.Times) documents.times
+  pub notes : HoldsNotes (held part.Notes) documents.notes
 
 -- why they are not: the first of them, the deck, the timing table, the notes, that is refused
-abbrev pub AreNotHeld : (List ℕ → Option (List ℕ)) → Files → Fault → Type 0
-AreNotHeld held files one =
-    HoldsNoDeck (held files.deck.now) one
-    ⊎ ((deck : Deck) × HoldsDeck (held files.deck.now) deck
-    × (HoldsNoTimes (held files.times.now) one
-    ⊎ ((times : Times) × HoldsTimes (held files.times.now) times
-    × HoldsNoNotes (held files.notes.now) one)))
+abbrev pub AreNotHeld : Held → Fault → Type 0
+AreNotHeld held one =
+    HoldsNoDeck (held part.Deck) one
+    ⊎ ((deck : Deck) × HoldsDeck (held part.Deck) deck
+    × (HoldsNoTimes (held part.Times) one
+    ⊎ ((times : Times) × HoldsTimes (held part.Times) times
+    × HoldsNoNotes (held part.Notes) one)))
 
 -- the file is that of inputs
 abbrev pub HoldsInputs : Option (List ℕ) → Inputs → Type 0
 HoldsInputs file inputs =
     (bytes : List ℕ) × (file ≡ Some bytes)
     × (lines : List text.Line) × text.AreInputs bytes lines × AreInputsOf inputs lines
+
+-- the file of the inputs' part is that of inputs
+abbrev pub AreInputsHeld : Held → Inputs → Type 0
+AreInputsHeld held = HoldsInputs (held part.Inputs)
 
 -- why a text is no inputs (that memory was wanting is tested, not said)
 abbrev pub AreNoInputs : List ℕ → InputFault → Type 0
@@ -113,3 +128,6 @@ HoldsNoInputs file (fault.Inputs of_inputs.Read) = IsSome file
 HoldsNoInputs file (fault.Inputs one) =
     (bytes : List ℕ) × (file ≡ Some bytes) × AreNoInputs bytes one
 HoldsNoInputs file _ = ⊥
+
+abbrev pub AreNoInputsHeld : Held → Fault → Type 0
+AreNoInputsHeld held = HoldsNoInputs (held part.Inputs)

@@ -1,5 +1,5 @@
 -- What is needed to follow a run, and what is known of it on the way and at its end.
-use Rattle.std.specs.Prelude.{◌≡◌, ℕ, ◌+◌, ◌≤◌, List, [], ◌∷◌, length, None}
+use Rattle.std.specs.Prelude.{◌≡◌, ℕ, ◌+◌, ◌≤◌, List, [], ◌∷◌, ◌++◌, length, None}
 use Rattle.drum_core.specs.declared.op.Op.{Op}
 use Rattle.drum_times.specs.declared.entry.Entry.{Entry}
 use Rattle.drum_machine.specs.Feed.{cards_left, waits_left}
@@ -13,7 +13,7 @@ use Rattle.drum_flow.specs.Accepted.{IsFixed}
 use Rattle.drum_flow.specs.Walk.{Setting}
 use Rattle.drum_lines.specs.declared.verdict.Verdict.{Verdict}
 use Rattle.drum_tool.specs.declared.following.Following.{Following}
-use Rattle.drum_tool.specs.Replay.{Given, IsReplayed, IsVerdict, used_in}
+use Rattle.drum_tool.specs.Replay.{Given, IsReplayed, IsUnderWay, IsVerdict, used_in}
 
 -- a state in which a kept run may begin
 pub record CanBegin (g : Setting) (s : State) : Type 0 where
@@ -30,6 +30,12 @@ pub record AreGiven (g : Setting) (given : Given) (s : State) (waits : List ℕ)
 abbrev pub AreOfRun : Setting → State → List ℕ → List Turn → Type 0
 AreOfRun g s waits turns =
     (given : Given) → AreGiven g given s waits → IsReplayed g given turns
+
+-- and they are under way up to the last of them
+abbrev pub AreUnderWay : Setting → State → List ℕ → List Turn → Type 0
+AreUnderWay g s waits turns =
+    (before : List Turn) × (last : Turn) × (turns ≡ before ++ last ∷ [])
+    × ((given : Given) → AreGiven g given s waits → IsUnderWay g given before last)
 
 -- The verdict is that on the run which begins in this state with these waits, it comes with the
 -- last of these turns of it, and no time in it is past the bound.

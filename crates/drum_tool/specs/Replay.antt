@@ -17,13 +17,13 @@ use Rattle.drum_machine.specs.Run.{Turn, IsRun, used_from}
 use Rattle.drum_machine.specs.Setup.{first_loaded}
 use Rattle.drum_machine.specs.Step.{State, stopped}
 use Rattle.drum_flow.specs.Acceptance.{IsRefusal}
-use Rattle.drum_flow.specs.Accepted.{IsAccepted}
 use Rattle.drum_flow.specs.Walk.{Setting}
 use Rattle.drum_bound.specs.Worst.{IsWorst}
 use Rattle.drum_lines.specs.declared.fault.Fault as fails
 use Rattle.drum_lines.specs.declared.fault.Fault.TheVariants as fault
 use Rattle.drum_lines.specs.declared.verdict.Verdict.{Verdict}
 use Rattle.drum_lines.specs.declared.verdict.Verdict.TheVariants.{Kept, Left}
+use Rattle.drum_tool.specs.Documents.{IsDeckAccepted}
 
 -- what a machine is set up with and fed with
 pub record Given : Type 0 where
@@ -47,6 +47,12 @@ pub record IsReplayed (g : Setting) (given : Given) (turns : List Turn) : Type 0
   pub run : IsRun g.times first turns
   pub fed : AreFed g.times given.waits turns
 
+-- The run keeps to the notes in these turns, and takes this one after them.
+pub record IsUnderWay (g : Setting) (given : Given) (turns : List Turn) (last : Turn) : Type 0 where
+  pub declared : IsAsDeclared g.notes.programmed given.setup.programmed
+  pub replayed : IsReplayed g given (turns ++ last ∷ [])
+  pub kept : AreKept g.loads g.notes (no_counts g.notes.marks) turns
+
 -- The run keeps to the notes until it stops, at this step, for this reason, with so many word times
 -- used.
 pub record StopsAt (g : Setting) (given : Given) (step used : ℕ) (because : Why) : Type 0 where
@@ -63,11 +69,9 @@ pub record StopsAt (g : Setting) (given : Given) (step used : ℕ) (because : Wh
 -- The run keeps to the notes before this step, with so many word times used, and leaves them with
 -- it.
 pub record LeavesAt (g : Setting) (given : Given) (step used : ℕ) (what : lefts.Left) : Type 0 where
-  pub declared : IsAsDeclared g.notes.programmed given.setup.programmed
   pub turns : List Turn
   pub last : Turn
-  pub replayed : IsReplayed g given (turns ++ last ∷ [])
-  pub kept : AreKept g.loads g.notes (no_counts g.notes.marks) turns
+  pub under_way : IsUnderWay g given turns last
   pub leaves :
       Leaves g.loads g.notes (counts_over g.notes (no_counts g.notes.marks) turns) last what
   pub number : step ≡ length turns + 1
@@ -92,10 +96,16 @@ abbrev pub used_in : Verdict → ℕ
 used_in (Kept used bound because) = used
 used_in (Left what step used) = used
 
+-- There is a replay: no word is given that the deck loads too, and the deck with its notes is
+-- accepted.
+pub record HasReplay (g : Setting) (given : Given) : Type 0 where
+  pub own_words : first_loaded g.loads given.setup.words.items ≡ None
+  pub accepted : IsDeckAccepted g
+
 -- What a replay answers: the verdict on its one run, in which no more word times are used than any
 -- walk takes at most, and which has no more steps than those and one.
 pub record IsReplay (g : Setting) (given : Given) (verdict : Verdict) : Type 0 where
-  pub own_words : first_loaded g.loads given.setup.words.items ≡ None
+  pub has : HasReplay g given
   pub worst : ℕ
   pub is_worst : IsWorst g worst
   pub step : ℕ
@@ -111,16 +121,23 @@ pub record IsTraced (g : Setting) (given : Given) (turns : List Turn) (verdict :
   pub replayed : IsReplayed g given turns
   pub all : replay.step ≡ length turns
 
+-- The turns of a trace that goes out in part: the first of its run, up to one at most with which
+-- the run leaves the notes or stops.
+pub record IsTracedInPart (g : Setting) (given : Given) (turns : List Turn) : Type 0 where
+  pub has : HasReplay g given
+  pub before : List Turn
+  pub last : Turn
+  pub all : turns ≡ before ++ last ∷ []
+  pub under_way : IsUnderWay g given before last
+
 -- Why there is no replay: a word is given that the deck loads too, of which the first is told; else
--- the deck with its notes is refused; else it is accepted, and the fault is Memory. (That memory
--- was wanting then is tested, not said.)
+-- the deck with its notes is refused; else there is one, and the fault is Memory. (That memory was
+-- wanting then is tested, not said.)
 abbrev pub IsReplayFault : Setting → Given → fails.Fault → Type 0
 IsReplayFault g given (fault.Loaded location) =
     first_loaded g.loads given.setup.words.items ≡ Some location
 IsReplayFault g given (fault.Refused refusal) =
     (first_loaded g.loads given.setup.words.items ≡ None)
     × IsRefusal g.loads g.notes g.start refusal
-IsReplayFault g given fault.Memory =
-    (first_loaded g.loads given.setup.words.items ≡ None)
-    × ((executed : List ℕ) × IsAccepted g.loads g.notes g.start executed)
+IsReplayFault g given fault.Memory = HasReplay g given
 IsReplayFault g given _ = ⊥

@@ -5,7 +5,6 @@ use Rattle.drum_machine.specs.Run.{Turn}
 use Rattle.drum_flow.specs.Walk.{Setting}
 use Rattle.drum_bound.specs.Visited.{Visited}
 use Rattle.drum_command.specs.declared.command.Command.{Command}
-use Rattle.drum_command.specs.declared.command.Files.{Files}
 use Rattle.drum_command.specs.declared.command.Command.TheVariants.{Bound, Report, Walk, Draw, Replay, Trace}
 use Rattle.drum_inputs.specs.declared.inputs.Inputs.{Inputs}
 use Rattle.drum_tool.specs.declared.documents.Documents.{Documents}
@@ -25,11 +24,11 @@ use Rattle.drum_report.specs.Report.{report_text}
 use Rattle.drum_listing.specs.TraceText.{turn_lines}
 use Rattle.drum_listing.specs.WalkText.{walk_text}
 use Rattle.drum_tool.specs.Asked.{Asked, Looks, Named}
-use Rattle.drum_tool.specs.Documents.{IsAnalysisFault, IsBound, IsWorstWalk, setting_of}
-use Rattle.drum_tool.specs.Files.{AreHeld, AreNotHeld, HoldsInputs, HoldsNoInputs}
+use Rattle.drum_tool.specs.Documents.{IsAnalysisFault, IsBound, IsDeckAccepted, IsWorstWalk, setting_of}
+use Rattle.drum_tool.specs.Files.{AreHeld, AreInputsHeld, AreNoInputsHeld, AreNotHeld, Held}
 use Rattle.drum_tool.specs.Given.{given}
 use Rattle.drum_tool.specs.Joined.{Gives, GivesNone}
-use Rattle.drum_tool.specs.Replay.{Given, IsReplay, IsReplayed, IsReplayFault, IsTraced}
+use Rattle.drum_tool.specs.Replay.{Given, IsReplay, IsReplayFault, IsTraced, IsTracedInPart}
 
 -- A text, for standard output or for standard error, and how the program ends; or a text that is
 -- given up, since a write of it fails.
@@ -76,11 +75,14 @@ LooksAsTold files reply asked =
 
 -- Unless the reply tells that a read of the input failed, or that memory is wanting, the input was
 -- read to its end, or one byte past the limit: by how many reads met the end, and how many bytes it
--- gave, before and after.
+-- gave, before and after. Of one that is past its limit the reply tells so, or that memory is
+-- wanting.
 abbrev pub ReadsAll : Reply → ℕ → ℕ → ℕ → ℕ → Type 0
 ReadsAll reply ended ended' given given' =
-    reply ≢ fault_reply (fault.Part part.Input what.Read) → reply ≢ fault_reply fault.Memory
-    → (ended' ≡ ended + 1) ⊎ (given' ≡ given + 16777217)
+    (reply ≢ fault_reply (fault.Part part.Input what.Read) → reply ≢ fault_reply fault.Memory
+    → (ended' ≡ ended + 1) ⊎ (given' ≡ given + 16777217))
+    × (given' ≡ given + 16777217 → (reply ≡ fault_reply (fault.Part part.Input what.TooLong))
+    ⊎ (reply ≡ fault_reply fault.Memory))
 
 -- a verdict, with the turns of its run before it, and turns alone, on which a write fails
 abbrev pub verdict_reply : Verdict → Reply
@@ -113,9 +115,10 @@ SaysWalk documents reply =
     × (angle : ℕ) × (walk : List Visited) × IsWorstWalk documents bound angle walk
     × (reply ≡ walk_reply documents angle walk bound)
 
--- a picture; which one isn't said
+-- a picture, where the deck with its notes is accepted; which one isn't said
 abbrev pub SaysPicture : Documents → Reply → Type 0
-SaysPicture documents reply = (picture : List ℕ) × (reply ≡ picture_reply picture)
+SaysPicture documents reply =
+    IsDeckAccepted (setting_of documents) × (picture : List ℕ) × (reply ≡ picture_reply picture)
 
 -- ---- what is said of a run
 
@@ -129,7 +132,7 @@ abbrev pub SaysTrace : Setting → Given → Reply → Type 0
 SaysTrace g given reply =
     ((turns : List Turn) × (verdict : Verdict) × IsTraced g given turns verdict
     × (reply ≡ trace_reply g turns verdict))
-    ⊎ ((turns : List Turn) × IsReplayed g given turns × (reply ≡ cut_reply g turns))
+    ⊎ ((turns : List Turn) × IsTracedInPart g given turns × (reply ≡ cut_reply g turns))
 
 -- ---- to commands
 
@@ -171,22 +174,28 @@ abbrev pub AnswersJoined : List ℕ → ℕ → Reply → Type 0
 AnswersJoined bytes = AnswersOn SaysBound (Gives bytes) (GivesNone bytes)
 
 -- the reply to a command on documents in files, and to one that lets a deck in files run
-abbrev pub AnswersOnFiles : (Documents → Reply → Type 0) → (List ℕ → Option (List ℕ)) → Files
-    → ℕ → Reply → Type 0
-AnswersOnFiles Says held files = AnswersOn Says (AreHeld held files) (AreNotHeld held files)
+abbrev pub AnswersOnFiles : (Documents → Reply → Type 0) → Held → ℕ → Reply → Type 0
+AnswersOnFiles Says held = AnswersOn Says (AreHeld held) (AreNotHeld held)
 
-abbrev pub AnswersRunOfFiles : (Setting → Given → Reply → Type 0) → (List ℕ → Option (List ℕ))
-    → Files → List ℕ → ℕ → Reply → Type 0
-AnswersRunOfFiles Says held files inputs =
-    AnswersRun Says (AreHeld held files) (AreNotHeld held files)
-    (HoldsInputs (held inputs)) (HoldsNoInputs (held inputs))
+abbrev pub AnswersRunOfFiles : (Setting → Given → Reply → Type 0) → Held → ℕ → Reply → Type 0
+AnswersRunOfFiles Says held =
+    AnswersRun Says (AreHeld held) (AreNotHeld held)
+    (AreInputsHeld held) (AreNoInputsHeld held)
 
--- the reply to a command, where files hold these bytes and so many reads failed
-abbrev pub AnswersCommand : (List ℕ → Option (List ℕ)) → Command → ℕ → Reply → Type 0
-AnswersCommand held (Bound files) = AnswersOnFiles SaysBound held files
-AnswersCommand held (Report files) = AnswersOnFiles SaysReport held files
-AnswersCommand held (Walk files) = AnswersOnFiles SaysWalk held files
-AnswersCommand held (Draw files) = AnswersOnFiles SaysPicture held files
-AnswersCommand held (Replay files inputs) =
-    AnswersRunOfFiles SaysVerdict held files inputs.now
-AnswersCommand held (Trace files inputs) = AnswersRunOfFiles SaysTrace held files inputs.now
+-- and why there is nothing to say
+abbrev pub IsFaultOfFiles : Held → Fault → Type 0
+IsFaultOfFiles held = IsFault (AreHeld held) (AreNotHeld held)
+
+abbrev pub IsRunFaultOfFiles : Held → Fault → Type 0
+IsRunFaultOfFiles held =
+    IsFaultWith (AreHeld held) (AreNotHeld held)
+    (AreInputsHeld held) (AreNoInputsHeld held)
+
+-- the reply to a command, where the files of its parts hold this and so many reads failed
+abbrev pub AnswersCommand : Held → Command → ℕ → Reply → Type 0
+AnswersCommand held (Bound files) = AnswersOnFiles SaysBound held
+AnswersCommand held (Report files) = AnswersOnFiles SaysReport held
+AnswersCommand held (Walk files) = AnswersOnFiles SaysWalk held
+AnswersCommand held (Draw files) = AnswersOnFiles SaysPicture held
+AnswersCommand held (Replay files inputs) = AnswersRunOfFiles SaysVerdict held
+AnswersCommand held (Trace files inputs) = AnswersRunOfFiles SaysTrace held

@@ -12,14 +12,13 @@ use Rattle.drum_tool.specs.Joined.{Joins}
 abbrev pub AreNames : List Text → Type 0
 AreNames words = list_all (λ word. not (begins_with_hyphen word)) words ≡ true
 
--- The bound of the deck, the timing table and the notes in the files of these names: some walk
+-- The bound of the deck, the timing table and the notes in files that hold these bytes: some walk
 -- takes this time and none takes more, and no run that keeps to the notes ever uses more.
-pub record IsBoundOfFiles (held : List ℕ → Option (List ℕ)) (deck times notes : Text) (bound : ℕ) :
-    Type 0 where
+pub record IsBoundOfFiles (deck times notes : Option (List ℕ)) (bound : ℕ) : Type 0 where
   pub documents : Documents
-  pub of_deck : HoldsDeck (held deck) documents.deck
-  pub of_times : HoldsTimes (held times) documents.times
-  pub of_notes : HoldsNotes (held notes) documents.notes
+  pub of_deck : HoldsDeck deck documents.deck
+  pub of_times : HoldsTimes times documents.times
+  pub of_notes : HoldsNotes notes documents.notes
   pub is_bound : IsBound documents bound
 
 -- the bound of a joined form

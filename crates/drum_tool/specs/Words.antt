@@ -9,7 +9,7 @@ use Rattle.drum_command.specs.Refusal.{FitsAmong}
 use Rattle.drum_lines.specs.declared.fault.Fault.TheVariants as fault
 use Rattle.drum_lines.specs.declared.status.Status.TheVariants as status
 use Rattle.drum_tool.specs.Asked.{Asked, AsksFor, files_of}
-use Rattle.drum_tool.specs.Files.{AreTold}
+use Rattle.drum_tool.specs.Files.{AreTold, FilesTold, Held}
 use Rattle.drum_tool.specs.Reply.{Reply, says, complains, fault_reply, AnswersCommand, AnswersJoined, LooksAsTold}
 
 -- the reply to words that name no command: help, or what is wrong with them
@@ -32,13 +32,12 @@ pub record AreOf (words : List Text) (command : Command) : Type 0 where
 -- The reply to words, where this is told of the input and of files, and so many reads of them
 -- failed: with no words that to the joined form, if its bytes are told; else that to the command
 -- that they are, if its files are told; else why they are refused.
-abbrev pub Answers : List Text → Option (List ℕ) → (List ℕ → Option (Option (List ℕ))) → ℕ → Reply
-    → Type 0
+abbrev pub Answers : List Text → Option (List ℕ) → FilesTold → ℕ → Reply → Type 0
 Answers [] input files failures reply =
     (bytes : List ℕ) → input ≡ Some bytes → AnswersJoined bytes failures reply
 Answers (word ∷ words) input files failures reply =
     ((command : Command) × AreOf (word ∷ words) command
-    × ((held : List ℕ → Option (List ℕ)) → AreTold files held (files_of command)
+    × ((held : Held) → AreTold files held (files_of command)
     → AnswersCommand held command failures reply))
     ⊎ ((refused : Refused) × AreRefused (word ∷ words) refused
     × (failures ≡ 0) × (reply ≡ refused_reply refused))

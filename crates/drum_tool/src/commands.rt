@@ -6,15 +6,15 @@ ghost use Rattle.drum_lines.specs.FaultStatus.{failed_by};
 ghost use Rattle.drum_tool.specs.Begun.{IsBegun};
 ghost use Rattle.drum_tool.specs.Documents.{IsBound, IsWorstWalk, setting_of};
 ghost use Rattle.drum_tool.specs.Asked.{AsksFor, Looks, LooksFor, all_named_in, fault_in, files_of, named_in};
-ghost use Rattle.drum_tool.specs.Files.{AreHeld, AreNotHeld, AreTold, HoldsInputs, HoldsNoInputs};
+ghost use Rattle.drum_tool.specs.Files.{AreHeld, AreInputsHeld, AreTold, Held};
 ghost use Rattle.drum_tool.specs.Output.{Tells, device};
 ghost use Rattle.drum_tool.specs.Replay.{Given};
 ghost use Rattle.drum_tool.specs.Reply.{
   AnswersCommand,
   AnswersOnFiles,
   AnswersRunOfFiles,
-  IsFault,
-  IsFaultWith,
+  IsFaultOfFiles,
+  IsRunFaultOfFiles,
   LooksAsTold,
   Reply,
   SaysPicture,
@@ -51,14 +51,14 @@ fn analysis<S: Source>(
     files: Files<'_>,
 ) -> Result<(Documents, Analysis), Fault>
     requires { S.failed source.old ≤ 2 ^ 61 }
-    ensures held { IfOk result (λ done. (held : List ℕ → Option (List ℕ))
-        → AreTold (S.file source.old) held (named_in files.entry) → AreHeld held files.entry done.0) }
+    ensures held { IfOk result (λ done. (held : Held)
+        → AreTold (S.files source.old) held (named_in files.entry) → AreHeld held done.0) }
     ensures bound { IfOk result (λ done. IsBound done.0 (bound_of done.1)) }
     ensures walk { IfOk result (λ done.
         IsWorstWalk done.0 (bound_of done.1) (angle_of done.1) (visits_of done.1)) }
-    ensures fault { IfErr result (λ fault. (held : List ℕ → Option (List ℕ))
-        → AreTold (S.file source.old) held (named_in files.entry)
-        → IsFault (AreHeld held files.entry) (AreNotHeld held files.entry) fault) }
+    ensures fault { IfErr result (λ fault. (held : Held)
+        → AreTold (S.files source.old) held (named_in files.entry)
+        → IsFaultOfFiles held fault) }
     ensures counted { S.failed source.new ≡ S.failed source.old + failed_by result }
     ensures asked { AsksFor (S.asked source.old) (S.asked source.new)
         (Looks (named_in files.entry) (fault_in result)) }
@@ -83,12 +83,12 @@ fn drawing(alloc: Global, documents: &Documents, analysis: &Analysis) -> Result<
 fn picture_of<S: Source>(alloc: Global, source: &mut S, files: Files<'_>) -> Result<String, Fault>
     requires { S.failed source.old ≤ 2 ^ 61 }
     ensures short { IfOk result (λ text. length (string_bytes text) ≤ 2 ^ 61) }
-    ensures picture { IfOk result (λ text. (held : List ℕ → Option (List ℕ))
-        → AreTold (S.file source.old) held (named_in files.entry)
-        → AnswersOnFiles SaysPicture held files.entry 0 (picture_reply (string_bytes text))) }
-    ensures fault { IfErr result (λ fault. (held : List ℕ → Option (List ℕ))
-        → AreTold (S.file source.old) held (named_in files.entry)
-        → IsFault (AreHeld held files.entry) (AreNotHeld held files.entry) fault) }
+    ensures picture { IfOk result (λ text. (held : Held)
+        → AreTold (S.files source.old) held (named_in files.entry)
+        → AnswersOnFiles SaysPicture held 0 (picture_reply (string_bytes text))) }
+    ensures fault { IfErr result (λ fault. (held : Held)
+        → AreTold (S.files source.old) held (named_in files.entry)
+        → IsFaultOfFiles held fault) }
     ensures counted { S.failed source.new ≡ S.failed source.old + failed_by result }
     ensures asked { AsksFor (S.asked source.old) (S.asked source.new)
         (Looks (named_in files.entry) (fault_in result)) }
@@ -105,13 +105,12 @@ fn documents_with_inputs<S: Source>(
     inputs: &str,
 ) -> Result<(Documents, Inputs), Fault>
     requires { S.failed source.old ≤ 2 ^ 61 }
-    ensures held { IfOk result (λ done. (held : List ℕ → Option (List ℕ))
-        → AreTold (S.file source.old) held (all_named_in files.entry inputs.entry.now)
-        → AreHeld held files.entry done.0 × HoldsInputs (held inputs.entry.now) done.1) }
-    ensures fault { IfErr result (λ fault. (held : List ℕ → Option (List ℕ))
-        → AreTold (S.file source.old) held (all_named_in files.entry inputs.entry.now)
-        → IsFaultWith (AreHeld held files.entry) (AreNotHeld held files.entry)
-        (HoldsInputs (held inputs.entry.now)) (HoldsNoInputs (held inputs.entry.now)) fault) }
+    ensures held { IfOk result (λ done. (held : Held)
+        → AreTold (S.files source.old) held (all_named_in files.entry inputs.entry.now)
+        → AreHeld held done.0 × AreInputsHeld held done.1) }
+    ensures fault { IfErr result (λ fault. (held : Held)
+        → AreTold (S.files source.old) held (all_named_in files.entry inputs.entry.now)
+        → IsRunFaultOfFiles held fault) }
     ensures counted { S.failed source.new ≡ S.failed source.old + failed_by result }
     ensures asked { AsksFor (S.asked source.old) (S.asked source.new)
         (LooksFor (all_named_in files.entry inputs.entry.now) result) }
@@ -129,14 +128,12 @@ fn verdict<S: Source>(
     inputs: &str,
 ) -> Result<Verdict, Fault>
     requires { S.failed source.old ≤ 2 ^ 61 }
-    ensures verdict { IfOk result (λ verdict. (held : List ℕ → Option (List ℕ))
-        → AreTold (S.file source.old) held (all_named_in files.entry inputs.entry.now)
-        → AnswersRunOfFiles SaysVerdict held files.entry inputs.entry.now 0
-        (verdict_reply verdict)) }
-    ensures fault { IfErr result (λ fault. (held : List ℕ → Option (List ℕ))
-        → AreTold (S.file source.old) held (all_named_in files.entry inputs.entry.now)
-        → IsFaultWith (AreHeld held files.entry) (AreNotHeld held files.entry)
-        (HoldsInputs (held inputs.entry.now)) (HoldsNoInputs (held inputs.entry.now)) fault) }
+    ensures verdict { IfOk result (λ verdict. (held : Held)
+        → AreTold (S.files source.old) held (all_named_in files.entry inputs.entry.now)
+        → AnswersRunOfFiles SaysVerdict held 0 (verdict_reply verdict)) }
+    ensures fault { IfErr result (λ fault. (held : Held)
+        → AreTold (S.files source.old) held (all_named_in files.entry inputs.entry.now)
+        → IsRunFaultOfFiles held fault) }
     ensures counted { S.failed source.new ≡ S.failed source.old + failed_by result }
     ensures asked { AsksFor (S.asked source.old) (S.asked source.new)
         (Looks (all_named_in files.entry inputs.entry.now) (fault_in result)) }
@@ -160,14 +157,13 @@ fn begun<S: Source>(
 ) -> Result<(Documents, Begun), Fault>
     requires { S.failed source.old ≤ 2 ^ 61 }
     ensures begun { IfOk result (λ done. (given : Given) × IsBegun (setting_of done.0) given done.1
-        × ((held : List ℕ → Option (List ℕ)) (reply : Reply)
-        → AreTold (S.file source.old) held (all_named_in files.entry inputs.entry.now)
+        × ((held : Held) (reply : Reply)
+        → AreTold (S.files source.old) held (all_named_in files.entry inputs.entry.now)
         → SaysTrace (setting_of done.0) given reply
-        → AnswersRunOfFiles SaysTrace held files.entry inputs.entry.now 0 reply)) }
-    ensures fault { IfErr result (λ fault. (held : List ℕ → Option (List ℕ))
-        → AreTold (S.file source.old) held (all_named_in files.entry inputs.entry.now)
-        → IsFaultWith (AreHeld held files.entry) (AreNotHeld held files.entry)
-        (HoldsInputs (held inputs.entry.now)) (HoldsNoInputs (held inputs.entry.now)) fault) }
+        → AnswersRunOfFiles SaysTrace held 0 reply)) }
+    ensures fault { IfErr result (λ fault. (held : Held)
+        → AreTold (S.files source.old) held (all_named_in files.entry inputs.entry.now)
+        → IsRunFaultOfFiles held fault) }
     ensures counted { S.failed source.new ≡ S.failed source.old + failed_by result }
     ensures asked { AsksFor (S.asked source.old) (S.asked source.new)
         (Looks (all_named_in files.entry inputs.entry.now) (fault_in result)) }
@@ -206,8 +202,8 @@ pub fn obey<S: Source, O: Output, E: Output>(
         (device (E.written err.new) (E.failed err.new)) result
         × ((failures : ℕ) → S.failed source.new ≡ S.failed source.old + failures
         → TellsOfReads failures reply
-        × ((held : List ℕ → Option (List ℕ))
-        → AreTold (S.file source.old) held (files_of command.entry)
+        × ((held : Held)
+        → AreTold (S.files source.old) held (files_of command.entry)
         → AnswersCommand held command.entry failures reply))
         × AsksFor (S.asked source.old) (S.asked source.new)
         (LooksAsTold (files_of command.entry) reply) }

@@ -22,7 +22,7 @@ impl Documents {
     /// # Errors
     ///
     /// [`Fault::Refused`] where the deck with its notes isn't accepted, or memory is wanting.
-    pub fn analyse(&self, alloc: Global) -> Result<Analysis, Fault>
+    pub(crate) fn analyse(&self, alloc: Global) -> Result<Analysis, Fault>
         ensures bound { IfOk result (λ analysis. IsBound self.now (bound_of analysis)) }
         ensures walk { IfOk result (λ analysis.
             IsWorstWalk self.now (bound_of analysis) (angle_of analysis) (visits_of analysis)) }
@@ -39,7 +39,7 @@ impl Documents {
     /// # Errors
     ///
     /// As [`Documents::analyse`].
-    pub fn bound(&self, alloc: Global) -> Result<u64, Fault>
+    pub(crate) fn bound(&self, alloc: Global) -> Result<u64, Fault>
         ensures bound { IfOk result (IsBound self.now) }
         ensures fault { IfErr result (IsAnalysisFault self.now) }
     {

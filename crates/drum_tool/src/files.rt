@@ -3,7 +3,7 @@
 ghost use Rattle.std.specs.Prelude.{◌≡◌, ◌+◌, ◌^◌, ◌≤◌, ◌↔◌, ℕ, List, Option, Some, IfOk, IfErr, IfSome, IsErrOf};
 ghost use Rattle.drum_lines.specs.FaultStatus.{failed_by};
 ghost use Rattle.drum_tool.specs.Asked.{AsksFor, IsLookedAt, IsOfText, IsRead, LooksFor, fault_in, most_of, named_in, reading};
-ghost use Rattle.drum_tool.specs.Files.{AreHeld, AreNotHeld, AreTold, Holds, HoldsDeck, HoldsInputs, HoldsNoDeck, HoldsNoInputs, HoldsNone, HoldsNoNotes, HoldsNotes, HoldsNoTimes, HoldsTimes};
+ghost use Rattle.drum_tool.specs.Files.{AreHeld, AreNotHeld, AreTold, Held, Holds, HoldsDeck, HoldsInputs, HoldsNoDeck, HoldsNoInputs, HoldsNone, HoldsNoNotes, HoldsNotes, HoldsNoTimes, HoldsTimes, behind};
 
 use crate::documents::Documents;
 use crate::source::Source;
@@ -31,8 +31,9 @@ fn bytes_of<I: Input>(alloc: Global, part: Part, text: &mut I) -> Result<Vec<u8>
     ensures asked { I.called text.new ≤ I.called text.old + 8388609 }
     ensures of { IsOfText part (fault_in result) }
     ensures all { I.called text.old ≡ 0 → I.failed text.old ≡ 0 → I.ended text.old ≡ 0
-        → I.given text.old ≡ 0 → IsRead 8388609 (fault_in result) (reading (I.called text.new)
-        (I.failed text.new) (I.ended text.new) (I.given text.new)) }
+        → I.given text.old ≡ 0 → I.idle text.old ≡ 0 → IsRead 8388609 (fault_in result)
+        (reading (I.called text.new) (I.failed text.new) (I.ended text.new) (I.given text.new)
+        (I.idle text.new)) }
 {
     match read_whole(alloc, text, BYTES) {
         Ok(bytes) => Ok(bytes),
@@ -50,12 +51,12 @@ fn read_part<S: Source>(
     name: &str,
 ) -> Result<Vec<u8>, Fault>
     requires few { S.failed source.old ≤ 2 ^ 62 }
-    ensures stays { S.file source.new ≡ S.file source.old }
+    ensures behind { S.files source.new ≡ behind (S.files source.old) }
     ensures counted { S.failed source.new ≡ S.failed source.old + failed_by result }
     ensures bytes { IfOk result (λ bytes. (file : Option (List ℕ))
-        → S.file source.old name.now ≡ Some file → Holds file bytes.items) }
+        → S.files source.old 0 name.now ≡ Some file → Holds file bytes.items) }
     ensures fault { IfErr result (λ fault. (file : Option (List ℕ))
-        → S.file source.old name.now ≡ Some file → HoldsNone part file fault) }
+        → S.files source.old 0 name.now ≡ Some file → HoldsNone part file fault) }
     ensures asked { most_of part ≡ 8388609 → AsksFor (S.asked source.old) (S.asked source.new)
         (IsLookedAt part name.now (fault_in result)) }
 {
@@ -70,12 +71,12 @@ fn read_part<S: Source>(
 /// The deck of a file.
 fn deck_of<S: Source>(alloc: Global, source: &mut S, name: &str) -> Result<Deck, Fault>
     requires few { S.failed source.old ≤ 2 ^ 62 }
-    ensures stays { S.file source.new ≡ S.file source.old }
+    ensures behind { S.files source.new ≡ behind (S.files source.old) }
     ensures counted { S.failed source.new ≡ S.failed source.old + failed_by result }
     ensures deck { IfOk result (λ deck. (file : Option (List ℕ))
-        → S.file source.old name.now ≡ Some file → HoldsDeck file deck) }
+        → S.files source.old 0 name.now ≡ Some file → HoldsDeck file deck) }
     ensures fault { IfErr result (λ fault. (file : Option (List ℕ))
-        → S.file source.old name.now ≡ Some file → HoldsNoDeck file fault) }
+        → S.files source.old 0 name.now ≡ Some file → HoldsNoDeck file fault) }
     ensures asked { AsksFor (S.asked source.old) (S.asked source.new)
         (IsLookedAt Part.Deck name.now (fault_in result)) }
 {
@@ -93,12 +94,12 @@ fn deck_of<S: Source>(alloc: Global, source: &mut S, name: &str) -> Result<Deck,
 /// The timing table of a file.
 fn times_of<S: Source>(alloc: Global, source: &mut S, name: &str) -> Result<Times, Fault>
     requires few { S.failed source.old ≤ 2 ^ 62 }
-    ensures stays { S.file source.new ≡ S.file source.old }
+    ensures behind { S.files source.new ≡ behind (S.files source.old) }
     ensures counted { S.failed source.new ≡ S.failed source.old + failed_by result }
     ensures times { IfOk result (λ times. (file : Option (List ℕ))
-        → S.file source.old name.now ≡ Some file → HoldsTimes file times) }
+        → S.files source.old 0 name.now ≡ Some file → HoldsTimes file times) }
     ensures fault { IfErr result (λ fault. (file : Option (List ℕ))
-        → S.file source.old name.now ≡ Some file → HoldsNoTimes file fault) }
+        → S.files source.old 0 name.now ≡ Some file → HoldsNoTimes file fault) }
     ensures asked { AsksFor (S.asked source.old) (S.asked source.new)
         (IsLookedAt Part.Times name.now (fault_in result)) }
 {
@@ -112,12 +113,12 @@ fn times_of<S: Source>(alloc: Global, source: &mut S, name: &str) -> Result<Time
 /// The notes of a file.
 fn notes_of<S: Source>(alloc: Global, source: &mut S, name: &str) -> Result<Notes, Fault>
     requires few { S.failed source.old ≤ 2 ^ 62 }
-    ensures stays { S.file source.new ≡ S.file source.old }
+    ensures behind { S.files source.new ≡ behind (S.files source.old) }
     ensures counted { S.failed source.new ≡ S.failed source.old + failed_by result }
     ensures notes { IfOk result (λ notes. (file : Option (List ℕ))
-        → S.file source.old name.now ≡ Some file → HoldsNotes file notes) }
+        → S.files source.old 0 name.now ≡ Some file → HoldsNotes file notes) }
     ensures fault { IfErr result (λ fault. (file : Option (List ℕ))
-        → S.file source.old name.now ≡ Some file → HoldsNoNotes file fault) }
+        → S.files source.old 0 name.now ≡ Some file → HoldsNoNotes file fault) }
     ensures asked { AsksFor (S.asked source.old) (S.asked source.new)
         (IsLookedAt Part.Notes name.now (fault_in result)) }
 {
@@ -136,12 +137,12 @@ fn notes_of<S: Source>(alloc: Global, source: &mut S, name: &str) -> Result<Note
 /// refused.
 pub fn inputs_of<S: Source>(alloc: Global, source: &mut S, name: &str) -> Result<Inputs, Fault>
     requires few { S.failed source.old ≤ 2 ^ 62 }
-    ensures stays { S.file source.new ≡ S.file source.old }
+    ensures behind { S.files source.new ≡ behind (S.files source.old) }
     ensures counted { S.failed source.new ≡ S.failed source.old + failed_by result }
     ensures inputs { IfOk result (λ inputs. (file : Option (List ℕ))
-        → S.file source.old name.now ≡ Some file → HoldsInputs file inputs) }
+        → S.files source.old 0 name.now ≡ Some file → HoldsInputs file inputs) }
     ensures fault { IfErr result (λ fault. (file : Option (List ℕ))
-        → S.file source.old name.now ≡ Some file → HoldsNoInputs file fault) }
+        → S.files source.old 0 name.now ≡ Some file → HoldsNoInputs file fault) }
     ensures asked { AsksFor (S.asked source.old) (S.asked source.new)
         (IsLookedAt Part.Inputs name.now (fault_in result)) }
 {
@@ -169,14 +170,13 @@ impl Documents {
         files: Files<'_>,
     ) -> Result<Documents, Fault>
         requires few { S.failed source.old ≤ 2 ^ 61 }
-        ensures stays { S.file source.new ≡ S.file source.old }
+        ensures behind { IfOk result (λ _.
+            S.files source.new ≡ behind (behind (behind (S.files source.old)))) }
         ensures counted { S.failed source.new ≡ S.failed source.old + failed_by result }
-        ensures held { IfOk result (λ documents. (held : List ℕ → Option (List ℕ))
-            → AreTold (S.file source.old) held (named_in files.entry)
-            → AreHeld held files.entry documents) }
-        ensures fault { IfErr result (λ fault. (held : List ℕ → Option (List ℕ))
-            → AreTold (S.file source.old) held (named_in files.entry)
-            → AreNotHeld held files.entry fault) }
+        ensures held { IfOk result (λ documents. (held : Held)
+            → AreTold (S.files source.old) held (named_in files.entry) → AreHeld held documents) }
+        ensures fault { IfErr result (λ fault. (held : Held)
+            → AreTold (S.files source.old) held (named_in files.entry) → AreNotHeld held fault) }
         ensures asked { AsksFor (S.asked source.old) (S.asked source.new)
             (LooksFor (named_in files.entry) result) }
     {

@@ -9,8 +9,10 @@ pub struct Held<'a> {
     rest: &'a [u8],
     calls: u64,
     ends: u64,
+    idle: u64,
     bytes: u128,
     ghost within: { ends ≤ calls },
+    ghost some_idle: { idle ≤ calls },
     ghost counted: { bytes ≤ calls * 2 ^ 64 },
 }
 
@@ -24,6 +26,7 @@ impl<'a> Held<'a> {
             rest: bytes,
             calls: 0,
             ends: 0,
+            idle: 0,
             bytes: 0,
         }
     }
@@ -40,12 +43,17 @@ impl Input for Held<'_> {
 
     ghost ended = { λ held. held.ends };
 
+    ghost idle = { λ held. held.idle };
+
     fn read(&mut self, buf: &mut [u8]) -> Result<usize, Failed> {
         self.calls += 1;
         match self.rest.read(buf) {
             Ok(count) => {
-                if count == 0 && !buf.is_empty() {
-                    self.ends += 1;
+                if count == 0 {
+                    self.idle += 1;
+                    if !buf.is_empty() {
+                        self.ends += 1;
+                    }
                 }
                 self.bytes += count as u128;
                 Ok(count)
@@ -64,6 +72,10 @@ impl Input for Held<'_> {
 
     fn ends(&self) -> u64 {
         self.ends
+    }
+
+    fn idle(&self) -> u64 {
+        self.idle
     }
 
     fn bytes(&self) -> u128 {

@@ -60,6 +60,7 @@ impl Documents {
             → ¬ IsErrOf result Fault.Memory → (I.ended input.new ≡ I.ended input.old + 1)
             ⊎ (I.given input.new ≡ I.given input.old + 16777217) }
         ensures ended { I.ended input.new ≤ I.ended input.old + 1 }
+        ensures idle { I.idle input.new ≤ I.idle input.old + 1 }
         ensures grows { I.failed input.old ≤ I.failed input.new }
         ensures full { I.given input.new ≡ I.given input.old + 16777217 → IsPastLimit result }
         ensures asked { I.called input.new ≤ I.called input.old + 16777217 }

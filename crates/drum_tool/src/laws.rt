@@ -7,11 +7,12 @@ ghost use Rattle.drum_command.specs.declared.refused.Refused.{Refused};
 ghost use Rattle.drum_machine.specs.Run.{Turn};
 ghost use Rattle.drum_flow.specs.Walk.{Setting};
 ghost use Rattle.drum_lines.specs.declared.fault.Fault.{Fault};
+ghost use Rattle.drum_lines.specs.declared.part.Part.TheVariants as part;
 ghost use Rattle.drum_lines.specs.declared.status.Status.TheVariants.{Done};
 ghost use Rattle.drum_lines.specs.declared.verdict.Verdict.{Verdict};
 ghost use Rattle.drum_lines.specs.FaultStatus.{status_after};
 ghost use Rattle.drum_tool.specs.Asked.{named};
-ghost use Rattle.drum_tool.specs.Files.{AreTold};
+ghost use Rattle.drum_tool.specs.Files.{AreTold, FilesTold, Held};
 ghost use Rattle.drum_tool.specs.Replay.{Given, IsReplayed, IsVerdict};
 ghost use Rattle.drum_tool.specs.Reply.{Reply, bound_reply, fault_reply};
 ghost use Rattle.drum_tool.specs.Told.{AreNames, IsBoundOfFiles, IsBoundOfJoined};
@@ -39,12 +40,12 @@ pub fn one_verdict()
 /// With the names of three files, `bound` is answered by the line of their bound, the worst of what
 /// they hold, or by a fault's.
 pub fn bound_is_of_the_files()
-    ensures { (deck times notes : Text) (input : Option (List ℕ))
-        (files : List ℕ → Option (Option (List ℕ))) (failures : ℕ) (reply : Reply)
-        (held : List ℕ → Option (List ℕ)) → AreNames (deck ∷ times ∷ notes ∷ [])
+    ensures { (deck times notes : Text) (input : Option (List ℕ)) (files : FilesTold)
+        (failures : ℕ) (reply : Reply) (held : Held) → AreNames (deck ∷ times ∷ notes ∷ [])
         → AreTold files held (named deck times notes)
         → Answers (codes "bound" ∷ deck ∷ times ∷ notes ∷ []) input files failures reply
-        → ((bound : ℕ) × IsBoundOfFiles held deck times notes bound × (reply ≡ bound_reply bound))
+        → ((bound : ℕ) × IsBoundOfFiles (held part.Deck) (held part.Times) (held part.Notes) bound
+        × (reply ≡ bound_reply bound))
         ⊎ ((fault : Fault) × (reply ≡ fault_reply fault)) }
 {
     each_line_is_taken();
@@ -54,15 +55,15 @@ pub fn bound_is_of_the_files()
 /// by help, by what is wrong with them, or by want of memory.
 pub fn faulty_words_are_refused()
     ensures { (words : List Text) (input : Option (List ℕ))
-        (files : List ℕ → Option (Option (List ℕ))) (failures : ℕ) (reply : Reply) → words ≢ []
+        (files : FilesTold) (failures : ℕ) (reply : Reply) → words ≢ []
         → fault_of drum650 words ≢ [] → Answers words input files failures reply
         → (refused : Refused) × AreRefused words refused × (reply ≡ refused_reply refused) }
 {}
 
 /// With no words, the reply is the line of the bound of the joined form, or a fault's.
 pub fn bound_is_of_the_input()
-    ensures { (bytes : List ℕ) (files : List ℕ → Option (Option (List ℕ))) (failures : ℕ)
-        (reply : Reply) → Answers [] (Some bytes) files failures reply
+    ensures { (bytes : List ℕ) (files : FilesTold) (failures : ℕ) (reply : Reply)
+        → Answers [] (Some bytes) files failures reply
         → ((bound : ℕ) × IsBoundOfJoined bytes bound × (reply ≡ bound_reply bound))
         ⊎ ((fault : Fault) × (reply ≡ fault_reply fault)) }
 {}

@@ -1,8 +1,6 @@
 //! The replay of a run, up to its verdict.
 
-ghost use Rattle.std.specs.Prelude.{◌≡◌, ℕ, List, IfErr, IfOk, option_map};
-ghost use Rattle.drum_core.specs.Loads.{loads_in, start_in};
-ghost use Rattle.drum_flow.specs.Accepted.{IsAccepted};
+ghost use Rattle.std.specs.Prelude.{◌≡◌, IfErr, IfOk, option_map};
 ghost use Rattle.drum_bound.specs.AnalysisOf.{setting};
 ghost use Rattle.drum_tool.specs.Begun.{IsBegun, left_before};
 ghost use Rattle.drum_tool.specs.Given.{given};
@@ -56,8 +54,6 @@ pub fn begin(
     inputs: Inputs,
 ) -> Result<Begun, Fault>
     ensures begun { IfOk result (IsBegun (setting deck.now times.now notes.now) (given inputs)) }
-    ensures accepted { IfOk result (λ _. (executed : List ℕ)
-        × IsAccepted (loads_in deck.now) notes.now (start_in deck.now) executed) }
     ensures refused { IfErr result
         (IsReplayFault (setting deck.now times.now notes.now) (given inputs)) }
 {
@@ -104,8 +100,6 @@ pub fn replay(
 ) -> Result<Verdict, Fault>
     ensures verdict { IfOk result
         (IsReplay (setting deck.now times.now notes.now) (given inputs)) }
-    ensures accepted { IfOk result (λ _. (executed : List ℕ)
-        × IsAccepted (loads_in deck.now) notes.now (start_in deck.now) executed) }
     ensures refused { IfErr result
         (IsReplayFault (setting deck.now times.now notes.now) (given inputs)) }
 {

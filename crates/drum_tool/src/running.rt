@@ -31,6 +31,7 @@ fn joined_bound<I: Input>(alloc: Global, input: &mut I) -> Result<u64, Fault>
         → ¬ IsErrOf result Fault.Memory → (I.ended input.new ≡ I.ended input.old + 1)
         ⊎ (I.given input.new ≡ I.given input.old + 16777217) }
     ensures ended { I.ended input.new ≤ I.ended input.old + 1 }
+    ensures idle { I.idle input.new ≤ I.idle input.old + 1 }
     ensures grows { I.failed input.old ≤ I.failed input.new }
     ensures full { I.given input.new ≡ I.given input.old + 16777217 → IsPastLimit result }
     ensures asked { I.called input.new ≤ I.called input.old + 16777217 }
@@ -45,8 +46,8 @@ fn joined_bound<I: Input>(alloc: Global, input: &mut I) -> Result<u64, Fault>
 /// Reads the joined form, a deck, a timing table and notes, and writes the deck's bound to `out`,
 /// or the line of its first fault to `err`.
 ///
-/// The whole input is read first, 16,777,217 bytes at most, and each read but the last gives some:
-/// an end that is met isn't asked for again. A failed write of the bound ends with
+/// The whole input is read first, 16,777,217 bytes at most, and one read at most gives none: an end
+/// that is met isn't asked for again. A failed write of the bound ends with
 /// [`Status::Failed`] and no fault line; a failed write to `err` changes nothing.
 pub fn run_joined<I: Input, O: Output, E: Output>(
     alloc: Global,
@@ -69,6 +70,7 @@ pub fn run_joined<I: Input, O: Output, E: Output>(
         × ReadsAll reply (I.ended input.old) (I.ended input.new)
         (I.given input.old) (I.given input.new) }
     ensures ended { I.ended input.new ≤ I.ended input.old + 1 }
+    ensures idle { I.idle input.new ≤ I.idle input.old + 1 }
     ensures counted { I.failed input.old ≤ I.failed input.new }
     ensures full { I.given input.new ≡ I.given input.old + 16777217 → result ≡ Status.Failed }
     ensures asked { I.called input.new ≤ I.called input.old + 16777217 }
@@ -124,11 +126,12 @@ pub fn run<'a, S: Source, I: Input, O: Output, E: Output>(
         × ((failures : ℕ) → I.failed input.new + S.failed source.new
         ≡ I.failed input.old + S.failed source.old + failures
         → TellsOfReads failures reply
-        × Answers (texts words.entry.now) (I.left input.old) (S.file source.old) failures reply)
+        × Answers (texts words.entry.now) (I.left input.old) (S.files source.old) failures reply)
         × Asks (texts words.entry.now) (S.asked source.old) (S.asked source.new) reply
         × (length words.entry.now ≡ 0 → ReadsAll reply (I.ended input.old) (I.ended input.new)
         (I.given input.old) (I.given input.new)) }
     ensures ended { I.ended input.new ≤ I.ended input.old + 1 }
+    ensures idle { I.idle input.new ≤ I.idle input.old + 1 }
     ensures counted { I.failed input.old ≤ I.failed input.new }
     ensures files { S.failed source.old ≤ S.failed source.new }
     ensures full { I.given input.new ≡ I.given input.old + 16777217 → result ≡ Status.Failed }

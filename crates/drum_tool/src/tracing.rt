@@ -9,14 +9,14 @@ ghost use Rattle.drum_listing.specs.TraceText.{turn_lines};
 ghost use Rattle.drum_tool.specs.Begun.{IsBegun, IsReady};
 ghost use Rattle.drum_tool.specs.Documents.{IsBounded, setting_of};
 ghost use Rattle.drum_tool.specs.Following.{
-  AreOfRun,
+  AreUnderWay,
   CanBegin,
   IsFollowed,
   IsFollowing,
   state_of,
   waits_of,
 };
-ghost use Rattle.drum_tool.specs.Replay.{Given, IsReplayed, IsTraced};
+ghost use Rattle.drum_tool.specs.Replay.{Given, IsTraced, IsTracedInPart};
 
 use crate::documents::Documents;
 use crate::following::Following;
@@ -48,7 +48,7 @@ fn send_steps<O: Output>(
         × MatchResult result
         (IsFollowed (setting deck.now times.now notes.now) (state_of following)
         (waits_of following) bound turns)
-        (λ _. AreOfRun (setting deck.now times.now notes.now) (state_of following)
+        (λ _. AreUnderWay (setting deck.now times.now notes.now) (state_of following)
         (waits_of following) turns)
         × IsWritten (O.written out.old) (O.written out.new) result
         (turn_lines (entry_in times.now) 1 turns) }
@@ -83,7 +83,7 @@ pub fn trace<O: Output>(
     ensures written { (given : Given) → IsBegun (setting_of documents.now) given begun
         → (turns : List Turn)
         × MatchResult result (IsTraced (setting_of documents.now) given turns)
-        (λ _. IsReplayed (setting_of documents.now) given turns)
+        (λ _. IsTracedInPart (setting_of documents.now) given turns)
         × IsWritten (O.written out.old) (O.written out.new) result
         (turn_lines (entry_in documents.now.times) 1 turns) }
     ensures failures { O.failed out.new ≡ O.failed out.old + fails_by result }

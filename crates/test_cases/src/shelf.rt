@@ -95,7 +95,7 @@ impl<'a> Shelf<'a> {
 impl<'a> Source for Shelf<'a> {
     type Text = Reading<Text<'a>>;
 
-    ghost file = { λ _ _. None };
+    ghost files = { λ _ _ _. None };
 
     ghost failed = { λ shelf. shelf.failures };
 

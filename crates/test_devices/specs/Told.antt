@@ -15,4 +15,5 @@ text_of (file ∷ files) name =
 -- what it was asked
 abbrev pub asked_of : Event → Asked
 asked_of (Sought name) = sought (string_bytes name)
-asked_of (Returned calls failures ends bytes) = returned (reading calls failures ends bytes)
+asked_of (Returned calls failures ends bytes idle) =
+    returned (reading calls failures ends bytes idle)

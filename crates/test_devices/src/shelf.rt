@@ -38,7 +38,7 @@ impl<'a> Shelf<'a> {
 impl<'a> Source for Shelf<'a> {
     type Text = Reading<Tap<'a>>;
 
-    ghost file = { λ _ _. None };
+    ghost files = { λ _ _ _. None };
 
     ghost failed = { λ shelf. shelf.failures };
 

@@ -20,11 +20,11 @@ pub struct File<'a> {
 }
 
 /// What was asked: a file, by its name; or to take a text back, with how often it was read, how
-/// many of these reads failed and met the end, and how many bytes they gave.
+/// many of these reads failed and met the end, how many bytes they gave, and how many gave none.
 #[derive(Debug, Drop)]
 pub enum Event {
     Sought(String),
-    Returned(u64, u64, u64, u128),
+    Returned(u64, u64, u64, u128, u64),
 }
 
 /// Files in memory.
@@ -84,7 +84,7 @@ impl<'a> Told<'a> {
 impl<'a> Source for Told<'a> {
     type Text = Reading<&'a [u8]>;
 
-    ghost file = { λ told name. Some (text_of told.files.now name) };
+    ghost files = { λ told _ name. Some (text_of told.files.now name) };
 
     ghost failed = { λ told. told.failures };
 
@@ -104,7 +104,8 @@ impl<'a> Source for Told<'a> {
     }
 
     fn close(&mut self, text: Reading<&'a [u8]>) {
-        self.note(Event::Returned(text.calls(), text.failures(), text.ends(), text.bytes()));
+        let counts = (text.calls(), text.failures(), text.ends());
+        self.note(Event::Returned(counts.0, counts.1, counts.2, text.bytes(), text.idle()));
         self.failures += text.failures();
     }
 }
@@ -125,7 +126,8 @@ pub fn bound_of_files<O: Output, E: Output>(
     requires out { O.called out.old ≤ 2 ^ 62 }
     requires err { E.called err.old ≤ 2 ^ 62 }
     ensures printed { result ≡ Status.Done → (bound : ℕ)
-        × IsBoundOfFiles (text_of files.now) deck.now times.now notes.now bound
+        × IsBoundOfFiles (text_of files.now deck.now) (text_of files.now times.now)
+        (text_of files.now notes.now) bound
         × Appends (O.written out.old) (O.written out.new) (bound_text bound)
         × (O.failed out.new ≡ O.failed out.old) }
 {

@@ -1,35 +1,34 @@
-use Rattle.std.proofs.Common.{ℕ, List, [], ◌∷◌, Option, inl, inr, ap, ◌∙◌}
+use Rattle.std.proofs.Common.{[], ◌∷◌, inl, inr, ap, ◌∙◌}
 use Rattle.std.proofs.lemmas.Result.{err_from_is_err_and}
 use Rattle.drum_lines.specs.declared.part.Part.TheVariants as part
 use Rattle.drum_tool.specs.Asked.{in_file, named_in}
+use Rattle.drum_tool.specs.Files.{FilesTold}
 use Rattle.drum_tool.proofs.Asking.{all_well, earlier_faulty, first_told, last_faulty}
 use Rattle.drum_tool.proofs.commands.documents_with_inputs.Goals as goal
 
 pub returns-in_err-documents-clause-fault : goal.returns-in_err-documents-clause-fault
 returns-in_err-documents-clause-fault g c =
     let p = err_from_is_err_and c.from_residual.result c.from_residual.ensures.1 in
-    rw (p.1, p.2) (λ held told. inl (c.in_err-documents.ensures.fault held (first_told (g.S.Source.file c.args.source.now) held (named_in c.args.files)
+    rw (p.1, p.2) (λ held told. inl (c.in_err-documents.ensures.fault held (first_told (g.S.Source.files c.args.source.now) held (named_in c.args.files)
     (in_file part.Inputs c.args.inputs.now ∷ []) told)))
 
 pub returns-in_err-inputs-clause-fault : goal.returns-in_err-inputs-clause-fault
 returns-in_err-inputs-clause-fault g c =
     let p = err_from_is_err_and c.from_residual-in_err-inputs.result c.from_residual-in_err-inputs.ensures.1 in
-    let file =
-    λ (name : List ℕ). ap (λ (f : List ℕ → Option (Option (List ℕ))). f name) c.in_ok-documents.ensures.stays in
+    let inputs = ap (λ (files : FilesTold). files 0 c.args.inputs.now) c.in_ok-documents.ensures.behind in
     rw (p.1, p.2) (λ held told. inr (
       c.in_ok-documents.documents,
-      c.in_ok-documents.ensures.held held (first_told (g.S.Source.file c.args.source.now) held (named_in c.args.files)
+      c.in_ok-documents.ensures.held held (first_told (g.S.Source.files c.args.source.now) held (named_in c.args.files)
           (in_file part.Inputs c.args.inputs.now ∷ []) told),
-      inl (c.in_err-inputs.ensures.fault (held c.args.inputs.now) (file c.args.inputs.now ∙ told.1.1.1.0)),
+      inl (c.in_err-inputs.ensures.fault (held part.Inputs) (inputs ∙ told.1.1.1.0)),
     ))
 
 pub returns-clause-held : goal.returns-clause-held
 returns-clause-held g c held told =
-    let file =
-    λ (name : List ℕ). ap (λ (f : List ℕ → Option (Option (List ℕ))). f name) c.in_ok-documents.ensures.stays in (
-      c.in_ok-documents.ensures.held held (first_told (g.S.Source.file c.args.source.now) held (named_in c.args.files)
+    let inputs = ap (λ (files : FilesTold). files 0 c.args.inputs.now) c.in_ok-documents.ensures.behind in (
+      c.in_ok-documents.ensures.held held (first_told (g.S.Source.files c.args.source.now) held (named_in c.args.files)
           (in_file part.Inputs c.args.inputs.now ∷ []) told),
-      c.in_ok-inputs.ensures.inputs (held c.args.inputs.now) (file c.args.inputs.now ∙ told.1.1.1.0),
+      c.in_ok-inputs.ensures.inputs (held part.Inputs) (inputs ∙ told.1.1.1.0),
     )
 
 pub returns-in_err-documents-clause-asked : goal.returns-in_err-documents-clause-asked

@@ -21,7 +21,7 @@ returns-in-Ok-clause-told g c =
       reply,
       (c.tell_bound.ensures, refl),
       (λ failures count.
-          counted (Replied (g.S.Source.file c.args.source.now) c.args.command reply) _ _ failures 0 c.in-Ok.ensures.counted count
+          counted (Replied (g.S.Source.files c.args.source.now) c.args.command reply) _ _ failures 0 c.in-Ok.ensures.counted count
           (result_of_no_read _ _, rw c.in-Bound.is (λ held told. inl (documents, c.in-Ok.ensures.held held told, refl, (c.bound.result, is, refl))))),
       rw c.in-Bound.is (told_well (named_in c.in-Bound.files) (g.S.Source.asked c.args.source.now)
           (g.S.Source.asked c.analysis.new.source) reply (no_line _ _) c.in-Ok.ensures.asked),
@@ -33,7 +33,7 @@ returns-in-Bound-clause-told g c =
       fault_reply fault,
       (refl, c.complain.ensures.line, c.complain.ensures.status),
       (λ failures count.
-          counted (Replied (g.S.Source.file c.args.source.now) c.args.command (fault_reply fault)) _ _ failures
+          counted (Replied (g.S.Source.files c.args.source.now) c.args.command (fault_reply fault)) _ _ failures
           (reads_failed fault) c.in-Err.ensures.counted count
           (fault_of_reads fault, rw c.in-Bound.is (λ held told. inr (fault, c.in-Err.ensures.fault held told, refl, refl)))),
       rw c.in-Bound.is (told_fault (named_in c.in-Bound.files) (g.S.Source.asked c.args.source.now)
@@ -48,7 +48,7 @@ returns-in-Ok-analysis-clause-told g c =
       reply,
       (c.tell_report.ensures, refl),
       (λ failures count.
-          counted (Replied (g.S.Source.file c.args.source.now) c.args.command reply) _ _ failures 0
+          counted (Replied (g.S.Source.files c.args.source.now) c.args.command reply) _ _ failures 0
           c.in-Ok-analysis.ensures.counted count (
             result_of_no_read _ _,
             rw c.in-Report.is (λ held told. inl (
@@ -75,7 +75,7 @@ returns-in-Report-clause-told g c =
       fault_reply fault,
       (refl, c.complain-in-Err-analysis.ensures.line, c.complain-in-Err-analysis.ensures.status),
       (λ failures count.
-          counted (Replied (g.S.Source.file c.args.source.now) c.args.command (fault_reply fault)) _ _ failures
+          counted (Replied (g.S.Source.files c.args.source.now) c.args.command (fault_reply fault)) _ _ failures
           (reads_failed fault) c.in-Err-analysis.ensures.counted count
           (fault_of_reads fault, rw c.in-Report.is (λ held told. inr (fault, c.in-Err-analysis.ensures.fault held told, refl, refl)))),
       rw c.in-Report.is (told_fault (named_in c.in-Report.files) (g.S.Source.asked c.args.source.now)
@@ -90,7 +90,7 @@ returns-in-Ok-analysis-2-clause-told g c =
       reply,
       (c.tell_walk.ensures, refl),
       (λ failures count.
-          counted (Replied (g.S.Source.file c.args.source.now) c.args.command reply) _ _ failures 0
+          counted (Replied (g.S.Source.files c.args.source.now) c.args.command reply) _ _ failures 0
           c.in-Ok-analysis-2.ensures.counted count (
             result_of_no_read _ _,
             rw c.in-Walk.is (λ held told. inl (
@@ -117,7 +117,7 @@ returns-in-Walk-clause-told g c =
       fault_reply fault,
       (refl, c.complain-in-Err-analysis-2.ensures.line, c.complain-in-Err-analysis-2.ensures.status),
       (λ failures count.
-          counted (Replied (g.S.Source.file c.args.source.now) c.args.command (fault_reply fault)) _ _ failures
+          counted (Replied (g.S.Source.files c.args.source.now) c.args.command (fault_reply fault)) _ _ failures
           (reads_failed fault) c.in-Err-analysis-2.ensures.counted count
           (fault_of_reads fault, rw c.in-Walk.is (λ held told. inr (fault, c.in-Err-analysis-2.ensures.fault held told, refl, refl)))),
       rw c.in-Walk.is (told_fault (named_in c.in-Walk.files) (g.S.Source.asked c.args.source.now)
@@ -135,7 +135,7 @@ returns-in-Ok-picture_of-clause-told g c =
       reply,
       (gets, refl),
       (λ failures count.
-          counted (Replied (g.S.Source.file c.args.source.now) c.args.command reply) _ _ failures 0
+          counted (Replied (g.S.Source.files c.args.source.now) c.args.command reply) _ _ failures 0
           c.in-Ok-picture_of.ensures.counted count
           (result_of_no_read _ _, rw c.in-Draw.is (λ held told. c.in-Ok-picture_of.ensures.picture held told))),
       rw c.in-Draw.is (told_well (named_in c.in-Draw.files) (g.S.Source.asked c.args.source.now)
@@ -148,7 +148,7 @@ returns-in-Draw-clause-told g c =
       fault_reply fault,
       (refl, c.complain-in-Err-picture_of.ensures.line, c.complain-in-Err-picture_of.ensures.status),
       (λ failures count.
-          counted (Replied (g.S.Source.file c.args.source.now) c.args.command (fault_reply fault)) _ _ failures
+          counted (Replied (g.S.Source.files c.args.source.now) c.args.command (fault_reply fault)) _ _ failures
           (reads_failed fault) c.in-Err-picture_of.ensures.counted count
           (fault_of_reads fault, rw c.in-Draw.is (λ held told. inr (fault, c.in-Err-picture_of.ensures.fault held told, refl, refl)))),
       rw c.in-Draw.is (told_fault (named_in c.in-Draw.files) (g.S.Source.asked c.args.source.now)
@@ -161,7 +161,7 @@ returns-in-Ok-verdict-clause-told g c =
       reply,
       (c.tell_verdict.ensures, refl),
       (λ failures count.
-          counted (Replied (g.S.Source.file c.args.source.now) c.args.command reply) _ _ failures 0 c.in-Ok-verdict.ensures.counted
+          counted (Replied (g.S.Source.files c.args.source.now) c.args.command reply) _ _ failures 0 c.in-Ok-verdict.ensures.counted
           count
           (result_of_no_read _ _, rw c.in-Replay.is (λ held told. c.in-Ok-verdict.ensures.verdict held told))),
       rw c.in-Replay.is (told_well (all_named_in c.in-Replay.files c.in-Replay.inputs.now) (g.S.Source.asked c.args.source.now)
@@ -174,7 +174,7 @@ returns-in-Replay-clause-told g c =
       fault_reply fault,
       (refl, c.complain-in-Err-verdict.ensures.line, c.complain-in-Err-verdict.ensures.status),
       (λ failures count.
-          counted (Replied (g.S.Source.file c.args.source.now) c.args.command (fault_reply fault)) _ _ failures
+          counted (Replied (g.S.Source.files c.args.source.now) c.args.command (fault_reply fault)) _ _ failures
           (reads_failed fault) c.in-Err-verdict.ensures.counted count
           (fault_of_reads fault, rw c.in-Replay.is (λ held told. inr (fault, c.in-Err-verdict.ensures.fault held told, refl, refl)))),
       rw c.in-Replay.is (told_fault (all_named_in c.in-Replay.files c.in-Replay.inputs.now) (g.S.Source.asked c.args.source.now)
@@ -188,7 +188,7 @@ returns-in-Ok-begun-clause-told g c =
       told_so.0,
       told_so.2 (device (g.E.Output.written c.args.err.now) (g.E.Output.failed c.args.err.now)),
       (λ failures count.
-          counted (Replied (g.S.Source.file c.args.source.now) c.args.command told_so.0) _ _ failures 0
+          counted (Replied (g.S.Source.files c.args.source.now) c.args.command told_so.0) _ _ failures 0
           c.in-Ok-begun.ensures.counted count
           (trace_of_no_read _ _ told_so.0 told_so.1, rw c.in-Trace.is (λ held told. begun.2 held told_so.0 told told_so.1))),
       rw c.in-Trace.is (told_well (all_named_in c.in-Trace.files c.in-Trace.inputs.now) (g.S.Source.asked c.args.source.now)
@@ -201,7 +201,7 @@ returns-clause-told g c =
       fault_reply fault,
       (refl, c.complain-in-Err-begun.ensures.line, c.complain-in-Err-begun.ensures.status),
       (λ failures count.
-          counted (Replied (g.S.Source.file c.args.source.now) c.args.command (fault_reply fault)) _ _ failures
+          counted (Replied (g.S.Source.files c.args.source.now) c.args.command (fault_reply fault)) _ _ failures
           (reads_failed fault) c.in-Err-begun.ensures.counted count
           (fault_of_reads fault, rw c.in-Trace.is (λ held told. inr (fault, c.in-Err-begun.ensures.fault held told, refl, refl)))),
       rw c.in-Trace.is (told_fault (all_named_in c.in-Trace.files c.in-Trace.inputs.now) (g.S.Source.asked c.args.source.now)

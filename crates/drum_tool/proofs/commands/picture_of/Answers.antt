@@ -16,7 +16,12 @@ returns-in_err-documents-clause-fault g c =
 pub returns-clause-picture : goal.returns-clause-picture
 returns-clause-picture g c =
     ok_map _ _ c.drawing.result c.drawing.ensures.short (λ text short held told.
-    inl (c.in_ok-documents.documents, c.in_ok-documents.ensures.held held told, refl, (string_bytes text, refl)))
+    inl (
+      c.in_ok-documents.documents,
+      c.in_ok-documents.ensures.held held told,
+      refl,
+      (c.in_ok-documents.ensures.bound.accepted, string_bytes text, refl),
+    ))
 
 pub returns-clause-fault : goal.returns-clause-fault
 returns-clause-fault g c =

@@ -40,7 +40,10 @@ returns-clause-begun c =
             (c.new-monitor.ensures.seen (loads_in c.args.deck.now))
             (silent none) c.in-Ok-new.ensures.runs refl;
       };
-      own_words = sym c.loaded_by.ensures ∙ c.in_default.is;
+      has = record {
+        own_words = sym c.loaded_by.ensures ∙ c.in_default.is;
+        accepted = (c.in-Ok.ensures.accepted.0, c.in-Ok.ensures.accepted.1);
+      };
       worst = subst (λ (bound : ℕ). IsWorst g bound) (sym c.bound.ensures.told) c.in-Ok.ensures.worst;
       are = record { set_up = set_up; reader = refl; feed = refl };
       before =

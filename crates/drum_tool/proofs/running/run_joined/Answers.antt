@@ -22,7 +22,10 @@ returns-in-Ok-clause-told g c =
             (λ bytes left. subst (λ (n : ℕ). AnswersJoined bytes n reply) none
                 (known _ (λ (bytes : List ℕ). AnswersJoined bytes 0 reply) bytes left c.in-Ok.ensures.bound)),
           )),
-      (λ not_read not_memory. c.in-Ok.ensures.whole (λ is. cc) (λ is. cc)),
+      (
+        (λ not_read not_memory. c.in-Ok.ensures.whole (λ is. cc) (λ is. cc)),
+        (λ given. absurd (elim (c.in-Ok.ensures.full given) [ inl is ↦ cc | inr is ↦ cc ])),
+      ),
     )
 
 pub returns-in-Err-clause-told : goal.returns-in-Err-clause-told
@@ -37,9 +40,15 @@ returns-in-Err-clause-told g c =
                 (known _ (λ (bytes : List ℕ). AnswersJoined bytes (reads_failed fault) (fault_reply fault)) bytes left
                 c.in-Err.ensures.fault)),
           )),
-      (λ not_read not_memory. c.in-Err.ensures.whole
-          (λ is. let same : fault ≡ faults.Part part.Input what.Read = cc in not_read (ap fault_reply same))
-          (λ is. let same : fault ≡ faults.Memory = cc in not_memory (ap fault_reply same))),
+      (
+        (λ not_read not_memory. c.in-Err.ensures.whole
+            (λ is. let same : fault ≡ faults.Part part.Input what.Read = cc in not_read (ap fault_reply same))
+            (λ is. let same : fault ≡ faults.Memory = cc in not_memory (ap fault_reply same))),
+        (λ given. elim (c.in-Err.ensures.full given) [
+          | inl is ↦ let same : fault ≡ faults.Part part.Input what.TooLong = cc in inl (ap fault_reply same)
+          | inr is ↦ let same : fault ≡ faults.Memory = cc in inr (ap fault_reply same)
+        ]),
+      ),
     )
 
 pub returns-in-Ok-clause-full : goal.returns-in-Ok-clause-full

@@ -1,4 +1,4 @@
-use Rattle.std.proofs.Common.{◌≡◌, ℕ, ◌+◌, List, [], ◌∷◌, ◌++◌, length, sym, subst, ◌∙◌, arith, Option, Result, Ok, Err}
+use Rattle.std.proofs.Common.{◌≡◌, ℕ, ◌+◌, List, [], ◌∷◌, ◌++◌, length, refl, sym, subst, ◌∙◌, arith, Option, Result, Ok, Err}
 use Rattle.std.specs.Prelude.{MatchOption}
 use Rattle.std.proofs.lemmas.Result.{err_from_is_err_and}
 use Rattle.drum_core.specs.declared.op.Op.{Op}
@@ -11,6 +11,7 @@ use Rattle.drum_lines.specs.Sent.{IsSent}
 use Rattle.drum_lines.proofs.Sending.{IsSent-then, written_cut, written_whole}
 use Rattle.drum_listing.specs.TraceText.{turn_line, turn_lines}
 use Rattle.drum_tool.specs.Following.{IsFollowed, IsFollowing, state_of, turn_of, waits_of}
+use Rattle.drum_tool.proofs.Followed.{as_declared}
 use Rattle.drum_tool.proofs.Traced.{lead_start, lines_more}
 use Rattle.drum_tool.proofs.tracing.send_steps.Goals as goal
 
@@ -47,8 +48,18 @@ returns-in_err-sent-clause-written g c =
     (c.in_err-sent.ensures.sent turn (c.advance-step.ensures.told so_far.goes) start (sym c.used-before.ensures)) in
     rw (p.1, p.2) (
       turns ++ turn ∷ [],
-      c.advance-step.ensures.of_run (state_of c.args.following) (waits_of c.args.following) turns c.requires.begins
-          c.requires.bounded so_far,
+      (
+        turns,
+        turn,
+        refl,
+        λ given are. record {
+          declared = as_declared all (state_of c.args.following) (waits_of c.args.following) c.args.bound
+              c.requires.begins c.requires.bounded given are;
+          replayed = c.advance-step.ensures.of_run (state_of c.args.following) (waits_of c.args.following) turns
+              c.requires.begins c.requires.bounded so_far given are;
+          kept = so_far.seen.kept;
+        },
+      ),
       written_cut (g.O.Output.written c.args.out.now) (g.O.Output.written c.send_step.new.writer) fault
           (turn_lines all.times 1 (turns ++ turn ∷ [])) gone,
     )

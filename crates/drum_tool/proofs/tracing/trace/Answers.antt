@@ -18,6 +18,12 @@ returns-in-None-clause-written g c given is =
       either_map c.send_steps.result written.1
           (λ verdict followed. traced_followed (setting_of c.args.documents.now) given c.args.begun is written.0 verdict
           followed)
-          (λ fault of_run. of_run given is.are),
+          (λ fault under_way. record {
+            has = is.has;
+            before = under_way.0;
+            last = under_way.1;
+            all = under_way.2;
+            under_way = under_way.3 given is.are;
+          }),
       written.2,
     )

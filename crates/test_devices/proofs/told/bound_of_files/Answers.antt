@@ -4,7 +4,17 @@ use Rattle.drum_tool.specs.Output.{Tells, device}
 use Rattle.drum_tool.specs.Reply.{Reply, bound_reply, fault_reply}
 use Rattle.test_devices.specs.Told.{text_of}
 use Rattle.test_devices.specs.declared.told.File.{File}
+use Rattle.drum_lines.specs.declared.part.Part.{Part}
+use Rattle.drum_lines.specs.declared.part.Part.TheVariants as part
+use Rattle.drum_tool.specs.Files.{Held}
 use Rattle.test_devices.proofs.told.bound_of_files.Goals as goal
+
+-- what the files of these names hold
+abbrev held_by : List File → List ℕ → List ℕ → List ℕ → Held
+held_by files deck times notes part.Deck = text_of files deck
+held_by files deck times notes part.Times = text_of files times
+held_by files deck times notes part.Notes = text_of files notes
+held_by files deck times notes _ = None
 
 pub returns : goal.returns
 returns g c = record {
@@ -12,15 +22,15 @@ returns g c = record {
       let told = c.run.ensures.told in
       let failures = c.run.new.input.failures + c.run.new.source.failures in
       let so = told.2 failures (omega (arith, c.new-input.ensures.failures, c.of-source.ensures.failures)) in
-      let held = text_of c.args.files.now in
-      let file = λ (name : List ℕ). Some (text_of c.of-source.result.files.now name) in
+      let held = held_by c.args.files.now c.args.deck.now c.args.times.now c.args.notes.now in
+      let told_of = λ (sought : ℕ) (name : List ℕ). Some (text_of c.of-source.result.files.now name) in
       let same = λ (name : List ℕ). ap (λ (files : List File). Some (text_of files name)) c.of-source.ensures.files in
       let out = device (g.O.Output.written c.args.out.now) (g.O.Output.failed c.args.out.now) in
       let out' = device (g.O.Output.written c.run.new.out) (g.O.Output.failed c.run.new.out) in
       let err = device (g.E.Output.written c.args.err.now) (g.E.Output.failed c.args.err.now) in
       let err' = device (g.E.Output.written c.run.new.err) (g.E.Output.failed c.run.new.err) in
       let tells = λ (reply : Reply). Tells reply out out' err err' c.run.result in
-      elim (c.bound_is_of_the_files.ensures c.args.deck.now c.args.times.now c.args.notes.now None file failures told.0 held
+      elim (c.bound_is_of_the_files.ensures c.args.deck.now c.args.times.now c.args.notes.now None told_of failures told.0 held
       c.requires.names (same c.args.deck.now, (same c.args.times.now, (same c.args.notes.now, tt))) so.1) [
         | inl (bound, is, line) ↦
             let gets = subst tells line told.1 in

@@ -1,7 +1,8 @@
-use Rattle.std.proofs.Common.{ℕ, List, [], ◌∷◌, Option, inl, inr, ap, ◌∙◌}
+use Rattle.std.proofs.Common.{[], ◌∷◌, inl, inr, ap, ◌∙◌}
 use Rattle.std.proofs.lemmas.Result.{err_from_is_err_and}
 use Rattle.drum_lines.specs.declared.part.Part.TheVariants as part
 use Rattle.drum_tool.specs.Asked.{in_file}
+use Rattle.drum_tool.specs.Files.{FilesTold}
 use Rattle.drum_tool.proofs.Asking.{looked_faulty, looked_first, looked_last, looked_well}
 use Rattle.drum_tool.proofs.documents.Documents.of_files.Goals as goal
 
@@ -9,35 +10,32 @@ pub returns-in_err-deck-clause-fault : goal.returns-in_err-deck-clause-fault
 returns-in_err-deck-clause-fault g c =
     let p = err_from_is_err_and c.from_residual.result c.from_residual.ensures.1 in
     rw (p.1, p.2) (λ held told. inl
-    (c.in_err-deck.ensures.fault (held c.args.files.deck.now) told.0))
+    (c.in_err-deck.ensures.fault (held part.Deck) told.0))
 
 pub returns-in_err-times-clause-fault : goal.returns-in_err-times-clause-fault
 returns-in_err-times-clause-fault g c =
     let p = err_from_is_err_and c.from_residual-in_err-times.result c.from_residual-in_err-times.ensures.1 in
-    let file = λ (name : List ℕ). ap (λ (f : List ℕ → Option (Option (List ℕ))). f name) c.in_ok-deck.ensures.stays in
+    let times = ap (λ (files : FilesTold). files 0 c.args.files.times.now) c.in_ok-deck.ensures.behind in
     rw (p.1, p.2) (λ held told. inr (
       c.in_ok-deck.deck,
-      c.in_ok-deck.ensures.deck (held c.args.files.deck.now) told.0,
-      inl (c.in_err-times.ensures.fault (held c.args.files.times.now)
-          (file c.args.files.times.now ∙ told.1.0)),
+      c.in_ok-deck.ensures.deck (held part.Deck) told.0,
+      inl (c.in_err-times.ensures.fault (held part.Times) (times ∙ told.1.0)),
     ))
 
 pub returns-in_err-notes-clause-fault : goal.returns-in_err-notes-clause-fault
 returns-in_err-notes-clause-fault g c =
     let p = err_from_is_err_and c.from_residual-in_err-notes.result c.from_residual-in_err-notes.ensures.1 in
-    let file = λ (name : List ℕ). ap (λ (f : List ℕ → Option (Option (List ℕ))). f name) c.in_ok-deck.ensures.stays in
-    let file' =
-    λ (name : List ℕ). ap (λ (f : List ℕ → Option (Option (List ℕ))). f name) c.in_ok-times.ensures.stays
-    ∙ file name in
+    let times = ap (λ (files : FilesTold). files 0 c.args.files.times.now) c.in_ok-deck.ensures.behind in
+    let notes =
+    ap (λ (files : FilesTold). files 0 c.args.files.notes.now) c.in_ok-times.ensures.behind
+    ∙ ap (λ (files : FilesTold). files 1 c.args.files.notes.now) c.in_ok-deck.ensures.behind in
     rw (p.1, p.2) (λ held told. inr (
       c.in_ok-deck.deck,
-      c.in_ok-deck.ensures.deck (held c.args.files.deck.now) told.0,
+      c.in_ok-deck.ensures.deck (held part.Deck) told.0,
       inr (
         c.in_ok-times.times,
-        c.in_ok-times.ensures.times (held c.args.files.times.now)
-            (file c.args.files.times.now ∙ told.1.0),
-        c.in_err-notes.ensures.fault (held c.args.files.notes.now)
-            (file' c.args.files.notes.now ∙ told.1.1.0),
+        c.in_ok-times.ensures.times (held part.Times) (times ∙ told.1.0),
+        c.in_err-notes.ensures.fault (held part.Notes) (notes ∙ told.1.1.0),
       ),
     ))
 
