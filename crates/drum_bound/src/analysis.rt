@@ -63,7 +63,7 @@ impl Analysis {
     }
 
     /// The table of worst times: one entry for each location and counts of the marks that some walk
-    /// arrives at. The start's comes first, the others as they were first led to.
+    /// arrives at, in no order that is promised.
     pub fn table(&self) -> &[Worst]
         ensures { map row_in result.now ≡ rows_of self.now }
     {
