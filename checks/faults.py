@@ -2,11 +2,11 @@
 checks/damaged-inputs holds the program's to it, by checks/judge.py."""
 
 import re
-import tomllib
 from collections import namedtuple
 
 from damage import FILES
 from results import NUMBER, PLACE
+from toml_text import document_of
 
 # A fault's line, taken apart: what it is of, what stands behind its words, and that itself.
 Fault = namedtuple("Fault", "about ending rest")
@@ -172,9 +172,8 @@ def integers_of(value):
 
 def is_document(text):
     """Whether a text is a TOML document, with no number past 64 bits."""
-    try:
-        document = tomllib.loads(text.decode())
-    except (UnicodeDecodeError, tomllib.TOMLDecodeError):
+    document = document_of(text)
+    if document is None:
         return False
     return all(-(2**63) <= number < 2**63 for number in integers_of(document))
 

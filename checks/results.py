@@ -4,10 +4,10 @@ gives what the result tells, or None where it isn't as docs/FORMATS.md says."""
 
 import functools
 import re
-import tomllib
 import xml.etree.ElementTree as xml
 
 from model import WAITS_FOR_DATA, at_parity, found
+from toml_text import document_of
 
 NUMBER = "(0|[1-9][0-9]*)"
 PLACE = "([01][0-9]{3}|800[0-3])"
@@ -39,7 +39,7 @@ COUNTING = (14, 19, 64)
 @functools.lru_cache(maxsize=64)
 def entries_of(times):
     """The entries of a timing table, by their operations."""
-    return {int(op): entry for op, entry in tomllib.loads(times.decode())["op"].items()}
+    return {int(op): entry for op, entry in document_of(times)["op"].items()}
 
 
 def start_of(deck):
@@ -95,7 +95,7 @@ def is_spent(visits, time):
 def reported_bound(text, files):
     """The bound that ends a report, to which its times add up."""
     *lines, last = text.splitlines(keepends=True) or [""]
-    marks = tomllib.loads(files["notes"].decode()).get("mark", [])
+    marks = document_of(files["notes"]).get("mark", [])
     numbers = [number for number, _, _ in cards_of(files["deck"])]
     if len(lines) != len(numbers) + 1 + len(marks):
         return None
@@ -135,7 +135,7 @@ def report_of_walk(walk, files):
         passes[place, onto] = passes.get((place, onto), 0) + 1
     lines.append("other")
     text = ["%s visits %d time %d" % (line, *tally) for line, tally in zip(lines, spent)]
-    for mark in tomllib.loads(files["notes"].decode()).get("mark", []):
+    for mark in document_of(files["notes"]).get("mark", []):
         edge = mark["from"], mark["to"]
         text.append("mark %04d %04d passed %d of %d" % (*edge, passes.get(edge, 0), mark["most"]))
     return "\n".join(text + walk.splitlines()[-1:]) + "\n"
@@ -188,7 +188,7 @@ def instruction_of(word):
 
 
 def lists_of(files):
-    lists = tomllib.loads(files["notes"].decode()).get("list", [])
+    lists = document_of(files["notes"]).get("list", [])
     return {one["location"]: one["pattern"] for one in lists}
 
 
