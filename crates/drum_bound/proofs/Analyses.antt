@@ -8,6 +8,7 @@ use Rattle.drum_core.specs.declared.deck.Deck.{Deck}
 use Rattle.drum_core.specs.declared.deck.Given.{Given}
 use Rattle.drum_core.specs.declared.word.Word.{Word}
 use Rattle.drum_core.specs.Loads.{found_in, loads_in}
+use Rattle.std.specs.Map.{values_of}
 use Rattle.std.specs.Option.{option_map}
 use Rattle.drum_times.specs.declared.times.Times.{Times}
 use Rattle.drum_times.specs.Allowed.{Notes, AreSound}
@@ -20,15 +21,18 @@ use Rattle.drum_bound.specs.declared.cells.Cells.{Cells}
 use Rattle.drum_bound.specs.declared.keys.Keys.{Keys}
 use Rattle.drum_bound.specs.declared.latest.Latest.{Latest}
 use Rattle.drum_bound.specs.declared.scan.Scan.{Scan}
+use Rattle.drum_bound.specs.declared.worst.Worst.{Worst}
 use Rattle.drum_bound.specs.AnalysisOf.{IsAnalysis, ArePasses, setting, bound_of, counts_in_all, passed_of, rows_of}
 use Rattle.drum_bound.specs.AnalysisOf.{turns_of, visits_of, words_of}
 use Rattle.drum_bound.proofs.EntriesRaised.{are_raised}
 use Rattle.drum_bound.proofs.EntryEnds.{ends_of, are_ends, as_many_ends}
+use Rattle.drum_bound.specs.Kept.{pairs_of}
 use Rattle.drum_bound.specs.Keys.{keys_of, IsOrdered}
 use Rattle.drum_bound.specs.KeysOf.{setting_of}
-use Rattle.drum_bound.specs.RowOf.{row_in, rows_below}
-use Rattle.drum_bound.proofs.Rows.{is_table, turns_of_rows}
-use Rattle.drum_bound.proofs.RowsHeld.{few_entries, held_raised, held_sum, held_table}
+use Rattle.drum_bound.specs.RowOf.{row_in}
+use Rattle.drum_bound.proofs.Rows.{AreRowsOf, is_table}
+use Rattle.drum_bound.proofs.RowSums.{rows_sum}
+use Rattle.drum_bound.proofs.RowsHeld.{held_rows}
 use Rattle.drum_bound.proofs.ShortWalks.{short_walk}
 use Rattle.drum_bound.specs.ScanOf.{AreCells, IsDone, setting_in}
 use Rattle.drum_bound.specs.Scanned.{Scanned, turns_below}
@@ -57,7 +61,7 @@ pub record IsFound (keys : Keys) (times : Times) (cells : Cells) (visits : List 
   pub scanned : Scanned (setting_of keys.accepted.now times) (in_order keys.accepted.now)
       (keys_of (setting_of keys.accepted.now times).notes.marks (in_order keys.accepted.now))
       (keys_of (setting_of keys.accepted.now times).notes.marks (in_order keys.accepted.now)) (kept_in cells) cells.last
-  pub turns : cells.made.count
+  pub turns : cells.made
       ≡ turns_below (setting_of keys.accepted.now times) (in_order keys.accepted.now) (kept_in cells)
       (keys_of (setting_of keys.accepted.now times).notes.marks (in_order keys.accepted.now))
   pub walk : IsWalkOf (setting_of keys.accepted.now times) (start_angle (setting_of keys.accepted.now times).start)
@@ -78,7 +82,7 @@ is_found keys times scan visits same_keys same_times done walk =
 -- the latest end of all is no earlier than the start
 pub last_after : (g : Setting) (order : List ℕ) (cells : Cells) → AreCells g order cells
     → Scanned g order (keys_of g.notes.marks order) (keys_of g.notes.marks order) (kept_in cells) cells.last
-    → cells.angle ≤ cells.last.clock
+    → cells.entries.angle ≤ cells.last.clock
 last_after g order cells are s =
     omega (arith, are.angle, s.begins.after, s.below s.begins.key s.begins.kept s.begins.there)
 
@@ -88,7 +92,7 @@ pub is_analysis : (g : Setting) (order : List ℕ) (analysis : Analysis) → IsO
     → AreCells g order analysis.cells
     → Scanned g order (keys_of g.notes.marks order) (keys_of g.notes.marks order) (kept_in analysis.cells)
     analysis.cells.last
-    → analysis.cells.made.count ≡ turns_below g order (kept_in analysis.cells) (keys_of g.notes.marks order)
+    → analysis.cells.made ≡ turns_below g order (kept_in analysis.cells) (keys_of g.notes.marks order)
     → IsWalkOf g (start_angle g.start) (analysis.cells.last.clock - start_angle g.start) (visits_of analysis)
     → ArePasses g.notes.marks (visits_of analysis) (passed_of analysis)
     → IsAnalysis g (length order) analysis
@@ -97,17 +101,15 @@ is_analysis g order analysis ordered starts are s made walk passed =
     let last : Latest = cells.last in
     let size : ℕ = keys_of g.notes.marks order in
     let rows : List Row = rows_of analysis in
-    let below : List Row = rows_below g order (kept_in cells) size in
     let turns_in : List Row → ℕ = λ some. sum (map (λ (row : Row). length (hops g.loads g.notes row.place)) some) in
     let product : words_of analysis * counts_in_all analysis ≡ length order * counts_of g.notes.marks =
     ap (λ (words : ℕ). words * counts_in_all analysis) are.words
     ∙ ap (λ (counts : ℕ). length order * counts) are.counts in
     let bound : bound_of analysis ≡ last.clock - start_angle g.start = ap (λ (n : ℕ). last.clock - n) are.angle in
-    let known : IsTable g below = is_table g order (kept_in cells) last ordered starts s in
-    let table : IsTable g rows = held_table g order cells ordered are known in
+    let of : AreRowsOf g order (kept_in cells) size rows = held_rows g order cells ordered are in
+    let table : IsTable g rows = is_table g order (kept_in cells) last ordered starts s rows of in
     let turns : turns_of analysis ≡ turns_in rows =
-    made ∙ sym (turns_of_rows g order (kept_in cells) size)
-    ∙ held_sum g order cells ordered are (λ (row : Row). length (hops g.loads g.notes row.place)) known.apart in
+    made ∙ sym (rows_sum g order (kept_in cells) ordered.different size rows (omega arith) of) in
     record {
       worst = subst (IsWorst g) (sym bound) (is_worst g order (kept_in cells) last ordered starts s);
       walk = subst (λ (angle : ℕ). IsWalkOf g angle (bound_of analysis) (visits_of analysis)) (sym are.angle)
@@ -115,10 +117,10 @@ is_analysis g order analysis ordered starts are s made walk passed =
       table = table;
       few = omega (
         arith,
-        product,
-        few_entries g order cells ordered are,
-        length-map cells.entries.items row_in,
-        mul_comm (length order) (counts_of g.notes.marks),
+        cells.limit,
+        mul_comm cells.counts cells.words,
+        length-map (values_of (pairs_of cells.entries)) row_in,
+        length-map (pairs_of cells.entries) (λ (pair : ℕ × Worst). pair.1),
       );
       short = λ angle hops walk.
           omega (
@@ -134,7 +136,7 @@ is_analysis g order analysis ordered starts are s made walk passed =
       ends = (
         ends_of g rows,
         are_ends g rows table.apart,
-        held_raised g order cells ordered are (are_raised g order (kept_in cells) last ordered starts s),
+        are_raised g order (kept_in cells) last ordered starts s rows of,
         turns ∙ sym (as_many_ends g rows),
       );
       passed = passed;

@@ -16,8 +16,8 @@ use Rattle.drum_bound.proofs.EntryEnds.{latest_end, end_of, ends_of, IsEndIn, en
 use Rattle.drum_bound.specs.Keys.{keys_of, place_at, counts_at, IsKey, IsOrdered}
 use Rattle.drum_bound.proofs.KeyLaws.{counts_within, one_key}
 use Rattle.drum_bound.specs.Longest.{longest}
-use Rattle.drum_bound.specs.RowOf.{row_of, rows_below}
-use Rattle.drum_bound.proofs.Rows.{IsRowOf, row_from, has_row, one_row, one_kept, is_inside}
+use Rattle.drum_bound.specs.RowOf.{row_of}
+use Rattle.drum_bound.proofs.Rows.{AreRowsOf, IsRowOf, one_row, one_kept, is_inside}
 use Rattle.drum_bound.specs.Scanned.{cell_at, end_from, IsBackedBy, Arrives, IsTakenBy, Scanned}
 use Rattle.drum_bound.specs.Table.{start_angle, number_of, Row}
 use Rattle.drum_bound.proofs.Walked.{not_before}
@@ -43,7 +43,8 @@ IsNoLater g row next =
 
 module _ (g : Setting) (order : List ℕ) (cells : List (Option Latest)) (last : Latest)
     (ordered : IsOrdered g.loads g.notes g.start order) (starts : g.start < 2000)
-    (s : Scanned g order (keys_of g.notes.marks order) (keys_of g.notes.marks order) cells last) where
+    (s : Scanned g order (keys_of g.notes.marks order) (keys_of g.notes.marks order) cells last) (rows : List Row)
+    (are : AreRowsOf g order cells (keys_of g.notes.marks order) rows) where
   -- a key of the start with no mark passed is the one that the scan begins at
   is_start : (key : ℕ) → IsKey g.notes.marks order key g.start (no_counts g.notes.marks) → key ≡ s.begins.key
   is_start key is = one_key g.notes.marks order g.start (no_counts g.notes.marks) key s.begins.key ordered.different is
@@ -96,11 +97,10 @@ module _ (g : Setting) (order : List ℕ) (cells : List (Option Latest)) (last :
       ∙ ap (λ (n : ℕ). row g.start ((g.start + 1) % 50) 0 n) time
 
   -- so the start's row is there
-  has_start : Contains (rows_below g order cells (keys_of g.notes.marks order)) (start_row g)
+  has_start : Contains rows (start_row g)
   has_start =
-      subst (Contains (rows_below g order cells (keys_of g.notes.marks order)))
-      (as_start s.begins.key s.begins.kept s.begins.is start_now)
-      (has_row g order cells (keys_of g.notes.marks order) s.begins.key s.begins.kept s.begins.is.below s.begins.there)
+      subst (Contains rows) (as_start s.begins.key s.begins.kept s.begins.is start_now)
+      (are.has s.begins.key s.begins.kept s.begins.is.below s.begins.there)
 
   -- the latest end of a hop from what is kept at a key, as word times used
   ends_from : (key : ℕ) (kept : Latest) (hop : Hop) → cell_at cells key ≡ Some kept
@@ -114,11 +114,11 @@ module _ (g : Setting) (order : List ℕ) (cells : List (Option Latest)) (last :
 
   -- a key's row is the start's, or raised by an end that leads to it
   row_raised : (key : ℕ) (kept : Latest) → cell_at cells key ≡ Some kept
-      → IsRaised g (rows_below g order cells (keys_of g.notes.marks order)) (row_of g order key kept)
+      → IsRaised g rows (row_of g order key kept)
   row_raised key kept there = go kept.origin (s.backed key kept there)
     where
       go : (origin : Option KeyHop) → IsBackedBy g order (keys_of g.notes.marks order) cells key kept.clock origin
-          → IsRaised g (rows_below g order cells (keys_of g.notes.marks order)) (row_of g order key kept)
+          → IsRaised g rows (row_of g order key kept)
       go None is = inl (as_start key kept is.0 is.1)
       go (Some origin) is =
           let marks : List Mark = g.notes.marks in
@@ -137,8 +137,7 @@ module _ (g : Setting) (order : List ℕ) (cells : List (Option Latest)) (last :
           } in
           inr (
             end_of g row origin.number hop,
-            has_in g (rows_below g order cells (keys_of marks order)) row origin.number hop
-                (has_row g order cells (keys_of marks order) from is.0.kept is.0.below is.0.there) is.0.is,
+            has_in g rows row origin.number hop (are.has from is.0.kept is.0.below is.0.there) is.0.is,
             leads,
             ap (λ (clock : ℕ). clock - start_angle g.start) is.0.end ∙ ends_from from is.0.kept hop is.0.there,
           )
@@ -189,8 +188,8 @@ module _ (g : Setting) (order : List ℕ) (cells : List (Option Latest)) (last :
 
   -- so with all rows
   raised_row : (row : Row) → IsRowOf g order cells (keys_of g.notes.marks order) row
-      → IsRaised g (rows_below g order cells (keys_of g.notes.marks order)) row
-  raised_row row of = subst (IsRaised g (rows_below g order cells (keys_of g.notes.marks order))) of.is
+      → IsRaised g rows row
+  raised_row row of = subst (IsRaised g rows) of.is
       (row_raised of.key of.kept of.there)
 
   no_later_row : (row next : Row) → IsRowOf g order cells (keys_of g.notes.marks order) row
@@ -202,19 +201,12 @@ module _ (g : Setting) (order : List ℕ) (cells : List (Option Latest)) (last :
       (row_no_later from.key from.kept of.key of.kept from.there of.there))
 
   -- The rows of the keys are raised by the ends of their hops.
-  pub are_raised : AreRaised g (rows_below g order cells (keys_of g.notes.marks order))
-      (ends_of g (rows_below g order cells (keys_of g.notes.marks order)))
-  are_raised =
-      let size : ℕ = keys_of g.notes.marks order in
-      let rows : List Row = rows_below g order cells size in
-      record {
-        start = has_start;
-        raised = λ row has. raised_row row (row_from g order cells size row has);
-        most = λ row end has made leads.
-            let one : IsEndIn g rows end = end_in g rows end made in
-            let none_later : IsNoLater g one.row row =
-            no_later_row one.row row (row_from g order cells size one.row one.there)
-            (row_from g order cells size row has) in
-            subst (λ (e : HopEnd). LeadsTo g e row → e.ended ≤ row.time) one.same (none_later one.number one.hop one.of)
-            leads;
-      }
+  pub are_raised : AreRaised g rows (ends_of g rows)
+  are_raised = record {
+    start = has_start;
+    raised = λ row has. raised_row row (are.from row has);
+    most = λ row end has made leads.
+        let one : IsEndIn g rows end = end_in g rows end made in
+        let none_later : IsNoLater g one.row row = no_later_row one.row row (are.from one.row one.there) (are.from row has) in
+        subst (λ (e : HopEnd). LeadsTo g e row → e.ended ≤ row.time) one.same (none_later one.number one.hop one.of) leads;
+  }

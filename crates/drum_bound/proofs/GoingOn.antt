@@ -53,11 +53,3 @@ module _ (g : Setting) (order : List ℕ) (ordered : IsOrdered g.loads g.notes g
       subst (λ (all : List (Option Latest)). Taking g order key clock left all last') (sym onto.3)
       (subst (λ (l : Latest). Taking g order key clock left (raised cells onto.0 new) l) (sym onto.4)
       (take_on g order key clock origin hop new onto.0 left cells last comes leads taking))
-
--- what goes on from cells goes on from those that are the same
-pub goes_as : (g : Setting) (order : List ℕ) (from next : ℕ) (new : Latest) (a b : List (Option Latest)) (x y : Latest)
-    (cells' : List (Option Latest)) (last' : Latest)
-    → a ≡ b → x ≡ y → Goes g order from next new a x cells' last' → Goes g order from next new b y cells' last'
-goes_as g order from next new a b x y cells' last' cells last goes =
-    subst (λ (l : Latest). Goes g order from next new b l cells' last') last
-    (subst (λ (all : List (Option Latest)). Goes g order from next new all x cells' last') cells goes)

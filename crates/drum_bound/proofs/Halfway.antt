@@ -1,7 +1,8 @@
 -- How a key is taken hop by hop.
-use Rattle.std.proofs.Common.{◌≡◌, ℕ, zero, suc, ◌+◌, ◌/◌, ◌%◌, ◌<◌, ◌≤◌, ◌-◌, List, [], ◌∷◌, length, drop, refl, ap}
+use Rattle.std.proofs.Common.{◌≡◌, ℕ, suc, ◌+◌, ◌/◌, ◌%◌, ◌<◌, ◌≤◌, ◌-◌, List, [], ◌∷◌, length, drop, refl, ap}
 use Rattle.std.proofs.Common.{sym, ◌∙◌, subst, Some, arith}
 use Rattle.std.specs.Prelude.{slice_get}
+use Rattle.std.proofs.lemmas.Option.{slice_get_within}
 use Rattle.drum_core.specs.Kind.{kind_of}
 use Rattle.drum_core.specs.Recurs.{within_span}
 use Rattle.drum_core.specs.Span.{kind_span-≤}
@@ -15,37 +16,20 @@ use Rattle.drum_bound.specs.declared.scan.Scan.{Scan}
 use Rattle.drum_bound.specs.declared.search.Search.{Search}
 use Rattle.drum_bound.specs.Held.{kept_in}
 use Rattle.drum_bound.specs.Keys.{place_at}
-use Rattle.drum_bound.specs.KeyHops.{IsLater, KeepsAt}
 use Rattle.drum_bound.specs.LeapOf.{IsLeap, leap_hop}
 use Rattle.drum_bound.specs.RoundOf.{IsRound}
 use Rattle.drum_bound.specs.Scanned.{Taking}
 use Rattle.drum_bound.specs.ScanOf.{setting_in, order_of, AreCells, IsScanned, IsAgreed, IsReady}
-use Rattle.drum_bound.specs.SearchOf.{IsSearch}
+use Rattle.drum_bound.specs.SearchOf.{IsSearch, KeepsAt}
 use Rattle.drum_bound.proofs.KeysTaken.{hops_at, opened, early_clock, few_turns, closed}
-use Rattle.drum_bound.proofs.LaterHops.{later_key, later_hop}
+use Rattle.drum_bound.proofs.Lists.{drop_at, drop_past}
 
 -- So many hops of a key have been taken, from a scan on in which none had.
 pub record IsHalfway (b : Scan) (key clock number : ℕ) (cells : Cells) : Type 0 where
   pub are : AreCells (setting_in b) (order_of b) cells
   pub taking : Taking (setting_in b) (order_of b) key clock (drop number (hops_at b key)) (kept_in cells) cells.last
-  pub turns : cells.made.count ≡ b.cells.made.count + number
+  pub turns : cells.made ≡ b.cells.made + number
   pub agreed : IsAgreed key (kept_in b.cells) (kept_in cells)
-  pub later : IsLater cells.made.last (record { key = key; number = number })
-
--- what is left of a list from one of its members on
-drop_at : {X : Type 0} (n : ℕ) (xs : List X) (x : X) → slice_get xs n ≡ Some x → drop n xs ≡ x ∷ drop (suc n) xs
-drop_at n [] x at = absurd (cc)
-drop_at zero (y ∷ xs) x at =
-    let same : y ≡ x = cc in
-    ap (λ (z : _). z ∷ xs) same
-drop_at (suc n) (y ∷ xs) x at = drop_at n xs x at
-
--- and past its end
-pub drop_past : {X : Type 0} (n : ℕ) (xs : List X) → length xs ≤ n → drop n xs ≡ []
-drop_past zero [] past = refl
-drop_past (suc n) [] past = refl
-drop_past zero (x ∷ xs) past = absurd (omega (arith, past))
-drop_past (suc n) (x ∷ xs) past = drop_past n xs (omega (arith, past))
 
 -- none has been taken
 pub half_none : (b : Scan) (key clock : ℕ) → IsScanned b key → KeepsAt (kept_in b.cells) key clock
@@ -56,19 +40,17 @@ half_none b key clock is kept = record {
       kept.2 (opened b key kept.0 (hops_at b key) is kept.1 refl);
   turns = omega arith;
   agreed = λ other below. refl;
-  later = later_key b.cells.made.last key 0 is.before;
 }
 
 -- one more has
 pub half_more : (b s : Scan) (key clock number : ℕ) (hop : Hop) (cells : Cells) → s ≡ record b { cells = s.cells }
     → IsHalfway b key clock number s.cells
     → slice_get (hops_at b key) number ≡ Some hop → AreCells (setting_in s) (order_of s) cells
-    → cells.made.count ≡ s.cells.made.count + 1
-    → cells.made.last ≡ Some (record { key = key; number = number }) → IsAgreed key (kept_in s.cells) (kept_in cells)
+    → cells.made ≡ s.cells.made + 1 → IsAgreed key (kept_in s.cells) (kept_in cells)
     → ((left : List Hop) → Taking (setting_in s) (order_of s) key clock (hop ∷ left) (kept_in s.cells) s.cells.last
     → Taking (setting_in s) (order_of s) key clock left (kept_in cells) cells.last)
     → IsHalfway b key clock (number + 1) cells
-half_more b s key clock number hop cells same half at are count last agreed taken =
+half_more b s key clock number hop cells same half at are count agreed taken =
     let next : suc number ≡ number + 1 = omega arith in
     let g : setting_in s ≡ setting_in b = ap setting_in same in
     let order : order_of s ≡ order_of b = ap order_of same in
@@ -87,7 +69,6 @@ half_more b s key clock number hop cells same half at are count last agreed take
           (drop_at number (hops_at b key) hop at) half.taking));
       turns = omega (arith, count, half.turns);
       agreed = λ other below. agreed other below ∙ half.agreed other below;
-      later = later_hop cells.made.last key number last;
     }
 
 -- all have
@@ -96,11 +77,30 @@ pub half_all : (b : Scan) (key clock number : ℕ) (cells : Cells) → IsScanned
     → number ≡ length (hops_at b key) → IsScanned (record b { cells = cells }) (key + 1)
 half_all b key clock number cells is kept half all =
     let none : drop number (hops_at b key) ≡ [] = drop_past number (hops_at b key) (omega (arith, all)) in
-    closed b cells key number kept.0 is kept.1 half.are
+    closed b cells key kept.0 is kept.1 half.are
     (subst (λ (c : ℕ). Taking (setting_in b) (order_of b) key c [] (kept_in cells) cells.last) (sym kept.2)
     (subst (λ (left : List Hop). Taking (setting_in b) (order_of b) key clock left (kept_in cells) cells.last) none
     half.taking))
-    (omega (arith, half.turns, all)) half.agreed half.later
+    (omega (arith, half.turns, all)) half.agreed
+
+-- few ends have been made
+half_few : (b : Scan) (key clock number : ℕ) (cells : Cells) → IsScanned b key → key < b.keys.now.size
+    → IsHalfway b key clock number cells → number ≤ length (hops_at b key) → cells.made < 4611686018427387904
+half_few b key clock number cells is below half within =
+    few_turns b key cells.made (length (hops_at b key) - number) is below (omega (arith, half.turns, within))
+
+-- the instruction is found soon
+found_soon : (b : Scan) (search : Search) → IsScanned b search.key → search.key < b.keys.now.size
+    → IsSearch (order_of b) (kept_in b.cells) search → search.found ≤ 4611686018427387904
+found_soon b search is below sought =
+    omega (
+      arith,
+      sought.found,
+      within_span (available_recurs search.location.number) search.begun,
+      kind_span-≤ (kind_of search.location.number),
+      sought.begun.2,
+      early_clock b search.key sought.begun.0 is below sought.begun.1,
+    )
 
 -- the next can be
 pub half_ready : (b s : Scan) (round : Round) (search : Search) (number : ℕ) (leap : Leap)
@@ -124,23 +124,7 @@ half_ready b s round search number leap same is half below of sought at leaps =
       };
       hop = at;
       leap = leaps;
+      soon = found_soon b search is below sought;
+      few = half_few b search.key search.begun number s.cells is below half
+          (omega (arith, slice_get_within (hops_at b search.key) number (leap_hop leap) at));
     })
-
--- few ends have been made
-pub half_few : (b : Scan) (key clock number : ℕ) (cells : Cells) → IsScanned b key → key < b.keys.now.size
-    → IsHalfway b key clock number cells → number ≤ length (hops_at b key) → cells.made.count < 4611686018427387904
-half_few b key clock number cells is below half within =
-    few_turns b key cells.made.count (length (hops_at b key) - number) is below (omega (arith, half.turns, within))
-
--- the instruction is found soon
-pub found_soon : (b : Scan) (search : Search) → IsScanned b search.key → search.key < b.keys.now.size
-    → IsSearch (order_of b) (kept_in b.cells) search → search.found ≤ 4611686018427387904
-found_soon b search is below sought =
-    omega (
-      arith,
-      sought.found,
-      within_span (available_recurs search.location.number) search.begun,
-      kind_span-≤ (kind_of search.location.number),
-      sought.begun.2,
-      early_clock b search.key sought.begun.0 is below sought.begun.1,
-    )

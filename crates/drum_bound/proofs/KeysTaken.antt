@@ -8,14 +8,11 @@ use Rattle.drum_flow.proofs.Lists.{contains_from_get}
 use Rattle.drum_flow.specs.Walk.{Setting}
 use Rattle.drum_bound.proofs.FewHops.{few_hops}
 use Rattle.drum_bound.specs.declared.cells.Cells.{Cells}
-use Rattle.drum_bound.specs.declared.cells.end.Ends.{Ends}
 use Rattle.drum_bound.specs.declared.latest.Latest.{Latest}
 use Rattle.drum_bound.specs.declared.scan.Scan.{Scan}
 use Rattle.drum_bound.specs.Keys.{place_at}
 use Rattle.drum_bound.specs.Scanned.{cell_at, Taking, turns_at, turns_below}
 use Rattle.drum_bound.specs.ScanOf.{setting_in, order_of, AreCells, IsScanned, IsAgreed}
-use Rattle.drum_bound.specs.KeyHops.{IsLater}
-use Rattle.drum_bound.proofs.LaterHops.{before_end, before_next}
 use Rattle.drum_bound.specs.Held.{kept_in}
 use Rattle.drum_bound.proofs.Scans.{skip, open_key, close_key}
 
@@ -64,7 +61,6 @@ skipped scan key is none =
       cells = is.cells;
       scanned = skip (setting_in scan) (order_of scan) key (kept_in scan.cells) scan.cells.last none is.scanned;
       turns = omega (arith, is.turns, ap (turns_at (setting_in scan) (order_of scan) key) none);
-      before = before_next scan.cells.made.last key is.before;
     })
 
 -- all hops of a key at which something is kept are left
@@ -83,7 +79,7 @@ early_clock scan key kept is below there =
     omega (arith, is.scanned.near key kept there, below, is.keys.size, is.keys.ordered.0.few)
 
 pub few_turns : (scan : Scan) (key count left : ℕ) → IsScanned scan key → key < scan.keys.now.size
-    → count + left ≡ scan.cells.made.count + length (hops_at scan key) → count < 4611686018427387904
+    → count + left ≡ scan.cells.made + length (hops_at scan key) → count < 4611686018427387904
 few_turns scan key count left is below so_far =
     omega (
       arith,
@@ -97,33 +93,14 @@ few_turns scan key count left is below so_far =
     )
 
 -- cells where nothing that is held changes
-pub cells_made : (g : Setting) (order : List ℕ) (cells : Cells) (made : Ends) → AreCells g order cells
-    → AreCells g order (record cells { made = made })
-cells_made g order cells made are = record {
+pub cells_stopped : (g : Setting) (order : List ℕ) (cells : Cells) (last : Latest) (made : ℕ) → AreCells g order cells
+    → AreCells g order (record cells { last = last; made = made })
+cells_stopped g order cells last made are = record {
   held = record {
-    linked = are.held.linked;
-    paired = are.held.paired;
-    room = are.held.room;
-    more_room = are.held.more_room;
+    kept = are.held.kept;
+    rounds = are.held.rounds;
+    noted = are.held.noted;
     few = are.held.few;
-    soon = are.held.soon;
-  };
-  entries = are.entries;
-  angle = are.angle;
-  words = are.words;
-  counts = are.counts;
-}
-
-pub cells_last : (g : Setting) (order : List ℕ) (cells : Cells) (last : Latest) → AreCells g order cells
-    → AreCells g order (record cells { last = last })
-cells_last g order cells last are = record {
-  held = record {
-    linked = are.held.linked;
-    paired = are.held.paired;
-    room = are.held.room;
-    more_room = are.held.more_room;
-    few = are.held.few;
-    soon = are.held.soon;
   };
   entries = are.entries;
   angle = are.angle;
@@ -132,18 +109,17 @@ cells_last g order cells last are = record {
 }
 
 -- no hop of the key is left
-pub closed : (b : Scan) (cells : Cells) (key number : ℕ) (kept : Latest) → IsScanned b key
+pub closed : (b : Scan) (cells : Cells) (key : ℕ) (kept : Latest) → IsScanned b key
     → cell_at (kept_in b.cells) key ≡ Some kept
     → AreCells (setting_in b) (order_of b) cells
     → Taking (setting_in b) (order_of b) key kept.clock [] (kept_in cells) cells.last
-    → cells.made.count ≡ b.cells.made.count + length (hops_at b key)
-    → IsAgreed key (kept_in b.cells) (kept_in cells)
-    → IsLater cells.made.last (record { key = key; number = number }) → IsScanned (record b { cells = cells }) (key + 1)
-closed b cells key number kept is there are taking count agreed later =
+    → cells.made ≡ b.cells.made + length (hops_at b key)
+    → IsAgreed key (kept_in b.cells) (kept_in cells) → IsScanned (record b { cells = cells }) (key + 1)
+closed b cells key kept is there are taking count agreed =
     let next : suc key ≡ key + 1 = omega arith in
     let g = setting_in b in
     let order = order_of b in
-    let turns : cells.made.count ≡ turns_below g order (kept_in cells) (suc key) =
+    let turns : cells.made ≡ turns_below g order (kept_in cells) (suc key) =
     omega (
       arith,
       count,
@@ -158,7 +134,6 @@ closed b cells key number kept is there are taking count agreed later =
       cells = are;
       scanned = close_key g order key kept.clock (kept_in cells) cells.last taking;
       turns = turns;
-      before = before_end cells.made.last key number later;
     })
 
 -- keys at which nothing is kept need no taking

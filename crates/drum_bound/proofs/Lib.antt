@@ -3,16 +3,18 @@ pub mod Begun
 mod Checks
 mod CountLoops
 pub mod DigitsLaws
+pub mod Entering
 pub mod EntriesRaised
 pub mod EntryEnds
 pub mod FewHops
 mod Finished
+pub mod EntryKeys
 pub mod Halfway
 pub mod HeldLaws
 mod InTime
 pub mod KeyLaws
 pub mod KeysTaken
-pub mod LaterHops
+pub mod Lists
 mod LeapLaws
 pub mod LongestLaws
 pub mod Onward
@@ -21,12 +23,15 @@ pub mod Profiles
 pub mod Raises
 pub mod RoundLaws
 pub mod Rows
+pub mod RowSums
 pub mod RowsHeld
 pub mod Scans
 mod ShortWalks
 pub mod Nodes
+pub mod GoesOnto
 pub mod GoingOn
 mod Traces
+mod Sought
 pub mod Unders
 pub mod Unpassed
 pub mod Walked

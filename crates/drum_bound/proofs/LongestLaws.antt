@@ -86,6 +86,20 @@ wait_at_most Read entry wait h = h.1
 wait_at_most Punch entry wait h = h.1
 wait_at_most _ entry wait h = omega (arith, h)
 
+-- A hop that begins later ends no earlier.
+pub later_end : (entry : Entry) (op : Op) (d place units wait : ℕ) (way : Way) (earlier later : ℕ)
+    → MayHaveUnits op d units → IsWait op entry wait → earlier ≤ later
+    → end_by way entry op d place units wait earlier ≤ end_by way entry op d place units wait later
+later_end entry op d place units wait way earlier later may waits =
+    let short : entry.per * units + wait ≤ 90000000 =
+    omega (
+      arith,
+      most_work op d entry,
+      mul-le-mul_left entry.per (units_at_most op d units may),
+      wait_at_most op entry wait waits,
+    ) in
+    (end_keeps_time entry op d place units wait way short).monotone earlier later
+
 -- a hop may have the most units
 may_have_most : (op : Op) (d : ℕ) → MayHaveUnits op d (most_units op d)
 may_have_most Divide d = omega arith

@@ -1,19 +1,27 @@
 -- An analysis, as it is held, and when it is right.
 use Rattle.std.specs.Prelude.{◌≡◌, ℕ, ◌-◌, ◌*◌, ◌^◌, ◌<◌, ◌≤◌, List, length, map, sum, slice_get, slice_index, Some}
+use Rattle.std.specs.Map.{values_of}
 use Rattle.drum_core.specs.declared.deck.Deck.{Deck}
 use Rattle.drum_core.specs.Loads.{loads_in, start_in}
 use Rattle.drum_times.specs.declared.notes.mark.Mark.{Mark}
 use Rattle.drum_times.specs.declared.times.Times.{Times}
 use Rattle.drum_times.specs.Allowed.{Notes}
 use Rattle.drum_times.specs.Entries.{entry_in}
-use Rattle.drum_flow.specs.Accepted.{counts_of}
+use Rattle.drum_machine.specs.Counts.{no_counts}
+use Rattle.drum_machine.specs.Keeps.{IsKept}
+use Rattle.drum_machine.specs.Run.{Turn, IsRun, IsFirstState, used_from}
+use Rattle.drum_machine.specs.Step.{State}
+use Rattle.drum_flow.specs.Accepted.{counts_of, IsAccepted, IsFixed}
 use Rattle.drum_flow.specs.Hops.{hops}
 use Rattle.drum_flow.specs.Walk.{Setting, Taken, IsWalk}
 use Rattle.drum_bound.specs.declared.analysis.Analysis.{Analysis}
+use Rattle.drum_bound.specs.declared.cells.Cells.{Cells}
+use Rattle.drum_bound.specs.Kept.{pairs_of}
 use Rattle.drum_bound.specs.Ends.{HopEnd, AreEnds, AreRaised}
 use Rattle.drum_bound.specs.RowOf.{row_in}
 use Rattle.drum_bound.specs.Table.{Row, IsTable}
-use Rattle.drum_bound.specs.Visited.{Visited, IsWalkOf, passes_in, seen_visit}
+use Rattle.drum_bound.specs.Under.{ArriveUnder}
+use Rattle.drum_bound.specs.Visited.{Visited, AreInTime, IsWalkOf, passes_in, seen_visit}
 use Rattle.drum_bound.specs.Worst.{IsWorst}
 
 -- what the walks of a deck under its notes are in, with a timing table
@@ -23,15 +31,15 @@ setting deck times notes =
 
 -- the bound, in word times
 abbrev pub bound_of : Analysis → ℕ
-bound_of analysis = analysis.cells.last.clock - analysis.cells.angle
+bound_of analysis = analysis.cells.last.clock - analysis.cells.entries.angle
 
 -- the table of worst times
 abbrev pub rows_of : Analysis → List Row
-rows_of analysis = map row_in analysis.cells.entries.items
+rows_of analysis = map row_in (values_of (pairs_of analysis.cells.entries))
 
 -- the start angle of the walk
 abbrev pub angle_of : Analysis → ℕ
-angle_of analysis = analysis.cells.angle
+angle_of analysis = analysis.cells.entries.angle
 
 -- the hops of the walk
 abbrev pub visits_of : Analysis → List Visited
@@ -47,7 +55,7 @@ words_of analysis = analysis.cells.words
 
 -- how many ends of hops were made
 abbrev pub turns_of : Analysis → ℕ
-turns_of analysis = analysis.cells.made.count
+turns_of analysis = analysis.cells.made
 
 -- how often the walk passes each mark, by its place in the notes
 abbrev pub passed_of : Analysis → List ℕ
@@ -58,6 +66,14 @@ abbrev pub ArePasses : List Mark → List Visited → List ℕ → Type 0
 ArePasses marks visits passed =
     (k : ℕ) (mark : Mark) → slice_get marks k ≡ Some mark
     → slice_index passed k ≡ passes_in mark visits
+
+-- The walk takes as long as the latest end of these cells, from their start angle, in few hops.
+pub record Backs (cells : Cells) (visits : List Visited) : Type 0 where
+  pub in_time : AreInTime 0 visits (cells.last.clock - cells.entries.angle)
+  pub after : cells.entries.angle ≤ cells.last.clock
+  pub on_drum : cells.entries.angle < 50
+  pub below : cells.last.clock - cells.entries.angle < 2 ^ 50
+  pub few : length visits ≤ 4000000
 
 -- The analysis is that of the walks of a setting where so many locations are executed.
 pub record IsAnalysis (g : Setting) (words : ℕ) (analysis : Analysis) : Type 0 where
@@ -74,4 +90,41 @@ pub record IsAnalysis (g : Setting) (words : ℕ) (analysis : Analysis) : Type 0
   pub ends : (ends : List HopEnd) × AreEnds g (rows_of analysis) ends
       × AreRaised g (rows_of analysis) ends × (turns_of analysis ≡ length ends)
   pub passed : ArePasses g.notes.marks (visits_of analysis) (passed_of analysis)
+  pub below : bound_of analysis < 2 ^ 50
+
+-- The analysis is that of a deck with its timing table and notes.
+pub record IsAnalysisOf (deck : Deck) (times : Times) (notes : Notes) (analysis : Analysis) : Type
+    0 where
+  -- the deck with its notes is accepted, and its locations are counted
+  pub accepted : (executed : List ℕ) × IsAccepted (loads_in deck) notes (start_in deck) executed
+      × (words_of analysis ≡ length executed)
+  -- the bound is the time of some walk, and none passes it; the walk that is handed out has it
+  pub worst : IsWorst (setting deck times notes) (bound_of analysis)
+  pub walk : IsWalkOf (setting deck times notes) (angle_of analysis) (bound_of analysis)
+      (visits_of analysis)
+  -- no run that keeps to the notes passes the bound at any moment, nor an entry where it arrives
+  pub kept : (s : State) (steps : List Turn)
+      → IsFirstState (loads_in deck) (IsFixed (loads_in deck) notes (start_in deck)) (start_in deck)
+      s → IsRun (entry_in times) s steps → IsKept (loads_in deck) notes s steps
+      → used_from 0 steps ≤ bound_of analysis
+  pub under : (s : State) (steps : List Turn)
+      → IsFirstState (loads_in deck) (IsFixed (loads_in deck) notes (start_in deck)) (start_in deck)
+      s → IsRun (entry_in times) s steps → IsKept (loads_in deck) notes s steps
+      → ArriveUnder notes (rows_of analysis) (no_counts notes.marks) steps
+  -- the table has an entry for each location and counts that some walk arrives at, and these are
+  -- few; so is each walk short
+  pub table : IsTable (setting deck times notes) (rows_of analysis)
+  pub few : length (rows_of analysis) ≤ words_of analysis * counts_in_all analysis
+  pub fifty : length (rows_of analysis) ≤ words_of analysis * 50 * counts_in_all analysis
+  pub short : (angle : ℕ) (hops : List Taken) → IsWalk (setting deck times notes) angle hops
+      → length hops ≤ words_of analysis * counts_in_all analysis
+  pub counts : counts_in_all analysis ≡ counts_of notes.marks
+  -- as many ends were made as the entries' locations have hops; they raise the entries
+  pub turns : turns_of analysis
+      ≡ sum (map (λ row. length (hops (loads_in deck) notes row.place)) (rows_of analysis))
+  pub ends : (ends : List HopEnd) × AreEnds (setting deck times notes) (rows_of analysis) ends
+      × AreRaised (setting deck times notes) (rows_of analysis) ends
+      × (turns_of analysis ≡ length ends)
+  -- how often the walk passes each mark
+  pub passed : ArePasses notes.marks (visits_of analysis) (passed_of analysis)
   pub below : bound_of analysis < 2 ^ 50

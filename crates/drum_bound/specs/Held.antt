@@ -1,77 +1,63 @@
--- What is kept at the keys, as it is held: a place for each key, which says which entry is the
--- key's, and for each entry its clock and where it comes from.
-use Rattle.std.specs.Prelude.{◌≡◌, ℕ, zero, suc, ◌+◌, ◌^◌, ◌%◌, ◌<◌, ◌≤◌, ◌==◌, if◌then◌else◌, List, [], ◌∷◌, length, slice_get, slice_index_or, Option, Some, None, vec_capacity}
+-- What is kept at the keys, as cells hold it.
+use Rattle.std.specs.Prelude.{◌≡◌, ℕ, ◌*◌, ◌/◌, ◌^◌, ◌<◌, ◌≤◌, true, List, length, map, slice_get, Option, Some, Contains}
+use Rattle.std.specs.List.{range_with_len}
 use Rattle.drum_bound.specs.declared.cells.Cells.{Cells}
+use Rattle.drum_flow.specs.Walk.{Setting}
+use Rattle.drum_bound.specs.declared.cells.entries.Entries.{Entries}
+use Rattle.drum_bound.specs.declared.cells.Onto.{Onto}
 use Rattle.drum_bound.specs.declared.latest.Latest.{Latest}
-use Rattle.drum_bound.specs.declared.key_hop.KeyHop.{KeyHop}
+use Rattle.drum_bound.specs.declared.leap.Leap.{Leap}
+use Rattle.drum_bound.specs.declared.search.Search.{Search}
 use Rattle.drum_bound.specs.declared.worst.Worst.{Worst}
+use Rattle.drum_bound.specs.Kept.{AreKept, kept_of, pairs_of}
+use Rattle.drum_bound.specs.SearchOf.{CanEnd, KeepsAt}
 
--- which entry a key has, counted from 1; 0 where nothing is kept
-abbrev pub entry_of : List ℕ → ℕ → ℕ
-entry_of places key = slice_index_or places key 0
+-- how many keys there are
+abbrev pub size_of : Cells → ℕ
+size_of cells = cells.counts * cells.words
 
--- an entry's clock and where it comes from: the start's comes from its own key, and so from nowhere
-abbrev pub latest_at : ℕ → ℕ → Worst → KeyHop → Latest
-latest_at angle key entry origin =
-    record { clock = angle + entry.time; origin = if origin.key == key then None else Some origin }
-
-abbrev pub kept_by : ℕ → ℕ → Option Worst → Option KeyHop → Option Latest
-kept_by angle key None origin = None
-kept_by angle key (Some entry) None = None
-kept_by angle key (Some entry) (Some origin) = Some (latest_at angle key entry origin)
-
--- what is kept at a key that has this entry
-abbrev pub kept_from : ℕ → List Worst → List KeyHop → ℕ → ℕ → Option Latest
-kept_from angle entries origins key zero = None
-kept_from angle entries origins key (suc place) =
-    kept_by angle key (slice_get entries place) (slice_get origins place)
-
--- what is kept at the keys from one on, that have these entries
-abbrev pub kept_at : ℕ → List Worst → List KeyHop → ℕ → List ℕ → List (Option Latest)
-kept_at angle entries origins key [] = []
-kept_at angle entries origins key (entry ∷ places) =
-    kept_from angle entries origins key entry ∷ kept_at angle entries origins (suc key) places
+-- what is kept at so many keys, in their order
+abbrev pub kept_below : Entries → ℕ → List (Option Latest)
+kept_below entries size = map (kept_of entries) (range_with_len 0 size)
 
 -- what is kept at the keys
 abbrev pub kept_in : Cells → List (Option Latest)
-kept_in cells = kept_at cells.angle cells.entries.items cells.origins.items 0 cells.places.items
+kept_in cells = kept_below cells.entries (size_of cells)
 
--- how many of the keys have an entry
-abbrev pub filled : List ℕ → ℕ
-filled [] = 0
-filled (zero ∷ places) = filled places
-filled (suc entry ∷ places) = suc (filled places)
+-- A key is one of the cells', and its round is noted.
+abbrev pub IsNoted : Cells → ℕ → Type 0
+IsNoted cells key = (key < size_of cells)
+    × (slice_get cells.rounds.items (key / cells.words) ≡ Some true)
 
--- Each key has at most one of so many entries, no two keys have the same, and each is some key's.
-pub record AreLinked (places : List ℕ) (entries : ℕ) : Type 0 where
-  pub within : (key : ℕ) → entry_of places key ≤ entries
-  pub own : (key other place : ℕ) → entry_of places key ≡ suc place
-      → entry_of places other ≡ suc place → key ≡ other
-  pub each : (place : ℕ) → place < entries → (key : ℕ) × (entry_of places key ≡ suc place)
-  pub all : filled places ≡ entries
-
--- The cells are in order, and there is room for an entry of each key.
+-- The cells are in order: the keys of the entries are noted, and few.
 pub record AreHeld (cells : Cells) : Type 0 where
-  pub linked : AreLinked cells.places.items (length cells.entries.items)
-  pub paired : length cells.origins.items ≡ length cells.entries.items
-  pub room : length cells.places.items ≤ vec_capacity cells.entries
-  pub more_room : length cells.places.items ≤ vec_capacity cells.origins
-  pub few : length cells.places.items ≤ 4000000
-  pub soon : (place : ℕ) (entry : Worst) → slice_get cells.entries.items place ≡ Some entry
-      → cells.angle + entry.time < 2 ^ 64
+  pub kept : AreKept cells.entries
+  pub rounds : length cells.rounds.items ≡ cells.counts
+  pub noted : (key : ℕ) (entry : Worst) → Contains (pairs_of cells.entries) (key, entry)
+      → IsNoted cells key
+  pub few : size_of cells ≤ 4000000
 
--- what no raise changes: the ends that were made, the start angle, and how many locations and
--- counts there are
+-- what no raise changes: the start angle, and how many locations and counts there are
 pub record SameScan (old new : Cells) : Type 0 where
-  pub made : new.made ≡ old.made
-  pub angle : new.angle ≡ old.angle
+  pub angle : new.entries.angle ≡ old.entries.angle
   pub words : new.words ≡ old.words
   pub counts : new.counts ≡ old.counts
 
--- Each key's entry says where the key is, with which counts, and the angle at its time.
+-- Each key's entry says where the key is, and with which counts.
 abbrev pub HaveEntries : (ℕ → ℕ) → (ℕ → ℕ) → Cells → Type 0
 HaveEntries place_of counts_of cells =
-    (key place : ℕ) (entry : Worst) → entry_of cells.places.items key ≡ suc place
-    → slice_get cells.entries.items place ≡ Some entry
+    (key : ℕ) (entry : Worst) → Contains (pairs_of cells.entries) (key, entry)
     → (entry.place.number ≡ place_of key) × (entry.counts ≡ counts_of key)
-    × (entry.angle ≡ (cells.angle + entry.time) % 50)
+
+-- The end of a hop can be made: it begins at the clock that its key keeps.
+pub record IsToEnd (g : Setting) (cells : Cells) (search : Search) (number : ℕ) (leap : Leap) : Type
+    0 where
+  pub begun : KeepsAt (kept_in cells) search.key search.begun
+  pub end : CanEnd g search number leap
+  pub few : cells.made < 2 ^ 62
+
+-- A hop goes on at a later key, of this round.
+pub record IsOnward (cells : Cells) (search : Search) (onto : Onto) : Type 0 where
+  pub there : onto.key < size_of cells
+  pub round : onto.key / cells.words ≡ onto.round
+  pub later : search.key < onto.key

@@ -12,11 +12,14 @@ use Rattle.drum_bound.specs.declared.leap.Leap.{Leap}
 use Rattle.drum_bound.specs.Longest.{longest}
 
 -- From a clock at this angle on, the hop of this place ends so many word times later at the latest.
--- Where it goes on, this is the place that it goes on at, by its index in the order, and the mark
--- on its edge.
+abbrev pub TakesLongest : Setting → ℕ → ℕ → Leap → Type 0
+TakesLongest g place angle leap = (clock : ℕ) → clock % 50 ≡ angle
+    → longest g.times place leap.hop.instruction (seen_way leap.hop.way) clock ≡ clock + leap.time
+
+-- The leap is that of a hop: it takes as long as that can. Where the hop goes on, this is the place
+-- that it goes on at, by its index in the order, and the mark on its edge.
 pub record IsLeap (g : Setting) (order : List ℕ) (place angle : ℕ) (leap : Leap) : Type 0 where
-  pub time : (clock : ℕ) → clock % 50 ≡ angle
-      → longest g.times place leap.hop.instruction (seen_way leap.hop.way) clock ≡ clock + leap.time
+  pub time : TakesLongest g place angle leap
   pub onto : (next : ℕ) → seen_way leap.hop.way ≡ to next → (slice_get order leap.index ≡ Some next)
       × (mark_on g.notes.marks place next ≡ leap.mark)
 

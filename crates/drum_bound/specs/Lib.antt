@@ -3,7 +3,7 @@ pub mod Digits
 pub mod EndOf
 pub mod Ends
 pub mod Held
-pub mod KeyHops
+pub mod Kept
 pub mod Keys
 pub mod KeysOf
 pub mod LeapOf

@@ -11,8 +11,10 @@ use Rattle.drum_bound.specs.declared.round.Round.{Round}
 use Rattle.drum_bound.specs.Digits.{digits}
 use Rattle.drum_bound.specs.Table.{number_of}
 
--- counts with the key of the first location, and with their number in the table
+-- counts with their number among the keys, the key of the first location, and their number in the
+-- table
 pub record IsCounted (accepted : AcceptedFlow) (counts : List ℕ) (counted : Counted) : Type 0 where
+  pub round : counted.round ≡ leading (notes_of accepted.flow).marks counts
   pub first : counted.first
       ≡ leading (notes_of accepted.flow).marks counts * length (in_order accepted)
   pub number : counted.number ≡ number_of (notes_of accepted.flow).marks counts

@@ -1,11 +1,10 @@
--- The rows of a table: of an entry as the code has it, and of the keys of a scan.
-use Rattle.std.specs.Prelude.{ℕ, zero, suc, ◌-◌, ◌%◌, List, [], ◌∷◌, ◌++◌, Option, Some, None}
+-- The rows of a table: of an entry as the code has it, and of a key of a scan.
+use Rattle.std.specs.Prelude.{ℕ, ◌-◌, ◌%◌, List}
 use Rattle.drum_times.specs.declared.notes.mark.Mark.{Mark}
 use Rattle.drum_flow.specs.Walk.{Setting}
 use Rattle.drum_bound.specs.declared.latest.Latest.{Latest}
 use Rattle.drum_bound.specs.declared.worst.Worst.{Worst}
 use Rattle.drum_bound.specs.Keys.{place_at, counts_at}
-use Rattle.drum_bound.specs.Scanned.{cell_at}
 use Rattle.drum_bound.specs.Table.{start_angle, number_of, Row}
 
 -- an entry as the code has it
@@ -30,14 +29,3 @@ row_of g order key kept = record {
   counts = counts_number g.notes.marks order key;
   time = kept.clock - start_angle g.start;
 }
-
--- the rows of a key, one where something is kept at it
-abbrev pub rows_at : Setting → List ℕ → ℕ → Option Latest → List Row
-rows_at g order key None = []
-rows_at g order key (Some kept) = row_of g order key kept ∷ []
-
--- the rows of the first keys
-abbrev pub rows_below : Setting → List ℕ → List (Option Latest) → ℕ → List Row
-rows_below g order cells zero = []
-rows_below g order cells (suc key) =
-    rows_below g order cells key ++ rows_at g order key (cell_at cells key)

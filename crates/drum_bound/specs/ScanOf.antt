@@ -1,5 +1,5 @@
 -- What a scan knows, as it is held.
-use Rattle.std.specs.Prelude.{◌≡◌, ℕ, suc, ◌/◌, ◌%◌, ◌<◌, List, length, slice_get, Option, Some, ◌⊎◌}
+use Rattle.std.specs.Prelude.{◌≡◌, ℕ, suc, ◌+◌, ◌/◌, ◌%◌, ◌^◌, ◌<◌, ◌≤◌, List, length, slice_get, Option, Some, ◌⊎◌}
 use Rattle.drum_machine.specs.Counts.{after_pass, AreWithin}
 use Rattle.drum_flow.specs.Accepted.{counts_of}
 use Rattle.drum_flow.specs.Hops.{Hop, hops}
@@ -19,7 +19,6 @@ use Rattle.drum_bound.specs.SearchOf.{IsSearch}
 use Rattle.drum_bound.specs.Held.{AreHeld, HaveEntries, kept_in}
 use Rattle.drum_bound.specs.Scanned.{cell_at, later, raised, Scanned, turns_below}
 use Rattle.drum_bound.specs.Table.{start_angle}
-use Rattle.drum_bound.specs.KeyHops.{IsBefore}
 
 -- what its walks are in
 abbrev pub setting_in : Scan → Setting
@@ -48,7 +47,7 @@ HasRound scan key round = IsRound scan.keys.now.accepted.now (key / length (orde
 pub record AreCells (g : Setting) (order : List ℕ) (cells : Cells) : Type 0 where
   pub held : AreHeld cells
   pub entries : HaveEntries (place_at order) (counts_number g.notes.marks order) cells
-  pub angle : cells.angle ≡ start_angle g.start
+  pub angle : cells.entries.angle ≡ start_angle g.start
   pub words : cells.words ≡ length order
   pub counts : cells.counts ≡ counts_of g.notes.marks
 
@@ -59,9 +58,12 @@ pub record IsScanned (scan : Scan) (taken : ℕ) : Type 0 where
   pub cells : AreCells (setting_in scan) (order_of scan) scan.cells
   pub scanned : Scanned (setting_in scan) (order_of scan) taken taken (kept_in scan.cells)
       scan.cells.last
-  pub turns : scan.cells.made.count
+  pub turns : scan.cells.made
       ≡ turns_below (setting_in scan) (order_of scan) (kept_in scan.cells) taken
-  pub before : IsBefore scan.cells.made.last taken
+
+-- A ledger counted the ends that a scan made, between these two moments.
+abbrev pub AreCounted : ℕ → ℕ → Scan → Scan → Type 0
+AreCounted before after old new = after + old.cells.made ≡ before + new.cells.made
 
 -- All have.
 abbrev pub IsDone : Scan → Type 0
@@ -78,6 +80,8 @@ pub record IsReady (scan : Scan) (own_round : Round) (own_search : Search) (numb
   pub hop : slice_get (hops_of scan own_search.key) number ≡ Some (leap_hop own_leap)
   pub leap : IsLeap (setting_in scan) (order_of scan) (place_in scan own_search.key)
       (own_search.found % 50) own_leap
+  pub soon : own_search.found ≤ 2 ^ 62
+  pub few : scan.cells.made < 2 ^ 62
 
 -- the cells up to a key are the same
 abbrev pub IsAgreed : ℕ → List (Option Latest) → List (Option Latest) → Type 0

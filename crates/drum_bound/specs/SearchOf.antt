@@ -1,14 +1,24 @@
--- The search for a key's instruction, as it is held.
-use Rattle.std.specs.Prelude.{◌≡◌, ℕ, List, Option}
+-- The search for a key's instruction, as it is held, and the ends of the key's hops.
+use Rattle.std.specs.Prelude.{◌≡◌, ℕ, ◌%◌, ◌^◌, ◌<◌, ◌≤◌, List, Option, Some}
 use Rattle.drum_core.specs.Available.{is_available}
 use Rattle.drum_core.specs.Moment.{first}
+use Rattle.drum_machine.specs.WaysLeft.{seen_way}
+use Rattle.drum_flow.specs.Walk.{Setting}
 use Rattle.drum_bound.specs.declared.key_hop.KeyHop.{KeyHop}
 use Rattle.drum_bound.specs.declared.latest.Latest.{Latest}
+use Rattle.drum_bound.specs.declared.leap.Leap.{Leap}
 use Rattle.drum_bound.specs.declared.search.Search.{Search}
-use Rattle.drum_bound.specs.KeyHops.{KeepsAt}
 use Rattle.drum_bound.specs.Keys.{place_at}
+use Rattle.drum_bound.specs.LeapOf.{TakesLongest}
+use Rattle.drum_bound.specs.Longest.{longest}
+use Rattle.drum_bound.specs.Profile.{MayEnd}
+use Rattle.drum_bound.specs.Scanned.{cell_at}
 
--- It is for the location of its key, begins at the clock that is kept there, and finds the
+-- this clock is kept at a key
+abbrev pub KeepsAt : List (Option Latest) → ℕ → ℕ → Type 0
+KeepsAt cells key clock = (kept : Latest) × (cell_at cells key ≡ Some kept) × (kept.clock ≡ clock)
+
+-- The search is for the location of its key, begins at the clock that is kept there, and finds the
 -- instruction when that can first be had.
 pub record IsSearch (order : List ℕ) (cells : List (Option Latest)) (search : Search) : Type 0 where
   pub there : search.location.number ≡ place_at order search.key
@@ -18,3 +28,21 @@ pub record IsSearch (order : List ℕ) (cells : List (Option Latest)) (search : 
 -- the hop of this number of the key whose instruction is sought
 abbrev pub hop_sought : Search → ℕ → KeyHop
 hop_sought search number = record { key = search.key; number = number }
+
+-- the latest end of that hop, from the clock at which the search begins
+abbrev pub end_sought : Setting → Search → ℕ → Leap → Latest
+end_sought g search number leap = record {
+  clock = longest g.times search.location.number leap.hop.instruction (seen_way leap.hop.way)
+      search.begun;
+  origin = Some (hop_sought search number);
+}
+
+-- The end of the hop can be reckoned from its leap: the leap is of the angle at which the
+-- instruction is found, and the numbers have room.
+pub record CanEnd (g : Setting) (search : Search) (number : ℕ) (leap : Leap) : Type 0 where
+  pub found : search.found ≡ first (is_available search.location.number) search.begun
+  pub time : TakesLongest g search.location.number (search.found % 50) leap
+  pub may_end : MayEnd leap.hop.instruction (seen_way leap.hop.way)
+  pub soon : search.found ≤ 2 ^ 62
+  pub narrow : search.key < 2 ^ 32
+  pub few_hops : number < 2 ^ 32

@@ -20,28 +20,23 @@ pub struct Analysis {
     /// By the marks' places in the notes; what stands past the last mark means nothing.
     passed: [u64; Mark::MOST],
     ghost in_time: { ∥ AreInTime 0 (map seen_visit walk.items)
-        (cells.last.clock - cells.angle) ∥₁ },
-    ghost after: { cells.angle ≤ cells.last.clock },
-    ghost on_drum: { cells.angle < 50 },
-    ghost below: { cells.last.clock - cells.angle < 2 ^ 50 },
+        (cells.last.clock - cells.entries.angle) ∥₁ },
+    ghost after: { cells.entries.angle ≤ cells.last.clock },
+    ghost on_drum: { cells.entries.angle < 50 },
+    ghost below: { cells.last.clock - cells.entries.angle < 2 ^ 50 },
     ghost few: { length walk.items ≤ 4000000 },
 }
 
 impl Analysis {
     ghost use Rattle.std.specs.Prelude.{slice_index};
-    ghost use Rattle.drum_bound.specs.AnalysisOf.{angle_of, bound_of, counts_in_all, passed_of, rows_of, turns_of, visits_of, words_of};
+    ghost use Rattle.drum_bound.specs.AnalysisOf.{Backs, angle_of, bound_of, counts_in_all, passed_of, rows_of, turns_of, visits_of, words_of};
     ghost use Rattle.drum_bound.specs.RowOf.{row_in};
 
     /// The analysis of a table, which it keeps as it was raised, with a walk that takes as long as
     /// its latest end, and how often that passes each mark. (That the table is finished and the
     /// walk is one is said by who calls this.)
     pub(crate) fn of(cells: Cells, walk: Vec<Visit>, passed: [u64; Mark::MOST]) -> Analysis
-        requires in_time { AreInTime 0 (map seen_visit walk.items) (cells.last.clock -
-            cells.angle) }
-        requires after { cells.angle ≤ cells.last.clock }
-        requires on_drum { cells.angle < 50 }
-        requires below { cells.last.clock - cells.angle < 2 ^ 50 }
-        requires few { length walk.items ≤ 4000000 }
+        requires { Backs cells (map seen_visit walk.items) }
         ensures cells { result.cells ≡ cells }
         ensures walk { result.walk ≡ walk }
         ensures passed { result.passed ≡ passed }

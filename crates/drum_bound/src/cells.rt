@@ -1,60 +1,63 @@
 //! What is kept at the keys: the table of worst times while it is raised.
 
-ghost use Rattle.std.specs.Prelude.{◌≡◌, ◌*◌, ◌≤◌, length};
+ghost use Rattle.std.specs.Prelude.{◌≡◌, ◌+◌, ◌*◌, ◌/◌, ◌≤◌, ◌<◌, ◌^◌, length};
+ghost use Rattle.drum_bound.specs.Kept.{pairs_of};
 
 mod end;
+mod entries;
+mod key_hasher;
 
-use crate::key_hop::KeyHop;
 use crate::latest::Latest;
 use crate::leap::Leap;
 use crate::search::Search;
+use crate::steps::Steps;
 use crate::worst::Worst;
 use drum_core::Location;
-pub use end::End;
-use end::Ends;
+use end::End;
+use entries::Entries;
 use std::alloc::{AllocError, Global};
+use std::sync::ledger::Ledger;
+
+/// Where a hop that no full mark bars goes on.
+#[derive(Clone, Copy, Debug)]
+pub struct Onto {
+    pub key: usize,
+    /// The number of the key's counts, with the first mark's leading.
+    pub round: usize,
+    /// The key's location.
+    pub location: Location,
+    /// The number of the key's counts in the table.
+    pub counts: u32,
+}
 
 /// The latest end at each key, of the hops that lead there, or the moment of the start; and the
 /// latest of all that no full mark bars. Where something is kept, an entry of the table of worst
 /// times holds it: the table is handed out as it was raised.
 ///
-/// An [`End`] alone raises what is kept. One is made from the clock that its key keeps, and no two
-/// of one key and number, since each is of a later hop than the one before; and what its key keeps
-/// stays, since only later keys are raised from then on.
+/// What raises is the end of a hop that is made in the same call, from the clock that the hop's key
+/// keeps: an [`End`] never leaves this module.
 #[derive(Debug, Drop)]
 pub struct Cells {
-    /// Which entry a key has, by key, counted from 1; 0 where nothing is kept.
-    places: Vec<u32>,
-    /// The start's, and behind it the others', in the order in which they were first led to.
-    entries: Vec<Worst>,
-    /// Where each entry's time comes from. The start's comes from its own key, which no hop does.
-    origins: Vec<KeyHop>,
+    entries: Entries,
+    /// Whether something is kept at a key of a round, by the rounds' numbers.
+    rounds: Vec<bool>,
     last: Latest,
-    made: Ends,
-    /// The start angle: an entry's clock is its time from there on.
-    angle: u64,
+    /// How many ends have been made.
+    made: u64,
     /// How many executed locations there are, and how many counts the marks can have.
     words: usize,
     counts: usize,
     /// There are never more entries than locations times counts.
-    ghost limit: { length entries.items ≤ counts * words },
-    ghost size: { length places.items ≡ counts * words },
+    ghost limit: { length (pairs_of entries) ≤ counts * words },
 }
 
 impl Cells {
-    ghost use Rattle.std.specs.Prelude.{ℕ, ◌+◌, ◌%◌, ◌^◌, ◌<◌, suc, List, MatchOption, true, false, replicate, set, Some, None, IfOk};
-    ghost use Rattle.drum_core.specs.Available.{is_available};
-    ghost use Rattle.drum_core.specs.Moment.{first};
-    ghost use Rattle.drum_machine.specs.WaysLeft.{seen_way};
+    ghost use Rattle.std.specs.Prelude.{ℕ, List, MatchOption, false, replicate, set, option_map, Some, None, IfOk, OnOk};
+    ghost use Rattle.std.specs.Map.{values_of};
     ghost use Rattle.drum_flow.specs.Walk.{Setting};
-    ghost use Rattle.drum_bound.specs.EndOf.{latest_in};
-    ghost use Rattle.drum_bound.specs.Held.{AreHeld, HaveEntries, SameScan, entry_of, kept_in};
-    ghost use Rattle.drum_bound.specs.LeapOf.{IsLeap};
-    ghost use Rattle.drum_bound.specs.Longest.{longest};
-    ghost use Rattle.drum_bound.specs.Profile.{MayEnd};
+    ghost use Rattle.drum_bound.specs.Held.{AreHeld, HaveEntries, IsOnward, IsToEnd, SameScan, kept_in, size_of};
     ghost use Rattle.drum_bound.specs.Scanned.{cell_at, later, raised};
-    ghost use Rattle.drum_bound.specs.KeyHops.{IsLater, KeepsAt};
-    ghost use Rattle.drum_bound.specs.SearchOf.{hop_sought};
+    ghost use Rattle.drum_bound.specs.SearchOf.{KeepsAt, end_sought};
 
     /// The cells of so many executed locations and counts: the start's key keeps the moment of the
     /// start, at this angle, and no other keeps anything.
@@ -80,78 +83,43 @@ impl Cells {
         ensures entries { IfOk result (λ cells. (place_of counts_of : ℕ → ℕ)
             → start.number ≡ place_of start_key → 0 ≡ counts_of start_key
             → HaveEntries place_of counts_of cells) }
-        ensures made { IfOk result (λ cells. cells.made.count ≡ 0) }
-        ensures none_made { IfOk result (λ cells. cells.made.last ≡ None) }
-        ensures angle { IfOk result (λ cells. cells.angle ≡ angle) }
+        ensures made { IfOk result (λ cells. cells.made ≡ 0) }
+        ensures angle { IfOk result (λ cells. cells.entries.angle ≡ angle) }
         ensures words { IfOk result (λ cells. cells.words ≡ words) }
         ensures counts { IfOk result (λ cells. cells.counts ≡ counts) }
     {
-        let size = counts * words;
-        let mut places = vec![in alloc; 0; size]?;
-        let mut entries = Vec::with_capacity(alloc, size)?;
-        let mut origins = Vec::with_capacity(alloc, size)?;
-        entries.push(Worst {
-            place: start,
-            angle: angle as u8,
-            counts: 0,
-            time: 0,
-        })?;
-        origins.push(KeyHop {
-            key: start_key as u32,
-            number: 0,
-        })?;
-        places[start_key] = 1;
+        let mut rounds = vec![in alloc; false; counts]?;
+        rounds[start_key / words] = true;
+        let entries = Entries::new(alloc, start_key as u32, start, angle)?;
         let last = Latest {
             clock: angle,
             origin: None,
         };
         Ok(Cells {
-            places,
             entries,
-            origins,
+            rounds,
             last,
-            made: Ends::none(),
-            angle,
+            made: 0,
             words,
             counts,
         })
     }
 
-    /// The place of a key's entry; `None` where nothing is kept.
-    fn entry_of(&self, key: usize) -> Option<usize>
-        ensures { MatchOption result (entry_of self.now.places.items key ≡ 0) (λ place.
-            entry_of self.now.places.items key ≡ suc place) }
+    /// What is kept at a key, with the index of its entry, which is looked for near this one first;
+    /// `None` where nothing is.
+    pub fn kept_at(&self, key: usize, near: usize) -> Option<(usize, Latest)>
+        requires held { AreHeld self.now }
+        requires there { key < size_of self.now }
+        ensures { option_map (λ kept. kept.1) result ≡ cell_at (kept_in self.now) key }
     {
-        match self.places.get(key) {
-            Some(entry) if *entry > 0 => Some(*entry as usize - 1),
-            _ => None,
-        }
-    }
-
-    /// What is kept at a key; `None` where nothing is.
-    pub fn kept_at(&self, key: usize) -> Option<Latest>
-        requires { AreHeld self.now }
-        ensures { result ≡ cell_at (kept_in self.now) key }
-    {
-        let Some(place) = self.entry_of(key) else {
-            return None;
-        };
-        let origin = self.origins[place];
-        Some(Latest {
-            clock: self.angle + self.entries[place].time,
-            origin: if origin.key == key as u32 {
-                None
-            } else {
-                Some(origin)
-            },
-        })
+        self.entries.kept_at(key as u32, near)
     }
 
     /// The entries: one of each key at which something is kept.
     pub fn entries(&self) -> &[Worst]
-        ensures { result.now ≡ self.now.entries.items }
+        ensures { result.now ≡ values_of (pairs_of self.now.entries) }
     {
-        &self.entries
+        self.entries.table()
     }
 
     /// The latest end of all that no full mark bars; before there is one, the moment of the start.
@@ -163,9 +131,9 @@ impl Cells {
 
     /// The start angle, 0 to 49.
     pub fn angle(&self) -> u64
-        ensures { result ≡ self.now.angle }
+        ensures { result ≡ self.now.entries.angle }
     {
-        self.angle
+        self.entries.angle()
     }
 
     /// How many executed locations there are.
@@ -184,161 +152,107 @@ impl Cells {
 
     /// How many ends have been made.
     pub fn made(&self) -> u64
-        ensures { result ≡ self.now.made.count }
+        ensures { result ≡ self.now.made }
     {
-        self.made.count()
+        self.made
     }
 
     /// The clock that a key keeps; `None` where nothing is.
     pub fn clock_at(&self, key: usize) -> Option<u64>
-        requires { AreHeld self.now }
+        requires held { AreHeld self.now }
+        requires there { key < size_of self.now }
         ensures { MatchOption result (cell_at (kept_in self.now) key ≡ None) (λ clock.
             KeepsAt (kept_in self.now) key clock) }
     {
-        let Some(latest) = self.kept_at(key) else {
-            return None;
-        };
-        Some(latest.clock)
+        self.entries.clock_at(key as u32)
     }
 
-    /// Whether something is kept at one of the keys from one up to another.
-    pub fn keeps_any(&self, first: usize, end: usize) -> bool
+    /// Whether something is kept at a key of the round of this number.
+    pub fn keeps_any(&self, round: usize) -> bool
         requires held { AreHeld self.now }
-        requires there { end ≤ length self.now.places.items }
-        ensures none { result ≡ false → (key : ℕ) → first ≤ key → key < end
-            → cell_at (kept_in self.now) key ≡ None }
-        ensures some { result ≡ true → (key : ℕ) × (first ≤ key) × (key < end)
-            × (0 < entry_of self.now.places.items key) }
+        requires there { round < self.now.counts }
+        ensures { result ≡ false → (key : ℕ) → key < size_of self.now
+            → key / self.now.words ≡ round → cell_at (kept_in self.now) key ≡ None }
     {
-        for key in first..end {
-            if self.places[key] > 0 {
-                return true;
-            }
-        }
-        false
+        self.rounds[round]
     }
 
-    /// Makes the end of a hop of the key whose instruction was sought, from when it is found: where
-    /// the leap is that of the hop, the latest at which it can end from the clock that its key
-    /// keeps.
+    /// Makes the end of a hop that goes on, from the clock that its key keeps: it is kept where it
+    /// is later than what is kept at the key onto which the hop leads, and of all.
     #[inline(always)]
-    pub fn end(&mut self, search: &Search, number: usize, leap: &Leap) -> End
-        requires kept { KeepsAt (kept_in self.old) search.now.key search.now.begun }
-        requires found { search.now.found
-            ≡ first (is_available search.now.location.number) search.now.begun }
-        requires later { IsLater self.old.made.last (hop_sought search.now number) }
-        requires few { self.old.made.count < 2 ^ 62 }
-        requires narrow { search.now.key < 2 ^ 32 }
-        requires few_hops { number < 2 ^ 32 }
-        requires soon { search.now.found ≤ 2 ^ 62 }
-        ensures same { self.new ≡ record self.old { made = self.new.made } }
-        ensures counted { self.new.made.count ≡ self.old.made.count + 1 }
-        ensures now_last { self.new.made.last ≡ Some (hop_sought search.now number) }
-        ensures origin { result.origin ≡ hop_sought search.now number }
-        ensures clock { (g : Setting) (order : List ℕ)
-            → MayEnd leap.now.hop.instruction (seen_way leap.now.hop.way)
-            → IsLeap g order search.now.location.number (search.now.found % 50) leap.now
-            → result.clock ≡ longest g.times search.now.location.number leap.now.hop.instruction
-            (seen_way leap.now.hop.way) search.now.begun }
-        ensures after { search.now.begun ≤ result.clock }
+    pub fn raise<L: Ledger>(
+        &mut self,
+        search: &Search,
+        number: usize,
+        leap: &Leap,
+        onto: &Onto,
+        steps: &mut Steps<L>,
+    ) -> Result<(), AllocError>
+        ghost setting: { Setting }
+        requires held { AreHeld self.old }
+        requires end { IsToEnd setting self.old search.now number leap.now }
+        requires onward { IsOnward self.old search.now onto.now }
+        ensures held { OnOk result (AreHeld self.new) }
+        ensures kept { OnOk result (kept_in self.new ≡ raised (kept_in self.old) onto.now.key
+            (end_sought setting search.now number leap.now)) }
+        ensures last { OnOk result (self.new.last
+            ≡ later self.old.last (end_sought setting search.now number leap.now)) }
+        ensures entries { OnOk result ((place_of counts_of : ℕ → ℕ)
+            → onto.now.location.number ≡ place_of onto.now.key
+            → onto.now.counts ≡ counts_of onto.now.key
+            → HaveEntries place_of counts_of self.old → HaveEntries place_of counts_of self.new) }
+        ensures same { OnOk result (SameScan self.old self.new) }
+        ensures made { OnOk result (self.new.made ≡ self.old.made + 1) }
+        ensures counted { OnOk result (steps.new ≡ steps.old + 1) }
     {
-        let key_hop = KeyHop {
-            key: search.key as u32,
-            number: number as u32,
-        };
-        self.made.end(key_hop, search.found, leap)
+        self.made += 1;
+        let end = End::of(search, number, leap, steps);
+        let keys = self.counts * self.words;
+        self.entries
+            .keep(onto.key as u32, keys, onto.location, onto.counts, &end)?;
+        self.rounds[onto.round] = true;
+        self.last = self.last.later(end.latest());
+        Ok(())
     }
 
-    /// Keeps the end that was made last, of a hop that goes on at a key, where it is later than
-    /// what is kept there, and of all. The key is later than the end's own; it is at this location,
-    /// with the counts of this number.
+    /// Makes the end of a hop that stops, from the clock that its key keeps: it is kept where it is
+    /// later than all, and nowhere else.
     #[inline(always)]
-    pub fn raise(&mut self, key: usize, location: Location, counts: u32, end: &End)
-        requires held { AreHeld self.old }
-        requires there { key < length self.old.places.items }
-        requires made { self.old.made.last ≡ Some end.now.origin }
-        requires onward { end.now.origin.key < key }
-        requires after { self.old.angle ≤ end.now.clock }
-        ensures held { AreHeld self.new }
-        ensures kept { kept_in self.new ≡ raised (kept_in self.old) key (latest_in end.now) }
-        ensures last { self.new.last ≡ later self.old.last (latest_in end.now) }
-        ensures entries { (place_of counts_of : ℕ → ℕ) → location.number ≡ place_of key
-            → counts ≡ counts_of key
-            → HaveEntries place_of counts_of self.old → HaveEntries place_of counts_of self.new }
-        ensures same { SameScan self.old self.new }
+    pub fn stop<L: Ledger>(
+        &mut self,
+        search: &Search,
+        number: usize,
+        leap: &Leap,
+        steps: &mut Steps<L>,
+    )
+        ghost setting: { Setting }
+        requires { IsToEnd setting self.old search.now number leap.now }
+        ensures same { self.new ≡ record self.old {
+          last = later self.old.last (end_sought setting search.now number leap.now);
+          made = self.old.made + 1;
+        } }
+        ensures counted { steps.new ≡ steps.old + 1 }
     {
-        match self.entry_of(key) {
-            Some(place) => self.raise_entry(key, place, end),
-            None => self.add_entry(key, location, counts, end),
-        }
-        self.keep_last(end);
+        self.made += 1;
+        let end = End::of(search, number, leap, steps);
+        self.last = self.last.later(end.latest());
     }
 
-    /// Raises the entry of a key, where the end is later.
-    fn raise_entry(&mut self, key: usize, place: usize, end: &End)
-        requires held { AreHeld self.old }
-        requires there { entry_of self.old.places.items key ≡ suc place }
-        requires onward { end.now.origin.key < key }
-        requires after { self.old.angle ≤ end.now.clock }
-        ensures held { AreHeld self.new }
-        ensures kept { kept_in self.new ≡ raised (kept_in self.old) key (latest_in end.now) }
-        ensures entries { (place_of counts_of : ℕ → ℕ)
-            → HaveEntries place_of counts_of self.old → HaveEntries place_of counts_of self.new }
-        ensures last { self.new.last ≡ self.old.last }
-        ensures same { SameScan self.old self.new }
-    {
-        let time = end.clock() - self.angle;
-        if self.entries[place].time < time {
-            self.entries[place] = Worst {
-                angle: end.angle(),
-                time,
-                ..self.entries[place]
-            };
-            self.origins[place] = end.origin();
-        }
-    }
-
-    /// Adds the entry of a key at which nothing is kept.
-    fn add_entry(&mut self, key: usize, location: Location, counts: u32, end: &End)
-        requires held { AreHeld self.old }
-        requires there { key < length self.old.places.items }
-        requires none { entry_of self.old.places.items key ≡ 0 }
-        requires onward { end.now.origin.key < key }
-        requires after { self.old.angle ≤ end.now.clock }
-        ensures held { AreHeld self.new }
-        ensures kept { kept_in self.new ≡ raised (kept_in self.old) key (latest_in end.now) }
-        ensures entries { (place_of counts_of : ℕ → ℕ) → location.number ≡ place_of key
-            → counts ≡ counts_of key
-            → HaveEntries place_of counts_of self.old → HaveEntries place_of counts_of self.new }
-        ensures last { self.new.last ≡ self.old.last }
-        ensures same { SameScan self.old self.new }
-    {
-        let entry = Worst {
-            place: location,
-            angle: end.angle(),
-            counts,
-            time: end.clock() - self.angle,
-        };
-        let before = self.entries.len();
-        let Ok(()) = self.entries.push(entry) else {
-            unreachable!()
-        };
-        let Ok(()) = self.origins.push(end.origin()) else {
-            unreachable!()
-        };
-        self.places[key] = before as u32 + 1;
-    }
-
-    /// Keeps the end that was made last, where it is later than all that were kept before: that of
-    /// a hop that stops is kept nowhere else.
+    /// Makes the end of a hop that a full mark bars: it is kept nowhere.
     #[inline(always)]
-    pub fn keep_last(&mut self, end: &End)
-        requires made { self.old.made.last ≡ Some end.now.origin }
-        ensures same { self.new ≡ record self.old { last = self.new.last } }
-        ensures last { self.new.last ≡ later self.old.last (latest_in end.now) }
+    pub fn bar<L: Ledger>(
+        &mut self,
+        search: &Search,
+        number: usize,
+        leap: &Leap,
+        steps: &mut Steps<L>,
+    )
+        ghost setting: { Setting }
+        requires { IsToEnd setting self.old search.now number leap.now }
+        ensures same { self.new ≡ record self.old { made = self.old.made + 1 } }
+        ensures counted { steps.new ≡ steps.old + 1 }
     {
-        if self.last.clock < end.clock() {
-            self.last = end.latest();
-        }
+        self.made += 1;
+        let _end = End::of(search, number, leap, steps);
     }
 }

@@ -16,13 +16,15 @@ mod passed;
 mod round;
 mod scan;
 mod search;
+mod steps;
 mod trace;
 mod visit;
 mod worst;
 
-pub use analysing::analyse;
+pub use analysing::{analyse, analyse_counting};
 pub use analysis::Analysis;
 pub use drum_flow::{Cycle, Flow, Hop, Hops, Refusal, accept, flow};
 pub use drum_machine::Way;
+pub use steps::Steps;
 pub use visit::Visit;
 pub use worst::Worst;

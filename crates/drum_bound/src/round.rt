@@ -15,6 +15,8 @@ use drum_times::Mark;
 /// Counts of the marks, as the keys and the table of worst times have them.
 #[derive(Clone, Copy, Debug)]
 pub struct Counted {
+    /// Their number, with the first mark's leading.
+    pub round: usize,
     /// The key of the first location with these counts.
     pub first: usize,
     /// Their number in the table.
@@ -50,8 +52,10 @@ impl Keys<'_> {
         requires within { AreWithin (marks_in self.now) (counts_in counts (marks_in self.now)) }
         ensures { IsCounted self.now.accepted.now (counts_in counts (marks_in self.now)) result }
     {
+        let round = leading(self.marks(), counts);
         Counted {
-            first: leading(self.marks(), counts) * self.nodes.len(),
+            round,
+            first: round * self.nodes.len(),
             number: table_number(self.marks(), counts),
         }
     }

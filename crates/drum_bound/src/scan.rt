@@ -1,18 +1,20 @@
 //! The scan: each key in turn, and each of its hops.
 
-ghost use Rattle.std.specs.Prelude.{◌≡◌, ◌+◌, ◌*◌, ◌/◌, ◌%◌, ◌^◌, ◌<◌, ◌≤◌, ◌∷◌, List, length, IfOk, Some};
+ghost use Rattle.std.specs.Prelude.{◌≡◌, ◌+◌, ◌*◌, ◌/◌, ◌%◌, ◌^◌, ◌<◌, ◌≤◌, ◌∷◌, List, length, IfOk, OnOk};
 
-use crate::cells::{Cells, End};
+use crate::cells::{Cells, Onto};
 use crate::keys::Keys;
 use crate::leap::Leap;
 use crate::round::Round;
 use crate::search::Search;
+use crate::steps::Steps;
 use drum_core::{Location, REVOLUTION};
 use drum_flow::Hops;
 use drum_machine::Way;
 use drum_machine::moments::found;
 use drum_times::Times;
 use std::alloc::{AllocError, Global};
+use std::sync::ledger::Ledger;
 
 /// What is known when some of the keys have been taken: the latest end at each key, and of all.
 #[derive(Debug, Drop)]
@@ -25,38 +27,38 @@ pub struct Scan<'a> {
 }
 
 impl<'a> Scan<'a> {
-    ghost use Rattle.drum_core.specs.Moment.{first};
     ghost use Rattle.drum_machine.specs.Ways.{to};
     ghost use Rattle.drum_machine.specs.WaysLeft.{seen_way};
-    ghost use Rattle.drum_flow.specs.Hops.{Hop as HopOf, IsEdge};
+    ghost use Rattle.drum_flow.specs.Hops.{Hop as HopOf};
     ghost use Rattle.drum_flow.specs.HopsLeft.{hops_left};
-    ghost use Rattle.drum_bound.specs.EndOf.{latest_in};
+    ghost use Rattle.drum_flow.specs.Walk.{Setting};
     ghost use Rattle.drum_bound.specs.Held.{kept_in};
     ghost use Rattle.drum_bound.specs.KeysOf.{AreKeys, order_in, setting_with};
-    ghost use Rattle.drum_bound.specs.LeapOf.{AreLeaps, HaveLeaps, IsLeap, leap_hop};
+    ghost use Rattle.drum_bound.specs.LeapOf.{AreLeaps, HaveLeaps, leap_hop};
     ghost use Rattle.drum_bound.specs.Scanned.{Taking};
     ghost use Rattle.drum_bound.specs.Table.{start_angle};
-    ghost use Rattle.drum_bound.specs.ScanOf.{AreCells, Goes, HasRound, IsAgreed, IsDone, IsReady, IsScanned, hops_of, order_of, place_in, setting_in};
-    ghost use Rattle.drum_bound.specs.SearchOf.{IsSearch, hop_sought};
-    ghost use Rattle.drum_bound.specs.KeyHops.{IsLater};
+    ghost use Rattle.drum_bound.specs.ScanOf.{AreCells, AreCounted, Goes, HasRound, IsAgreed, IsDone, IsReady, IsScanned, hops_of, order_of, place_in, setting_in};
+    ghost use Rattle.drum_bound.specs.SearchOf.{IsSearch, end_sought};
 
     /// The latest ends at all keys, and of all: each key is taken once, after all that can raise
     /// what is kept there.
-    pub fn of(
+    pub fn of<L: Ledger>(
         alloc: Global,
         times: &'a Times,
         keys: &'a Keys<'a>,
         leaps: &'a [Option<Vec<Leap>>],
+        steps: &mut Steps<L>,
     ) -> Result<Scan<'a>, AllocError>
         requires keys { AreKeys keys.now }
         requires leaps { HaveLeaps (setting_with keys.now times.now) (order_in keys.now) leaps.now }
         ensures done { IfOk result IsDone }
         ensures times { IfOk result (λ scan. scan.times.now ≡ times.now) }
         ensures keys { IfOk result (λ scan. scan.keys.now ≡ keys.now) }
+        ensures counted { IfOk result (λ scan. steps.new ≡ steps.old + scan.cells.made) }
     {
         let mut scan = Scan::new(alloc, times, keys, leaps)?;
         for leading in 0..keys.counts {
-            scan.take_round(leading);
+            scan.take_round(leading, steps)?;
         }
         Ok(scan)
     }
@@ -78,6 +80,7 @@ impl<'a> Scan<'a> {
         requires keys { AreKeys keys.now }
         requires leaps { HaveLeaps (setting_with keys.now times.now) (order_in keys.now) leaps.now }
         ensures scanned { IfOk result (λ scan. IsScanned scan 0) }
+        ensures made { IfOk result (λ scan. scan.cells.made ≡ 0) }
         ensures times { IfOk result (λ scan. scan.times.now ≡ times.now) }
         ensures keys { IfOk result (λ scan. scan.keys.now ≡ keys.now) }
     {
@@ -92,109 +95,152 @@ impl<'a> Scan<'a> {
         })
     }
 
-    /// Keeps the end of a hop that goes on, unless a full mark bars it.
+    /// Takes a hop that goes on: it raises what is kept at the key onto which it leads, unless a full
+    /// mark bars it.
     #[inline(always)]
-    fn go_on(&mut self, round: &Round, search: &Search, leap: &Leap, next: Location, end: &End)
-        requires keys { AreKeys self.old.keys.now }
-        requires cells { AreCells (setting_in self.old) (order_of self.old) self.old.cells }
-        requires below { search.now.key < self.old.keys.now.size }
-        requires round { HasRound self.old search.now.key round.now }
-        requires leap { IsLeap (setting_in self.old) (order_of self.old)
-            (place_in self.old search.now.key) (search.now.found % 50) leap.now }
+    fn go_on<L: Ledger>(
+        &mut self,
+        round: &Round,
+        search: &Search,
+        number: usize,
+        leap: &Leap,
+        next: Location,
+        steps: &mut Steps<L>,
+    ) -> Result<(), AllocError>
+        ghost setting: { Setting }
+        requires setting { setting ≡ setting_in self.old }
+        requires ready { IsReady self.old round.now search.now number leap.now }
         requires next { seen_way leap.now.hop.way ≡ to next.number }
-        requires edge { IsEdge (setting_in self.old).loads (setting_in self.old).notes
-            (place_in self.old search.now.key) next.number }
-        requires made { self.old.cells.made.last ≡ Some end.now.origin }
-        requires from { end.now.origin.key ≡ search.now.key }
-        requires after { self.old.cells.angle ≤ end.now.clock }
-        ensures goes { Goes (setting_in self.old) (order_of self.old) search.now.key next.number
-            (latest_in end.now) (kept_in self.old.cells) self.old.cells.last
-            (kept_in self.new.cells) self.new.cells.last }
-        ensures same { self.new ≡ record self.old { cells = self.new.cells } }
-        ensures made { self.new.cells.made ≡ self.old.cells.made }
-        ensures cells { AreCells (setting_in self.old) (order_of self.old) self.new.cells }
+        ensures goes { OnOk result (Goes (setting_in self.old) (order_of self.old) search.now.key
+            next.number (end_sought (setting_in self.old) search.now number leap.now)
+            (kept_in self.old.cells) self.old.cells.last
+            (kept_in self.new.cells) self.new.cells.last) }
+        ensures same { OnOk result (self.new ≡ record self.old { cells = self.new.cells }) }
+        ensures made { OnOk result (self.new.cells.made ≡ self.old.cells.made + 1) }
+        ensures counted { OnOk result (steps.new ≡ steps.old + 1) }
+        ensures cells { OnOk result (AreCells (setting_in self.old) (order_of self.old)
+            self.new.cells) }
     {
         let Some(counted) = round.after(leap) else {
-            return;
+            self.cells.bar(search, number, leap, steps);
+            return Ok(());
         };
-        let key = counted.first + leap.index as usize;
-        self.cells.raise(key, next, counted.number, end);
+        let onto = Onto {
+            key: counted.first + leap.index as usize,
+            round: counted.round,
+            location: next,
+            counts: counted.number,
+        };
+        self.cells.raise(search, number, leap, &onto, steps)?;
+        Ok(())
     }
 
     /// Takes a hop of the key whose instruction is sought: that of this number among the key's.
     #[inline(always)]
-    fn take_leap(&mut self, round: &Round, search: &Search, number: usize, leap: &Leap)
+    fn take_leap<L: Ledger>(
+        &mut self,
+        round: &Round,
+        search: &Search,
+        number: usize,
+        leap: &Leap,
+        steps: &mut Steps<L>,
+    ) -> Result<(), AllocError>
+        ghost setting: { Setting }
+        requires setting { setting ≡ setting_in self.old }
         requires ready { IsReady self.old round.now search.now number leap.now }
-        requires later { IsLater self.old.cells.made.last (hop_sought search.now number) }
-        requires soon { search.now.found ≤ 2 ^ 62 }
-        requires few { self.old.cells.made.count < 2 ^ 62 }
-        ensures same { self.new ≡ record self.old { cells = self.new.cells } }
-        ensures counted { self.new.cells.made.count ≡ self.old.cells.made.count + 1 }
-        ensures last { self.new.cells.made.last ≡ Some (hop_sought search.now number) }
-        ensures cells { AreCells (setting_in self.old) (order_of self.old) self.new.cells }
-        ensures agreed { IsAgreed search.now.key (kept_in self.old.cells) (kept_in self.new.cells) }
-        ensures taken { (left : List HopOf)
+        ensures same { OnOk result (self.new ≡ record self.old { cells = self.new.cells }) }
+        ensures made { OnOk result (self.new.cells.made ≡ self.old.cells.made + 1) }
+        ensures counted { OnOk result (steps.new ≡ steps.old + 1) }
+        ensures cells { OnOk result (AreCells (setting_in self.old) (order_of self.old)
+            self.new.cells) }
+        ensures agreed { OnOk result (IsAgreed search.now.key (kept_in self.old.cells)
+            (kept_in self.new.cells)) }
+        ensures taken { OnOk result ((left : List HopOf)
             → Taking (setting_in self.old) (order_of self.old) search.now.key search.now.begun
             (leap_hop leap.now ∷ left) (kept_in self.old.cells) self.old.cells.last
             → Taking (setting_in self.old) (order_of self.old) search.now.key search.now.begun
-            left (kept_in self.new.cells) self.new.cells.last }
+            left (kept_in self.new.cells) self.new.cells.last) }
     {
-        let end = self.cells.end(search, number, leap);
         match leap.hop.way {
-            Way::To(next) => self.go_on(round, search, leap, next, &end),
-            Way::Early | Way::Late => self.cells.keep_last(&end),
+            Way::To(next) => self.go_on(round, search, number, leap, next, steps),
+            Way::Early | Way::Late => {
+                self.cells.stop(search, number, leap, steps);
+                Ok(())
+            }
         }
     }
 
     /// Takes the key whose instruction is sought, of whose location these are the leaps.
-    fn take_leaps(&mut self, round: &Round, search: &Search, leaps: &[Leap])
+    fn take_leaps<L: Ledger>(
+        &mut self,
+        round: &Round,
+        search: &Search,
+        leaps: &[Leap],
+        steps: &mut Steps<L>,
+    ) -> Result<(), AllocError>
         requires scanned { IsScanned self.old search.now.key }
         requires below { search.now.key < self.old.keys.now.size }
         requires round { HasRound self.old search.now.key round.now }
         requires search { IsSearch (order_of self.old) (kept_in self.old.cells) search.now }
         requires leaps { AreLeaps (setting_in self.old) (order_of self.old)
             (place_in self.old search.now.key) leaps.now }
-        ensures scanned { IsScanned self.new (search.now.key + 1) }
-        ensures same { self.new ≡ record self.old { cells = self.new.cells } }
+        ensures scanned { OnOk result (IsScanned self.new (search.now.key + 1)) }
+        ensures same { OnOk result (self.new ≡ record self.old { cells = self.new.cells }) }
+        ensures counted { OnOk result (AreCounted steps.old steps.new self.old self.new) }
     {
         for (number, leap) in leaps.iter().enumerate() {
-            self.take_leap(round, search, number, leap);
+            self.take_leap(round, search, number, leap, steps)?;
         }
+        Ok(())
     }
 
     /// Takes the key whose instruction is sought, of whose location these are the hops: their leaps
     /// are made for it.
-    fn take_hops(&mut self, round: &Round, search: &Search, left: Hops<'_>)
+    fn take_hops<L: Ledger>(
+        &mut self,
+        round: &Round,
+        search: &Search,
+        left: Hops<'_>,
+        steps: &mut Steps<L>,
+    ) -> Result<(), AllocError>
         requires scanned { IsScanned self.old search.now.key }
         requires below { search.now.key < self.old.keys.now.size }
         requires round { HasRound self.old search.now.key round.now }
         requires search { IsSearch (order_of self.old) (kept_in self.old.cells) search.now }
         requires hops { hops_left left ≡ hops_of self.old search.now.key }
-        ensures scanned { IsScanned self.new (search.now.key + 1) }
-        ensures same { self.new ≡ record self.old { cells = self.new.cells } }
+        ensures scanned { OnOk result (IsScanned self.new (search.now.key + 1)) }
+        ensures same { OnOk result (self.new ≡ record self.old { cells = self.new.cells }) }
+        ensures counted { OnOk result (AreCounted steps.old steps.new self.old self.new) }
     {
         let (keys, times) = (self.keys, self.times);
         let angle = search.found % REVOLUTION;
         for (number, hop) in left.enumerate() {
             let leap = keys.leap(times, search.location, hop, angle);
-            self.take_leap(round, search, number, &leap);
+            self.take_leap(round, search, number, &leap, steps)?;
         }
+        Ok(())
     }
 
     /// Takes a key of a round, that of the location of this index, if something is kept there: each
     /// of its hops, once.
-    fn take_key(&mut self, round: &Round, index: usize)
+    fn take_key<L: Ledger>(
+        &mut self,
+        round: &Round,
+        index: usize,
+        steps: &mut Steps<L>,
+    ) -> Result<(), AllocError>
         requires scanned { IsScanned self.old (round.now.own.first + index) }
         requires index { index < length (order_of self.old) }
         requires below { round.now.own.first + index < self.old.keys.now.size }
         requires round { HasRound self.old (round.now.own.first + index) round.now }
         requires rest { (round.now.own.first + index) % length (order_of self.old) ≡ index }
-        ensures scanned { IsScanned self.new (round.now.own.first + index + 1) }
-        ensures same { self.new ≡ record self.old { cells = self.new.cells } }
+        ensures scanned { OnOk result (IsScanned self.new (round.now.own.first + index + 1)) }
+        ensures same { OnOk result (self.new ≡ record self.old { cells = self.new.cells }) }
+        ensures counted { OnOk result (AreCounted steps.old steps.new self.old self.new) }
     {
         let key = round.own.first + index;
         let Some(begun) = self.cells.clock_at(key) else {
-            return;
+            return Ok(());
         };
         let node = self.keys.node(index);
         let search = Search {
@@ -205,26 +251,31 @@ impl<'a> Scan<'a> {
         };
         let leaps: &'a [Option<Vec<Leap>>] = self.leaps;
         match &leaps[index] {
-            Some(leaps) => self.take_leaps(round, &search, leaps),
-            None => self.take_hops(round, &search, node.hops),
+            Some(leaps) => self.take_leaps(round, &search, leaps, steps),
+            None => self.take_hops(round, &search, node.hops, steps),
         }
     }
 
     /// Takes the keys with the counts of this number, with the first mark's leading.
-    fn take_round(&mut self, leading: usize)
+    fn take_round<L: Ledger>(
+        &mut self,
+        leading: usize,
+        steps: &mut Steps<L>,
+    ) -> Result<(), AllocError>
         requires scanned { IsScanned self.old (leading * length (order_of self.old)) }
         requires below { leading < self.old.keys.now.counts }
-        ensures scanned { IsScanned self.new ((leading + 1) * length (order_of self.old)) }
-        ensures same { self.new ≡ record self.old { cells = self.new.cells } }
+        ensures scanned { OnOk result (IsScanned self.new
+            ((leading + 1) * length (order_of self.old))) }
+        ensures same { OnOk result (self.new ≡ record self.old { cells = self.new.cells }) }
+        ensures counted { OnOk result (AreCounted steps.old steps.new self.old self.new) }
     {
-        let words = self.keys.nodes.len();
-        let first = leading * words;
-        if !self.cells.keeps_any(first, first + words) {
-            return;
+        if !self.cells.keeps_any(leading) {
+            return Ok(());
         }
         let round = self.keys.round(leading);
-        for index in 0..words {
-            self.take_key(&round, index);
+        for index in 0..self.keys.nodes.len() {
+            self.take_key(&round, index, steps)?;
         }
+        Ok(())
     }
 }

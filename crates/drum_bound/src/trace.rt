@@ -71,10 +71,12 @@ impl Scan<'_> {
     {
         let mut visits = Vec::new(alloc);
         let mut end = self.cells.last();
+        let mut near = 0;
         while let Some(origin) = end.origin {
-            let Some(begin) = self.cells.kept_at(origin.key as usize) else {
+            let Some((index, begin)) = self.cells.kept_at(origin.key as usize, near) else {
                 unreachable!()
             };
+            near = index;
             visits.push(self.visit(origin, begin, end))?;
             end = begin;
         }

@@ -1,13 +1,16 @@
 //! Ends of hops, and their one maker.
 
-ghost use Rattle.std.specs.Prelude.{◌≡◌, ◌+◌, ◌%◌, ◌<◌, ◌≤◌, ◌^◌, None, Some};
+ghost use Rattle.std.specs.Prelude.{◌≡◌, ◌+◌, ◌%◌, ◌<◌, ◌≤◌, ◌^◌};
 
 use crate::key_hop::KeyHop;
 use crate::latest::Latest;
 use crate::leap::Leap;
+use crate::search::Search;
+use crate::steps::Steps;
 use drum_core::REVOLUTION;
+use std::sync::ledger::Ledger;
 
-/// The latest end of a hop from a key. It is made by [`Ends::end`] alone, which counts it.
+/// The latest end of a hop from a key. [`End::of`] alone makes one, and counts it.
 #[derive(Debug, Drop)]
 pub struct End {
     clock: u64,
@@ -15,7 +18,28 @@ pub struct End {
 }
 
 impl End {
+    ghost use Rattle.drum_flow.specs.Walk.{Setting};
     ghost use Rattle.drum_bound.specs.EndOf.{latest_in};
+    ghost use Rattle.drum_bound.specs.SearchOf.{CanEnd, end_sought};
+
+    /// The end of a hop of the key whose instruction is sought, that of this number among the
+    /// key's: the latest that it can have.
+    #[inline(always)]
+    pub fn of<L: Ledger>(search: &Search, number: usize, leap: &Leap, steps: &mut Steps<L>) -> End
+        ghost setting: { Setting }
+        requires { CanEnd setting search.now number leap.now }
+        ensures latest { latest_in result ≡ end_sought setting search.now number leap.now }
+        ensures counted { steps.new ≡ steps.old + 1 }
+    {
+        steps.tick();
+        End {
+            clock: search.found + u64::from(leap.time),
+            origin: KeyHop {
+                key: search.key as u32,
+                number: number as u32,
+            },
+        }
+    }
 
     /// Its clock.
     pub fn clock(&self) -> u64
@@ -26,7 +50,8 @@ impl End {
 
     /// The drum's angle then, 0 to 49.
     pub fn angle(&self) -> u8
-        ensures { result ≡ self.now.clock % 50 }
+        ensures value { result ≡ self.now.clock % 50 }
+        ensures on_drum { result < 50 }
     {
         (self.clock % REVOLUTION) as u8
     }
@@ -45,56 +70,6 @@ impl End {
         Latest {
             clock: self.clock,
             origin: Some(self.origin),
-        }
-    }
-}
-
-/// The ends of hops that have been made: how many, and, for the contracts alone, which was the
-/// last. Each is of a later hop than the one before it, so that no two are of one key and number.
-#[derive(Debug, Drop)]
-pub struct Ends {
-    count: u64,
-    last: Option<KeyHop>,
-}
-
-impl Ends {
-    ghost use Rattle.drum_bound.specs.KeyHops.{IsLater};
-
-    /// No end yet.
-    pub fn none() -> Ends
-        ensures count { result.count ≡ 0 }
-        ensures last { result.last ≡ None }
-    {
-        Ends {
-            count: 0,
-            last: None,
-        }
-    }
-
-    /// How many there are.
-    pub fn count(&self) -> u64
-        ensures { result ≡ self.now.count }
-    {
-        self.count
-    }
-
-    /// The latest end of a hop of a key whose instruction is found at this clock; a later hop than
-    /// the last one.
-    #[inline(always)]
-    pub fn end(&mut self, key_hop: KeyHop, found: u64, leap: &Leap) -> End
-        requires few { self.old.count < 2 ^ 62 }
-        requires later { IsLater self.old.last key_hop }
-        requires soon { found ≤ 2 ^ 62 }
-        ensures counted { self.new.count ≡ self.old.count + 1 }
-        ensures last { self.new.last ≡ Some key_hop }
-        ensures origin { result.origin ≡ key_hop }
-        ensures clock { result.clock ≡ found + leap.now.time }
-    {
-        self.count += 1;
-        self.last = Some(key_hop);
-        End {
-            clock: found + u64::from(leap.time),
-            origin: key_hop,
         }
     }
 }

@@ -1,4 +1,4 @@
-use Rattle.std.proofs.Common.{◌≡◌, ℕ, ◌-◌, List, Vec, Global, length, map, ap, sym, subst, arith}
+use Rattle.std.proofs.Common.{◌≡◌, ℕ, ◌+◌, ◌-◌, List, Vec, Global, length, map, ap, sym, ◌∙◌, subst, arith}
 use Rattle.std.proofs.lemmas.List.{length-map}
 use Rattle.drum_times.specs.declared.notes.mark.Mark.{Mark}
 use Rattle.drum_times.specs.declared.times.Times.{Times}
@@ -23,11 +23,11 @@ use Rattle.drum_bound.proofs.analysing.analysis_by.Goals as goal
 
 -- the bound, from the start angle
 bound : (keys : Keys) (times : Times) (cells : Cells) (visits : List Visited) → IsFound keys times cells visits
-    → cells.last.clock - cells.angle ≡ cells.last.clock - start_angle (setting_of keys.accepted.now times).start
+    → cells.last.clock - cells.entries.angle ≡ cells.last.clock - start_angle (setting_of keys.accepted.now times).start
 bound keys times cells visits is = ap (λ (n : ℕ). cells.last.clock - n) is.are.angle
 
-pub of-requires-2-clause-in_time : goal.of-requires-2-clause-in_time
-of-requires-2-clause-in_time c =
+pub of-requires-2 : goal.of-requires-2
+of-requires-2 v c =
     let keys = c.args.keys.now in
     let times = c.args.times.now in
     let cells = c.in_ok-scan.scan.cells in
@@ -36,52 +36,23 @@ of-requires-2-clause-in_time c =
     is_found keys times c.in_ok-scan.scan visits c.in_ok-scan.ensures.keys c.in_ok-scan.ensures.times
     c.in_ok-scan.ensures.done c.in_ok-walk.ensures in
     let g = setting_of keys.accepted.now times in
-    subst (AreInTime 0 visits) (sym (bound keys times cells visits is))
-    (walk_in_time g (start_angle g.start) (cells.last.clock - start_angle g.start) visits is.walk)
+    record {
+      in_time = subst (AreInTime 0 visits) (sym (bound keys times cells visits is))
+          (walk_in_time g (start_angle g.start) (cells.last.clock - start_angle g.start) visits is.walk);
+      after = last_after g (in_order keys.accepted.now) cells is.are is.scanned;
+      on_drum = omega (arith, is.are.angle);
+      below = omega (arith, is.are.angle, is.scanned.last_near, c.requires.ordered.0.few);
+      few = omega (
+        arith,
+        c.requires.ordered.0.few,
+        short_walk g (in_order keys.accepted.now) c.requires.ordered.0 (start_angle g.start) is.walk.hops is.walk.walk,
+        length-map is.walk.hops visited,
+        ap length is.walk.same,
+      );
+    }
 
-pub of-requires-2-clause-after : goal.of-requires-2-clause-after
-of-requires-2-clause-after c =
-    let keys = c.args.keys.now in
-    let times = c.args.times.now in
-    let visits = map seen_visit c.in_ok-walk.walk.items in
-    let is : IsFound keys times c.in_ok-scan.scan.cells visits =
-    is_found keys times c.in_ok-scan.scan visits c.in_ok-scan.ensures.keys c.in_ok-scan.ensures.times
-    c.in_ok-scan.ensures.done c.in_ok-walk.ensures in
-    last_after (setting_of keys.accepted.now times) (in_order keys.accepted.now) c.in_ok-scan.scan.cells is.are
-    is.scanned
-
-pub of-requires-2-clause-on_drum : goal.of-requires-2-clause-on_drum
-of-requires-2-clause-on_drum c = omega (arith, c.in_ok-scan.ensures.done.cells.angle)
-
-pub of-requires-2-clause-below : goal.of-requires-2-clause-below
-of-requires-2-clause-below c =
-    let keys = c.args.keys.now in
-    let times = c.args.times.now in
-    let visits = map seen_visit c.in_ok-walk.walk.items in
-    let is : IsFound keys times c.in_ok-scan.scan.cells visits =
-    is_found keys times c.in_ok-scan.scan visits c.in_ok-scan.ensures.keys c.in_ok-scan.ensures.times
-    c.in_ok-scan.ensures.done c.in_ok-walk.ensures in
-    omega (arith, is.scanned.last_near, c.requires.ordered.0.few)
-
-pub of-requires-2-clause-few : goal.of-requires-2-clause-few
-of-requires-2-clause-few c =
-    let keys = c.args.keys.now in
-    let g = setting_of keys.accepted.now c.args.times.now in
-    let visits = map seen_visit c.in_ok-walk.walk.items in
-    let is : IsFound keys c.args.times.now c.in_ok-scan.scan.cells visits =
-    is_found keys c.args.times.now c.in_ok-scan.scan visits c.in_ok-scan.ensures.keys c.in_ok-scan.ensures.times
-    c.in_ok-scan.ensures.done c.in_ok-walk.ensures in
-    omega (
-      arith,
-      c.requires.ordered.0.few,
-      short_walk g (in_order keys.accepted.now) c.requires.ordered.0 (start_angle g.start) is.walk.hops is.walk.walk,
-      length-map is.walk.hops visited,
-      ap length is.walk.same,
-      length-map c.in_ok-walk.walk.items seen_visit,
-    )
-
-pub returns : goal.returns
-returns c =
+pub returns-clause-is : goal.returns-clause-is
+returns-clause-is v c =
     let keys = c.args.keys.now in
     let times = c.args.times.now in
     let cells = c.in_ok-scan.scan.cells in
@@ -106,7 +77,7 @@ returns c =
     (subst (λ (all : Cells).
     Scanned g order (keys_of g.notes.marks order) (keys_of g.notes.marks order) (kept_in all) all.last) (sym same)
     is.scanned)
-    (subst (λ (all : Cells). all.made.count ≡ turns_below g order (kept_in all) (keys_of g.notes.marks order))
+    (subst (λ (all : Cells). all.made ≡ turns_below g order (kept_in all) (keys_of g.notes.marks order))
     (sym same) is.turns)
     (subst (λ (all : Cells).
     IsWalkOf g (start_angle g.start) (all.last.clock - start_angle g.start)
@@ -114,3 +85,8 @@ returns c =
     (subst (IsWalkOf g (start_angle g.start) (cells.last.clock - start_angle g.start)) (sym walked) is.walk))
     (subst (λ (all : List Visited). ArePasses g.notes.marks all c.of-2.result.passed) (sym walked)
     (subst (λ (all : List ℕ). ArePasses g.notes.marks visits all) (sym c.of-2.ensures.passed) own))
+
+pub returns-clause-counted : goal.returns-clause-counted
+returns-clause-counted v c =
+    c.in_ok-scan.ensures.counted
+    ∙ ap (λ (cells : Cells). c.args.steps.now + cells.made) (sym c.of-2.ensures.cells)

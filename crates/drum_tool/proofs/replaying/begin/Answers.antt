@@ -31,7 +31,7 @@ returns-clause-begun c =
     c.new-monitor.ensures.declared (silent none) in
     record {
       ready = record {
-        bounded = subst (λ (bound : ℕ). IsBounded g bound) (sym c.bound.ensures.told) c.in-Ok.ensures.kept;
+        bounded = subst (λ (bound : ℕ). IsBounded g bound) (sym c.bound.ensures.told) c.in-Ok.ensures.analysed.kept;
         below = c.bound.ensures.below;
         angle = set_up.angle;
         begins = begins;
@@ -42,9 +42,9 @@ returns-clause-begun c =
       };
       has = record {
         own_words = sym c.loaded_by.ensures ∙ c.in_default.is;
-        accepted = (c.in-Ok.ensures.accepted.0, c.in-Ok.ensures.accepted.1);
+        accepted = (c.in-Ok.ensures.analysed.accepted.0, c.in-Ok.ensures.analysed.accepted.1);
       };
-      worst = subst (λ (bound : ℕ). IsWorst g bound) (sym c.bound.ensures.told) c.in-Ok.ensures.worst;
+      worst = subst (λ (bound : ℕ). IsWorst g bound) (sym c.bound.ensures.told) c.in-Ok.ensures.analysed.worst;
       are = record { set_up = set_up; reader = refl; feed = refl };
       before =
           λ verdict at. of_switch g c.args.inputs.setup (answer_of monitor) verdict c.new-monitor.ensures.declared

@@ -1,20 +1,15 @@
-use Rattle.std.proofs.Common.{◌≡◌, ◌<◌, ℕ, None, length, inl, inr, sym, ◌∙◌, subst, arith}
-use Rattle.std.proofs.lemmas.Bool.{cases_lt}
-use Rattle.std.proofs.lemmas.Grind.{get_or_default_zero}
-use Rattle.drum_bound.specs.Held.{entry_of, kept_in}
-use Rattle.drum_bound.specs.Scanned.{cell_at}
-use Rattle.drum_bound.proofs.HeldLaws.{none_kept}
+use Rattle.std.proofs.Common.{◌≡◌, Bool, Some, length, refl, ap, ◌∙◌, arith}
+use Rattle.std.specs.Prelude.{slice_get}
+use Rattle.std.proofs.lemmas.Option.{slice_get_read}
+use Rattle.drum_bound.proofs.HeldLaws.{unnoted}
 use Rattle.drum_bound.proofs.cells.Cells.keeps_any.Goals as goal
 
-pub loop-key-preserved : goal.loop-key-preserved
-loop-key-preserved c = λ key from below. elim (cases_lt key c.loop-key.key) [
-  | inl before ↦ c.loop-key.invariant key from before
-  | inr past ↦ (
-      let cells = c.args.self.now in
-      let same : c.loop-key.key ≡ key = omega (arith, below, past) in
-      let inside : c.loop-key.key < length cells.places.items = omega (arith, c.loop-key-test.true, c.requires.there) in
-      let none : entry_of cells.places.items c.loop-key.key ≡ 0 =
-      sym (get_or_default_zero cells.places.items c.loop-key.key c.index.result.now inside) ∙ sym c.index.ensures
-      ∙ omega (arith, c.if-index-gt0.false) in
-      subst (λ (k : ℕ). cell_at (kept_in cells) k ≡ None) same (none_kept cells c.loop-key.key none))
-]
+pub returns : goal.returns
+returns c = λ none key below round.
+    let cells = c.args.self.now in
+    let held = c.requires.held in
+    let at : slice_get cells.rounds.items c.args.round ≡ Some c.index.result.now =
+    slice_get_read cells.rounds.items (length cells.rounds.items) c.args.round c.index.result.now refl
+    (omega (arith, c.requires.there, held.rounds)) c.index.ensures in
+    unnoted cells key held below
+    (ap (slice_get cells.rounds.items) round ∙ at ∙ ap (λ (b : Bool). Some b) none)

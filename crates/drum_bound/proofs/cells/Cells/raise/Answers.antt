@@ -1,14 +1,72 @@
-use Rattle.drum_bound.specs.Held.{HaveEntries}
+use Rattle.std.proofs.Common.{◌*◌, Some, true, ap, ◌∙◌, arith}
+use Rattle.std.proofs.lemmas.List.{length-set}
+use Rattle.drum_machine.specs.WaysLeft.{seen_way}
+use Rattle.drum_bound.specs.declared.latest.Latest.{Latest}
+use Rattle.drum_bound.specs.Kept.{kept_of, pairs_of}
+use Rattle.drum_bound.specs.Scanned.{later_than}
+use Rattle.drum_bound.specs.SearchOf.{end_sought}
+use Rattle.drum_bound.proofs.EntryKeys.{entries_few}
+use Rattle.drum_bound.proofs.HeldLaws.{clock_after, raised_entries, raised_is, raised_noted}
+use Rattle.drum_bound.proofs.LongestLaws.{longest_later}
 use Rattle.drum_bound.proofs.cells.Cells.raise.Goals as goal
-use Rattle.drum_bound.proofs.cells.Cells.raise.Goals.{in-Some, in-None}
-use Rattle.std.proofs.Common.{subst, sym}
+
+pub of-end-requires : goal.of-end-requires
+of-end-requires g c = λ κs lives. (lives, c.requires.1.1.0.end)
+
+pub overflow_add-self : goal.overflow_add-self
+overflow_add-self g c = omega (arith, c.requires.1.1.0.few)
+
+pub keep-requires-clause-after : goal.keep-requires-clause-after
+keep-requires-clause-after g c =
+    let search = c.args.search.now in
+    let ins = c.args.leap.now.hop.instruction in
+    let way = seen_way c.args.leap.now.hop.way in
+    let kept = c.requires.1.1.0.begun in
+    omega (
+      arith,
+      clock_after c.args.self.now search.key kept.0 kept.1,
+      kept.2,
+      ap (λ (l : Latest). l.clock) c.of-end.ensures.latest,
+      longest_later g.setting.times search.location.number ins way search.begun,
+    )
+
+pub invariant_of-self-2 : goal.invariant_of-self-2
+invariant_of-self-2 g c =
+    let cells = c.args.self.now in
+    let onto = c.args.onto.now in
+    let onward = c.requires.1.1.1 in
+    record {
+      limit = entries_few (pairs_of c.keep.new.self) (cells.counts * cells.words) c.in_ok-keep.ensures.keeps.kept.apart
+          (λ key entry there.
+          (raised_noted cells (pairs_of c.keep.new.self) onto.key onto.round onto.location onto.counts c.requires.1.0
+          c.in_ok-keep.ensures.keeps.adds onward.there onward.round key entry there).0);
+    }
+
+pub returns-clause-held : goal.returns-clause-held
+returns-clause-held g c =
+    let cells = c.args.self.now in
+    let onto = c.args.onto.now in
+    let onward = c.requires.1.1.1 in
+    record {
+      kept = c.in_ok-keep.ensures.keeps.kept;
+      rounds = length-set cells.rounds.items onto.round true ∙ c.requires.1.0.rounds;
+      noted = raised_noted cells (pairs_of c.keep.new.self) onto.key onto.round onto.location onto.counts c.requires.1.0
+          c.in_ok-keep.ensures.keeps.adds onward.there onward.round;
+      few = c.requires.1.0.few;
+    }
+
+pub returns-clause-kept : goal.returns-clause-kept
+returns-clause-kept g c =
+    let cells = c.args.self.now in
+    let key = c.args.onto.now.key in
+    raised_is cells.entries c.keep.new.self (cells.counts * cells.words) key
+    (end_sought g.setting c.args.search.now c.args.number c.args.leap.now) c.requires.1.1.1.there
+    (c.in_ok-keep.ensures.keeps.here
+    ∙ ap (λ (l : Latest). Some (later_than (kept_of cells.entries key) l)) c.of-end.ensures.latest)
+    c.in_ok-keep.ensures.keeps.others
 
 pub returns-clause-entries : goal.returns-clause-entries
-returns-clause-entries c =
-    λ place_of counts_of at counted old.
-    subst (HaveEntries place_of counts_of) (sym c.keep_last.ensures.same) (elim c.match-entry_of.branch [
-      | in-Some w ↦ subst (HaveEntries place_of counts_of) (sym w.self-is)
-          (w.raise_entry.ensures.entries place_of counts_of old)
-      | in-None w ↦ subst (HaveEntries place_of counts_of) (sym w.self-is)
-          (w.add_entry.ensures.entries place_of counts_of at counted old)
-    ])
+returns-clause-entries g c = λ place_of counts_of at counted right.
+    let onto = c.args.onto.now in
+    raised_entries place_of counts_of (pairs_of c.args.self.now.entries) (pairs_of c.keep.new.self) onto.key
+    onto.location onto.counts c.in_ok-keep.ensures.keeps.adds at counted right

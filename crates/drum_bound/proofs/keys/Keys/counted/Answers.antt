@@ -13,11 +13,11 @@ overflow_mul-result c =
     let marks = (notes_of c.args.self.now.accepted.now.flow).marks in
     let order = in_order c.args.self.now.accepted.now in
     let counts = counts_in c.args.counts marks in
-    let lead : c.leading.result ≡ leading marks counts =
-    c.leading.ensures ∙ ap (λ (all : List Mark). leading all (counts_in c.args.counts all)) c.marks.ensures.all in
+    let lead : c.leading-round.result ≡ leading marks counts =
+    c.leading-round.ensures ∙ ap (λ (all : List Mark). leading all (counts_in c.args.counts all)) c.marks.ensures.all in
     let words : c.len.result ≡ length order =
     as_long c.args.self.now c.len.result c.requires.keys c.len.ensures in
-    let product : c.leading.result * c.len.result ≡ leading marks counts * length order =
+    let product : c.leading-round.result * c.len.result ≡ leading marks counts * length order =
     ap (λ (n : ℕ). n * c.len.result) lead ∙ ap (λ (n : ℕ). leading marks counts * n) words in
     omega (arith, product, small_product marks order counts c.requires.within c.requires.keys.ordered.0.few)
 
@@ -26,11 +26,12 @@ returns c =
     let marks = (notes_of c.args.self.now.accepted.now.flow).marks in
     let order = in_order c.args.self.now.accepted.now in
     let counts = counts_in c.args.counts marks in
-    let lead : c.leading.result ≡ leading marks counts =
-    c.leading.ensures ∙ ap (λ (all : List Mark). leading all (counts_in c.args.counts all)) c.marks.ensures.all in
+    let lead : c.leading-round.result ≡ leading marks counts =
+    c.leading-round.ensures ∙ ap (λ (all : List Mark). leading all (counts_in c.args.counts all)) c.marks.ensures.all in
     let words : c.len.result ≡ length order =
     as_long c.args.self.now c.len.result c.requires.keys c.len.ensures in
     record {
+      round = lead;
       first = ap (λ (n : ℕ). n * c.len.result) lead ∙ ap (λ (n : ℕ). leading marks counts * n) words;
       number = c.table_number.ensures
           ∙ ap (λ (all : List Mark). number_of all (counts_in c.args.counts all)) c.marks-2.ensures.all;

@@ -12,7 +12,7 @@ use Rattle.drum_bound.specs.declared.keys.Node.{Node}
 use Rattle.drum_bound.specs.declared.leap.Leap.{Leap}
 use Rattle.drum_bound.specs.KeysOf.{setting_of}
 use Rattle.drum_bound.specs.LeapOf.{AreLeaps}
-use Rattle.drum_bound.proofs.HeldLaws.{get_before, get_behind}
+use Rattle.drum_bound.proofs.Lists.{get_before, get_behind}
 use Rattle.drum_bound.proofs.keys.Keys.leaps.Goals as goal
 use Rattle.drum_bound.proofs.keys.Keys.leaps.Goals.{in-Some, in-None}
 

@@ -2,7 +2,6 @@ use Rattle.std.proofs.Common.{◌≡◌, ℕ, ◌*◌, List, length, Option, Non
 use Rattle.drum_core.specs.Loads.{start_in}
 use Rattle.drum_flow.specs.Flow.{deck_of}
 use Rattle.drum_flow.specs.AcceptedFlow.{in_order}
-use Rattle.drum_bound.specs.declared.key_hop.KeyHop.{KeyHop}
 use Rattle.drum_bound.specs.declared.latest.Latest.{Latest}
 use Rattle.drum_bound.specs.KeysOf.{setting_of}
 use Rattle.drum_bound.specs.Keys.{keys_of, place_at}
@@ -10,7 +9,6 @@ use Rattle.drum_bound.specs.RowOf.{counts_number}
 use Rattle.drum_bound.specs.Table.{number_of}
 use Rattle.drum_bound.proofs.EntriesRaised.{number_none}
 use Rattle.drum_bound.specs.Scanned.{Scanned}
-use Rattle.drum_bound.specs.KeyHops.{IsBefore}
 use Rattle.drum_bound.proofs.Begun.{begun}
 use Rattle.drum_bound.proofs.Nodes.{as_long}
 use Rattle.drum_bound.specs.Held.{kept_in}
@@ -48,5 +46,4 @@ returns-clause-scanned c =
           (subst (λ (all : List (Option Latest)). Scanned g order 0 0 all start) (sym cells)
           (begun g order key start c.start_key-key.ensures c.start_angle-angle.ensures refl));
       turns = c.in_ok-cells.ensures.made;
-      before = subst (λ (last : Option KeyHop). IsBefore last 0) (sym c.in_ok-cells.ensures.none_made) tt;
     }

@@ -5,17 +5,18 @@ use Rattle.drum_bound.specs.ScanOf.{IsScanned, order_of, setting_in}
 use Rattle.drum_bound.proofs.scan.Scan.of.Goals as goal
 
 pub loop-leading-init : goal.loop-leading-init
-loop-leading-init c =
+loop-leading-init g c =
     let none : 0 ≡ 0 * length (order_of c.in_ok-scan.scan) = omega arith in
     record {
       scanned = subst (IsScanned c.in_ok-scan.scan) none c.in_ok-scan.ensures.scanned;
       times =
           c.in_ok-scan.ensures.times;
       keys = c.in_ok-scan.ensures.keys;
+      counted = omega (arith, c.in_ok-scan.ensures.made);
     }
 
 pub returns-clause-done : goal.returns-clause-done
-returns-clause-done c =
+returns-clause-done g c =
     let known = c.loop-leading.invariant in
     let scan = c.loop-leading.scan in
     let counts : scan.keys.now.counts ≡ c.args.keys.now.counts = ap (λ (keys : Keys). keys.counts) known.keys in

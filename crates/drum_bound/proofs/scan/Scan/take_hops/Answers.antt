@@ -1,9 +1,8 @@
-use Rattle.std.proofs.Common.{◌≡◌, ℕ, ◌+◌, ◌%◌, ◌≤◌, ◌∷◌, [], List, drop, length, Some, inl, refl, ap, sym, ◌∙◌, subst}
+use Rattle.std.proofs.Common.{◌≡◌, ℕ, ◌+◌, ◌%◌, ◌∷◌, [], List, drop, length, Some, inl, refl, ap, sym, ◌∙◌, subst}
 use Rattle.std.proofs.Common.{arith}
 use Rattle.std.specs.declared.iter.Enumerate.{Enumerate}
 use Rattle.std.specs.Iterator.Adapters.{enumerate_count, enumerate_source}
 use Rattle.std.specs.Prelude.{slice_get, Contains}
-use Rattle.std.proofs.lemmas.Option.{slice_get_within}
 use Rattle.drum_flow.specs.declared.hops.Hop as code
 use Rattle.drum_flow.specs.declared.hops.Hops.{Hops}
 use Rattle.drum_flow.specs.Hops.{Hop, hops}
@@ -11,19 +10,18 @@ use Rattle.drum_flow.specs.HopsLeft.{hops_left}
 use Rattle.drum_flow.specs.Seen.{seen_hop}
 use Rattle.drum_bound.specs.declared.leap.Leap.{Leap}
 use Rattle.drum_bound.specs.declared.scan.Scan.{Scan}
-use Rattle.drum_bound.specs.KeyHops.{IsLater}
 use Rattle.drum_bound.specs.Keys.{place_at}
 use Rattle.drum_bound.specs.LeapOf.{IsLeap, leap_hop}
 use Rattle.drum_bound.specs.ScanOf.{setting_in, order_of, IsReady, IsScanned}
 use Rattle.drum_bound.proofs.FewHops.{few_hops}
-use Rattle.drum_bound.proofs.Halfway.{found_soon, half_all, half_few, half_more, half_none, half_ready, IsHalfway}
+use Rattle.drum_bound.proofs.Halfway.{half_all, half_more, half_none, half_ready, IsHalfway}
 use Rattle.drum_bound.proofs.KeyLaws.{place_there}
 use Rattle.drum_bound.proofs.KeysTaken.{hop_among, hops_at}
-use Rattle.drum_bound.proofs.LaterHops.{first_left, others_left}
+use Rattle.drum_bound.proofs.Lists.{first_left, others_left}
 use Rattle.drum_bound.proofs.scan.Scan.take_hops.Goals as goal
 
 pub loop-number-init-derived : goal.loop-number-init-derived
-loop-number-init-derived c =
+loop-number-init-derived g c =
     let scan = c.args.self.now in
     let g = setting_in scan in
     let each = c.into_iter-number-iterator in
@@ -37,7 +35,7 @@ loop-number-init-derived c =
     ((tt, tt, inl (omega (arith, number, few, ap (λ (hops : List Hop). length hops) left))), tt)
 
 pub loop-number-init : goal.loop-number-init
-loop-number-init c =
+loop-number-init g c =
     let scan = c.args.self.now in
     let key = c.args.search.now.key in
     let each = c.into_iter-number-iterator in
@@ -51,7 +49,8 @@ loop-number-init c =
       half = subst (λ (n : ℕ). IsHalfway scan key c.args.search.now.begun n scan.cells) (sym number)
           (half_none scan key c.args.search.now.begun c.requires.scanned c.requires.search.begun);
       left = ap (λ (n : ℕ). drop n (hops_at scan key)) number ∙ sym left;
-      counted = omega (arith, number, ap (λ (hops : List Hop). length hops) left);
+      counted = omega (arith, number);
+      long = omega (arith, number, ap (λ (hops : List Hop). length hops) left);
     }
 
 -- the hop that comes is that of its number
@@ -60,14 +59,14 @@ comes : (scan : Scan) (key number : ℕ) (left rest : List Hop) (hop : Hop) → 
 comes scan key number left rest hop so_far step = first_left number (hops_at scan key) rest hop (so_far ∙ step)
 
 pub leap-leap-requires-clause-there : goal.leap-leap-requires-clause-there
-leap-leap-requires-clause-there c =
+leap-leap-requires-clause-there g c =
     let scan = c.args.self.now in
     subst (Contains (order_of scan)) (sym c.requires.search.there)
     (place_there (setting_in scan).notes.marks (order_of scan) c.args.search.now.key
     (omega (arith, c.requires.below, c.requires.scanned.keys.size)))
 
 pub leap-leap-requires-clause-hop : goal.leap-leap-requires-clause-hop
-leap-leap-requires-clause-hop c =
+leap-leap-requires-clause-hop g c =
     let scan = c.args.self.now in
     let key = c.args.search.now.key in
     let hop : Hop = seen_hop c.in-Some.hop in
@@ -85,8 +84,8 @@ leap_there : (scan : Scan) (place other angle : ℕ) (leap : Leap) → place ≡
 leap_there scan place other angle leap same is =
     subst (λ (n : ℕ). IsLeap (setting_in scan) (order_of scan) n angle leap) same is
 
-pub take_leap-requires-clause-ready : goal.take_leap-requires-clause-ready
-take_leap-requires-clause-ready c =
+pub take_leap-requires : goal.take_leap-requires
+take_leap-requires g c =
     let scan = c.args.self.now in
     let search = c.args.search.now in
     let leap = c.leap-leap.result in
@@ -95,39 +94,21 @@ take_leap-requires-clause-ready c =
     comes scan search.key number (hops_left (enumerate_source c.loop-number.number-iterator))
     (hops_left (enumerate_source c.next.new.self)) (seen_hop c.in-Some.hop) c.loop-number.invariant.left
     c.in-Some.ensures.steps.0 in
-    subst (λ (n : ℕ). IsReady c.loop-number.self c.args.round.now search n leap) (sym c.in-Some.ensures.steps.1)
-    (half_ready scan c.loop-number.self c.args.round.now search number leap c.loop-number.invariant.same
-    c.requires.scanned c.loop-number.invariant.half c.requires.below c.requires.round c.requires.search
-    (at ∙ ap (λ (h : code.Hop). Some (seen_hop h)) (sym c.leap-leap.ensures.hop))
-    (leap_there scan search.location.number (place_at (order_of scan) search.key) (search.found % 50) leap
-    c.requires.search.there c.leap-leap.ensures.leap))
-
-pub take_leap-requires-clause-soon : goal.take_leap-requires-clause-soon
-take_leap-requires-clause-soon c =
-    found_soon c.args.self.now c.args.search.now c.requires.scanned c.requires.below c.requires.search
-
-pub take_leap-requires-clause-later : goal.take_leap-requires-clause-later
-take_leap-requires-clause-later c =
-    subst (λ (n : ℕ). IsLater c.loop-number.self.cells.made.last (record { key = c.args.search.now.key; number = n }))
-    (sym c.in-Some.ensures.steps.1) c.loop-number.invariant.half.later
-
-within : (hops : List Hop) (number : ℕ) (hop : Hop) → slice_get hops number ≡ Some hop → number ≤ length hops
-within hops number hop at = omega (arith, slice_get_within hops number hop at)
-
-pub take_leap-requires-clause-few : goal.take_leap-requires-clause-few
-take_leap-requires-clause-few c =
-    let scan = c.args.self.now in
-    let key = c.args.search.now.key in
-    let number = enumerate_count c.loop-number.number-iterator in
-    half_few scan key c.args.search.now.begun number c.loop-number.self.cells c.requires.scanned c.requires.below
-    c.loop-number.invariant.half
-    (within (hops_at scan key) number (seen_hop c.in-Some.hop)
-    (comes scan key number (hops_left (enumerate_source c.loop-number.number-iterator))
-    (hops_left (enumerate_source c.next.new.self)) (seen_hop c.in-Some.hop) c.loop-number.invariant.left
-    c.in-Some.ensures.steps.0))
+    λ κs lives. (
+      lives,
+      (
+        refl,
+        subst (λ (n : ℕ). IsReady c.loop-number.self c.args.round.now search n leap) (sym c.in-Some.ensures.steps.1)
+            (half_ready scan c.loop-number.self c.args.round.now search number leap c.loop-number.invariant.same
+            c.requires.scanned c.loop-number.invariant.half c.requires.below c.requires.round c.requires.search
+            (at ∙ ap (λ (h : code.Hop). Some (seen_hop h)) (sym c.leap-leap.ensures.hop))
+            (leap_there scan search.location.number (place_at (order_of scan) search.key) (search.found % 50) leap
+            c.requires.search.there c.leap-leap.ensures.leap)),
+      ),
+    )
 
 pub loop-number-preserved : goal.loop-number-preserved
-loop-number-preserved c =
+loop-number-preserved g c =
     let scan = c.args.self.now in
     let search = c.args.search.now in
     let key = search.key in
@@ -142,29 +123,28 @@ loop-number-preserved c =
     c.loop-number.invariant.left step in
     let own : leap_hop leap ≡ hop = ap (λ (h : code.Hop). seen_hop h) c.leap-leap.ensures.hop in
     let after = c.take_leap.new.self in
-    let last : after.cells.made.last ≡ Some (record { key = key; number = number }) =
-    c.take_leap.ensures.last ∙ ap (λ (n : ℕ). Some (record { key = key; number = n })) c.in-Some.ensures.steps.1 in
     record {
-      same = c.take_leap.ensures.same
+      same = c.in_ok-take_leap.ensures.same
           ∙ ap (λ (one : Scan). record one { cells = after.cells }) c.loop-number.invariant.same;
       half = subst (λ (n : ℕ). IsHalfway scan key search.begun n after.cells) (sym next_number)
           (half_more scan c.loop-number.self key search.begun number (leap_hop leap) after.cells
           c.loop-number.invariant.same c.loop-number.invariant.half
-          (at ∙ ap (λ (h : Hop). Some h) (sym own)) c.take_leap.ensures.cells c.take_leap.ensures.counted last
-          c.take_leap.ensures.agreed c.take_leap.ensures.taken);
+          (at ∙ ap (λ (h : Hop). Some h) (sym own)) c.in_ok-take_leap.ensures.cells c.in_ok-take_leap.ensures.made
+          c.in_ok-take_leap.ensures.agreed c.in_ok-take_leap.ensures.taken);
       left = ap (λ (n : ℕ). drop n (hops_at scan key)) next_number
           ∙ others_left number (hops_at scan key) rest hop (c.loop-number.invariant.left ∙ step);
-      counted = omega (arith, c.loop-number.invariant.counted, next_number, ap (λ (hops : List Hop). length hops) step);
+      counted = omega (arith, c.loop-number.invariant.counted, next_number, c.in_ok-take_leap.ensures.counted);
+      long = omega (arith, c.loop-number.invariant.long, next_number, ap (λ (hops : List Hop). length hops) step);
     }
 
 pub returns-clause-scanned : goal.returns-clause-scanned
-returns-clause-scanned c =
+returns-clause-scanned g c =
     let scan = c.args.self.now in
     let key = c.args.search.now.key in
     let number = enumerate_count c.loop-number.number-iterator in
     let none : hops_left (enumerate_source c.loop-number.number-iterator) ≡ [] = c.in-None.ensures.steps.0.0 in
     let all : number ≡ length (hops_at scan key) =
-    omega (arith, c.loop-number.invariant.counted, ap (λ (hops : List Hop). length hops) none) in
+    omega (arith, c.loop-number.invariant.long, ap (λ (hops : List Hop). length hops) none) in
     subst (λ (one : Scan). IsScanned one (key + 1)) (sym c.loop-number.invariant.same)
     (half_all scan key c.args.search.now.begun number c.loop-number.self.cells c.requires.scanned
     c.requires.search.begun c.loop-number.invariant.half all)

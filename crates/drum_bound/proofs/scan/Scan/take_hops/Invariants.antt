@@ -1,17 +1,22 @@
 use Rattle.std.proofs.Common.{◌≡◌, ◌+◌, drop, length}
 use Rattle.std.specs.Iterator.Adapters.{enumerate_count, enumerate_source}
 use Rattle.drum_flow.specs.HopsLeft.{hops_left}
+use Rattle.drum_bound.specs.ScanOf.{setting_in}
 use Rattle.drum_bound.proofs.Halfway.{IsHalfway}
 use Rattle.drum_bound.proofs.KeysTaken.{hops_at}
 use Rattle.drum_bound.proofs.scan.Scan.take_hops.Given as goal
 
+abbrev pub ghost-take_leap : goal.ghost-take_leap
+ghost-take_leap g a = setting_in a.self.now
+
 -- so many hops of the key have been taken, and the others are left
 abbrev pub invariant-loop-number : goal.invariant-loop-number
-invariant-loop-number l = record {
+invariant-loop-number g l = record {
   same : l.self ≡ record l.fn.self { cells = l.self.cells };
   half : IsHalfway l.fn.self l.search.key l.search.begun (enumerate_count l.number-iterator) l.self.cells;
   left : drop (enumerate_count l.number-iterator) (hops_at l.fn.self l.search.key)
       ≡ hops_left (enumerate_source l.number-iterator);
-  counted : enumerate_count l.number-iterator + length (hops_left (enumerate_source l.number-iterator))
+  counted : l.steps ≡ l.fn.steps + enumerate_count l.number-iterator;
+  long : enumerate_count l.number-iterator + length (hops_left (enumerate_source l.number-iterator))
       ≡ length (hops_at l.fn.self l.search.key);
 }

@@ -17,11 +17,11 @@ place_is order key index number at rest =
     sym (get_or_from_slice_get order index number 0 at) ∙ ap (λ (k : ℕ). get_or order k 0) (sym rest)
 
 pub returns-in_default-clause-scanned : goal.returns-in_default-clause-scanned
-returns-in_default-clause-scanned c =
+returns-in_default-clause-scanned g c =
     skipped c.args.self.now (c.args.round.now.own.first + c.args.index) c.requires.scanned c.in_default.ensures
 
 pub take_leaps-requires-clause-search : goal.take_leaps-requires-clause-search
-take_leaps-requires-clause-search c = record {
+take_leaps-requires-clause-search g c = record {
   there = place_is (order_of c.args.self.now) (c.args.round.now.own.first + c.args.index) c.args.index
       c.node-node.result.location.number c.node-node.ensures.location c.requires.rest;
   begun = c.in-Some.ensures;
@@ -29,7 +29,7 @@ take_leaps-requires-clause-search c = record {
 }
 
 pub take_leaps-requires-clause-leaps : goal.take_leaps-requires-clause-leaps
-take_leaps-requires-clause-leaps c =
+take_leaps-requires-clause-leaps g c =
     let scan = c.args.self.now in
     let key = c.args.round.now.own.first + c.args.index in
     let leaps = c.in-Some-leaps.leaps in
@@ -46,7 +46,7 @@ take_leaps-requires-clause-leaps c =
     at))
 
 pub take_hops-requires-clause-search : goal.take_hops-requires-clause-search
-take_hops-requires-clause-search c = record {
+take_hops-requires-clause-search g c = record {
   there = place_is (order_of c.args.self.now) (c.args.round.now.own.first + c.args.index) c.args.index
       c.node-node.result.location.number c.node-node.ensures.location c.requires.rest;
   begun = c.in-Some.ensures;
@@ -54,7 +54,7 @@ take_hops-requires-clause-search c = record {
 }
 
 pub take_hops-requires-clause-hops : goal.take_hops-requires-clause-hops
-take_hops-requires-clause-hops c =
+take_hops-requires-clause-hops g c =
     let scan = c.args.self.now in
     c.node-node.ensures.hops
     ∙ ap (λ (place : ℕ). hops (setting_in scan).loads (setting_in scan).notes place)

@@ -13,7 +13,7 @@ use Rattle.drum_bound.specs.Keys.{place_at}
 use Rattle.drum_bound.specs.LeapOf.{AreLeaps, IsLeap, leap_hop}
 use Rattle.drum_bound.specs.ScanOf.{setting_in, order_of, IsScanned}
 use Rattle.drum_bound.specs.SearchOf.{IsSearch}
-use Rattle.drum_bound.proofs.Halfway.{found_soon, half_all, half_few, half_more, half_none, half_ready}
+use Rattle.drum_bound.proofs.Halfway.{half_all, half_more, half_none, half_ready}
 use Rattle.drum_bound.proofs.KeysTaken.{hops_at}
 use Rattle.drum_bound.proofs.LeapLaws.{found_angle}
 use Rattle.drum_bound.proofs.scan.Scan.take_leaps.Goals as goal
@@ -39,16 +39,17 @@ leap_is scan search leaps leap are has sought =
     subst (λ (n : ℕ). IsLeap (setting_in scan) (order_of scan) place n leap) (sym angle) (are.each leap has)
 
 pub loop-number-init : goal.loop-number-init
-loop-number-init c =
+loop-number-init g c =
     record {
       same = refl;
       half =
           half_none c.args.self.now c.args.search.now.key c.args.search.now.begun c.requires.scanned
           c.requires.search.begun;
+      counted = omega arith;
     }
 
-pub take_leap-requires-clause-ready : goal.take_leap-requires-clause-ready
-take_leap-requires-clause-ready c =
+pub take_leap-requires : goal.take_leap-requires
+take_leap-requires g c =
     let scan = c.args.self.now in
     let search = c.args.search.now in
     let leaps = c.args.leaps.now in
@@ -56,30 +57,24 @@ take_leap-requires-clause-ready c =
     let leap = c.index-leaps-number.result in
     let at : slice_get leaps number ≡ Some leap =
     slice_get_read leaps (length leaps) number leap refl c.loop-number-test.true c.index-leaps-number.is in
-    half_ready scan c.loop-number.self c.args.round.now search number leap c.loop-number.invariant.same
-    c.requires.scanned c.loop-number.invariant.half c.requires.below c.requires.round c.requires.search
-    (hop_is scan search.key number leaps leap c.requires.leaps.hops at)
-    (leap_is scan search leaps leap c.requires.leaps (contains_from_get leaps number leap at) c.requires.search)
-
-pub take_leap-requires-clause-soon : goal.take_leap-requires-clause-soon
-take_leap-requires-clause-soon c =
-    found_soon c.args.self.now c.args.search.now c.requires.scanned c.requires.below c.requires.search
+    λ κs lives. (
+      lives,
+      (
+        refl,
+        half_ready scan c.loop-number.self c.args.round.now search number leap c.loop-number.invariant.same
+            c.requires.scanned c.loop-number.invariant.half c.requires.below c.requires.round c.requires.search
+            (hop_is scan search.key number leaps leap c.requires.leaps.hops at)
+            (leap_is scan search leaps leap c.requires.leaps (contains_from_get leaps number leap at) c.requires.search),
+      ),
+    )
 
 -- there are as many leaps as hops
 as_many : (scan : Scan) (key : ℕ) (leaps : List Leap) → map leap_hop leaps ≡ hops_at scan key
     → length leaps ≡ length (hops_at scan key)
 as_many scan key leaps same = sym (length-map leaps leap_hop) ∙ ap (λ (hops : List Hop). length hops) same
 
-pub take_leap-requires-clause-few : goal.take_leap-requires-clause-few
-take_leap-requires-clause-few c =
-    let scan = c.args.self.now in
-    let key = c.args.search.now.key in
-    half_few scan key c.args.search.now.begun c.loop-number.number c.loop-number.self.cells c.requires.scanned
-    c.requires.below c.loop-number.invariant.half
-    (omega (arith, c.loop-number-test.true, as_many scan key c.args.leaps.now c.requires.leaps.hops))
-
 pub loop-number-preserved : goal.loop-number-preserved
-loop-number-preserved c =
+loop-number-preserved g c =
     let scan = c.args.self.now in
     let search = c.args.search.now in
     let leaps = c.args.leaps.now in
@@ -89,16 +84,17 @@ loop-number-preserved c =
     slice_get_read leaps (length leaps) number leap refl c.loop-number-test.true c.index-leaps-number.is in
     let after = c.take_leap.new.self in
     record {
-      same = c.take_leap.ensures.same
+      same = c.in_ok-take_leap.ensures.same
           ∙ ap (λ (one : Scan). record one { cells = after.cells }) c.loop-number.invariant.same;
       half = half_more scan c.loop-number.self search.key search.begun number (leap_hop leap) after.cells
           c.loop-number.invariant.same c.loop-number.invariant.half
-          (hop_is scan search.key number leaps leap c.requires.leaps.hops at) c.take_leap.ensures.cells
-          c.take_leap.ensures.counted c.take_leap.ensures.last c.take_leap.ensures.agreed c.take_leap.ensures.taken;
+          (hop_is scan search.key number leaps leap c.requires.leaps.hops at) c.in_ok-take_leap.ensures.cells
+          c.in_ok-take_leap.ensures.made c.in_ok-take_leap.ensures.agreed c.in_ok-take_leap.ensures.taken;
+      counted = omega (arith, c.loop-number.invariant.counted, c.in_ok-take_leap.ensures.counted);
     }
 
 pub returns-clause-scanned : goal.returns-clause-scanned
-returns-clause-scanned c =
+returns-clause-scanned g c =
     let scan = c.args.self.now in
     let key = c.args.search.now.key in
     let all : c.loop-number.number ≡ length (hops_at scan key) =

@@ -1,4 +1,4 @@
-use Rattle.std.proofs.Common.{◌≡◌, ℕ, suc, ◌+◌, ◌*◌, ◌/◌, ◌%◌, ◌<◌, ◌≤◌, length, refl, ap, sym, ◌∙◌, subst, arith}
+use Rattle.std.proofs.Common.{◌≡◌, ℕ, suc, ◌+◌, ◌-◌, ◌*◌, ◌/◌, ◌%◌, ◌<◌, ◌≤◌, length, refl, ap, sym, ◌∙◌, subst, arith}
 use Rattle.std.proofs.Math.Nat.{mul-le-mul_left}
 use Rattle.std.proofs.lemmas.Nat.{div-mul-add, mod-mul-add}
 use Rattle.drum_flow.specs.Accepted.{counts_of}
@@ -8,7 +8,9 @@ use Rattle.drum_bound.specs.RoundOf.{IsRound}
 use Rattle.drum_bound.specs.ScanOf.{setting_in, order_of, IsScanned}
 use Rattle.drum_bound.proofs.KeysTaken.{skipped_all}
 use Rattle.drum_bound.proofs.RoundLaws.{round_first}
-use Rattle.drum_bound.proofs.RowsHeld.{places_size}
+use Rattle.drum_bound.specs.Held.{size_of}
+use Rattle.drum_bound.specs.Keys.{keys_of}
+use Rattle.drum_bound.proofs.RowsHeld.{cells_size}
 use Rattle.drum_bound.proofs.Nodes.{as_long}
 use Rattle.drum_bound.proofs.scan.Scan.take_round.Goals as goal
 
@@ -25,6 +27,16 @@ round_below scan counts index first first' is below inside at =
     mul-le-mul_left (length (order_of scan)) (omega (arith, below, is.keys.counts)) in
     omega (arith, up, inside, at, is.keys.size)
 
+-- the keys of a round are those whose counts are of its number
+whole : (scan : Scan) (counts key : ℕ) → scan.cells.words ≡ length (order_of scan)
+    → counts * length (order_of scan) ≤ key → key < counts * length (order_of scan) + length (order_of scan)
+    → key / scan.cells.words ≡ counts
+whole scan counts key words from below =
+    let n : ℕ = length (order_of scan) in
+    let index : ℕ = key - counts * n in
+    let same : key ≡ counts * n + index = omega (arith, from) in
+    ap (λ (w : ℕ). key / w) words ∙ ap (λ (k : ℕ). k / n) same ∙ div-mul-add counts n index (omega (arith, from, below))
+
 -- the first key of a round
 first_is : (scan : Scan) (counts first : ℕ) (round : Round) → IsScanned scan first → counts < scan.keys.now.counts
     → IsRound scan.keys.now.accepted.now counts round → round.own.first ≡ counts * length (order_of scan)
@@ -32,55 +44,41 @@ first_is scan counts first round is below of =
     round_first scan.keys.now.accepted.now counts round of (omega (arith, below, is.keys.counts))
 
 pub keeps_any-requires-clause-there : goal.keeps_any-requires-clause-there
-keeps_any-requires-clause-there c =
-    let scan = c.args.self.now in
-    let words : c.len-words.result ≡ length (order_of scan) =
-    as_long scan.keys.now c.len-words.result c.requires.scanned.keys c.len-words.ensures in
-    let product : c.args.leading * c.len-words.result ≡ c.args.leading * length (order_of scan) =
-    ap (λ (n : ℕ). c.args.leading * n) words in
-    let up : length (order_of scan) * suc c.args.leading
-    ≤ length (order_of scan) * counts_of (setting_in scan).notes.marks =
-    mul-le-mul_left (length (order_of scan)) (omega (arith, c.requires.below, c.requires.scanned.keys.counts)) in
-    omega (
-      arith,
-      words,
-      product,
-      up,
-      places_size (setting_in scan) (order_of scan) scan.cells
-          c.requires.scanned.keys.ordered.0 c.requires.scanned.cells,
-    )
+keeps_any-requires-clause-there g c =
+    omega (arith, c.requires.below, c.requires.scanned.keys.counts, c.requires.scanned.cells.counts)
 
 pub returns-then-not-keeps_any-clause-scanned : goal.returns-then-not-keeps_any-clause-scanned
-returns-then-not-keeps_any-clause-scanned c =
+returns-then-not-keeps_any-clause-scanned g c =
     let scan = c.args.self.now in
     let n : ℕ = length (order_of scan) in
-    let words : c.len-words.result ≡ n =
-    as_long scan.keys.now c.len-words.result c.requires.scanned.keys c.len-words.ensures in
-    let product : c.args.leading * c.len-words.result ≡ c.args.leading * n = ap (λ (w : ℕ). c.args.leading * w) words in
+    let up : n * suc c.args.leading ≤ n * counts_of (setting_in scan).notes.marks =
+    mul-le-mul_left n (omega (arith, c.requires.below, c.requires.scanned.keys.counts)) in
+    let size : size_of scan.cells ≡ keys_of (setting_in scan).notes.marks (order_of scan) =
+    cells_size (setting_in scan) (order_of scan) scan.cells c.requires.scanned.cells in
     subst (IsScanned scan) (next_round c.args.leading n)
     (skipped_all scan (c.args.leading * n) n c.requires.scanned
-    (λ key from below. c.if-not-keeps_any.ensures.none refl key (omega (arith, from, product))
-    (omega (arith, below, product, words))))
+    (λ key from below. c.if-not-keeps_any.ensures refl key (omega (arith, below, up, size))
+    (whole scan c.args.leading key c.requires.scanned.cells.words from below)))
 
 pub loop-index-init : goal.loop-index-init
-loop-index-init c =
+loop-index-init g c =
     let scan = c.args.self.now in
     let same : c.args.leading * length (order_of scan) ≡ c.args.leading * length (order_of scan) + 0 = omega arith in
-    record { same = refl; scanned = subst (IsScanned scan) same c.requires.scanned }
+    record { same = refl; scanned = subst (IsScanned scan) same c.requires.scanned; counted = refl }
 
 pub take_key-requires-clause-scanned : goal.take_key-requires-clause-scanned
-take_key-requires-clause-scanned c =
+take_key-requires-clause-scanned g c =
     let scan = c.args.self.now in
     let first = first_is scan c.args.leading (c.args.leading * length (order_of scan)) c.round-round.result
     c.requires.scanned c.requires.below c.round-round.ensures in
     subst (λ (n : ℕ). IsScanned c.loop-index.self (n + c.loop-index.index)) (sym first) c.loop-index.invariant.scanned
 
 pub take_key-requires-clause-below : goal.take_key-requires-clause-below
-take_key-requires-clause-below c =
+take_key-requires-clause-below g c =
     let scan = c.args.self.now in
     let n : ℕ = length (order_of scan) in
-    let words : c.len-words.result ≡ n =
-    as_long scan.keys.now c.len-words.result c.requires.scanned.keys c.len-words.ensures in
+    let words : c.len-index-end.result ≡ n =
+    as_long scan.keys.now c.len-index-end.result c.requires.scanned.keys c.len-index-end.ensures in
     let first = first_is scan c.args.leading (c.args.leading * n) c.round-round.result c.requires.scanned c.requires.below
     c.round-round.ensures in
     subst (λ (s : Scan). c.round-round.result.own.first + c.loop-index.index < s.keys.now.size)
@@ -89,11 +87,11 @@ take_key-requires-clause-below c =
     c.requires.scanned c.requires.below (omega (arith, c.loop-index-test.true, words)) first)
 
 pub take_key-requires-clause-round : goal.take_key-requires-clause-round
-take_key-requires-clause-round c =
+take_key-requires-clause-round g c =
     let scan = c.args.self.now in
     let n : ℕ = length (order_of scan) in
-    let words : c.len-words.result ≡ n =
-    as_long scan.keys.now c.len-words.result c.requires.scanned.keys c.len-words.ensures in
+    let words : c.len-index-end.result ≡ n =
+    as_long scan.keys.now c.len-index-end.result c.requires.scanned.keys c.len-index-end.ensures in
     let first = first_is scan c.args.leading (c.args.leading * n) c.round-round.result c.requires.scanned c.requires.below
     c.round-round.ensures in
     let whole : (c.round-round.result.own.first + c.loop-index.index) / n ≡ c.args.leading =
@@ -105,11 +103,11 @@ take_key-requires-clause-round c =
     (subst (λ (k : ℕ). IsRound scan.keys.now.accepted.now k c.round-round.result) (sym whole) c.round-round.ensures)
 
 pub take_key-requires-clause-rest : goal.take_key-requires-clause-rest
-take_key-requires-clause-rest c =
+take_key-requires-clause-rest g c =
     let scan = c.args.self.now in
     let n : ℕ = length (order_of scan) in
-    let words : c.len-words.result ≡ n =
-    as_long scan.keys.now c.len-words.result c.requires.scanned.keys c.len-words.ensures in
+    let words : c.len-index-end.result ≡ n =
+    as_long scan.keys.now c.len-index-end.result c.requires.scanned.keys c.len-index-end.ensures in
     let first = first_is scan c.args.leading (c.args.leading * n) c.round-round.result c.requires.scanned c.requires.below
     c.round-round.ensures in
     let rest : (c.round-round.result.own.first + c.loop-index.index) % n ≡ c.loop-index.index =
@@ -119,7 +117,7 @@ take_key-requires-clause-rest c =
     ≡ c.loop-index.index) (sym c.loop-index.invariant.same) rest
 
 pub loop-index-preserved : goal.loop-index-preserved
-loop-index-preserved c =
+loop-index-preserved g c =
     let scan = c.args.self.now in
     let n : ℕ = length (order_of scan) in
     let first = first_is scan c.args.leading (c.args.leading * n) c.round-round.result c.requires.scanned c.requires.below
@@ -127,17 +125,18 @@ loop-index-preserved c =
     let next : c.round-round.result.own.first + c.loop-index.index + 1 ≡ c.args.leading * n + (c.loop-index.index + 1) =
     omega (arith, first) in
     record {
-      same = c.take_key.ensures.same
+      same = c.in_ok-take_key.ensures.same
           ∙ ap (λ (one : Scan). record one { cells = c.take_key.new.self.cells }) c.loop-index.invariant.same;
-      scanned = subst (IsScanned c.take_key.new.self) next c.take_key.ensures.scanned;
+      scanned = subst (IsScanned c.take_key.new.self) next c.in_ok-take_key.ensures.scanned;
+      counted = omega (arith, c.loop-index.invariant.counted, c.in_ok-take_key.ensures.counted);
     }
 
 pub returns-clause-scanned : goal.returns-clause-scanned
-returns-clause-scanned c =
+returns-clause-scanned g c =
     let scan = c.args.self.now in
     let n : ℕ = length (order_of scan) in
-    let words : c.len-words.result ≡ n =
-    as_long scan.keys.now c.len-words.result c.requires.scanned.keys c.len-words.ensures in
+    let words : c.len-index-end.result ≡ n =
+    as_long scan.keys.now c.len-index-end.result c.requires.scanned.keys c.len-index-end.ensures in
     let all : c.loop-index.index ≡ n = omega (arith, c.loop-index-test.false, c.loop-index.auto.index-end, words) in
     subst (IsScanned c.loop-index.self) (ap (λ (k : ℕ). c.args.leading * n + k) all ∙ next_round c.args.leading n)
     c.loop-index.invariant.scanned

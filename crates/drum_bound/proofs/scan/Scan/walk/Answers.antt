@@ -1,4 +1,6 @@
-use Rattle.std.proofs.Common.{◌≡◌, ◌-◌, List, Some, map, sym, ◌∙◌, subst}
+use Rattle.std.proofs.Common.{◌≡◌, ℕ, ◌-◌, List, Some, map, ap, sym, ◌∙◌, subst}
+use Rattle.std.specs.Prelude.{option_map}
+use Rattle.drum_bound.specs.declared.latest.Latest.{Latest}
 use Rattle.drum_bound.specs.declared.visit.Visit.{Visit}
 use Rattle.drum_bound.specs.Visited.{IsWalkOf, seen_visit}
 use Rattle.drum_bound.specs.ScanOf.{order_of, setting_in}
@@ -20,7 +22,7 @@ pub visit-requires-clause-later : goal.visit-requires-clause-later
 visit-requires-clause-later c =
     let scan = c.args.self.now in
     let there : cell_at (kept_in scan.cells) c.in-Some.origin.key ≡ Some c.in-Some-kept_at.begin =
-    sym c.kept_at.ensures ∙ c.in-Some-kept_at.is in
+    sym c.kept_at.ensures ∙ ap (option_map (λ (kept : ℕ × Latest). kept.1)) c.in-Some-kept_at.is in
     begins_before (setting_in scan) (order_of scan) (kept_in scan.cells) scan.cells.last (is_ordered scan c.requires)
     (starts_on_drum scan) c.requires.scanned
     c.loop-end.end c.loop-end.visits.items c.in-Some.origin c.in-Some-kept_at.begin c.loop-end.invariant c.in-Some.is
@@ -30,7 +32,7 @@ pub loop-end-preserved : goal.loop-end-preserved
 loop-end-preserved c =
     let scan = c.args.self.now in
     let there : cell_at (kept_in scan.cells) c.in-Some.origin.key ≡ Some c.in-Some-kept_at.begin =
-    sym c.kept_at.ensures ∙ c.in-Some-kept_at.is in
+    sym c.kept_at.ensures ∙ ap (option_map (λ (kept : ℕ × Latest). kept.1)) c.in-Some-kept_at.is in
     subst (λ (visits : List Visit).
     IsTraced (setting_in scan) (order_of scan) (kept_in scan.cells) scan.cells.last c.in-Some-kept_at.begin visits)
     (sym {A = List Visit} c.in_ok-push.ensures.items)

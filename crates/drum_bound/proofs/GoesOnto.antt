@@ -1,0 +1,107 @@
+-- Where a hop that goes on leads, by its leap and the round of its key.
+use Rattle.std.proofs.Common.{◌≡◌, ℕ, ◌+◌, ◌*◌, ◌/◌, ◌<◌, List, Some, None, length, refl, ap, sym, ◌∙◌, subst, arith}
+use Rattle.std.proofs.lemmas.Nat.{div-mul-add}
+use Rattle.std.proofs.lemmas.Option.{slice_get_within}
+use Rattle.drum_core.specs.declared.location.Location.{Location}
+use Rattle.drum_times.specs.declared.notes.mark.Mark.{Mark}
+use Rattle.drum_machine.specs.Counts.{after_pass, AreWithin}
+use Rattle.drum_machine.specs.Ways.{to}
+use Rattle.drum_machine.specs.WaysLeft.{seen_way}
+use Rattle.drum_flow.specs.Hops.{IsEdge}
+use Rattle.drum_flow.specs.Seen.{seen_hop}
+use Rattle.drum_bound.specs.declared.leap.Leap.{Leap}
+use Rattle.drum_bound.specs.declared.round.Counted.{Counted}
+use Rattle.drum_bound.specs.declared.round.Round.{Round}
+use Rattle.drum_bound.specs.declared.scan.Scan.{Scan}
+use Rattle.drum_bound.specs.declared.search.Search.{Search}
+use Rattle.drum_bound.specs.Held.{IsOnward}
+use Rattle.drum_bound.specs.Keys.{counts_at, keys_of, place_at, IsKey}
+use Rattle.drum_bound.specs.RoundOf.{IsCounted, counted_after}
+use Rattle.drum_bound.specs.RowOf.{counts_number}
+use Rattle.drum_bound.specs.ScanOf.{setting_in, order_of, IsReady}
+use Rattle.drum_bound.specs.Table.{number_of}
+use Rattle.drum_bound.proofs.GoingOn.{edge_of}
+use Rattle.drum_bound.proofs.KeyLaws.{counts_within}
+use Rattle.drum_bound.proofs.KeysTaken.{hop_among}
+use Rattle.drum_bound.proofs.Onward.{leads_on}
+use Rattle.drum_bound.proofs.RoundLaws.{IsLed, led_key, mark_inside, round_leads}
+use Rattle.drum_bound.proofs.RowsHeld.{cells_size}
+
+module _ (scan : Scan) (round : Round) (search : Search) (number : ℕ) (leap : Leap) (next : ℕ)
+    (ready : IsReady scan round search number leap) (goes : seen_way leap.hop.way ≡ to next) where
+  abbrev marks : List Mark
+  marks = (setting_in scan).notes.marks
+
+  abbrev order : List ℕ
+  order = order_of scan
+
+  -- the counts that it goes on with
+  abbrev passed : List ℕ
+  passed = after_pass marks (place_at order search.key) next (counts_at marks order search.key)
+
+  led : IsLed scan.keys.now.accepted.now (search.key / length order) (place_at order search.key) next
+      (counted_after round leap.mark)
+  led =
+      round_leads scan.keys.now.accepted.now (search.key / length order) (place_at order search.key) next round
+      leap.mark ready.round
+      (counts_within marks order search.key (omega (arith, ready.below, ready.keys.size)))
+      (ready.leap.onto next goes).1
+
+  -- The mark of a leap is one of eight.
+  pub few_marks : (mark : ℕ) → leap.mark ≡ Some mark → mark < 8
+  few_marks mark is =
+      omega (
+        arith,
+        mark_inside marks (place_at order search.key) next mark ((ready.leap.onto next goes).1 ∙ is),
+        ready.keys.ordered.0.sound.few_marks,
+      )
+
+  -- Where a full mark bars it, it has no counts to go on with.
+  pub barred : counted_after round leap.mark ≡ None → ¬ AreWithin marks passed
+  barred none =
+      subst (IsLed scan.keys.now.accepted.now (search.key / length order) (place_at order search.key) next) none led
+
+  module _ (counted : Counted) (one : counted_after round leap.mark ≡ Some counted) where
+    pub led_to : IsCounted scan.keys.now.accepted.now passed counted × AreWithin marks passed
+    led_to =
+        subst (IsLed scan.keys.now.accepted.now (search.key / length order) (place_at order search.key) next) one led
+
+    -- Else it leads to a key,
+    pub onto_key : IsKey marks order (counted.first + leap.index) next passed
+    onto_key =
+        led_key scan.keys.now.accepted.now passed counted leap.index next led_to.0 led_to.1
+        (ready.leap.onto next goes).0
+
+    -- a later one,
+    onto_later : search.key < counted.first + leap.index
+    onto_later =
+        let below : search.key < keys_of marks order = omega (arith, ready.below, ready.keys.size) in
+        let edge : IsEdge (setting_in scan).loads (setting_in scan).notes (place_at order search.key) next =
+        edge_of (setting_in scan) order ready.keys.ordered.0 search.key below (seen_hop leap.hop) next
+        (hop_among scan search.key number (seen_hop leap.hop) ready.hop) goes in
+        (leads_on (setting_in scan) order ready.keys.ordered.0 search.key (record { ins = edge.0; way = to next })
+        (counted.first + leap.index) next below edge.1 refl onto_key led_to.1).later
+
+    onto_round : (counted.first + leap.index) / scan.cells.words ≡ counted.round
+    onto_round =
+        let n : ℕ = length order in
+        let first : counted.first ≡ counted.round * n = led_to.0.first ∙ ap (λ (r : ℕ). r * n) (sym led_to.0.round) in
+        ap (λ (w : ℕ). (counted.first + leap.index) / w) ready.cells.words
+        ∙ ap (λ (f : ℕ). (f + leap.index) / n) first
+        ∙ div-mul-add counted.round n leap.index (slice_get_within order leap.index next (ready.leap.onto next goes).0)
+
+    pub onward : (location : Location) → IsOnward scan.cells search (record {
+      key = counted.first + leap.index;
+      round = counted.round;
+      location = location;
+      counts = counted.number;
+    })
+    onward location = record {
+      there = omega (arith, onto_key.below, cells_size (setting_in scan) order scan.cells ready.cells);
+      round = onto_round;
+      later = onto_later;
+    }
+
+    -- which has these counts.
+    pub onto_counts : counted.number ≡ counts_number marks order (counted.first + leap.index)
+    onto_counts = led_to.0.number ∙ ap (number_of marks) (sym onto_key.passed)

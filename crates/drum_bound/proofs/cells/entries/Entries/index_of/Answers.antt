@@ -1,0 +1,26 @@
+use Rattle.std.proofs.Common.{◌≡◌, ℕ, ◌-◌, Option, Some, None, IfSome, refl, sym, ◌∙◌}
+use Rattle.std.specs.Map.{keys_of}
+use Rattle.drum_bound.specs.Kept.{pairs_of, IsEntryOf}
+use Rattle.drum_bound.proofs.Entering.{entry_found}
+use Rattle.drum_bound.proofs.EntryKeys.{different_keys, entry_at}
+use Rattle.drum_bound.proofs.cells.entries.Entries.index_of.Goals as goal
+
+pub returns-then-is_at-clause-found : goal.returns-then-is_at-clause-found
+returns-then-is_at-clause-found c =
+    let pairs = pairs_of c.args.self.now in
+    entry_at c.args.key pairs c.args.near (different_keys (keys_of pairs) c.requires.apart) (c.if-is_at.ensures.key refl)
+
+pub returns-then-is_at-2-clause-found : goal.returns-then-is_at-2-clause-found
+returns-then-is_at-2-clause-found c =
+    let pairs = pairs_of c.args.self.now in
+    entry_at c.args.key pairs (c.args.near - 1) (different_keys (keys_of pairs) c.requires.apart)
+    (c.if-is_at-2.ensures.key refl)
+
+if_some : (found : Option ℕ) (P : ℕ → Type 0) → ((index : ℕ) → found ≡ Some index → P index) → IfSome found P
+if_some None P all = tt
+if_some (Some index) P all = all index refl
+
+pub returns-clause-found : goal.returns-clause-found
+returns-clause-found c =
+    if_some c.get_index_of.result (IsEntryOf c.args.key (pairs_of c.args.self.now))
+    (λ index is. entry_found c.args.key (pairs_of c.args.self.now) index (sym c.get_index_of.ensures.index ∙ is))

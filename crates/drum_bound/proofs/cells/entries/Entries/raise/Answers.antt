@@ -1,0 +1,45 @@
+use Rattle.std.proofs.Common.{◌≡◌, ℕ, ◌+◌, ◌-◌, ◌%◌, Some, refl, ap, sym, ◌∙◌, subst, arith}
+use Rattle.std.specs.Prelude.{slice_get}
+use Rattle.std.specs.Map.{values_of}
+use Rattle.std.specs.Vec.{with_item}
+use Rattle.indexmap.specs.IndexMap.{with_value_at}
+use Rattle.drum_bound.specs.declared.cells.entries.Entries.{Entries}
+use Rattle.drum_bound.specs.declared.key_hop.KeyHop.{KeyHop}
+use Rattle.drum_bound.specs.declared.worst.Worst.{Worst}
+use Rattle.drum_bound.specs.EndOf.{latest_in}
+use Rattle.drum_bound.specs.Kept.{pairs_of, Keeps}
+use Rattle.drum_bound.proofs.Entering.{entry_read, raised_keeps, stays_kept}
+use Rattle.drum_bound.proofs.HeldLaws.{latest_of}
+use Rattle.drum_bound.proofs.cells.entries.Entries.raise.Goals as goal
+
+pub returns-then-time-was : goal.returns-then-time-was
+returns-then-time-was c =
+    let old = c.args.self.now in
+    let was = c.index-table-index.result in
+    stays_kept old c.args.key c.args.index was c.args.end.now.origin c.requires.there c.requires.kept
+    (entry_read (pairs_of old) c.args.index c.table.result.now was c.requires.inside c.table.ensures
+    c.index-table-index.is) (latest_in c.args.end.now) c.args.index
+    (omega (arith, c.if-time-was.true, c.clock.ensures))
+
+pub returns : goal.returns
+returns c = λ location counts.
+    let old = c.args.self.now in
+    let was = c.index-table-index.result in
+    let clock = c.args.end.now.clock in
+    let entry : Worst = record was { angle = c.angle.result; time = c.clock.result - old.angle } in
+    let new : Entries = record old {
+      table = with_value_at old.table c.args.index entry;
+      origins = with_item old.origins c.args.index c.origin.result;
+      near = c.args.index;
+    } in
+    let there : slice_get (values_of (pairs_of old)) c.args.index ≡ Some was =
+    entry_read (pairs_of old) c.args.index c.table.result.now was c.requires.inside c.table.ensures
+    c.index-table-index.is in
+    let now : old.angle + (c.clock.result - old.angle) ≡ clock = omega (arith, c.clock.ensures, c.requires.after) in
+    subst (λ (origin : KeyHop). Keeps old c.args.key location counts (latest_of clock (Some origin)) new)
+    c.origin.ensures
+    (raised_keeps old new c.args.key c.args.index clock was entry c.origin.result refl c.requires.there there refl
+    refl c.requires.kept refl refl
+    (omega (arith, now, c.clock.ensures, c.clock.type_inv), c.angle.ensures.value ∙ ap (λ (n : ℕ). n % 50) (sym now))
+    now (omega (arith, c.requires.onward, ap (λ (o : KeyHop). o.key) c.origin.ensures))
+    (omega (arith, c.if-time-was.false, c.clock.ensures, c.requires.after)) location counts)

@@ -1,0 +1,259 @@
+//! The entries of the table of worst times, by key, while they are raised.
+
+ghost use Rattle.std.specs.Prelude.{◌≡◌, ◌≢◌, ◌+◌, ◌<◌, ◌≤◌};
+
+use super::end::End;
+use super::key_hasher::KeyHasher;
+use crate::key_hop::KeyHop;
+use crate::latest::Latest;
+use crate::worst::Worst;
+use drum_core::Location;
+use indexmap::IndexMap;
+use std::alloc::{AllocError, Global};
+use std::hash::BuildHasherDefault;
+
+/// How many entries there are when room for as many as there are keys is asked for at once.
+const MANY: usize = 65_536;
+
+/// An entry of the table for each key at which something is kept, in the order in which the keys
+/// were first led to, and where its time comes from.
+#[derive(Debug, Drop)]
+pub struct Entries {
+    table: IndexMap<u32, Worst, BuildHasherDefault<KeyHasher>>,
+    /// Where each entry's time comes from. The start's comes from its own key, which no hop does.
+    origins: Vec<KeyHop>,
+    /// The start angle: an entry's clock is its time from there on.
+    angle: u64,
+    /// The index of the entry that was added or raised last: the key that is looked for next is
+    /// mostly that entry's, or that of the one before it.
+    near: usize,
+}
+
+impl Entries {
+    ghost use Rattle.std.specs.Prelude.{ℕ, true, [], ◌∷◌, length, slice_get, Some, None, option_map, IfOk, IfSome, OnOk, OnErr, nat_eq};
+    ghost use Rattle.std.specs.Map.{keys_of, values_of};
+    ghost use Rattle.indexmap.specs.IndexMap.{get};
+    ghost use Rattle.drum_bound.specs.EndOf.{latest_in};
+    ghost use Rattle.drum_bound.specs.Kept.{AreKept, IsEntryOf, Keeps, first_entry, kept_of, pairs_of};
+
+    /// The start's alone: its key keeps the moment of the start, at this angle.
+    pub fn new(
+        alloc: Global,
+        start_key: u32,
+        start: Location,
+        angle: u64,
+    ) -> Result<Entries, AllocError>
+        requires on_drum { angle < 50 }
+        ensures kept { IfOk result AreKept }
+        ensures start { IfOk result (λ entries. kept_of entries start_key
+            ≡ Some (record { clock = angle; origin = None })) }
+        ensures others { IfOk result (λ entries. (other : ℕ) → other ≢ start_key
+            → kept_of entries other ≡ None) }
+        ensures entry { IfOk result (λ entries. pairs_of entries
+            ≡ (start_key, first_entry start angle) ∷ []) }
+        ensures angle { IfOk result (λ entries. entries.angle ≡ angle) }
+    {
+        let mut table = IndexMap::with_hasher(alloc, BuildHasherDefault::new());
+        let mut origins = Vec::new(alloc);
+        let entry = Worst {
+            place: start,
+            angle: angle as u8,
+            counts: 0,
+            time: 0,
+        };
+        table.insert(start_key, entry)?;
+        origins.push(KeyHop {
+            key: start_key,
+            number: 0,
+        })?;
+        Ok(Entries {
+            table,
+            origins,
+            angle,
+            near: 0,
+        })
+    }
+
+    /// The entries: one of each key at which something is kept.
+    pub fn table(&self) -> &[Worst]
+        ensures { result.now ≡ values_of (pairs_of self.now) }
+    {
+        self.table.values().as_slice()
+    }
+
+    /// The start angle, 0 to 49.
+    pub fn angle(&self) -> u64
+        ensures { result ≡ self.now.angle }
+    {
+        self.angle
+    }
+
+    /// Whether the entry of this index is a key's.
+    #[inline(always)]
+    fn is_at(&self, key: u32, index: usize) -> bool
+        ensures key { result ≡ true → slice_get (keys_of (pairs_of self.now)) index ≡ Some key }
+        ensures inside { result ≡ true → index < length (pairs_of self.now) }
+    {
+        match self.table.keys().as_slice().get(index) {
+            Some(one) => *one == key,
+            None => false,
+        }
+    }
+
+    /// The index of a key's entry, which is looked for near this one first; `None` where nothing is
+    /// kept.
+    #[inline(always)]
+    fn index_of(&self, key: u32, near: usize) -> Option<usize>
+        requires { AreKept self.now }
+        ensures found { IfSome result (IsEntryOf key (pairs_of self.now)) }
+        ensures inside { IfSome result (λ index. index < length (pairs_of self.now)) }
+        ensures none { result ≡ None → get nat_eq self.now.table key ≡ None }
+    {
+        if self.is_at(key, near) {
+            return Some(near);
+        }
+        if near > 0 && self.is_at(key, near - 1) {
+            return Some(near - 1);
+        }
+        self.table.get_index_of(&key)
+    }
+
+    /// What the entry of this index keeps, which is a key's.
+    fn kept_by(&self, key: u32, index: usize) -> Latest
+        requires kept { AreKept self.now }
+        requires there { IsEntryOf key (pairs_of self.now) index }
+        requires inside { index < length (pairs_of self.now) }
+        ensures { kept_of self.now key ≡ Some result }
+    {
+        let origin = self.origins[index];
+        Latest {
+            clock: self.angle + self.table()[index].time,
+            origin: if origin.key == key {
+                None
+            } else {
+                Some(origin)
+            },
+        }
+    }
+
+    /// What is kept at a key, with the index of its entry, which is looked for near this one first;
+    /// `None` where nothing is.
+    pub fn kept_at(&self, key: u32, near: usize) -> Option<(usize, Latest)>
+        requires { AreKept self.now }
+        ensures { option_map (λ kept. kept.1) result ≡ kept_of self.now key }
+    {
+        let Some(index) = self.index_of(key, near) else {
+            return None;
+        };
+        Some((index, self.kept_by(key, index)))
+    }
+
+    /// The clock that a key keeps; `None` where nothing is.
+    #[inline(always)]
+    pub fn clock_at(&self, key: u32) -> Option<u64>
+        requires { AreKept self.now }
+        ensures { option_map (λ kept. kept.clock) (kept_of self.now key) ≡ result }
+    {
+        let Some(index) = self.index_of(key, self.near) else {
+            return None;
+        };
+        Some(self.angle + self.table()[index].time)
+    }
+
+    /// Keeps an end of a hop that goes on at a key, of so many, at this location and with the
+    /// counts of this number, where it is later than what is kept there.
+    pub fn keep(
+        &mut self,
+        key: u32,
+        keys: usize,
+        location: Location,
+        counts: u32,
+        end: &End,
+    ) -> Result<(), AllocError>
+        requires kept { AreKept self.old }
+        requires onward { end.now.origin.key < key }
+        requires after { self.old.angle ≤ end.now.clock }
+        ensures keeps { OnOk result (Keeps self.old key location counts (latest_in end.now)
+            self.new) }
+        ensures same { OnErr result (pairs_of self.new ≡ pairs_of self.old) }
+    {
+        match self.index_of(key, self.near) {
+            Some(index) => {
+                self.raise(key, index, end);
+                Ok(())
+            }
+            None => self.add(key, keys, location, counts, end),
+        }
+    }
+
+    /// Raises the entry of a key, where the end is later.
+    fn raise(&mut self, key: u32, index: usize, end: &End)
+        requires kept { AreKept self.old }
+        requires there { IsEntryOf key (pairs_of self.old) index }
+        requires inside { index < length (pairs_of self.old) }
+        requires onward { end.now.origin.key < key }
+        requires after { self.old.angle ≤ end.now.clock }
+        ensures { (location : Location) (counts : ℕ)
+            → Keeps self.old key location counts (latest_in end.now) self.new }
+    {
+        self.near = index;
+        let was = self.table()[index];
+        let time = end.clock() - self.angle;
+        if time <= was.time {
+            return;
+        }
+        let Some(entry) = self.table.get_index_mut(index) else {
+            unreachable!()
+        };
+        *entry = Worst {
+            angle: end.angle(),
+            time,
+            ..was
+        };
+        self.origins[index] = end.origin();
+    }
+
+    /// Adds the entry of a key, of so many, at which nothing is kept.
+    fn add(
+        &mut self,
+        key: u32,
+        keys: usize,
+        location: Location,
+        counts: u32,
+        end: &End,
+    ) -> Result<(), AllocError>
+        requires kept { AreKept self.old }
+        requires none { get nat_eq self.old.table key ≡ None }
+        requires onward { end.now.origin.key < key }
+        requires after { self.old.angle ≤ end.now.clock }
+        ensures keeps { OnOk result (Keeps self.old key location counts (latest_in end.now)
+            self.new) }
+        ensures same { OnErr result (pairs_of self.new ≡ pairs_of self.old) }
+    {
+        let entry = Worst {
+            place: location,
+            angle: end.angle(),
+            counts,
+            time: end.clock() - self.angle,
+        };
+        self.make_room(keys)?;
+        self.origins.push(end.origin())?;
+        self.table.insert(key, entry)?;
+        Ok(())
+    }
+
+    /// Asks for room for the entries of so many keys, where there are many already; and takes the
+    /// index of the next entry for that which is looked near.
+    fn make_room(&mut self, keys: usize) -> Result<(), AllocError>
+        ensures pairs { pairs_of self.new ≡ pairs_of self.old }
+        ensures origins { self.new.origins.items ≡ self.old.origins.items }
+        ensures angle { self.new.angle ≡ self.old.angle }
+    {
+        self.near = self.table.len();
+        if self.near == MANY {
+            self.table.reserve(keys)?;
+            self.origins.reserve(keys)?;
+        }
+        Ok(())
+    }
+}

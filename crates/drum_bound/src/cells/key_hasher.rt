@@ -1,0 +1,44 @@
+//! The hasher of keys.
+
+ghost use Rattle.std.specs.Prelude.{◌≡◌};
+
+use std::hash::Hasher;
+
+/// Keeps neighbours together: eight keys in a row share a group of the map's table, so that a scan
+/// in the order of the keys goes through its memory in order.
+#[derive(Clone, Copy, Debug)]
+pub struct KeyHasher {
+    /// The last number that was written.
+    key: u64,
+}
+
+impl Default for KeyHasher {
+    ghost use Rattle.std.specs.Prelude.{◌≡◌};
+
+    ghost is_default = { λ hasher. hasher ≡ record { key = 0 } };
+
+    fn default() -> KeyHasher {
+        KeyHasher { key: 0 }
+    }
+}
+
+impl Hasher for KeyHasher {
+    ghost use Rattle.std.specs.Prelude.{◌+◌, ◌*◌, ◌/◌, ◌%◌, ◌^◌, fold};
+
+    ghost write = { λ hasher bytes. record {
+      key = fold (λ key byte. key / 256 + byte * 2 ^ 24) hasher.key bytes;
+    } };
+
+    ghost finish = { λ hasher. hasher.key / 8 + (hasher.key % 8 + 1) * 2 ^ 24 };
+
+    fn finish(&self) -> u64 {
+        self.key / 8 + (self.key % 8 + 1) * 16_777_216
+    }
+
+    fn write(&mut self, bytes: &[u8]) {
+        self.key = bytes.iter().fold(
+            self.key,
+            |key, byte| key / 256 + (*byte as u64) * 16_777_216,
+        );
+    }
+}
