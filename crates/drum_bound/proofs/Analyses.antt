@@ -2,6 +2,7 @@
 use Rattle.std.proofs.Common.{◌≡◌, ℕ, ◌-◌, ◌*◌, ◌<◌, ◌≤◌, List, length, map, Option, Some, None, refl, ap, sym, ◌∙◌}
 use Rattle.std.proofs.Common.{subst, arith, mul_comm}
 use Rattle.std.specs.Prelude.{slice_get, sum}
+use Rattle.std.proofs.Math.Nat.{mul_assoc}
 use Rattle.std.proofs.lemmas.List.{length-map}
 use Rattle.std.proofs.lemmas.Option.{slice_get_within}
 use Rattle.drum_core.specs.declared.deck.Deck.{Deck}
@@ -86,6 +87,11 @@ pub last_after : (g : Setting) (order : List ℕ) (cells : Cells) → AreCells g
 last_after g order cells are s =
     omega (arith, are.angle, s.begins.after, s.below s.begins.key s.begins.kept s.begins.there)
 
+-- with each angle there could be more
+fifty : (words counts rows : ℕ) → rows ≤ words * counts → rows ≤ words * 50 * counts
+fifty words counts rows few =
+    omega (arith, few, ap (λ (n : ℕ). n * counts) (mul_comm words 50), mul_assoc 50 words counts)
+
 -- An analysis of finished cells, and of their walk, is right.
 pub is_analysis : (g : Setting) (order : List ℕ) (analysis : Analysis) → IsOrdered g.loads g.notes g.start order
     → g.start < 2000
@@ -95,7 +101,7 @@ pub is_analysis : (g : Setting) (order : List ℕ) (analysis : Analysis) → IsO
     → analysis.cells.made ≡ turns_below g order (kept_in analysis.cells) (keys_of g.notes.marks order)
     → IsWalkOf g (start_angle g.start) (analysis.cells.last.clock - start_angle g.start) (visits_of analysis)
     → ArePasses g.notes.marks (visits_of analysis) (passed_of analysis)
-    → IsAnalysis g (length order) analysis
+    → IsAnalysis g analysis
 is_analysis g order analysis ordered starts are s made walk passed =
     let cells : Cells = analysis.cells in
     let last : Latest = cells.last in
@@ -108,6 +114,14 @@ is_analysis g order analysis ordered starts are s made walk passed =
     let bound : bound_of analysis ≡ last.clock - start_angle g.start = ap (λ (n : ℕ). last.clock - n) are.angle in
     let of : AreRowsOf g order (kept_in cells) size rows = held_rows g order cells ordered are in
     let table : IsTable g rows = is_table g order (kept_in cells) last ordered starts s rows of in
+    let few : length rows ≤ words_of analysis * counts_in_all analysis =
+    omega (
+      arith,
+      cells.limit,
+      mul_comm cells.counts cells.words,
+      length-map (values_of (pairs_of cells.entries)) row_in,
+      length-map (pairs_of cells.entries) (λ (pair : ℕ × Worst). pair.1),
+    ) in
     let turns : turns_of analysis ≡ turns_in rows =
     made ∙ sym (rows_sum g order (kept_in cells) ordered.different size rows (omega arith) of) in
     record {
@@ -115,13 +129,8 @@ is_analysis g order analysis ordered starts are s made walk passed =
       walk = subst (λ (angle : ℕ). IsWalkOf g angle (bound_of analysis) (visits_of analysis)) (sym are.angle)
           (subst (λ (n : ℕ). IsWalkOf g (start_angle g.start) n (visits_of analysis)) (sym bound) walk);
       table = table;
-      few = omega (
-        arith,
-        cells.limit,
-        mul_comm cells.counts cells.words,
-        length-map (values_of (pairs_of cells.entries)) row_in,
-        length-map (pairs_of cells.entries) (λ (pair : ℕ × Worst). pair.1),
-      );
+      few = few;
+      fifty = fifty (words_of analysis) (counts_in_all analysis) (length rows) few;
       short = λ angle hops walk.
           omega (
             arith,
@@ -130,7 +139,6 @@ is_analysis g order analysis ordered starts are s made walk passed =
             short_walk g order ordered angle
                 hops walk,
           );
-      executed = are.words;
       counts = are.counts;
       turns = turns;
       ends = (

@@ -5,7 +5,7 @@ use Rattle.std.proofs.Math.Nat.{mul-le-mul_left}
 use Rattle.std.proofs.lemmas.Nat.{div-add-mod', div-mul-add, mod-mul-add, div_below, mod_below, same_from_place}
 use Rattle.drum_times.specs.declared.notes.mark.Mark.{Mark}
 use Rattle.drum_times.specs.Marks.{mark_on}
-use Rattle.drum_machine.specs.Counts.{after_pass, no_counts, AreWithin}
+use Rattle.drum_machine.specs.Counts.{after_pass, AreWithin}
 use Rattle.drum_flow.specs.Accepted.{counts_of}
 use Rattle.drum_flow.specs.Passes.{leading, leading-<}
 use Rattle.drum_bound.specs.Digits.{digits}
@@ -48,11 +48,6 @@ digits_leading (mark ∷ marks) (count ∷ counts) within =
     ap (λ (first : ℕ). first ∷ digits marks ((count * size + others) % size)) (div-mul-add count size others below)
     ∙ ap (λ (rest : ℕ). count ∷ digits marks rest) (mod-mul-add count size others below)
     ∙ ap (λ (rest : List ℕ). count ∷ rest) (digits_leading marks counts within.1)
-
--- no pass is within the limits
-pub no_counts_within : (marks : List Mark) → AreWithin marks (no_counts marks)
-no_counts_within [] = tt
-no_counts_within (mark ∷ marks) = (omega arith, no_counts_within marks)
 
 -- with the first mark's last, it is one of as many numbers too
 pub number_within : (marks : List Mark) (counts : List ℕ) → AreWithin marks counts

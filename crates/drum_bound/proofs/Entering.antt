@@ -73,6 +73,15 @@ kept_none angle key (pair ∷ pairs) (origin ∷ origins) none =
     go true none others = absurd (cc)
     go false none others = others none
 
+-- A key that is beyond all that have entries has none.
+pub beyond_none : (key n : ℕ) (pairs : List (ℕ × Worst)) → ((k : ℕ) (entry : Worst) → Contains pairs (k, entry) → k ≤ n)
+    → n < key → lookup (nat_eq key) pairs ≡ None
+beyond_none key n [] within beyond = refl
+beyond_none key n (pair ∷ pairs) within beyond =
+    ap (λ (b : Bool). cond b (Some pair.1) (lookup (nat_eq key) pairs))
+    (ne_eqb key pair.0 (λ same. omega (arith, same, beyond, within pair.0 pair.1 (contains_here pair pairs))))
+    ∙ beyond_none key n pairs (λ k entry there. within k entry (contains_there pair (k, entry) pairs there)) beyond
+
 module _ (angle key : ℕ) (entry : Worst) (origin : KeyHop) where
   -- Where a key's entry is written, the key keeps it,
   pub raised_here : (pairs : List (ℕ × Worst)) (origins : List KeyHop) (index : ℕ) → IsEntryOf key pairs index
@@ -218,7 +227,7 @@ module _ (old : Entries) (key index : ℕ) (was : Worst) (origin : KeyHop) (is :
   pub stays_kept : (new : Latest) (near : ℕ) → new.clock ≤ old.angle + was.time → (location : Location) (counts : ℕ)
       → Keeps old key location counts new (record old { near = near })
   stays_kept new near less location counts = record {
-    kept = record { paired = kept.paired; apart = kept.apart; timed = kept.timed };
+    kept = record { paired = kept.paired; apart = kept.apart; within = kept.within; timed = kept.timed };
     here = keeps
         ∙ ap (λ (l : Latest). Some l)
         (sym (later_is_old (latest_at old.angle key was (get_or old.origins.items index origin)) new less))
@@ -247,7 +256,8 @@ later_keeps angle key clock entry origin now earlier before later =
 module _ (old new : Entries) (key clock : ℕ) (entry : Worst) (origin : KeyHop) (angle : new.angle ≡ old.angle)
     (pairs : pairs_of new ≡ pairs_of old ++ (key, entry) ∷ [])
     (from : new.origins.items ≡ old.origins.items ++ origin ∷ []) (kept : AreKept old)
-    (none : lookup (nat_eq key) (pairs_of old) ≡ None) where
+    (none : lookup (nat_eq key) (pairs_of old) ≡ None) (grown : old.greatest ≤ new.greatest)
+    (within : key ≤ new.greatest) where
   -- the one that was added, or one that was there
   added : (pair : ℕ × Worst) → Contains (pairs_of new) pair → ((key, entry) ≡ pair) ⊎ Contains (pairs_of old) pair
   added pair there =
@@ -267,6 +277,10 @@ module _ (old new : Entries) (key clock : ℕ) (entry : Worst) (origin : KeyHop)
         kept.paired,
       );
       apart = apart;
+      within = λ other one there. elim (added (other, one) there) [
+        | inl same ↦ omega (arith, within, ap (λ (pair : ℕ × Worst). pair.0) same)
+        | inr was ↦ omega (arith, grown, kept.within other one was)
+      ];
       timed = λ other one there. elim (added (other, one) there) [
         | inl same ↦ subst (IsTimed new.angle) (ap (λ (pair : ℕ × Worst). pair.1) same) timed
         | inr was ↦ subst (λ (n : ℕ). IsTimed n one) (sym angle) (kept.timed other one was)
@@ -296,7 +310,7 @@ module _ (old new : Entries) (key index clock : ℕ) (was entry : Worst) (origin
     (is : IsEntryOf key (pairs_of old) index) (before : slice_get (values_of (pairs_of old)) index ≡ Some was)
     (pairs : pairs_of new ≡ set_value_at (pairs_of old) index entry)
     (from : new.origins.items ≡ set old.origins.items index origin) (kept : AreKept old)
-    (place : entry.place ≡ was.place) (count : entry.counts ≡ was.counts) where
+    (place : entry.place ≡ was.place) (count : entry.counts ≡ was.counts) (greatest : new.greatest ≡ old.greatest) where
   -- the one that was raised, or one that was there
   raised : (pair : ℕ × Worst) → Contains (pairs_of new) pair → ((key, entry) ≡ pair) ⊎ Contains (pairs_of old) pair
   raised pair there =
@@ -318,6 +332,15 @@ module _ (old new : Entries) (key index clock : ℕ) (was entry : Worst) (origin
       );
       apart = subst (IsDistinct nat_eq)
           (sym (ap (λ (all : List (ℕ × Worst)). keys_of all) pairs ∙ written_keys (pairs_of old) index entry)) kept.apart;
+      within = λ other one there. elim (raised (other, one) there) [
+        | inl same ↦ omega (
+          arith,
+          greatest,
+          ap (λ (pair : ℕ × Worst). pair.0) same,
+          kept.within key was (entry_pair key (pairs_of old) index was is before),
+        )
+        | inr there ↦ omega (arith, greatest, kept.within other one there)
+      ];
       timed = λ other one there. elim (raised (other, one) there) [
         | inl same ↦ subst (IsTimed new.angle) (ap (λ (pair : ℕ × Worst). pair.1) same) timed
         | inr there ↦ subst (λ (n : ℕ). IsTimed n one) (sym angle) (kept.timed other one there)

@@ -15,7 +15,7 @@ use Rattle.drum_bound.specs.Ends.{HopEnd, IsHop, LeadsTo, start_row, AreRaised}
 use Rattle.drum_bound.proofs.EntryEnds.{latest_end, end_of, ends_of, IsEndIn, end_in, has_in}
 use Rattle.drum_bound.specs.Keys.{keys_of, place_at, counts_at, IsKey, IsOrdered}
 use Rattle.drum_bound.proofs.KeyLaws.{counts_within, one_key}
-use Rattle.drum_bound.specs.Longest.{longest}
+use Rattle.drum_flow.specs.Longest.{longest}
 use Rattle.drum_bound.specs.RowOf.{row_of}
 use Rattle.drum_bound.proofs.Rows.{AreRowsOf, IsRowOf, one_row, one_kept, is_inside}
 use Rattle.drum_bound.specs.Scanned.{cell_at, end_from, IsBackedBy, Arrives, IsTakenBy, Scanned}

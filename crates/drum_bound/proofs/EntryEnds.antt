@@ -9,8 +9,8 @@ use Rattle.drum_flow.specs.Hops.{Hop, hops}
 use Rattle.drum_flow.proofs.Lists.{contains_here, contains_there, contains_cases, contains_none}
 use Rattle.drum_flow.specs.Walk.{Setting}
 use Rattle.drum_bound.specs.Ends.{HopEnd, IsHop, IsHopEnd, AreUnlike, AreEnds}
-use Rattle.drum_bound.specs.Longest.{longest}
-use Rattle.drum_bound.proofs.LongestLaws.{longest_later}
+use Rattle.drum_flow.specs.Longest.{longest}
+use Rattle.drum_flow.proofs.LongestLaws.{longest_later}
 use Rattle.drum_bound.specs.Table.{Row, AreApart}
 
 -- the word times used at the latest at the end of a hop that begins when so many are, from the angle behind the start's

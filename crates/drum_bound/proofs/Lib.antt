@@ -15,12 +15,10 @@ mod InTime
 pub mod KeyLaws
 pub mod KeysTaken
 pub mod Lists
-mod LeapLaws
-pub mod LongestLaws
 pub mod Onward
 pub mod Ordering
-pub mod Profiles
 pub mod Raises
+pub mod Recents
 pub mod RoundLaws
 pub mod Rows
 pub mod RowSums

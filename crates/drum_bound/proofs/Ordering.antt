@@ -65,15 +65,15 @@ module _ (loads : ℕ → Option Word) (notes : Notes) (start : ℕ) (executed :
     (accepted : IsAccepted loads notes start executed) where
   -- The executed locations of an accepted deck are just the members of the order of discovery.
   pub are_executed : AreExecuted loads notes start executed
-  are_executed = all_executed loads notes start accepted.order.count executed accepted.order.after accepted.order.all
+  are_executed = all_executed loads notes start accepted.admitted.order.count executed accepted.admitted.order.after accepted.admitted.order.all
       good
     where
-      good : (k place : ℕ) → k < accepted.order.count → slice_get executed k ≡ Some place → IsGood loads notes place
+      good : (k place : ℕ) → k < accepted.admitted.order.count → slice_get executed k ≡ Some place → IsGood loads notes place
       good k place below at =
           let there : Contains executed place = contains_from_get executed k place at in
-          let is = only_executed loads notes start accepted.order.count place
-          (subst (λ (places : List ℕ). Contains places place) (sym accepted.order.after) there) in
-          (accepted.there place is, accepted.profile place is)
+          let is = only_executed loads notes start accepted.admitted.order.count place
+          (subst (λ (places : List ℕ). Contains places place) (sym accepted.admitted.order.after) there) in
+          (accepted.admitted.there place is, accepted.admitted.profile place is)
 
   module _ (order : List ℕ) (free : IsFreeOrder loads notes executed order) (different : AreDifferent executed) where
     -- The order has as many locations as are executed.

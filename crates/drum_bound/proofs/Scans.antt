@@ -11,7 +11,7 @@ use Rattle.drum_flow.specs.Walk.{Setting}
 use Rattle.drum_bound.specs.declared.latest.Latest.{Latest}
 use Rattle.drum_bound.specs.declared.key_hop.KeyHop.{KeyHop}
 use Rattle.drum_bound.specs.Keys.{place_at, counts_at}
-use Rattle.drum_bound.proofs.LongestLaws.{longest_near}
+use Rattle.drum_flow.proofs.LongestLaws.{longest_near}
 use Rattle.drum_machine.specs.Timing.{longest_step}
 use Rattle.drum_bound.specs.Scanned.{cell_at, later, raised, Begins, end_from, LeadsOn, IsOpen, IsEndOf, IsBackedBy}
 use Rattle.drum_bound.specs.Scanned.{IsLastBy, IsTakenBy, IsTaken, Scanned, Taking}

@@ -8,7 +8,7 @@ use Rattle.drum_flow.specs.Hops.{hops, IsEdge}
 use Rattle.drum_flow.proofs.Lists.{contains_at}
 use Rattle.drum_flow.specs.Passes.{leading}
 use Rattle.drum_flow.specs.Walk.{Setting, Taken, FollowHop, IsWalkFrom, IsWalk}
-use Rattle.drum_bound.proofs.DigitsLaws.{no_counts_within}
+use Rattle.drum_flow.proofs.PassLaws.{no_counts_within}
 use Rattle.drum_bound.proofs.KeyLaws.{place_there}
 use Rattle.drum_bound.specs.Keys.{keys_of, place_at, counts_at, IsKey, IsOrdered}
 use Rattle.drum_bound.proofs.Onward.{leads_on}

@@ -11,12 +11,12 @@ use Rattle.drum_bound.specs.declared.search.Search.{Search}
 use Rattle.drum_bound.specs.Held.{IsToEnd}
 use Rattle.drum_bound.specs.Keys.{place_at}
 use Rattle.drum_bound.specs.LeapOf.{TakesLongest}
-use Rattle.drum_bound.specs.Longest.{longest}
+use Rattle.drum_flow.specs.Longest.{longest}
 use Rattle.drum_bound.specs.ScanOf.{setting_in, order_of, IsReady}
 use Rattle.drum_bound.specs.SearchOf.{CanEnd, end_sought, hop_sought}
 use Rattle.drum_bound.proofs.FewHops.{few_hops}
 use Rattle.drum_bound.proofs.KeysTaken.{hop_among, hops_at}
-use Rattle.drum_bound.proofs.Profiles.{hop_may_end}
+use Rattle.drum_flow.proofs.Profiles.{hop_may_end}
 use Rattle.drum_bound.proofs.Scans.{Comes}
 
 module _ (scan : Scan) (round : Round) (search : Search) (number : ℕ) (leap : Leap)

@@ -9,7 +9,7 @@ use Rattle.drum_bound.specs.declared.latest.Latest.{Latest}
 use Rattle.drum_bound.specs.declared.key_hop.KeyHop.{KeyHop}
 use Rattle.drum_bound.specs.declared.visit.Visit.{Visit}
 use Rattle.drum_bound.specs.Keys.{keys_of, place_at, counts_at, IsOrdered}
-use Rattle.drum_bound.proofs.LongestLaws.{longest_later}
+use Rattle.drum_flow.proofs.LongestLaws.{longest_later}
 use Rattle.drum_bound.specs.Scanned.{cell_at, IsKeyHop, IsEndOf, IsBackedBy, IsLastBy, Scanned}
 use Rattle.drum_bound.specs.Table.{start_angle}
 use Rattle.drum_bound.specs.Visited.{Visited, visited, seen_visit, IsWalkOf}

@@ -9,7 +9,7 @@ use Rattle.drum_machine.specs.Keeps.{IsKept}
 use Rattle.drum_machine.specs.Run.{Turn, IsRun, IsFirstState}
 use Rattle.drum_machine.specs.Step.{State, Stepped, on, stopped}
 use Rattle.drum_machine.specs.Ways.{Way, early, to, late}
-use Rattle.drum_flow.specs.Accepted.{IsAccepted, IsFixed}
+use Rattle.drum_flow.specs.Accepted.{IsAdmitted, IsFixed}
 use Rattle.drum_flow.specs.RunHops.{hop_of, hops_taken}
 use Rattle.drum_flow.specs.Walk.{Setting, Taken, IsProper, FollowHop, IsWalkFrom, IsWalk}
 use Rattle.drum_flow.proofs.KeptWalk.{kept_walk}
@@ -187,7 +187,7 @@ module _ (g : Setting) where
 -- Each step of a kept run that goes on arrives under an entry of the table.
 pub arrive_under : (g : Setting) (rows : List Row) (executed : List ℕ) (s : State) (turns : List Turn) → IsTable g rows
     → IsProper g
-    → IsAccepted g.loads g.notes g.start executed → IsFirstState g.loads (IsFixed g.loads g.notes g.start) g.start s
+    → IsAdmitted g.loads g.notes g.start executed → IsFirstState g.loads (IsFixed g.loads g.notes g.start) g.start s
     → IsRun g.times s turns
     → IsKept g.loads g.notes s turns → ArriveUnder g.notes rows (no_counts g.notes.marks) turns
 arrive_under g rows executed s turns table proper accepted first is_run kept =

@@ -13,10 +13,10 @@ use Rattle.drum_flow.specs.Hops.{Hop, hops}
 use Rattle.drum_flow.specs.Walk.{Setting, Taken, IsHopAt, FollowHop, IsWalkFrom, IsWalk, time_from, time_of}
 use Rattle.drum_bound.specs.declared.latest.Latest.{Latest}
 use Rattle.drum_bound.specs.Keys.{keys_of, place_at, counts_at, IsKey, IsOrdered}
-use Rattle.drum_bound.specs.Longest.{longest}
-use Rattle.drum_bound.proofs.LongestLaws.{longest_monotone, longest_periodic, no_later, longest_from_found, first_fetch}
-use Rattle.drum_bound.proofs.LongestLaws.{first_fetch_behind}
-use Rattle.drum_bound.proofs.Profiles.{hop_may_end}
+use Rattle.drum_flow.specs.Longest.{longest}
+use Rattle.drum_flow.proofs.LongestLaws.{longest_monotone, longest_periodic, no_later, longest_from_found, first_fetch}
+use Rattle.drum_flow.proofs.LongestLaws.{first_fetch_behind}
+use Rattle.drum_flow.proofs.Profiles.{hop_may_end}
 use Rattle.drum_bound.specs.Scanned.{cell_at, end_from, Arrives, IsTakenBy, Scanned}
 use Rattle.drum_bound.specs.Table.{start_angle, GoesOn, Arrive}
 

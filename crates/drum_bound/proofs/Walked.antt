@@ -11,9 +11,9 @@ use Rattle.drum_flow.specs.Walk.{Setting, Taken, IsTimed, IsHopAt, FollowHop, Is
 use Rattle.drum_bound.specs.declared.latest.Latest.{Latest}
 use Rattle.drum_bound.specs.declared.key_hop.KeyHop.{KeyHop}
 use Rattle.drum_bound.specs.Keys.{keys_of, place_at, counts_at, IsKey, IsOrdered}
-use Rattle.drum_bound.specs.Longest.{most_wait}
-use Rattle.drum_bound.proofs.LongestLaws.{longest_later, longest_is_timed}
-use Rattle.drum_bound.proofs.Profiles.{hop_may_end}
+use Rattle.drum_flow.specs.Longest.{most_wait}
+use Rattle.drum_flow.proofs.LongestLaws.{longest_later, longest_is_timed}
+use Rattle.drum_flow.proofs.Profiles.{hop_may_end}
 use Rattle.drum_bound.specs.Scanned.{cell_at, end_from, LeadsOn, IsOpen, IsEndOf, IsBackedBy, Scanned}
 use Rattle.drum_bound.specs.Table.{start_angle, GoesOn, Arrive}
 use Rattle.drum_bound.specs.TakenOf.{units_of, wait_of, taken_of}

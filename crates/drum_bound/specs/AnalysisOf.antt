@@ -75,33 +75,36 @@ pub record Backs (cells : Cells) (visits : List Visited) : Type 0 where
   pub below : cells.last.clock - cells.entries.angle < 2 ^ 50
   pub few : length visits ≤ 4000000
 
--- The analysis is that of the walks of a setting where so many locations are executed.
-pub record IsAnalysis (g : Setting) (words : ℕ) (analysis : Analysis) : Type 0 where
+-- An analysis of the walks of a setting is right.
+pub record IsAnalysis (g : Setting) (analysis : Analysis) : Type 0 where
+  -- the bound is the time of some walk, and none passes it; the walk that is handed out has it
   pub worst : IsWorst g (bound_of analysis)
   pub walk : IsWalkOf g (angle_of analysis) (bound_of analysis) (visits_of analysis)
+  -- the table has an entry for each location and counts that some walk arrives at, and these are
+  -- few; so is each walk short
   pub table : IsTable g (rows_of analysis)
   pub few : length (rows_of analysis) ≤ words_of analysis * counts_in_all analysis
+  pub fifty : length (rows_of analysis) ≤ words_of analysis * 50 * counts_in_all analysis
   pub short : (angle : ℕ) (hops : List Taken) → IsWalk g angle hops
       → length hops ≤ words_of analysis * counts_in_all analysis
-  pub executed : words_of analysis ≡ words
   pub counts : counts_in_all analysis ≡ counts_of g.notes.marks
+  -- as many ends were made as the entries' locations have hops; they raise the entries
   pub turns : turns_of analysis
       ≡ sum (map (λ row. length (hops g.loads g.notes row.place)) (rows_of analysis))
   pub ends : (ends : List HopEnd) × AreEnds g (rows_of analysis) ends
       × AreRaised g (rows_of analysis) ends × (turns_of analysis ≡ length ends)
+  -- how often the walk passes each mark
   pub passed : ArePasses g.notes.marks (visits_of analysis) (passed_of analysis)
   pub below : bound_of analysis < 2 ^ 50
 
--- The analysis is that of a deck with its timing table and notes.
+-- An analysis of a deck with its timing table and notes is right.
 pub record IsAnalysisOf (deck : Deck) (times : Times) (notes : Notes) (analysis : Analysis) : Type
     0 where
   -- the deck with its notes is accepted, and its locations are counted
   pub accepted : (executed : List ℕ) × IsAccepted (loads_in deck) notes (start_in deck) executed
       × (words_of analysis ≡ length executed)
-  -- the bound is the time of some walk, and none passes it; the walk that is handed out has it
-  pub worst : IsWorst (setting deck times notes) (bound_of analysis)
-  pub walk : IsWalkOf (setting deck times notes) (angle_of analysis) (bound_of analysis)
-      (visits_of analysis)
+  -- of the walks of the flow graph it is right
+  pub walks : IsAnalysis (setting deck times notes) analysis
   -- no run that keeps to the notes passes the bound at any moment, nor an entry where it arrives
   pub kept : (s : State) (steps : List Turn)
       → IsFirstState (loads_in deck) (IsFixed (loads_in deck) notes (start_in deck)) (start_in deck)
@@ -111,20 +114,3 @@ pub record IsAnalysisOf (deck : Deck) (times : Times) (notes : Notes) (analysis 
       → IsFirstState (loads_in deck) (IsFixed (loads_in deck) notes (start_in deck)) (start_in deck)
       s → IsRun (entry_in times) s steps → IsKept (loads_in deck) notes s steps
       → ArriveUnder notes (rows_of analysis) (no_counts notes.marks) steps
-  -- the table has an entry for each location and counts that some walk arrives at, and these are
-  -- few; so is each walk short
-  pub table : IsTable (setting deck times notes) (rows_of analysis)
-  pub few : length (rows_of analysis) ≤ words_of analysis * counts_in_all analysis
-  pub fifty : length (rows_of analysis) ≤ words_of analysis * 50 * counts_in_all analysis
-  pub short : (angle : ℕ) (hops : List Taken) → IsWalk (setting deck times notes) angle hops
-      → length hops ≤ words_of analysis * counts_in_all analysis
-  pub counts : counts_in_all analysis ≡ counts_of notes.marks
-  -- as many ends were made as the entries' locations have hops; they raise the entries
-  pub turns : turns_of analysis
-      ≡ sum (map (λ row. length (hops (loads_in deck) notes row.place)) (rows_of analysis))
-  pub ends : (ends : List HopEnd) × AreEnds (setting deck times notes) (rows_of analysis) ends
-      × AreRaised (setting deck times notes) (rows_of analysis) ends
-      × (turns_of analysis ≡ length ends)
-  -- how often the walk passes each mark
-  pub passed : ArePasses notes.marks (visits_of analysis) (passed_of analysis)
-  pub below : bound_of analysis < 2 ^ 50

@@ -5,7 +5,7 @@ use Rattle.drum_machine.specs.Counts.{after_pass, AreWithin}
 use Rattle.drum_machine.specs.Ways.{to}
 use Rattle.drum_flow.specs.Hops.{Hop, hops}
 use Rattle.drum_flow.specs.Walk.{Setting}
-use Rattle.drum_bound.specs.Longest.{longest}
+use Rattle.drum_flow.specs.Longest.{longest}
 use Rattle.drum_bound.specs.Table.{number_of, start_angle, Row}
 
 -- the end of a hop: of an entry's place and counts, the number of the hop among those of the place,

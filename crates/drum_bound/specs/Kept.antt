@@ -1,5 +1,5 @@
 -- What is kept at a key, as entries hold it: the entry of the key, and where its time comes from.
-use Rattle.std.specs.Prelude.{◌≡◌, ◌≢◌, ℕ, zero, suc, ◌+◌, ◌^◌, ◌%◌, ◌<◌, ◌==◌, nat_eq, if◌then◌else◌, List, [], ◌∷◌, length, Option, Some, None, Contains, ◌⊎◌}
+use Rattle.std.specs.Prelude.{◌≡◌, ◌≢◌, ℕ, zero, suc, ◌+◌, ◌^◌, ◌%◌, ◌<◌, ◌≤◌, ◌==◌, nat_eq, if◌then◌else◌, List, [], ◌∷◌, length, Option, Some, None, Contains, ◌⊎◌}
 use Rattle.std.specs.List.{IsDistinct}
 use Rattle.std.specs.Map.{keys_of}
 use Rattle.drum_core.specs.declared.location.Location.{Location}
@@ -45,10 +45,13 @@ abbrev pub IsTimed : ℕ → Worst → Type 0
 IsTimed angle entry =
     (angle + entry.time < 2 ^ 64) × (entry.angle ≡ (angle + entry.time) % 50)
 
--- The entries are in order: each has where it comes from, no key has two, and each is timed.
+-- The entries are in order: each has where it comes from, no key has two, none is beyond the
+-- greatest, and each is timed.
 pub record AreKept (entries : Entries) : Type 0 where
   pub paired : length entries.origins.items ≡ length (pairs_of entries)
   pub apart : IsDistinct nat_eq (keys_of (pairs_of entries))
+  pub within : (key : ℕ) (entry : Worst) → Contains (pairs_of entries) (key, entry)
+      → key ≤ entries.greatest
   pub timed : (key : ℕ) (entry : Worst) → Contains (pairs_of entries) (key, entry)
       → IsTimed entries.angle entry
 

@@ -9,7 +9,7 @@ use Rattle.drum_machine.specs.WaysLeft.{seen_way}
 use Rattle.drum_flow.specs.Seen.{seen_hop}
 use Rattle.drum_flow.specs.Walk.{Setting}
 use Rattle.drum_bound.specs.declared.leap.Leap.{Leap}
-use Rattle.drum_bound.specs.Longest.{longest}
+use Rattle.drum_flow.specs.Longest.{longest}
 
 -- From a clock at this angle on, the hop of this place ends so many word times later at the latest.
 abbrev pub TakesLongest : Setting → ℕ → ℕ → Leap → Type 0

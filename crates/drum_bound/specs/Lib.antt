@@ -7,8 +7,7 @@ pub mod Kept
 pub mod Keys
 pub mod KeysOf
 pub mod LeapOf
-pub mod Longest
-pub mod Profile
+pub mod RecentOf
 pub mod RoundOf
 pub mod RowOf
 pub mod ScanOf

@@ -10,7 +10,7 @@ use Rattle.drum_flow.specs.Walk.{Setting}
 use Rattle.drum_bound.specs.declared.latest.Latest.{Latest}
 use Rattle.drum_bound.specs.declared.key_hop.KeyHop.{KeyHop}
 use Rattle.drum_bound.specs.Keys.{keys_of, place_at, counts_at, IsKey}
-use Rattle.drum_bound.specs.Longest.{longest}
+use Rattle.drum_flow.specs.Longest.{longest}
 use Rattle.drum_bound.specs.Table.{start_angle}
 
 -- what is kept at a key

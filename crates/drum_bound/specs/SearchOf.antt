@@ -10,8 +10,8 @@ use Rattle.drum_bound.specs.declared.leap.Leap.{Leap}
 use Rattle.drum_bound.specs.declared.search.Search.{Search}
 use Rattle.drum_bound.specs.Keys.{place_at}
 use Rattle.drum_bound.specs.LeapOf.{TakesLongest}
-use Rattle.drum_bound.specs.Longest.{longest}
-use Rattle.drum_bound.specs.Profile.{MayEnd}
+use Rattle.drum_flow.specs.Longest.{longest}
+use Rattle.drum_flow.specs.Profile.{MayEnd}
 use Rattle.drum_bound.specs.Scanned.{cell_at}
 
 -- this clock is kept at a key

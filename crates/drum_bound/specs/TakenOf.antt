@@ -7,7 +7,7 @@ use Rattle.drum_times.specs.declared.entry.Entry.{Entry}
 use Rattle.drum_flow.specs.Hops.{Hop}
 use Rattle.drum_flow.specs.Walk.{Setting, Taken}
 use Rattle.drum_bound.specs.Keys.{place_at}
-use Rattle.drum_bound.specs.Longest.{most_units, most_wait}
+use Rattle.drum_flow.specs.Longest.{most_units, most_wait}
 
 -- the most units that an instruction's operation may have, none where it has no operation
 abbrev pub units_of : Instruction → Option Op → ℕ

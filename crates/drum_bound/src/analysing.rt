@@ -4,7 +4,7 @@ ghost use Rattle.std.specs.Prelude.{◌≡◌, ℕ, ◌+◌, ◌<◌, ◌≤◌,
 ghost use Rattle.drum_core.specs.Loads.{loads_in, start_in};
 ghost use Rattle.drum_flow.specs.Acceptance.{IsRefusal};
 ghost use Rattle.drum_flow.specs.AcceptedFlow.{in_order};
-ghost use Rattle.drum_bound.specs.AnalysisOf.{ArePasses, IsAnalysis, IsAnalysisOf, turns_of};
+ghost use Rattle.drum_bound.specs.AnalysisOf.{ArePasses, IsAnalysis, IsAnalysisOf, turns_of, words_of};
 ghost use Rattle.drum_bound.specs.KeysOf.{AreKeys, CanHaveKeys, order_in, setting_of, setting_with};
 ghost use Rattle.drum_bound.specs.Visited.{seen_visit};
 
@@ -42,8 +42,8 @@ fn analysis_by<'a, L: Ledger>(
     steps: &mut Steps<L>,
 ) -> Result<Analysis, AllocError>
     requires { AreKeys keys.now }
-    ensures is { IfOk result (IsAnalysis (setting_with keys.now times.now)
-        (length (order_in keys.now))) }
+    ensures is { IfOk result (IsAnalysis (setting_with keys.now times.now)) }
+    ensures words { IfOk result (λ analysis. words_of analysis ≡ length (order_in keys.now)) }
     ensures counted { IfOk result (λ analysis. steps.new ≡ steps.old + turns_of analysis) }
 {
     let leaps = keys.leaps(alloc, times)?;
@@ -61,8 +61,8 @@ fn analysis_of<'a, L: Ledger>(
     steps: &mut Steps<L>,
 ) -> Result<Analysis, AllocError>
     requires { CanHaveKeys accepted.now }
-    ensures is { IfOk result (IsAnalysis (setting_of accepted.now times.now)
-        (length (in_order accepted.now))) }
+    ensures is { IfOk result (IsAnalysis (setting_of accepted.now times.now)) }
+    ensures words { IfOk result (λ analysis. words_of analysis ≡ length (in_order accepted.now)) }
     ensures counted { IfOk result (λ analysis. steps.new ≡ steps.old + turns_of analysis) }
 {
     // by match: the checker has no proof yet for `?` on what borrows and is dropped here

@@ -8,9 +8,9 @@ ghost use Rattle.drum_bound.specs.KeysOf.{AreKeys, hops_in, marks_in, order_in, 
 ghost use Rattle.drum_bound.specs.LeapOf.{AreLeaps, HaveLeaps, IsLeap};
 
 use crate::keys::{Keys, Node};
-use crate::longest::longest;
 use drum_core::{Location, REVOLUTION};
 use drum_flow::Hop;
+use drum_flow::longest::longest;
 use drum_machine::Way;
 use drum_times::{Mark, Times};
 use std::alloc::{AllocError, Global};

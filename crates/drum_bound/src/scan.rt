@@ -5,6 +5,7 @@ ghost use Rattle.std.specs.Prelude.{◌≡◌, ◌+◌, ◌*◌, ◌/◌, ◌%�
 use crate::cells::{Cells, Onto};
 use crate::keys::Keys;
 use crate::leap::Leap;
+use crate::recent::Recent;
 use crate::round::Round;
 use crate::search::Search;
 use crate::steps::Steps;
@@ -95,8 +96,8 @@ impl<'a> Scan<'a> {
         })
     }
 
-    /// Takes a hop that goes on: it raises what is kept at the key onto which it leads, unless a full
-    /// mark bars it.
+    /// Takes a hop that goes on: it raises what is kept at the key onto which it leads, unless a
+    /// full mark bars it.
     #[inline(always)]
     fn go_on<L: Ledger>(
         &mut self,
@@ -195,7 +196,7 @@ impl<'a> Scan<'a> {
     }
 
     /// Takes the key whose instruction is sought, of whose location these are the hops: their leaps
-    /// are made for it.
+    /// are made for it, one for hops that are alike but for D.
     fn take_hops<L: Ledger>(
         &mut self,
         round: &Round,
@@ -214,8 +215,9 @@ impl<'a> Scan<'a> {
     {
         let (keys, times) = (self.keys, self.times);
         let angle = search.found % REVOLUTION;
+        let mut recent = Recent::none();
         for (number, hop) in left.enumerate() {
-            let leap = keys.leap(times, search.location, hop, angle);
+            let leap = recent.leap(keys, times, search.location, hop, angle);
             self.take_leap(round, search, number, &leap, steps)?;
         }
         Ok(())

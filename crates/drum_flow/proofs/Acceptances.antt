@@ -5,22 +5,29 @@ use Rattle.std.specs.Prelude.{slice_get, Contains}
 use Rattle.std.proofs.lemmas.Bool.{cases_lt, eq-eqb}
 use Rattle.std.proofs.lemmas.Bool.Decides.{eqb_tells}
 use Rattle.std.proofs.lemmas.Option.{slice_get_past}
+use Rattle.drum_core.specs.declared.deck.Deck.{Deck}
 use Rattle.drum_core.specs.declared.word.Word.{Word}
 use Rattle.drum_times.specs.Allowed.{Notes}
 use Rattle.drum_flow.specs.declared.fixed.Fixed.{Fixed}
 use Rattle.drum_flow.specs.declared.refusal.Refusal.{Refusal}
 use Rattle.drum_flow.specs.declared.refusal.Refusal.TheVariants.{Memory, NotLoaded, NotInProfile, Alters, Unbounded}
 use Rattle.drum_flow.specs.declared.refusal.Refusal.TheVariants.{TooLarge}
-use Rattle.drum_flow.specs.Acceptance.{IsRefusal}
-use Rattle.drum_flow.specs.Accepted.{counts_of, product_of, IsFree, IsAccepted, IsSound}
+use Rattle.drum_flow.specs.Acceptance.{IsAdmissionRefusal, IsRefusal}
+use Rattle.drum_flow.specs.Accepted.{counts_of, product_of, IsFree, IsAdmitted, IsFreeRound, IsSound}
 use Rattle.drum_flow.specs.Altering.{FlagsFixed, AltersNone}
 use Rattle.drum_flow.specs.Executed.{added_by, with_new, found_after, IsOrder}
 use Rattle.drum_flow.specs.Fixed.{AreFlagged}
 use Rattle.drum_flow.specs.Flow.{AreExecuted}
-use Rattle.drum_flow.specs.Free.{IsFreeOrder, IsCycleRefusal}
+use Rattle.drum_flow.specs.Free.{IsFreeCycle, IsFreeOrder, IsCycleRefusal}
 use Rattle.drum_flow.specs.Graph.{AreDifferent, GoOn, LeadRound, IsClosed}
 use Rattle.drum_flow.specs.Size.{IsTooMuch}
 use Rattle.drum_flow.proofs.Lists.{contains_there, contains_cases, contains_none}
+
+-- what is so of one deck and its notes is so of those that are the same
+pub moved : (Holds : Deck → Notes → Type 0) (deck other : Deck) (notes others : Notes) → deck ≡ other → notes ≡ others
+    → Holds deck notes → Holds other others
+moved Holds deck other notes others same equal holds =
+    subst (Holds other) equal (subst (λ (d : Deck). Holds d notes) same holds)
 
 -- how far before the end of a list a member stands
 abbrev height_by : Bool → ℕ → ℕ → ℕ
@@ -134,36 +141,50 @@ module _ (loads : ℕ → Option Word) (notes : Notes) where
         too_much (Alters writer word) wrong = absurd wrong
         too_much (Unbounded cycle) wrong = absurd wrong
 
+        -- where edges free of marks lead round, that is the refusal
+        round : (cycle : List ℕ) → IsFreeCycle loads notes executed cycle → IsFreeRound loads notes start cycle
+        round cycle wrong = record {
+          sound = sound;
+          executed = λ place there. e.only place (wrong.within place there);
+          closed = wrong.closed;
+          different = wrong.different;
+          smallest = wrong.smallest;
+        }
+
+        pub not_admitted : (refusal : Refusal) → IsCycleRefusal loads notes executed refusal
+            → IsAdmissionRefusal loads notes start refusal
+        not_admitted (Unbounded cycle) wrong = round _ wrong
+        not_admitted Memory wrong = tt
+        not_admitted (NotLoaded location) wrong = absurd wrong
+        not_admitted (NotInProfile location op) wrong = absurd wrong
+        not_admitted (Alters writer word) wrong = absurd wrong
+        not_admitted (TooLarge product) wrong = absurd wrong
+
+        pub is_admitted : (order : List ℕ) → IsFreeOrder loads notes executed order
+            → IsAdmitted loads notes start executed
+        is_admitted order free = record {
+          order = e.order;
+          there = λ place is_executed. (e.good place (e.all place is_executed)).0;
+          profile = λ place is_executed. (e.good place (e.all place is_executed)).1;
+          unaltered =
+              λ place ins at is_executed allowed written is_fixed. none place (e.all place is_executed) ins allowed
+              (at, written, is_fixed);
+          bounded =
+              λ first others is_executed. no_round order first others free.different free.onward
+              (free.all first (e.all first is_executed));
+        }
+
         module _ (small : product_of executed notes.marks ≤ 4000000) where
           pub unbounded : (refusal : Refusal) → IsCycleRefusal loads notes executed refusal
               → IsRefusal loads notes start refusal
           unbounded (Unbounded cycle) wrong = record {
-            sound = sound;
             small =
                 λ other order. subst (λ (places : List ℕ). length places * counts_of notes.marks ≤ 4000000)
                 (one_order executed other e.order order) small;
-            executed = λ place there. e.only place (wrong.within place there);
-            closed = wrong.closed;
-            different = wrong.different;
-            smallest = wrong.smallest;
+            round = round _ wrong;
           }
           unbounded Memory wrong = tt
           unbounded (NotLoaded location) wrong = absurd wrong
           unbounded (NotInProfile location op) wrong = absurd wrong
           unbounded (Alters writer word) wrong = absurd wrong
           unbounded (TooLarge product) wrong = absurd wrong
-
-          pub is_accepted : (order : List ℕ) → IsFreeOrder loads notes executed order
-              → IsAccepted loads notes start executed
-          is_accepted order free = record {
-            order = e.order;
-            there = λ place is_executed. (e.good place (e.all place is_executed)).0;
-            profile = λ place is_executed. (e.good place (e.all place is_executed)).1;
-            unaltered =
-                λ place ins at is_executed allowed written is_fixed. none place (e.all place is_executed) ins allowed
-                (at, written, is_fixed);
-            bounded =
-                λ first others is_executed. no_round order first others free.different free.onward
-                (free.all first (e.all first is_executed));
-            small = small;
-          }

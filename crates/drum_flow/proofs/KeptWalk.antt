@@ -33,7 +33,7 @@ use Rattle.drum_machine.specs.Ways.{Way, early, to, late, ways}
 use Rattle.drum_machine.specs.declared.why.Why as whys
 use Rattle.drum_machine.specs.declared.why.Why.TheVariants as why
 use Rattle.drum_machine.specs.Writes.{writes}
-use Rattle.drum_flow.specs.Accepted.{IsAccepted, IsFixed, IsThere}
+use Rattle.drum_flow.specs.Accepted.{IsAdmitted, IsFixed, IsThere}
 use Rattle.drum_flow.specs.Hops.{Hop, hops_of, hops, IsEdge, Lead, IsExecuted}
 use Rattle.drum_flow.proofs.Lists.{contains_here, contains_there, contains_cases}
 use Rattle.drum_flow.specs.RunHops.{units_with, hop_of, hops_taken}
@@ -144,7 +144,7 @@ record Stays (g : Setting) (angle : ℕ) (s : State) : Type 0 where
       → word_at s.contents place ≡ w
 
 module _ (g : Setting) (executed : List ℕ) (angle : ℕ) (proper : IsProper g)
-    (accepted : IsAccepted g.loads g.notes g.start executed) where
+    (admitted : IsAdmitted g.loads g.notes g.start executed) where
   -- a deck's instruction is allowed where the deck loads it
   deck_allowed : (place : ℕ) (w : Word) → g.loads place ≡ Some w
       → Contains (allowed g.loads g.notes place) (instruction_of w)
@@ -156,7 +156,7 @@ module _ (g : Setting) (executed : List ℕ) (angle : ℕ) (proper : IsProper g)
   -- the fetched instruction is allowed
   fetched_allowed : (s : State) → Stays g angle s → IsAllowed g.loads g.notes s
       → Contains (allowed g.loads g.notes s.sought) (instruction_in s)
-  fetched_allowed s stays may_be = go (is_listed g.notes s.sought) refl (accepted.there s.sought stays.executed)
+  fetched_allowed s stays may_be = go (is_listed g.notes s.sought) refl (admitted.there s.sought stays.executed)
     where
       from_deck : ¬ IsTrue (is_listed g.notes s.sought) → (found : Option Word) → g.loads s.sought ≡ found
           → IsSome found → Contains (allowed g.loads g.notes s.sought) (instruction_in s)
@@ -195,7 +195,7 @@ module _ (g : Setting) (executed : List ℕ) (angle : ℕ) (proper : IsProper g)
     agrees = λ place w fixed loads.
         let below : place < 2000 = proper.on_drum place w loads in
         let free : ¬ Contains (writes (instruction_in s)) place =
-        λ written. accepted.unaltered s.sought (instruction_in s) place stays.executed may_be written fixed in
+        λ written. admitted.unaltered s.sought (instruction_in s) place stays.executed may_be written fixed in
         drum_word next.contents place below
         ∙ ap (λ (found : Option Word). unwrap_or found (word false 0))
         (subst (λ (t : Stepped). slice_get (contents_after t).drum place ≡ slice_get s.contents.drum place) goes_on
@@ -276,7 +276,7 @@ module _ (g : Setting) (executed : List ℕ) (angle : ℕ) (proper : IsProper g)
       let may_be : Contains (allowed g.loads g.notes turn.origin.sought) (instruction_in turn.origin) =
       fetched_allowed turn.origin stays kept.listed in
       go may_be (op_of (instruction_in turn.origin).op) refl
-      (accepted.profile turn.origin.sought stays.executed (instruction_in turn.origin) may_be)
+      (admitted.profile turn.origin.sought stays.executed (instruction_in turn.origin) may_be)
     where
       go : Contains (allowed g.loads g.notes turn.origin.sought) (instruction_in turn.origin) → (found : Option Op)
           → op_of (instruction_in turn.origin).op ≡ found → IsSome found
@@ -310,17 +310,17 @@ module _ (g : Setting) (executed : List ℕ) (angle : ℕ) (proper : IsProper g)
       walk_from turns next (after_pass g.notes.marks turn.origin.sought next.sought counts) next_stays_so runs
       (subst (λ (after : List ℕ). AreKept g.loads g.notes after turns) same kept.1)))
 
--- A kept run of an accepted deck is a walk, from the same angle and of the same time.
+-- A kept run of an admitted deck is a walk, from the same angle and of the same time.
 pub kept_walk : (g : Setting) (executed : List ℕ) (s : State) (turns : List Turn) → IsProper g
-    → IsAccepted g.loads g.notes g.start executed
+    → IsAdmitted g.loads g.notes g.start executed
     → IsFirstState g.loads (IsFixed g.loads g.notes g.start) g.start s → IsRun g.times s turns
     → IsKept g.loads g.notes s turns
     → IsWalk g s.start (hops_taken turns) × (time_of (hops_taken turns) ≡ used_from 0 turns)
-kept_walk g executed s turns proper accepted first is_run kept =
+kept_walk g executed s turns proper admitted first is_run kept =
     let stays : Stays g s.start s =
     record { start = refl; executed = ([], sym first.seeks); as_declared = kept.declared; agrees = first.agrees } in
     let walks : IsWalkFrom g s.start s.sought s.time (no_counts g.notes.marks) (hops_taken turns) =
-    walk_from g executed s.start proper accepted turns s (no_counts g.notes.marks) stays is_run kept.kept in
+    walk_from g executed s.start proper admitted turns s (no_counts g.notes.marks) stays is_run kept.kept in
     let seeking : IsWalkFrom g s.start g.start s.time (no_counts g.notes.marks) (hops_taken turns) =
     subst (λ (place : ℕ). IsWalkFrom g s.start place s.time (no_counts g.notes.marks) (hops_taken turns)) first.seeks
     walks in

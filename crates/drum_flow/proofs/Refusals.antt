@@ -41,16 +41,16 @@ module _ (loads : ℕ → Option Word) (notes : Notes) (start : ℕ) where
       → ((place : ℕ) → Contains cycle place → IsExecuted loads notes start place) → IsClosed (IsFree loads notes) cycle → ⊥
   not_closed executed [] accepted there closed = closed
   not_closed executed (first ∷ others) accepted there closed =
-      accepted.bounded first others (there first (contains_here first others)) closed
+      accepted.admitted.bounded first others (there first (contains_here first others)) closed
 
   pub only_memory : (executed : List ℕ) (refusal : Refusal) → IsAccepted loads notes start executed
       → IsRefusal loads notes start refusal → refusal ≡ Memory
   only_memory executed (NotLoaded location) accepted is =
-      absurd (is.1 (accepted.there location.number (met_is_executed location.number is.0)))
+      absurd (is.1 (accepted.admitted.there location.number (met_is_executed location.number is.0)))
   only_memory executed (NotInProfile location op) accepted (met, there, (ins, first, number)) =
       let outside : IsNone (op_of ins.op) = first.3 in
       let inside : IsSome (op_of ins.op) =
-      accepted.profile location.number (met_is_executed location.number met) ins
+      accepted.admitted.profile location.number (met_is_executed location.number met) ins
       (first_is_there (allowed loads notes location.number) _ ins first) in
       cc
   only_memory executed (Alters writer word) accepted is =
@@ -61,11 +61,11 @@ module _ (loads : ℕ → Option Word) (notes : Notes) (start : ℕ) where
       in_order_is_executed is.executed writer.number is.order
       (subst (λ (xs : List ℕ). Contains xs writer.number) (sym is.split)
       (within is.before writer.number is.behind)) in
-      absurd (accepted.unaltered writer.number is.ins written.0 writes there written.1 written.2)
+      absurd (accepted.admitted.unaltered writer.number is.ins written.0 writes there written.1 written.2)
   only_memory executed (TooLarge product) accepted (sound, large, (other, order, number)) =
-      let same : other ≡ executed = one_order loads notes start other executed order accepted.order in
+      let same : other ≡ executed = one_order loads notes start other executed order accepted.admitted.order in
       let small : length other * counts_of notes.marks ≤ 4000000 =
       subst (λ (xs : List ℕ). length xs * counts_of notes.marks ≤ 4000000) (sym same) accepted.small in
       absurd (omega (arith, large, number, small))
-  only_memory executed (Unbounded cycle) accepted is = absurd (not_closed executed _ accepted is.executed is.closed)
+  only_memory executed (Unbounded cycle) accepted is = absurd (not_closed executed _ accepted is.round.executed is.round.closed)
   only_memory executed Memory accepted is = refl

@@ -4,7 +4,7 @@ use Rattle.drum_core.specs.declared.word.Word.{Word}
 use Rattle.drum_times.specs.Allowed.{Notes}
 use Rattle.drum_flow.specs.declared.refusal.Refusal.{Refusal}
 use Rattle.drum_flow.specs.declared.refusal.Refusal.TheVariants.{Memory, NotLoaded, NotInProfile, Alters, Unbounded, TooLarge}
-use Rattle.drum_flow.specs.Accepted.{IsNotLoaded, IsNotInProfile, IsAltered, IsTooLarge, IsUnbounded}
+use Rattle.drum_flow.specs.Accepted.{IsNotLoaded, IsNotInProfile, IsAltered, IsFreeRound, IsTooLarge, IsUnbounded}
 
 -- the refusal is that of the deck with its notes, or memory is wanting
 abbrev pub IsRefusal : (ℕ → Option Word) → Notes → ℕ → Refusal → Type 0
@@ -17,3 +17,16 @@ IsRefusal loads notes start (TooLarge product) = IsTooLarge loads notes start pr
 IsRefusal loads notes start (Unbounded cycle) =
     IsUnbounded loads notes start (map (λ location. location.number) cycle.locations.items)
 IsRefusal loads notes start Memory = Unit {0}
+
+-- so where the size is no cause
+abbrev pub IsAdmissionRefusal : (ℕ → Option Word) → Notes → ℕ → Refusal → Type 0
+IsAdmissionRefusal loads notes start (NotLoaded location) =
+    IsNotLoaded loads notes start location.number
+IsAdmissionRefusal loads notes start (NotInProfile location op) =
+    IsNotInProfile loads notes start location.number op
+IsAdmissionRefusal loads notes start (Alters writer word) =
+    IsAltered loads notes start writer.number word.number
+IsAdmissionRefusal loads notes start (TooLarge product) = ⊥
+IsAdmissionRefusal loads notes start (Unbounded cycle) =
+    IsFreeRound loads notes start (map (λ location. location.number) cycle.locations.items)
+IsAdmissionRefusal loads notes start Memory = Unit {0}

@@ -39,8 +39,8 @@ IsFree loads notes place next =
 abbrev pub product_of : List ℕ → List Mark → ℕ
 product_of executed marks = length executed * counts_of marks
 
--- The deck with its notes is accepted; these are its executed locations.
-pub record IsAccepted (loads : ℕ → Option Word) (notes : Notes) (start : ℕ)
+-- The deck with its notes is admitted, whatever its size; these are its executed locations.
+pub record IsAdmitted (loads : ℕ → Option Word) (notes : Notes) (start : ℕ)
     (executed : List ℕ) : Type 0 where
   pub order : IsOrder loads notes start executed
   pub there : (place : ℕ) → IsExecuted loads notes start place → IsThere loads notes place
@@ -50,6 +50,11 @@ pub record IsAccepted (loads : ℕ → Option Word) (notes : Notes) (start : ℕ
       → Contains (writes ins) at → ¬ IsFixed loads notes start at
   pub bounded : (first : ℕ) (others : List ℕ) → IsExecuted loads notes start first
       → ¬ IsClosed (IsFree loads notes) (first ∷ others)
+
+-- The deck with its notes is accepted: it is admitted, and small.
+pub record IsAccepted (loads : ℕ → Option Word) (notes : Notes) (start : ℕ)
+    (executed : List ℕ) : Type 0 where
+  pub admitted : IsAdmitted loads notes start executed
   pub small : product_of executed notes.marks ≤ 4000000
 
 -- The location is loaded or listed, and each operation there is in the profile.
@@ -138,14 +143,19 @@ abbrev pub IsSmallestFirst : List ℕ → Type 0
 IsSmallestFirst [] = ⊥
 IsSmallestFirst (first ∷ places) = (place : ℕ) → Contains places place → first < place
 
--- Unbounded: nothing above is wrong, and these executed locations, without repeats and the smallest
+-- Nothing but the size is wrong, and these executed locations, without repeats and the smallest
 -- first, lead round by edges free of marks.
-pub record IsUnbounded (loads : ℕ → Option Word) (notes : Notes) (start : ℕ)
+pub record IsFreeRound (loads : ℕ → Option Word) (notes : Notes) (start : ℕ)
     (cycle : List ℕ) : Type 0 where
   pub sound : IsSound loads notes start
-  pub small : (executed : List ℕ) → IsOrder loads notes start executed
-      → product_of executed notes.marks ≤ 4000000
   pub executed : (place : ℕ) → Contains cycle place → IsExecuted loads notes start place
   pub closed : IsClosed (IsFree loads notes) cycle
   pub different : AreDifferent cycle
   pub smallest : IsSmallestFirst cycle
+
+-- Unbounded: nothing above is wrong, and these lead round.
+pub record IsUnbounded (loads : ℕ → Option Word) (notes : Notes) (start : ℕ)
+    (cycle : List ℕ) : Type 0 where
+  pub small : (executed : List ℕ) → IsOrder loads notes start executed
+      → product_of executed notes.marks ≤ 4000000
+  pub round : IsFreeRound loads notes start cycle

@@ -12,8 +12,11 @@ pub mod Graph
 pub mod Hops
 pub mod HopsLeft
 pub mod Instructions
+pub mod Longest
+pub mod MostPasses
 pub mod Passes
 pub mod Patterns
+pub mod Profile
 pub mod Refused
 pub mod Rows
 pub mod RunHops

@@ -1,11 +1,12 @@
 //! The checks of acceptance, in their order, and what comes of a deck that they let pass.
 
-ghost use Rattle.std.specs.Prelude.{◌≡◌, map, IfOk, IfErr};
+ghost use Rattle.std.specs.Prelude.{◌≡◌, ℕ, map, Contains, IfOk, IfErr};
 ghost use Rattle.drum_core.specs.Loads.{loads_in, start_in};
-ghost use Rattle.drum_flow.specs.Acceptance.{IsRefusal};
-ghost use Rattle.drum_flow.specs.Accepted.{IsAccepted};
+ghost use Rattle.drum_flow.specs.Acceptance.{IsAdmissionRefusal, IsRefusal};
+ghost use Rattle.drum_flow.specs.Accepted.{IsAccepted, IsAdmitted};
+ghost use Rattle.drum_flow.specs.Altering.{AltersNone};
 ghost use Rattle.drum_flow.specs.AcceptedFlow.{in_order};
-ghost use Rattle.drum_flow.specs.Flow.{deck_of, notes_of, executed_in};
+ghost use Rattle.drum_flow.specs.Flow.{deck_of, notes_of, executed_in, of_flow, AreExecuted};
 ghost use Rattle.drum_flow.specs.Free.{IsFreeOrder};
 
 use crate::altering::check_unaltered;
@@ -19,7 +20,25 @@ use drum_core::{Deck, Location};
 use drum_times::Notes;
 use std::alloc::Global;
 
-/// The flow graph of an accepted deck under its notes, with an order of its executed locations in
+/// The flow graph of a deck under its notes, where each executed location is in order and none is
+/// altered without a list.
+fn sound_flow<'a>(alloc: Global, deck: &'a Deck, notes: &'a Notes) -> Result<Flow<'a>, Refusal>
+    ensures deck { IfOk result (λ flow. deck_of flow ≡ deck.now) }
+    ensures notes { IfOk result (λ flow. notes_of flow ≡ notes.now) }
+    ensures executed { IfOk result (λ flow. of_flow AreExecuted flow (executed_in flow)) }
+    ensures unaltered { IfOk result (λ flow. (place : ℕ) → Contains (executed_in flow) place
+        → of_flow AltersNone flow place) }
+    ensures refused { IfErr result (IsRefusal (loads_in deck.now) notes.now (start_in deck.now)) }
+    ensures admission { IfErr result (IsAdmissionRefusal (loads_in deck.now) notes.now
+        (start_in deck.now)) }
+{
+    let flow = flow(alloc, deck, notes)?;
+    let fixed = Fixed::of(alloc, flow.executed(), notes)?;
+    check_unaltered(&flow, &fixed)?;
+    Ok(flow)
+}
+
+/// The flow graph of an admitted deck under its notes, with an order of its executed locations in
 /// which every edge free of marks goes on.
 #[derive(Debug, Drop)]
 pub struct AcceptedFlow<'a> {
@@ -43,10 +62,33 @@ impl<'a> AcceptedFlow<'a> {
         ensures refused { IfErr result (IsRefusal (loads_in deck.now) notes.now
             (start_in deck.now)) }
     {
-        let flow = flow(alloc, deck, notes)?;
-        let fixed = Fixed::of(alloc, flow.executed(), notes)?;
-        check_unaltered(&flow, &fixed)?;
+        let flow = sound_flow(alloc, deck, notes)?;
         check_small(&flow)?;
+        let order = free_order(alloc, &flow)?;
+        Ok(AcceptedFlow { flow, order })
+    }
+
+    /// That of a deck under its notes, where the deck with its notes is admitted: all that makes it
+    /// accepted holds, but for its size, which may be any.
+    ///
+    /// # Errors
+    ///
+    /// Those of [`accept`](crate::accept) but [`Refusal::TooLarge`].
+    pub fn of_any_size(
+        alloc: Global,
+        deck: &'a Deck,
+        notes: &'a Notes,
+    ) -> Result<AcceptedFlow<'a>, Refusal>
+        ensures deck { IfOk result (λ accepted. deck_of accepted.flow ≡ deck.now) }
+        ensures notes { IfOk result (λ accepted. notes_of accepted.flow ≡ notes.now) }
+        ensures admitted { IfOk result (λ accepted. IsAdmitted (loads_in deck.now) notes.now
+            (start_in deck.now) (executed_in accepted.flow)) }
+        ensures order { IfOk result (λ accepted. IsFreeOrder (loads_in deck.now) notes.now
+            (executed_in accepted.flow) (in_order accepted)) }
+        ensures refused { IfErr result (IsAdmissionRefusal (loads_in deck.now) notes.now
+            (start_in deck.now)) }
+    {
+        let flow = sound_flow(alloc, deck, notes)?;
         let order = free_order(alloc, &flow)?;
         Ok(AcceptedFlow { flow, order })
     }

@@ -1,6 +1,8 @@
 //! Laws of the definitions, each the contract of a function that does nothing.
 
-ghost use Rattle.std.specs.Prelude.{◌≡◌, ℕ, ◌<◌, List, Option, Some, Contains};
+ghost use Rattle.std.specs.Prelude.{◌≡◌, ℕ, ◌+◌, ◌%◌, ◌<◌, ◌≤◌, List, length, Option, Some, Contains};
+ghost use Rattle.drum_core.specs.Available.{is_available};
+ghost use Rattle.drum_core.specs.Moment.{first};
 ghost use Rattle.drum_core.specs.declared.op.Op.{Op};
 ghost use Rattle.drum_core.specs.declared.word.Word.{Word};
 ghost use Rattle.drum_times.specs.declared.notes.mark.Mark.{Mark};
@@ -9,19 +11,23 @@ ghost use Rattle.drum_machine.specs.Contents.{Contents};
 ghost use Rattle.drum_times.specs.Marks.{mark_on};
 ghost use Rattle.drum_machine.specs.Counts.{after_pass, AreWithin};
 ghost use Rattle.drum_machine.specs.Keeps.{IsKept};
+ghost use Rattle.drum_machine.specs.Since.{passes_of};
 ghost use Rattle.drum_machine.specs.Run.{Turn, IsRun, IsFirstState, used_from};
 ghost use Rattle.drum_machine.specs.Step.{State};
-ghost use Rattle.drum_machine.specs.Timing.{units_of};
+ghost use Rattle.drum_machine.specs.Timing.{units_of, IsWait};
+ghost use Rattle.drum_machine.specs.Ways.{Way};
+ghost use Rattle.drum_times.specs.declared.entry.Entry.{Entry};
 ghost use Rattle.drum_flow.specs.declared.refusal.Refusal.{Refusal};
 ghost use Rattle.drum_flow.specs.declared.refusal.Refusal.TheVariants.{Memory};
 ghost use Rattle.drum_flow.specs.Acceptance.{IsRefusal};
-ghost use Rattle.drum_flow.specs.Accepted.{IsAccepted, IsFixed};
+ghost use Rattle.drum_flow.specs.Accepted.{IsAccepted, IsAdmitted, IsFixed};
 ghost use Rattle.drum_flow.specs.Executed.{IsOrder};
 ghost use Rattle.drum_flow.specs.Graph.{AreDifferent};
 ghost use Rattle.drum_flow.specs.Hops.{IsExecuted};
+ghost use Rattle.drum_flow.specs.MostPasses.{edges_taken, most_passes};
 ghost use Rattle.drum_flow.specs.Passes.{leading};
 ghost use Rattle.drum_flow.specs.RunHops.{hops_taken};
-ghost use Rattle.drum_flow.specs.Walk.{Setting, IsProper, Taken, MayHaveUnits, IsWalk, time_of};
+ghost use Rattle.drum_flow.specs.Walk.{Setting, IsProper, Taken, MayHaveUnits, IsWalk, end_by, time_of};
 ghost use Rattle.drum_flow.specs.WalkTime.{AreAlike};
 
 /// The order of discovery has each executed location once, and nothing else.
@@ -50,11 +56,11 @@ pub fn one_time()
         → time_of hops ≡ time_of others }
 {}
 
-/// The hops that a run takes, where it keeps to the notes of an accepted deck, are a walk from the
+/// The hops that a run takes, where it keeps to the notes of an admitted deck, are a walk from the
 /// same start angle, and its time is what the run has used. (So the empty run is the empty walk.)
 pub fn kept_run_is_a_walk()
     ensures { (g : Setting) (executed : List ℕ) (s : State) (turns : List Turn) → IsProper g
-        → IsAccepted g.loads g.notes g.start executed
+        → IsAdmitted g.loads g.notes g.start executed
         → IsFirstState g.loads (IsFixed g.loads g.notes g.start) g.start s → IsRun g.times s turns
         → IsKept g.loads g.notes s turns
         → IsWalk g s.start (hops_taken turns) × (time_of (hops_taken turns) ≡ used_from 0 turns) }
@@ -70,4 +76,28 @@ pub fn accepted_is_not_refused()
     ensures { (loads : ℕ → Option Word) (notes : Notes) (start : ℕ) (executed : List ℕ)
         (refusal : Refusal) → IsAccepted loads notes start executed
         → IsRefusal loads notes start refusal → refusal ≡ Memory }
+{}
+
+/// A hop that begins later never ends earlier, with the same units and the same wait.
+pub fn later_start_no_earlier_end()
+    ensures { (entry : Entry) (op : Op) (d place units wait : ℕ) (way : Way) (earlier later : ℕ)
+        → MayHaveUnits op d units → IsWait op entry wait → earlier ≤ later
+        → end_by way entry op d place units wait earlier
+        ≤ end_by way entry op d place units wait later }
+{}
+
+/// From every start angle the first fetch falls at one angle, that of the start's location, at most
+/// 49 word times away.
+pub fn first_fetch_at_one_angle()
+    ensures angle { (start clock : ℕ) → start < 2000
+        → first (is_available start) clock % 50 ≡ start % 50 }
+    ensures near { (start clock : ℕ) → first (is_available start) clock ≤ clock + 49 }
+{}
+
+/// A walk passes a mark no more often than the product of the mark's most and, of each mark that it
+/// stands inside of, directly or through others, one more than its most.
+pub fn passes_are_few()
+    ensures { (g : Setting) (angle k : ℕ) (hops : List Taken) → StandInEarlier 0 g.notes.marks
+        → k < length g.notes.marks → IsWalk g angle hops
+        → passes_of g.notes.marks k (edges_taken hops) ≤ most_passes g.notes.marks k }
 {}

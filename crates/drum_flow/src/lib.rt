@@ -18,6 +18,7 @@ pub mod graph;
 mod hops;
 mod instructions;
 pub mod laws;
+pub mod longest;
 mod patterns;
 mod place;
 mod refusal;

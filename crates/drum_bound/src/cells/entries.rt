@@ -27,6 +27,8 @@ pub struct Entries {
     /// The index of the entry that was added or raised last: the key that is looked for next is
     /// mostly that entry's, or that of the one before it.
     near: usize,
+    /// The greatest key that has an entry: most keys that have none yet are beyond it.
+    greatest: u32,
 }
 
 impl Entries {
@@ -71,6 +73,7 @@ impl Entries {
             origins,
             angle,
             near: 0,
+            greatest: start_key,
         })
     }
 
@@ -109,6 +112,9 @@ impl Entries {
         ensures inside { IfSome result (λ index. index < length (pairs_of self.now)) }
         ensures none { result ≡ None → get nat_eq self.now.table key ≡ None }
     {
+        if key > self.greatest {
+            return None;
+        }
         if self.is_at(key, near) {
             return Some(near);
         }
@@ -119,6 +125,7 @@ impl Entries {
     }
 
     /// What the entry of this index keeps, which is a key's.
+    #[inline(always)]
     fn kept_by(&self, key: u32, index: usize) -> Latest
         requires kept { AreKept self.now }
         requires there { IsEntryOf key (pairs_of self.now) index }
@@ -157,7 +164,7 @@ impl Entries {
         let Some(index) = self.index_of(key, self.near) else {
             return None;
         };
-        Some(self.angle + self.table()[index].time)
+        Some(self.kept_by(key, index).clock)
     }
 
     /// Keeps an end of a hop that goes on at a key, of so many, at this location and with the
@@ -236,19 +243,24 @@ impl Entries {
             counts,
             time: end.clock() - self.angle,
         };
-        self.make_room(keys)?;
+        self.make_room(key, keys)?;
         self.origins.push(end.origin())?;
         self.table.insert(key, entry)?;
         Ok(())
     }
 
-    /// Asks for room for the entries of so many keys, where there are many already; and takes the
-    /// index of the next entry for that which is looked near.
-    fn make_room(&mut self, keys: usize) -> Result<(), AllocError>
+    /// Makes ready for the entry of a key, of so many: asks for room for all where there are many
+    /// already, and takes the index of the next entry for that which is looked near.
+    fn make_room(&mut self, key: u32, keys: usize) -> Result<(), AllocError>
         ensures pairs { pairs_of self.new ≡ pairs_of self.old }
         ensures origins { self.new.origins.items ≡ self.old.origins.items }
         ensures angle { self.new.angle ≡ self.old.angle }
+        ensures grown { self.old.greatest ≤ self.new.greatest }
+        ensures within { key ≤ self.new.greatest }
     {
+        if key > self.greatest {
+            self.greatest = key;
+        }
         self.near = self.table.len();
         if self.near == MANY {
             self.table.reserve(keys)?;

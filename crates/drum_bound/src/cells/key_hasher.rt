@@ -41,4 +41,9 @@ impl Hasher for KeyHasher {
             |key, byte| key / 256 + (*byte as u64) * 16_777_216,
         );
     }
+
+    // A key is written so: its four bytes at once.
+    fn write_u32(&mut self, i: u32) {
+        self.key = self.key / 4_294_967_296 + u64::from(i);
+    }
 }

@@ -1,27 +1,20 @@
-use Rattle.std.proofs.Common.{◌≡◌, ℕ, ◌*◌, ◌≤◌, length, ap, sym, ◌∙◌, subst, arith, mul_comm}
-use Rattle.std.proofs.Math.Nat.{mul_assoc}
-use Rattle.drum_core.specs.declared.deck.Deck.{Deck}
+use Rattle.std.proofs.Common.{◌≡◌, length, sym, ◌∙◌, subst, arith}
 use Rattle.drum_core.specs.Loads.{loads_in, start_in}
-use Rattle.drum_times.specs.Allowed.{Notes, AreSound}
+use Rattle.drum_times.specs.Allowed.{AreSound}
 use Rattle.drum_flow.specs.Accepted.{IsAccepted}
 use Rattle.drum_flow.specs.declared.flow_graph.Flow.{Flow}
 use Rattle.drum_flow.specs.Graph.{AreDifferent}
 use Rattle.drum_flow.specs.Flow.{deck_of, notes_of, executed_in}
 use Rattle.drum_flow.specs.AcceptedFlow.{in_order}
 use Rattle.drum_flow.specs.Free.{IsFreeOrder}
+use Rattle.drum_flow.proofs.Acceptances.{moved}
 use Rattle.drum_flow.proofs.KeptWalk.{kept_walk}
 use Rattle.drum_flow.specs.RunHops.{hops_taken}
-use Rattle.drum_bound.specs.AnalysisOf.{IsAnalysis, counts_in_all, rows_of, setting, words_of}
+use Rattle.drum_bound.specs.AnalysisOf.{IsAnalysis, rows_of, setting}
 use Rattle.drum_bound.proofs.Analyses.{is_proper}
 use Rattle.drum_bound.proofs.Ordering.{as_many, can_have_keys}
 use Rattle.drum_bound.proofs.Unders.{arrive_under}
 use Rattle.drum_bound.proofs.analysing.analyse_counting.Goals as goal
-
--- what is so of one deck and its notes is so of those that are the same
-moved : (Holds : Deck → Notes → Type 0) (deck other : Deck) (notes others : Notes) → deck ≡ other → notes ≡ others
-    → Holds deck notes → Holds other others
-moved Holds deck other notes others same equal holds =
-    subst (Holds other) equal (subst (λ (d : Deck). Holds d notes) same holds)
 
 pub analysis_of-requires : goal.analysis_of-requires
 analysis_of-requires g c =
@@ -38,11 +31,6 @@ analysis_of-requires g c =
     (notes_of accepted.flow) (sym ensures.deck) (sym ensures.notes) ensures.order)
     (subst AreSound (sym ensures.notes) c.marks-marks.ensures.sound)
     (subst (λ (f : Flow). AreDifferent (executed_in f)) c.flow.ensures c.executed-executed.ensures.different)
-
--- with each angle there could be more
-fifty : (words counts rows : ℕ) → rows ≤ words * counts → rows ≤ words * 50 * counts
-fifty words counts rows few =
-    omega (arith, few, ap (λ (n : ℕ). n * counts) (mul_comm words 50), mul_assoc 50 words counts)
 
 pub returns-clause-analysed : goal.returns-clause-analysed
 returns-clause-analysed g c =
@@ -61,29 +49,18 @@ returns-clause-analysed g c =
     (deck_of accepted.flow) notes
     (notes_of accepted.flow) (sym ensures.deck) (sym ensures.notes) ensures.order)
     (subst (λ (f : Flow). AreDifferent (executed_in f)) c.flow.ensures c.executed-executed.ensures.different) in
-    let is : IsAnalysis (setting deck times notes) (length (in_order accepted)) analysis =
-    moved (λ d n. IsAnalysis (setting d times n) (length (in_order accepted)) analysis) (deck_of accepted.flow) deck
-    (notes_of accepted.flow)
+    let is : IsAnalysis (setting deck times notes) analysis =
+    moved (λ d n. IsAnalysis (setting d times n) analysis) (deck_of accepted.flow) deck (notes_of accepted.flow)
     notes ensures.deck ensures.notes c.in_ok-analysis.ensures.is in
     let proper = is_proper deck times notes c.marks-marks.ensures.sound in
     record {
-      accepted = (executed_in accepted.flow, ensures.accepted, is.executed ∙ same);
-      worst = is.worst;
-      walk = is.walk;
+      accepted = (executed_in accepted.flow, ensures.accepted, c.in_ok-analysis.ensures.words ∙ same);
+      walks = is;
       kept = λ s turns first is_run kept.
-          let walked = kept_walk (setting deck times notes) (executed_in accepted.flow) s turns proper ensures.accepted
-          first is_run kept in
+          let walked = kept_walk (setting deck times notes) (executed_in accepted.flow) s turns proper
+          ensures.accepted.admitted first is_run kept in
           omega (arith, is.worst.most s.start (hops_taken turns) walked.0, walked.1);
       under = λ s turns first is_run kept.
           arrive_under (setting deck times notes) (rows_of analysis) (executed_in accepted.flow) s turns is.table proper
-          ensures.accepted first is_run kept;
-      table = is.table;
-      few = is.few;
-      fifty = fifty (words_of analysis) (counts_in_all analysis) (length (rows_of analysis)) is.few;
-      short = is.short;
-      counts = is.counts;
-      turns = is.turns;
-      ends = is.ends;
-      passed = is.passed;
-      below = is.below;
+          ensures.accepted.admitted first is_run kept;
     }

@@ -86,6 +86,14 @@ returns-clause-is v c =
     (subst (λ (all : List Visited). ArePasses g.notes.marks all c.of-2.result.passed) (sym walked)
     (subst (λ (all : List ℕ). ArePasses g.notes.marks visits all) (sym c.of-2.ensures.passed) own))
 
+pub returns-clause-words : goal.returns-clause-words
+returns-clause-words v c =
+    let is : IsFound c.args.keys.now c.args.times.now c.in_ok-scan.scan.cells
+    (map seen_visit c.in_ok-walk.walk.items) =
+    is_found c.args.keys.now c.args.times.now c.in_ok-scan.scan (map seen_visit c.in_ok-walk.walk.items)
+    c.in_ok-scan.ensures.keys c.in_ok-scan.ensures.times c.in_ok-scan.ensures.done c.in_ok-walk.ensures in
+    ap (λ (cells : Cells). cells.words) c.of-2.ensures.cells ∙ is.are.words
+
 pub returns-clause-counted : goal.returns-clause-counted
 returns-clause-counted v c =
     c.in_ok-scan.ensures.counted

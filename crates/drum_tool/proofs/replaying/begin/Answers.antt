@@ -44,7 +44,7 @@ returns-clause-begun c =
         own_words = sym c.loaded_by.ensures ∙ c.in_default.is;
         accepted = (c.in-Ok.ensures.analysed.accepted.0, c.in-Ok.ensures.analysed.accepted.1);
       };
-      worst = subst (λ (bound : ℕ). IsWorst g bound) (sym c.bound.ensures.told) c.in-Ok.ensures.analysed.worst;
+      worst = subst (λ (bound : ℕ). IsWorst g bound) (sym c.bound.ensures.told) c.in-Ok.ensures.analysed.walks.worst;
       are = record { set_up = set_up; reader = refl; feed = refl };
       before =
           λ verdict at. of_switch g c.args.inputs.setup (answer_of monitor) verdict c.new-monitor.ensures.declared

@@ -7,7 +7,7 @@ use Rattle.drum_bound.specs.Scanned.{later_than}
 use Rattle.drum_bound.specs.SearchOf.{end_sought}
 use Rattle.drum_bound.proofs.EntryKeys.{entries_few}
 use Rattle.drum_bound.proofs.HeldLaws.{clock_after, raised_entries, raised_is, raised_noted}
-use Rattle.drum_bound.proofs.LongestLaws.{longest_later}
+use Rattle.drum_flow.proofs.LongestLaws.{longest_later}
 use Rattle.drum_bound.proofs.cells.Cells.raise.Goals as goal
 
 pub of-end-requires : goal.of-end-requires

@@ -9,11 +9,11 @@ use Rattle.drum_flow.specs.Flow.{deck_of, notes_of}
 use Rattle.drum_flow.specs.AcceptedFlow.{in_order}
 use Rattle.drum_flow.specs.Hops.{hops}
 use Rattle.drum_machine.specs.WaysLeft.{seen_way}
-use Rattle.drum_bound.proofs.DigitsLaws.{no_counts_within}
+use Rattle.drum_flow.proofs.PassLaws.{no_counts_within}
 use Rattle.drum_times.specs.Marks.{mark_on}
 use Rattle.drum_machine.specs.Counts.{no_counts}
-use Rattle.drum_bound.proofs.LeapLaws.{leap_time}
-use Rattle.drum_bound.proofs.Profiles.{hop_may_end}
+use Rattle.drum_flow.proofs.FromAngles.{leap_time}
+use Rattle.drum_flow.proofs.Profiles.{hop_may_end}
 use Rattle.drum_bound.proofs.Nodes.{small_number}
 use Rattle.drum_bound.proofs.keys.Keys.leap.Goals as goal
 

@@ -1,7 +1,7 @@
 use Rattle.std.proofs.Common.{subst, sym}
 use Rattle.drum_machine.specs.Counts.{AreWithin}
 use Rattle.drum_flow.specs.Flow.{notes_of}
-use Rattle.drum_bound.proofs.DigitsLaws.{no_counts_within}
+use Rattle.drum_flow.proofs.PassLaws.{no_counts_within}
 use Rattle.drum_bound.proofs.keys.Keys.start_key.Goals as goal
 
 pub key_of-requires-clause-within : goal.key_of-requires-clause-within

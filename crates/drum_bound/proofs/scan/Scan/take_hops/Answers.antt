@@ -12,12 +12,14 @@ use Rattle.drum_bound.specs.declared.leap.Leap.{Leap}
 use Rattle.drum_bound.specs.declared.scan.Scan.{Scan}
 use Rattle.drum_bound.specs.Keys.{place_at}
 use Rattle.drum_bound.specs.LeapOf.{IsLeap, leap_hop}
+use Rattle.drum_bound.specs.RecentOf.{AreRecent}
 use Rattle.drum_bound.specs.ScanOf.{setting_in, order_of, IsReady, IsScanned}
 use Rattle.drum_bound.proofs.FewHops.{few_hops}
 use Rattle.drum_bound.proofs.Halfway.{half_all, half_more, half_none, half_ready, IsHalfway}
 use Rattle.drum_bound.proofs.KeyLaws.{place_there}
 use Rattle.drum_bound.proofs.KeysTaken.{hop_among, hops_at}
 use Rattle.drum_bound.proofs.Lists.{first_left, others_left}
+use Rattle.drum_bound.proofs.Recents.{recent_none}
 use Rattle.drum_bound.proofs.scan.Scan.take_hops.Goals as goal
 
 pub loop-number-init-derived : goal.loop-number-init-derived
@@ -51,6 +53,10 @@ loop-number-init g c =
       left = ap (λ (n : ℕ). drop n (hops_at scan key)) number ∙ sym left;
       counted = omega (arith, number);
       long = omega (arith, number, ap (λ (hops : List Hop). length hops) left);
+      recent = subst (AreRecent (setting_in scan) (order_of scan) c.args.search.now.location.number
+          (c.args.search.now.found % 50)) (sym c.none-recent.ensures)
+          (recent_none (setting_in scan) (order_of scan) c.args.search.now.location.number
+          (c.args.search.now.found % 50) 50);
     }
 
 -- the hop that comes is that of its number
@@ -135,6 +141,7 @@ loop-number-preserved g c =
           ∙ others_left number (hops_at scan key) rest hop (c.loop-number.invariant.left ∙ step);
       counted = omega (arith, c.loop-number.invariant.counted, next_number, c.in_ok-take_leap.ensures.counted);
       long = omega (arith, c.loop-number.invariant.long, next_number, ap (λ (hops : List Hop). length hops) step);
+      recent = c.leap-leap.ensures.recent;
     }
 
 pub returns-clause-scanned : goal.returns-clause-scanned

@@ -1,7 +1,8 @@
-use Rattle.std.proofs.Common.{◌≡◌, ◌+◌, drop, length}
+use Rattle.std.proofs.Common.{◌≡◌, ◌+◌, ◌%◌, drop, length}
 use Rattle.std.specs.Iterator.Adapters.{enumerate_count, enumerate_source}
 use Rattle.drum_flow.specs.HopsLeft.{hops_left}
-use Rattle.drum_bound.specs.ScanOf.{setting_in}
+use Rattle.drum_bound.specs.RecentOf.{AreRecent}
+use Rattle.drum_bound.specs.ScanOf.{order_of, setting_in}
 use Rattle.drum_bound.proofs.Halfway.{IsHalfway}
 use Rattle.drum_bound.proofs.KeysTaken.{hops_at}
 use Rattle.drum_bound.proofs.scan.Scan.take_hops.Given as goal
@@ -19,4 +20,6 @@ invariant-loop-number g l = record {
   counted : l.steps ≡ l.fn.steps + enumerate_count l.number-iterator;
   long : enumerate_count l.number-iterator + length (hops_left (enumerate_source l.number-iterator))
       ≡ length (hops_at l.fn.self l.search.key);
+  recent : AreRecent (setting_in l.fn.self) (order_of l.fn.self) l.search.location.number (l.search.found % 50)
+      l.recent.leaps;
 }

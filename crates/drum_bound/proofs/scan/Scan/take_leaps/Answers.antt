@@ -15,7 +15,7 @@ use Rattle.drum_bound.specs.ScanOf.{setting_in, order_of, IsScanned}
 use Rattle.drum_bound.specs.SearchOf.{IsSearch}
 use Rattle.drum_bound.proofs.Halfway.{half_all, half_more, half_none, half_ready}
 use Rattle.drum_bound.proofs.KeysTaken.{hops_at}
-use Rattle.drum_bound.proofs.LeapLaws.{found_angle}
+use Rattle.drum_flow.proofs.FromAngles.{found_angle}
 use Rattle.drum_bound.proofs.scan.Scan.take_leaps.Goals as goal
 
 -- a leap of the location's is of one of its hops

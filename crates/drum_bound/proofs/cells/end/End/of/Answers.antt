@@ -1,9 +1,9 @@
 use Rattle.std.proofs.Common.{ℕ, ◌+◌, Some, refl, ap, sym, ◌∙◌}
 use Rattle.drum_machine.specs.WaysLeft.{seen_way}
-use Rattle.drum_bound.specs.Longest.{longest}
+use Rattle.drum_flow.specs.Longest.{longest}
 use Rattle.drum_bound.specs.SearchOf.{hop_sought}
 use Rattle.drum_bound.proofs.HeldLaws.{latest_of}
-use Rattle.drum_bound.proofs.LongestLaws.{longest_from_found}
+use Rattle.drum_flow.proofs.LongestLaws.{longest_from_found}
 use Rattle.drum_bound.proofs.cells.end.End.of.Goals as goal
 
 pub returns-clause-latest : goal.returns-clause-latest

@@ -33,7 +33,7 @@ returns-clause-keeps c =
     c.origin.ensures
     (added_keeps old new key clock entry c.origin.result room.angle pairs
     (c.in_ok-push.ensures.items ∙ ap (λ (all : List KeyHop). all ++ c.origin.result ∷ []) room.origins) c.requires.kept
-    c.requires.none c.in_ok-insert.ensures.unique
+    c.requires.none room.grown room.within c.in_ok-insert.ensures.unique
     (subst (λ (angle : ℕ). IsTimed angle entry) (sym room.angle)
     (omega (arith, now, c.clock.ensures, c.clock.type_inv), c.angle.ensures.value ∙ ap (λ (n : ℕ). n % 50) (sym now)))
     now (omega (arith, c.requires.onward, ap (λ (o : KeyHop). o.key) c.origin.ensures)))

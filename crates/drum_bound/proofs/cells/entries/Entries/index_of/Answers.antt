@@ -1,9 +1,14 @@
-use Rattle.std.proofs.Common.{◌≡◌, ℕ, ◌-◌, Option, Some, None, IfSome, refl, sym, ◌∙◌}
+use Rattle.std.proofs.Common.{◌≡◌, ℕ, ◌-◌, Option, Some, None, IfSome, refl, sym, ◌∙◌, arith}
 use Rattle.std.specs.Map.{keys_of}
 use Rattle.drum_bound.specs.Kept.{pairs_of, IsEntryOf}
-use Rattle.drum_bound.proofs.Entering.{entry_found}
+use Rattle.drum_bound.proofs.Entering.{beyond_none, entry_found}
 use Rattle.drum_bound.proofs.EntryKeys.{different_keys, entry_at}
 use Rattle.drum_bound.proofs.cells.entries.Entries.index_of.Goals as goal
+
+pub returns-then-key-self-clause-none : goal.returns-then-key-self-clause-none
+returns-then-key-self-clause-none c = λ none.
+    beyond_none c.args.key c.args.self.now.greatest (pairs_of c.args.self.now) c.requires.within
+    (omega (arith, c.if-key-self.true))
 
 pub returns-then-is_at-clause-found : goal.returns-then-is_at-clause-found
 returns-then-is_at-clause-found c =

@@ -39,7 +39,7 @@ returns c = λ location counts.
     subst (λ (origin : KeyHop). Keeps old c.args.key location counts (latest_of clock (Some origin)) new)
     c.origin.ensures
     (raised_keeps old new c.args.key c.args.index clock was entry c.origin.result refl c.requires.there there refl
-    refl c.requires.kept refl refl
+    refl c.requires.kept refl refl refl
     (omega (arith, now, c.clock.ensures, c.clock.type_inv), c.angle.ensures.value ∙ ap (λ (n : ℕ). n % 50) (sym now))
     now (omega (arith, c.requires.onward, ap (λ (o : KeyHop). o.key) c.origin.ensures))
     (omega (arith, c.if-time-was.false, c.clock.ensures, c.requires.after)) location counts)

@@ -3,8 +3,8 @@ use Rattle.drum_core.specs.Kind.{kind_of}
 use Rattle.drum_core.specs.Recurs.{within_span}
 use Rattle.drum_core.specs.Span.{kind_span-≤}
 use Rattle.drum_core.specs.Waits.{available_recurs}
-use Rattle.drum_bound.proofs.LeapLaws.{found_angle}
-use Rattle.drum_bound.proofs.laws.first_fetch_at_one_angle.Goals as goal
+use Rattle.drum_flow.proofs.FromAngles.{found_angle}
+use Rattle.drum_flow.proofs.laws.first_fetch_at_one_angle.Goals as goal
 
 pub returns-clause-angle : goal.returns-clause-angle
 returns-clause-angle c = found_angle

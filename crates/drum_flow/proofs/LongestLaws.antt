@@ -21,7 +21,7 @@ use Rattle.drum_machine.specs.Ways.{Way, early, to, late}
 use Rattle.drum_machine.proofs.Chained.{found_keeps_time, ready_keeps_time, ready_from_found, ended_keeps_time}
 use Rattle.drum_machine.proofs.Chained.{ended_from_found, ended_grows}
 use Rattle.drum_flow.specs.Walk.{Taken, MayHaveUnits, end_by, IsTimed}
-use Rattle.drum_bound.specs.Longest.{most_units, most_wait, longest_by, longest}
+use Rattle.drum_flow.specs.Longest.{most_units, most_wait, longest_by, longest}
 
 -- a shift has ten places at most
 places_ten : (s : shifts.Shift) (d : ℕ) → places s d ≤ 10

@@ -4,11 +4,11 @@ ghost use Rattle.std.specs.Prelude.{◌≡◌, ◌^◌, ◌≤◌, ◌+◌};
 ghost use Rattle.drum_times.specs.Entries.{entry_in};
 ghost use Rattle.drum_machine.specs.Timing.{longest_step};
 ghost use Rattle.drum_machine.specs.WaysLeft.{seen_way};
-ghost use Rattle.drum_bound.specs.Longest as defined;
-ghost use Rattle.drum_bound.specs.Profile.{MayEnd};
+ghost use Rattle.drum_flow.specs.Longest as defined;
+ghost use Rattle.drum_flow.specs.Profile.{MayEnd};
 
+use crate::hops::Hop;
 use drum_core::{Clockwork, Location, Op};
-use drum_flow::Hop;
 use drum_machine::chain::{to_end, to_ready};
 use drum_machine::{Way, places};
 use drum_times::{Entry, Times};

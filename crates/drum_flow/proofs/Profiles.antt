@@ -11,7 +11,7 @@ use Rattle.drum_times.specs.Allowed.{Notes, allowed}
 use Rattle.drum_machine.specs.Ways.{Way, early, ways, ways_of, ways_with}
 use Rattle.drum_flow.specs.Hops.{Hop, hops, hops_of}
 use Rattle.drum_flow.proofs.Lists.{contains_cases}
-use Rattle.drum_bound.specs.Profile.{MayEnd}
+use Rattle.drum_flow.specs.Profile.{MayEnd}
 
 -- each of the ways of an instruction is one by which it may end
 way_may_end : (notes : Notes) (ins : Instruction) (way : Way) → Contains (ways notes ins) way → MayEnd ins way

@@ -10,8 +10,8 @@ use Rattle.drum_core.specs.declared.instruction.Instruction.{Instruction}
 use Rattle.drum_core.specs.declared.op.Op.{Op}
 use Rattle.drum_times.specs.declared.entry.Entry.{Entry}
 use Rattle.drum_machine.specs.Ways.{Way}
-use Rattle.drum_bound.specs.Longest.{longest}
-use Rattle.drum_bound.proofs.LongestLaws.{longest_later, longest_periodic}
+use Rattle.drum_flow.specs.Longest.{longest}
+use Rattle.drum_flow.proofs.LongestLaws.{longest_later, longest_periodic}
 
 module _ (times : Op → Entry) (place : ℕ) (ins : Instruction) (way : Way) where
   -- a search that begins some revolutions later ends as many later

@@ -7,9 +7,9 @@ use Rattle.drum_times.specs.declared.entry.Entry.{Entry}
 use Rattle.drum_times.specs.Entries.{entry_in}
 use Rattle.drum_machine.specs.Timing.{ready, ended}
 use Rattle.drum_machine.specs.Ways.{early, to, late}
-use Rattle.drum_bound.specs.Longest.{longest, most_units, most_wait}
-use Rattle.drum_bound.proofs.LongestLaws.{longest_of}
-use Rattle.drum_bound.proofs.longest.longest.Goals as goal
+use Rattle.drum_flow.specs.Longest.{longest, most_units, most_wait}
+use Rattle.drum_flow.proofs.LongestLaws.{longest_of}
+use Rattle.drum_flow.proofs.longest.longest.Goals as goal
 
 -- the profile has the operation of a hop
 pub unreachable-requires : goal.unreachable-requires

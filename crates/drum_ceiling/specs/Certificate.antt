@@ -1,0 +1,60 @@
+-- Certificates: a price for each pass of a mark and a potential for each place, which together
+-- bound every walk (this project's choice).
+use Rattle.std.specs.Prelude.{◌≡◌, ℕ, ◌+◌, ◌*◌, ◌%◌, ◌<◌, ◌≤◌, List, [], ◌∷◌, sum_by, slice_get, length, zero, suc, Option, Some, None, Contains}
+use Rattle.drum_times.specs.declared.notes.mark.Mark.{Mark}
+use Rattle.drum_times.specs.Marks.{mark_on}
+use Rattle.drum_machine.specs.Since.{Edge}
+use Rattle.drum_machine.specs.Timing.{found}
+use Rattle.drum_machine.specs.Ways.{to}
+use Rattle.drum_flow.specs.Hops.{Hop, hops}
+use Rattle.drum_flow.specs.Longest.{longest}
+use Rattle.drum_flow.specs.Walk.{Setting}
+
+-- the price of the mark at a place
+abbrev pub price_at : List ℕ → ℕ → ℕ
+price_at [] k = 0
+price_at (price ∷ prices) zero = price
+price_at (price ∷ prices) (suc k) = price_at prices k
+
+-- the price of a pass of this mark; of none, 0
+abbrev pub price_of : List ℕ → Option ℕ → ℕ
+price_of prices None = 0
+price_of prices (Some k) = price_at prices k
+
+-- the price of an edge: that of the mark on it
+abbrev pub price_on : List Mark → List ℕ → ℕ → ℕ → ℕ
+price_on marks prices from onto = price_of prices (mark_on marks from onto)
+
+-- no walk takes the edge: the mark on it may never be passed
+abbrev pub IsShut : List Mark → ℕ → ℕ → Type 0
+IsShut marks from onto = (k : ℕ) × (mark : Mark) × (mark_on marks from onto ≡ Some k)
+    × (slice_get marks k ≡ Some mark) × (mark.most ≡ 0)
+
+-- The potential of a place, from the clock at which its instruction is found, pays for a hop: till
+-- it ends; and where it goes on, with the edge's price, for the search and the next potential too.
+pub record Pays (g : Setting) (prices : List ℕ) (potential : ℕ → ℕ → Option ℕ)
+    (place clock owed : ℕ) (hop : Hop) : Type 0 where
+  pub ends : longest g.times place hop.ins hop.way clock ≤ clock + owed
+  pub goes_on : (next : ℕ) → hop.way ≡ to next → ¬ IsShut g.notes.marks place next → (later : ℕ)
+      × (potential next (found next (longest g.times place hop.ins hop.way clock) % 50) ≡ Some later)
+      × (found next (longest g.times place hop.ins hop.way clock) + later
+      ≤ clock + owed + price_on g.notes.marks prices place next)
+
+-- The prices and the potentials, by places and the angles at which their instructions are found,
+-- are a certificate: each mark has a price, the start has a potential, and each potential pays for
+-- each hop.
+pub record IsCertificate (g : Setting) (prices : List ℕ) (potential : ℕ → ℕ → Option ℕ)
+    (base : ℕ) : Type 0 where
+  pub each : length prices ≡ length g.notes.marks
+  pub starts : (owed : ℕ) × (potential g.start (g.start % 50) ≡ Some owed) × (base ≡ 49 + owed)
+  pub pays : (place angle owed : ℕ) → angle < 50 → potential place angle ≡ Some owed → (hop : Hop)
+      → Contains (hops g.loads g.notes place) hop → Pays g prices potential place angle owed hop
+
+-- the sum of the prices, each times a number of its mark's, of which the first has this place
+abbrev pub priced_from : List ℕ → ℕ → (ℕ → ℕ) → ℕ
+priced_from [] place times = 0
+priced_from (price ∷ prices) place times = price * times place + priced_from prices (place + 1) times
+
+-- what edges cost
+abbrev pub cost : List Mark → List ℕ → List Edge → ℕ
+cost marks prices edges = sum_by (λ edge. price_on marks prices edge.from edge.onto) edges

@@ -1,0 +1,5 @@
+//! A number of word times that no run which keeps to the notes ever passes, whatever the marks'
+//! counts are: a base, and for each mark a price times how often it can be passed.
+#![tactic(auto)]
+
+pub mod laws;

@@ -1,0 +1,38 @@
+use Rattle.drum_core.proofs.Handed.{handed}
+use Rattle.drum_core.specs.Loads.{loads_in, start_in}
+use Rattle.drum_flow.specs.Acceptance.{IsAdmissionRefusal}
+use Rattle.drum_flow.specs.Accepted.{IsAdmitted}
+use Rattle.drum_flow.specs.Flow.{executed_in}
+use Rattle.drum_flow.specs.Free.{IsFreeOrder}
+use Rattle.drum_flow.proofs.Acceptances.{is_admitted, moved, not_admitted}
+use Rattle.drum_flow.proofs.Founds.{numbers}
+use Rattle.drum_flow.proofs.accepted_flow.AcceptedFlow.of_any_size.Goals as goal
+
+pub returns-in_err-order-clause-refused : goal.returns-in_err-order-clause-refused
+returns-in_err-order-clause-refused c =
+    let flow = c.in_ok-flow.flow in
+    let deck = flow.deck.now in
+    let notes = flow.notes.now in
+    let refusal = c.in_err-order.field-0.0 in
+    handed c.from_residual-in_err-order.result _ refusal c.from_residual-in_err-order.ensures.1
+    (moved (λ d n. IsAdmissionRefusal (loads_in d) n (start_in d) refusal) deck c.args.deck.now notes c.args.notes.now
+    c.in_ok-flow.ensures.deck c.in_ok-flow.ensures.notes
+    (not_admitted (loads_in deck) notes (start_in deck) (executed_in flow) c.in_ok-flow.ensures.executed
+    c.in_ok-flow.ensures.unaltered refusal c.in_err-order.ensures.cycle))
+
+pub returns-clause-admitted : goal.returns-clause-admitted
+returns-clause-admitted c =
+    let flow = c.in_ok-flow.flow in
+    let deck = flow.deck.now in
+    let notes = flow.notes.now in
+    moved (λ d n. IsAdmitted (loads_in d) n (start_in d) (executed_in flow)) deck c.args.deck.now notes c.args.notes.now
+    c.in_ok-flow.ensures.deck c.in_ok-flow.ensures.notes
+    (is_admitted (loads_in deck) notes (start_in deck) (executed_in flow) c.in_ok-flow.ensures.executed
+    c.in_ok-flow.ensures.unaltered (numbers c.in_ok-order.order.items) c.in_ok-order.ensures.order)
+
+pub returns-clause-order : goal.returns-clause-order
+returns-clause-order c =
+    let flow = c.in_ok-flow.flow in
+    moved (λ d n. IsFreeOrder (loads_in d) n (executed_in flow) (numbers c.in_ok-order.order.items)) flow.deck.now
+    c.args.deck.now flow.notes.now c.args.notes.now
+    c.in_ok-flow.ensures.deck c.in_ok-flow.ensures.notes c.in_ok-order.ensures.order
