@@ -73,9 +73,8 @@ fn analysis_of<'a, L: Ledger>(
     analysis_by(alloc, times, &keys, steps)
 }
 
-/// As [`analyse`], on a ledger of the caller's: it counts each end of a hop that is made, and they
-/// are as many as [`turns`](Analysis::turns) says. So no end is made that the analysis doesn't
-/// count, nor thrown away with a table and made again.
+/// As [`analyse`], on a ledger of the caller's: one is counted there for each end of a hop that is
+/// made with it, by the one maker of ends, and as many in all as [`turns`](Analysis::turns) says.
 ///
 /// # Errors
 ///

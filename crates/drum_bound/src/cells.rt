@@ -3,7 +3,6 @@
 ghost use Rattle.std.specs.Prelude.{◌≡◌, ◌+◌, ◌*◌, ◌/◌, ◌≤◌, ◌<◌, ◌^◌, length};
 ghost use Rattle.drum_bound.specs.Kept.{pairs_of};
 
-mod end;
 mod entries;
 mod key_hasher;
 
@@ -11,9 +10,9 @@ use crate::latest::Latest;
 use crate::leap::Leap;
 use crate::search::Search;
 use crate::steps::Steps;
+use crate::steps::end::End;
 use crate::worst::Worst;
 use drum_core::Location;
-use end::End;
 use entries::Entries;
 use std::alloc::{AllocError, Global};
 use std::sync::ledger::Ledger;
@@ -35,7 +34,7 @@ pub struct Onto {
 /// times holds it: the table is handed out as it was raised.
 ///
 /// What raises is the end of a hop that is made in the same call, from the clock that the hop's key
-/// keeps: an [`End`] never leaves this module.
+/// keeps: no other module asks for an [`End`].
 #[derive(Debug, Drop)]
 pub struct Cells {
     entries: Entries,

@@ -2,11 +2,13 @@
 
 ghost use Rattle.std.specs.Prelude.{◌≡◌, ◌+◌, ◌<◌};
 
+pub mod end;
+
 use std::marker::Model;
 use std::sync::ledger::{Blank, Book, Ledger, Share};
 
-/// How many ends of hops were made. It takes no bytes, and [`tick`](Steps::tick) alone changes it:
-/// who is handed one, of any ledger, can't make another, copy it, or set it back.
+/// How many ends of hops were made. It takes no bytes, and the one maker of ends alone changes it:
+/// who is handed one, of any ledger, can't count on it, copy it, or set it back.
 #[derive(Drop)]
 pub struct Steps<L: Ledger> {
     book: Book<L>,
@@ -35,8 +37,8 @@ impl<L: Ledger> Steps<L> {
         Steps { book, share }
     }
 
-    /// One more.
-    pub fn tick(&mut self)
+    /// One more. [`End::of`](end::End::of) alone may say so.
+    fn tick(&mut self)
         ensures { self.new ≡ self.old + 1 }
     {
         self.book.add(&mut self.share, 1);

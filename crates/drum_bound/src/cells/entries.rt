@@ -2,10 +2,10 @@
 
 ghost use Rattle.std.specs.Prelude.{◌≡◌, ◌≢◌, ◌+◌, ◌<◌, ◌≤◌};
 
-use super::end::End;
 use super::key_hasher::KeyHasher;
 use crate::key_hop::KeyHop;
 use crate::latest::Latest;
+use crate::steps::end::End;
 use crate::worst::Worst;
 use drum_core::Location;
 use indexmap::IndexMap;

@@ -4,7 +4,7 @@ use Rattle.drum_flow.specs.Longest.{longest}
 use Rattle.drum_bound.specs.SearchOf.{hop_sought}
 use Rattle.drum_bound.proofs.HeldLaws.{latest_of}
 use Rattle.drum_flow.proofs.LongestLaws.{longest_from_found}
-use Rattle.drum_bound.proofs.cells.end.End.of.Goals as goal
+use Rattle.drum_bound.proofs.steps.end.End.of.Goals as goal
 
 pub returns-clause-latest : goal.returns-clause-latest
 returns-clause-latest g c =

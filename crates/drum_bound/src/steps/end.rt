@@ -2,11 +2,11 @@
 
 ghost use Rattle.std.specs.Prelude.{◌≡◌, ◌+◌, ◌%◌, ◌<◌, ◌≤◌, ◌^◌};
 
+use super::Steps;
 use crate::key_hop::KeyHop;
 use crate::latest::Latest;
 use crate::leap::Leap;
 use crate::search::Search;
-use crate::steps::Steps;
 use drum_core::REVOLUTION;
 use std::sync::ledger::Ledger;
 
