@@ -30,14 +30,18 @@ abbrev pub IsShut : List Mark → ℕ → ℕ → Type 0
 IsShut marks from onto = (k : ℕ) × (mark : Mark) × (mark_on marks from onto ≡ Some k)
     × (slice_get marks k ≡ Some mark) × (mark.most ≡ 0)
 
+-- when the next instruction is found, where a hop that is found at this clock takes longest
+abbrev pub arrival : Setting → ℕ → ℕ → Hop → ℕ → ℕ
+arrival g place clock hop next = found next (longest g.times place hop.ins hop.way clock)
+
 -- The potential of a place, from the clock at which its instruction is found, pays for a hop: till
--- it ends; and where it goes on, with the edge's price, for the search and the next potential too.
+-- it ends; and where it goes on, with the edge's price, for the search and the next potential.
 pub record Pays (g : Setting) (prices : List ℕ) (potential : ℕ → ℕ → Option ℕ)
     (place clock owed : ℕ) (hop : Hop) : Type 0 where
   pub ends : longest g.times place hop.ins hop.way clock ≤ clock + owed
   pub goes_on : (next : ℕ) → hop.way ≡ to next → ¬ IsShut g.notes.marks place next → (later : ℕ)
-      × (potential next (found next (longest g.times place hop.ins hop.way clock) % 50) ≡ Some later)
-      × (found next (longest g.times place hop.ins hop.way clock) + later
+      × (potential next (arrival g place clock hop next % 50) ≡ Some later)
+      × (arrival g place clock hop next + later
       ≤ clock + owed + price_on g.notes.marks prices place next)
 
 -- The prices and the potentials, by places and the angles at which their instructions are found,
@@ -50,10 +54,11 @@ pub record IsCertificate (g : Setting) (prices : List ℕ) (potential : ℕ → 
   pub pays : (place angle owed : ℕ) → angle < 50 → potential place angle ≡ Some owed → (hop : Hop)
       → Contains (hops g.loads g.notes place) hop → Pays g prices potential place angle owed hop
 
--- the sum of the prices, each times a number of its mark's, of which the first has this place
+-- the sum of the prices, each times a number of its mark's; the first has this place
 abbrev pub priced_from : List ℕ → ℕ → (ℕ → ℕ) → ℕ
 priced_from [] place times = 0
-priced_from (price ∷ prices) place times = price * times place + priced_from prices (place + 1) times
+priced_from (price ∷ prices) place times =
+    price * times place + priced_from prices (place + 1) times
 
 -- what edges cost
 abbrev pub cost : List Mark → List ℕ → List Edge → ℕ

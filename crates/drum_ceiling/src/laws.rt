@@ -5,8 +5,8 @@ ghost use Rattle.drum_flow.specs.MostPasses.{most_passes};
 ghost use Rattle.drum_flow.specs.Walk.{Setting, IsProper, Taken, IsWalk, time_of};
 ghost use Rattle.drum_ceiling.specs.Certificate.{IsCertificate, priced_from};
 
-/// A certificate bounds every walk: none takes more than its base and, of each mark, its price times
-/// how often the mark can be passed.
+/// A certificate bounds every walk: none takes more than its base and, of each mark, its price
+/// times how often the mark can be passed.
 pub fn certificate_bounds_walks()
     ensures { (g : Setting) (prices : List ℕ) (potential : ℕ → ℕ → Option ℕ) (base angle : ℕ)
         (hops : List Taken) → IsProper g → IsCertificate g prices potential base
