@@ -21,7 +21,7 @@ use Rattle.drum_flow.specs.Flow.{AreExecuted}
 use Rattle.drum_flow.specs.Free.{IsFreeCycle, IsFreeOrder, IsCycleRefusal}
 use Rattle.drum_flow.specs.Graph.{AreDifferent, GoOn, LeadRound, IsClosed}
 use Rattle.drum_flow.specs.Size.{IsTooMuch}
-use Rattle.drum_flow.proofs.Lists.{contains_there, contains_cases, contains_none}
+use Rattle.drum_flow.proofs.Heights.{height, lower}
 
 -- what is so of one deck and its notes is so of those that are the same
 pub moved : (Holds : Deck → Notes → Type 0) (deck other : Deck) (notes others : Notes) → deck ≡ other → notes ≡ others
@@ -29,55 +29,13 @@ pub moved : (Holds : Deck → Notes → Type 0) (deck other : Deck) (notes other
 moved Holds deck other notes others same equal holds =
     subst (Holds other) equal (subst (λ (d : Deck). Holds d notes) same holds)
 
--- how far before the end of a list a member stands
-abbrev height_by : Bool → ℕ → ℕ → ℕ
-height_by true here there = here
-height_by false here there = there
-
-abbrev height : List ℕ → ℕ → ℕ
-height [] x = 0
-height (a ∷ xs) x = height_by (eqb a x) (suc (length xs)) (height xs x)
-
-height_here : (a x : ℕ) (xs : List ℕ) → a ≡ x → height (a ∷ xs) x ≡ suc (length xs)
-height_here a x xs same = ap (λ (b : Bool). height_by b (suc (length xs)) (height xs x)) (eq-eqb a x same)
-
-height_there : (a x : ℕ) (xs : List ℕ) → a ≢ x → height (a ∷ xs) x ≡ height xs x
-height_there a x xs ne = elim (eqb_tells a x) [
-  | inl same ↦ absurd (ne same.1)
-  | inr other ↦ ap (λ (b : Bool). height_by b (suc (length xs)) (height xs x)) other.0
-]
-
-height_low : (xs : List ℕ) (x : ℕ) → height xs x ≤ length xs
-height_low [] x = omega arith
-height_low (a ∷ xs) x = elim (eqb_tells a x) [
-  | inl same ↦ omega (arith, height_here a x xs same.1)
-  | inr other ↦ omega (arith, height_there a x xs other.1, height_low xs x)
-]
-
 module _ (loads : ℕ → Option Word) (notes : Notes) where
-  -- an edge free of marks leads to a later member
-  lower : (xs : List ℕ) (u v : ℕ) → AreDifferent xs → GoOn (IsFree loads notes) xs → Contains xs u
-      → IsFree loads notes u v → Contains xs v × (height xs v < height xs u)
-  lower [] u v d onward there free = absurd (contains_none u there)
-  lower (a ∷ xs) u v d onward there free = elim (eqb_tells a u) [
-    | inl same ↦ (
-        let next : Contains xs v = onward.0 v (subst (λ (n : ℕ). IsFree loads notes n v) (sym same.1) free) in
-        let ne : a ≢ v = λ e. d.0 (subst (λ (n : ℕ). Contains xs n) (sym e) next) in
-        (contains_there a v xs next, omega (arith, height_here a u xs same.1, height_there a v xs ne, height_low xs v)))
-    | inr other ↦ (
-        let behind : Contains xs u =
-        elim (contains_cases a u xs there) [ inl same ↦ absurd (other.1 same) | inr later ↦ later ] in
-        let less = lower xs u v d.1 onward.1 behind free in
-        let ne : a ≢ v = λ e. d.0 (subst (λ (n : ℕ). Contains xs n) (sym e) less.0) in
-        (contains_there a v xs less.0, omega (arith, height_there a u xs other.1, height_there a v xs ne, less.1)))
-  ]
-
   round_lower : (order : List ℕ) (first node : ℕ) (xs : List ℕ) → AreDifferent order → GoOn (IsFree loads notes) order
       → Contains order node → LeadRound (IsFree loads notes) first node xs
       → height order first < height order node
-  round_lower order first node [] d onward there round = (lower order node first d onward there round).1
+  round_lower order first node [] d onward there round = (lower loads notes order node first d onward there round).1
   round_lower order first node (next ∷ xs) d onward there round =
-      let less = lower order node next d onward there round.0 in
+      let less = lower loads notes order node next d onward there round.0 in
       omega (arith, less.1, round_lower order first next xs d onward less.0 round.1)
 
   -- where every free edge goes on, none lead round

@@ -1,6 +1,8 @@
 -- How long a hop takes at most: of D it is the kind of its location and its angle alone that matter.
-use Rattle.std.proofs.Common.{◌≡◌, ℕ, ◌+◌, ◌*◌, ◌%◌, Bool, if◌then◌else◌, Option, Some, None, refl, ap, ◌∙◌, arith}
-use Rattle.std.specs.Prelude.{◌==◌}
+use Rattle.std.proofs.Common.{◌≡◌, ℕ, ◌+◌, ◌*◌, ◌%◌, ◌<◌, ◌≤◌, Bool, true, false, if◌then◌else◌, Option, Some, None}
+use Rattle.std.proofs.Common.{refl, ap, sym, ◌∙◌, inl, inr, arith}
+use Rattle.std.specs.Prelude.{◌==◌, ◌||◌, ◌&&◌, nat_lt, nat_le}
+use Rattle.std.proofs.lemmas.Bool.{cases_lt, false≢true, le-ltb, leb-true, lt-ltb, ltb-false, ltb-true, ne_eqb}
 use Rattle.drum_core.specs.declared.instruction.Instruction.{Instruction}
 use Rattle.drum_core.specs.declared.location.Kind.{Kind}
 use Rattle.drum_core.specs.declared.location.Kind.TheVariants.{Drum, Switches, Distributor, Lower, Upper}
@@ -10,6 +12,7 @@ use Rattle.drum_core.specs.declared.op.shift.Shift as shifts
 use Rattle.drum_core.specs.declared.op.shift.Shift.TheVariants as shift
 use Rattle.drum_core.specs.Available.{has_parity, is_angle, is_available, is_had}
 use Rattle.drum_core.specs.Kind.{kind_of}
+use Rattle.drum_core.specs.Location.{is_location}
 use Rattle.drum_core.specs.Moment.{first}
 use Rattle.drum_core.specs.Op.{op_of}
 use Rattle.drum_times.specs.declared.entry.Entry.{Entry}
@@ -73,3 +76,46 @@ longest_alike times place clock ins other way op kind angle =
         (units_alike ins.d other.d kind angle op)
         ∙ end_alike ins.d other.d kind angle (times op) op way place (most_units op other.d) (most_wait op (times op))
         clock
+
+-- a location past the drum is one of four
+beside : (n : ℕ) → 2000 ≤ n → is_location n ≡ true → (8000 ≤ n) × (n < 8004)
+beside n past is = go (nat_le 8000 n) (nat_lt n 8004) refl refl (sym (off (nat_lt n 2000) (le-ltb n 2000 past)) ∙ is)
+  where
+    off : (drum : Bool) → drum ≡ false → (drum || (nat_le 8000 n && nat_lt n 8004)) ≡ (nat_le 8000 n && nat_lt n 8004)
+    off drum none = ap (λ (b : Bool). b || (nat_le 8000 n && nat_lt n 8004)) none
+
+    go : (low high : Bool) → nat_le 8000 n ≡ low → nat_lt n 8004 ≡ high → (low && high) ≡ true
+        → (8000 ≤ n) × (n < 8004)
+    go true true low high both = (leb-true 8000 n low, ltb-true n 8004 high)
+    go true false low high both = cc
+    go false high low one both = cc
+
+-- what is none has the last kind
+no_location : (n : ℕ) → 2000 ≤ n → is_location n ≡ false → kind_of n ≡ Upper
+no_location n past none =
+    let other : (k : ℕ) → is_location k ≡ true → n ≡ k → ⊥ =
+    λ k there same. false≢true (sym none ∙ ap is_location same ∙ there) in
+    rw (
+      le-ltb n 2000 past,
+      ne_eqb n 8000 (other 8000 refl),
+      ne_eqb n 8001 (other 8001 refl),
+      ne_eqb n 8002 (other 8002 refl),
+    ) refl
+
+-- Addresses of one part and angle have one kind.
+pub kind_alike : (a b : ℕ) → a % 50 ≡ b % 50 → nat_lt a 2000 ≡ nat_lt b 2000 → is_location a ≡ is_location b
+    → kind_of a ≡ kind_of b
+kind_alike a b angle drum location = elim (cases_lt a 2000) [
+  | inl on_drum ↦ (
+      let both : b < 2000 = ltb-true b 2000 (sym drum ∙ lt-ltb a 2000 on_drum) in
+      rw (lt-ltb a 2000 on_drum, lt-ltb b 2000 both) refl)
+  | inr past ↦ apart past (ltb-false b 2000 (sym drum ∙ le-ltb a 2000 past)) (is_location b) refl
+]
+  where
+    apart : 2000 ≤ a → 2000 ≤ b → (there : Bool) → is_location b ≡ there → kind_of a ≡ kind_of b
+    apart past also true is =
+        let here = beside a past (location ∙ is) in
+        let there = beside b also is in
+        let same : a ≡ b = omega (arith, angle, here.0, here.1, there.0, there.1) in
+        ap kind_of same
+    apart past also false is = no_location a past (location ∙ is) ∙ sym (no_location b also is)

@@ -8,6 +8,7 @@ pub mod Flags
 pub mod Founds
 pub mod FreeRows
 pub mod FromAngles
+pub mod Heights
 pub mod Instructed
 pub mod KeptWalk
 pub mod Lists

@@ -54,25 +54,31 @@ range_split a (suc m) b n zero from long = absurd (omega arith)
 range_split a (suc m) b n (suc l) from long =
     ap (λ (xs : List ℕ). a ∷ xs) (range_split (a + 1) m b n l (omega arith) (omega arith))
 
--- none of a range of data addresses has a property
-none_in_range : (Property : Instruction → Type 0) (pattern : Pattern) (a n : ℕ)
-    → ((k : ℕ) → a ≤ k → k < a + n → ¬ Property (matching_at pattern k))
-    → (other : Instruction) → Contains (map (matching_at pattern) (range_with_len a n)) other → ¬ Property other
-none_in_range Property pattern a zero none other there = absurd (contains_none other there)
-none_in_range Property pattern a (suc n) none other there =
+-- each of a range of data addresses has a property
+each_in_range : (Property : Instruction → Type 0) (pattern : Pattern) (a n : ℕ)
+    → ((k : ℕ) → a ≤ k → k < a + n → Property (matching_at pattern k))
+    → (other : Instruction) → Contains (map (matching_at pattern) (range_with_len a n)) other → Property other
+each_in_range Property pattern a zero each other there = absurd (contains_none other there)
+each_in_range Property pattern a (suc n) each other there =
     elim (contains_cases (matching_at pattern a) other (map (matching_at pattern) (range_with_len (a + 1) n)) there) [
-      | inl same ↦ subst (λ (ins : Instruction). ¬ Property ins) same (none a (omega arith) (omega arith))
-      | inr behind ↦ none_in_range Property pattern (a + 1) n
-          (λ k low high. none k (omega (arith, low)) (omega (arith, high))) other behind
+      | inl same ↦ subst Property same (each a (omega arith) (omega arith))
+      | inr behind ↦ each_in_range Property pattern (a + 1) n
+          (λ k low high. each k (omega (arith, low)) (omega (arith, high))) other behind
     ]
+
+-- each of a pattern's has one
+pub each_in_pattern : (Property : Instruction → Type 0) (pattern : Pattern)
+    → ((k : ℕ) → pattern.d_from ≤ k → k ≤ pattern.d_to → Property (matching_at pattern k))
+    → (other : Instruction) → Contains (matching pattern) other → Property other
+each_in_pattern Property pattern each =
+    each_in_range Property pattern pattern.d_from (suc pattern.d_to - pattern.d_from)
+    (λ k low high. each k low (omega (arith, low, high)))
 
 -- none of a pattern's has one
 pub none_in_pattern : (Property : Instruction → Type 0) (pattern : Pattern)
     → ((k : ℕ) → pattern.d_from ≤ k → k ≤ pattern.d_to → ¬ Property (matching_at pattern k))
     → (other : Instruction) → Contains (matching pattern) other → ¬ Property other
-none_in_pattern Property pattern none =
-    none_in_range Property pattern pattern.d_from (suc pattern.d_to - pattern.d_from)
-    (λ k low high. none k low (omega (arith, low, high)))
+none_in_pattern Property pattern none = each_in_pattern (λ ins. ¬ Property ins) pattern none
 
 -- the first of a pattern's that has one
 pub first_in_pattern : (Property : Instruction → Type 0) (pattern : Pattern) (d : ℕ) → pattern.d_from ≤ d
@@ -88,24 +94,31 @@ first_in_pattern Property pattern d from to before here = (
       ∙ map-append (matching_at pattern) (range_with_len pattern.d_from (d - pattern.d_from))
       (range_with_len d (suc (pattern.d_to - d))),
   here,
-  none_in_range Property pattern pattern.d_from (d - pattern.d_from)
+  each_in_range (λ ins. ¬ Property ins) pattern pattern.d_from (d - pattern.d_from)
       (λ k low high. before k low (omega (arith, from, high))),
 )
+
+-- one more pattern whose instructions have it
+pub each_in_more : (Property : Instruction → Type 0) (before : List Pattern) (pattern : Pattern)
+    → ((other : Instruction) → Contains (flat_map matching before) other → Property other)
+    → ((other : Instruction) → Contains (matching pattern) other → Property other) → (other : Instruction)
+    → Contains (flat_map matching (before ++ pattern ∷ [])) other → Property other
+each_in_more Property before pattern each here other there =
+    let parts : flat_map matching (before ++ pattern ∷ []) ≡ flat_map matching before ++ matching pattern =
+    flat_map-append matching before (pattern ∷ [])
+    ∙ ap (λ (xs : List Instruction). flat_map matching before ++ xs) (append-nil (matching pattern)) in
+    elim (Contains-append_cases (flat_map matching before) (matching pattern) other
+    (subst (λ (xs : List Instruction). Contains xs other) parts there)) [
+      | inl earlier ↦ each other earlier
+      | inr last ↦ here other last
+    ]
 
 -- one more pattern whose instructions don't have it
 pub none_in_more : (Property : Instruction → Type 0) (before : List Pattern) (pattern : Pattern)
     → ((other : Instruction) → Contains (flat_map matching before) other → ¬ Property other)
     → ((other : Instruction) → Contains (matching pattern) other → ¬ Property other) → (other : Instruction)
     → Contains (flat_map matching (before ++ pattern ∷ [])) other → ¬ Property other
-none_in_more Property before pattern none here other there =
-    let parts : flat_map matching (before ++ pattern ∷ []) ≡ flat_map matching before ++ matching pattern =
-    flat_map-append matching before (pattern ∷ [])
-    ∙ ap (λ (xs : List Instruction). flat_map matching before ++ xs) (append-nil (matching pattern)) in
-    elim (Contains-append_cases (flat_map matching before) (matching pattern) other
-    (subst (λ (xs : List Instruction). Contains xs other) parts there)) [
-      | inl earlier ↦ none other earlier
-      | inr last ↦ here other last
-    ]
+none_in_more Property before pattern none here = each_in_more (λ ins. ¬ Property ins) before pattern none here
 
 -- the first of a pattern's is the first of all, where none of those of the patterns before has it
 pub first_in_all : (Property : Instruction → Type 0) (before rest left : List Pattern) (pattern : Pattern)

@@ -14,7 +14,7 @@ use Rattle.drum_flow.proofs.Lists.{contains_cases}
 use Rattle.drum_flow.specs.Profile.{MayEnd}
 
 -- each of the ways of an instruction is one by which it may end
-way_may_end : (notes : Notes) (ins : Instruction) (way : Way) → Contains (ways notes ins) way → MayEnd ins way
+pub way_may_end : (notes : Notes) (ins : Instruction) (way : Way) → Contains (ways notes ins) way → MayEnd ins way
 way_may_end notes ins way h = by_op (op_of ins.op) refl h
   where
     by_operand : (op : Op) → op_of ins.op ≡ Some op → (fits : Bool) → is_operand (operand_of op) ins.d ≡ fits

@@ -33,11 +33,15 @@ pub fn same_writes_end(instruction: Instruction) -> u16
 }
 
 /// One past the last data address up to which, from the instruction's own on, it has the same ways
-/// with each.
+/// with each, and each is of one part: the drum, the locations beside it, or no location.
 pub fn same_ways_end(notes: &Notes, instruction: Instruction) -> u16
     ensures past { instruction.d < result }
     ensures same { (d : ℕ) → instruction.d ≤ d → d < result
         → ways notes.now (with_d instruction d) ≡ ways notes.now instruction }
+    ensures drum { (d : ℕ) → instruction.d ≤ d → d < result
+        → nat_lt d 2000 ≡ nat_lt instruction.d 2000 }
+    ensures locations { (d : ℕ) → instruction.d ≤ d → d < result
+        → is_location d ≡ is_location instruction.d }
 {
     if may_go_on_at_d(notes, instruction) {
         return instruction.d + 1;

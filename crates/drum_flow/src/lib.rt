@@ -4,7 +4,7 @@
 
 mod acceptance;
 mod accepted_flow;
-mod alike;
+pub mod alike;
 mod altering;
 pub mod counts;
 mod cycle;
@@ -19,7 +19,7 @@ mod hops;
 mod instructions;
 pub mod laws;
 pub mod longest;
-mod patterns;
+pub mod patterns;
 mod place;
 mod refusal;
 mod size;

@@ -31,6 +31,7 @@ pub use left::Left;
 pub use machine::Machine;
 pub use memory::Memory;
 pub use monitor::Monitor;
+pub use passes::is_inside;
 pub use setup::Setup;
 pub use step::Step;
 pub use ways::{Way, Ways};

@@ -15,8 +15,9 @@ fn outer_of(marks: &[Mark], place: usize) -> Option<usize>
     marks[place].inside
 }
 
-/// Whether the mark at one place stands inside the one at another, directly or through others.
-fn is_inside(marks: &[Mark], inner: usize, outer: usize) -> bool
+/// Whether the mark at one place of the notes stands inside the one at another, directly or through
+/// others; a place past the last mark stands inside none.
+pub fn is_inside(marks: &[Mark], inner: usize, outer: usize) -> bool
     ensures { result ≡ counted.is_inside marks.now inner outer }
 {
     let mut place = inner;
