@@ -1,3 +1,6 @@
 pub mod Bounded
 pub mod Ceilings
 pub mod Costs
+pub mod Pushed
+pub mod Raises
+pub mod RowLaws

@@ -1,1 +1,5 @@
 pub mod Certificate
+pub mod Raised
+pub mod Rows
+pub mod Slot
+pub mod Taking

@@ -2,4 +2,10 @@
 //! counts are: a base, and for each mark a price times how often it can be passed.
 #![tactic(auto)]
 
+mod found;
 pub mod laws;
+mod raised;
+pub mod row;
+pub mod rows;
+pub mod slot;
+mod taking;

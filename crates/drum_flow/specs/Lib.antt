@@ -22,6 +22,7 @@ pub mod Rows
 pub mod RunHops
 pub mod Search
 pub mod Seen
+pub mod SettingOf
 pub mod Size
 pub mod Turned
 pub mod Walk

@@ -1,0 +1,54 @@
+-- What was looked at stays so: what is kept never falls.
+use Rattle.std.proofs.Common.{◌≡◌, ℕ, ◌+◌, ◌%◌, ◌≤◌, List, Option, Some, subst, sym, arith}
+use Rattle.std.specs.Prelude.{slice_get, Contains}
+use Rattle.drum_core.specs.declared.instruction.Instruction.{Instruction}
+use Rattle.drum_core.specs.Kind.{kind_of}
+use Rattle.drum_core.specs.Location.{IsLocation}
+use Rattle.drum_times.specs.Entries.{entry_in}
+use Rattle.drum_machine.specs.Timing.{found}
+use Rattle.drum_machine.specs.Ways.{Way, ways}
+use Rattle.drum_flow.proofs.DataAngles.{longest_alike}
+use Rattle.drum_ceiling.specs.declared.found.Found.{Found}
+use Rattle.drum_ceiling.specs.declared.raised.Raised.{Raised}
+use Rattle.drum_ceiling.specs.Raised.{latest, GrowsTo, HasTaken, IsRaised, IsReachedBy}
+use Rattle.drum_ceiling.specs.Slot.{slot_of}
+
+pub grows_same : (raised : Raised) → GrowsTo raised raised
+grows_same raised = record { stop = omega arith; onward = λ slot time at. (time, at, omega arith) }
+
+pub grows_on : (a b c : Raised) → GrowsTo a b → GrowsTo b c → GrowsTo a c
+grows_on a b c first then = record {
+  stop = omega (arith, first.stop, then.stop);
+  onward = λ slot time at.
+      let so = first.onward slot time at in
+      let more = then.onward slot so.0 so.1 in
+      (more.0, more.1, omega (arith, so.2, more.2));
+}
+
+pub raised_more : (from : Found) (before after : Raised) (ins : Instruction) (way : Way) → GrowsTo before after
+    → IsRaised from before ins way → IsRaised from after ins way
+raised_more from before after ins way grows is = record {
+  ends = omega (arith, is.ends, grows.stop);
+  goes_on = λ next on.
+      let so = is.goes_on next on in
+      let more = grows.onward (slot_of next (found next (latest from ins way) % 50)) so.1.0 so.1.1 in
+      (so.0, (more.0, more.1, omega (arith, so.1.2, more.2)));
+}
+
+pub taken_more : (from : Found) (before after : Raised) (ins : Instruction) → GrowsTo before after
+    → HasTaken from before ins → HasTaken from after ins
+taken_more from before after ins grows has way there = raised_more from before after ins way grows (has way there)
+
+-- An instruction that takes as long as one that was looked at, by the same ways, was looked at.
+pub taken_alike : (from : Found) (raised : Raised) (ins other : Instruction) → ins.op ≡ other.op
+    → kind_of ins.d ≡ kind_of other.d → ins.d % 50 ≡ other.d % 50
+    → ways from.notes.now ins ≡ ways from.notes.now other → HasTaken from raised ins → HasTaken from raised other
+taken_alike from raised ins other op kind angle same has way there =
+    let is = has way (subst (λ (all : List Way). Contains all way) (sym same) there) in
+    let long : latest from ins way ≡ latest from other way =
+    longest_alike (entry_in from.times.now) from.location.number from.angle ins other way op kind angle in
+    record {
+      ends = omega (arith, is.ends, long);
+      goes_on = λ next on. subst (λ (clock : ℕ). IsLocation next
+          × IsReachedBy raised.onward.items next from.angle (found next clock)) long (is.goes_on next on);
+    }

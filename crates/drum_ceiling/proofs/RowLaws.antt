@@ -1,0 +1,99 @@
+-- A row has all hops of its location.
+use Rattle.std.proofs.Common.{◌≡◌, ℕ, ◌+◌, ◌-◌, ◌*◌, ◌/◌, ◌%◌, ◌<◌, ◌≤◌, List, [], ◌∷◌, map, Option, Some, suc, refl}
+use Rattle.std.proofs.Common.{ap, sym, subst, ◌∙◌, inl, inr, arith}
+use Rattle.std.specs.Prelude.{Contains, flat_map, nat_lt, slice_get, if◌then◌else◌}
+use Rattle.std.proofs.lemmas.Bool.{cases_lt, le-ltb, lt-ltb}
+use Rattle.std.proofs.lemmas.List.Elements.{Contains-append_cases}
+use Rattle.drum_core.specs.declared.instruction.Instruction.{Instruction}
+use Rattle.drum_core.specs.Location.{IsLocation}
+use Rattle.drum_times.specs.Allowed.{Notes, allowed}
+use Rattle.drum_times.specs.Entries.{entry_in}
+use Rattle.drum_times.specs.Marks.{mark_on}
+use Rattle.drum_times.specs.declared.entry.Entry.{Entry}
+use Rattle.drum_core.specs.declared.op.Op.{Op}
+use Rattle.drum_machine.specs.Timing.{found}
+use Rattle.drum_machine.specs.Ways.{Way, to, ways}
+use Rattle.drum_flow.specs.Longest.{longest}
+use Rattle.drum_flow.specs.Hops.{Hop, hops, hops_of}
+use Rattle.drum_flow.specs.Walk.{Setting}
+use Rattle.drum_flow.proofs.Lists.{contains_cases, contains_here, contains_none, contains_there}
+use Rattle.drum_ceiling.specs.declared.found.Found.{Found}
+use Rattle.drum_ceiling.specs.declared.raised.Raised.{Raised}
+use Rattle.drum_ceiling.specs.declared.row.Row.{Row}
+use Rattle.drum_ceiling.specs.Certificate.{arrival, IsShut}
+use Rattle.drum_ceiling.specs.Raised.{latest, HasTaken, IsRaised}
+use Rattle.drum_ceiling.specs.Rows.{HasEdges, IsRow, Takes}
+use Rattle.drum_ceiling.specs.Slot.{place_of, slot_of}
+
+-- a location's number tells the location,
+pub slot_place : (place angle : ℕ) → IsLocation place → angle < 50 → place_of (slot_of place angle) ≡ place
+slot_place place angle is on_drum = elim (cases_lt place 2000) [
+  | inl drum ↦ rw (lt-ltb place 2000 drum, lt-ltb place 2000 drum) refl
+  | inr past ↦ (
+      let beside : 8000 ≤ place = is.1 past in
+      let high : 2000 ≤ 2000 + (place - 8000) * 50 + angle = omega arith in
+      let back : 8000 + (2000 + (place - 8000) * 50 + angle - 2000) / 50 ≡ place = omega (arith, beside, on_drum) in
+      rw (le-ltb place 2000 past, le-ltb (2000 + (place - 8000) * 50 + angle) 2000 high) back)
+]
+
+-- a hop of some instructions is of one of them, by one of its ways
+of_ways : (ins : Instruction) (all : List Way) (hop : Hop) → Contains (map (λ w. record { ins = ins; way = w }) all) hop
+    → (ins ≡ hop.ins) × Contains all hop.way
+of_ways ins [] hop there = absurd (contains_none hop there)
+of_ways ins (way ∷ all) hop there =
+    elim (contains_cases (record { ins = ins; way = way }) hop (map (λ w. record { ins = ins; way = w }) all) there) [
+      | inl same ↦ (
+        ap (λ (one : Hop). one.ins) same,
+        subst (λ (w : Way). Contains (way ∷ all) w) (ap (λ (one : Hop). one.way) same) (contains_here way all),
+      )
+      | inr behind ↦ (let so = of_ways ins all hop behind in (so.0, contains_there way hop.way all so.1))
+    ]
+
+of_allowed : (notes : Notes) (all : List Instruction) (hop : Hop) → Contains (flat_map (hops_of notes) all) hop
+    → Contains all hop.ins × Contains (ways notes hop.ins) hop.way
+of_allowed notes [] hop there = absurd (contains_none hop there)
+of_allowed notes (ins ∷ all) hop there =
+    elim (Contains-append_cases (hops_of notes ins) (flat_map (hops_of notes) all) hop there) [
+      | inl here ↦ (let so = of_ways ins (ways notes ins) hop here in (
+        subst (λ (one : Instruction). Contains (ins ∷ all) one) so.0 (contains_here ins all),
+        subst (λ (one : Instruction). Contains (ways notes one) hop.way) so.0 so.1,
+      ))
+      | inr behind ↦ (let so = of_allowed notes all hop behind in (contains_there ins hop.ins all so.0, so.1))
+    ]
+
+-- What was looked at, with its edges, is a row.
+pub row_of_raised : (g : Setting) (from : Found) (raised : Raised) (row : Row) → g.notes ≡ from.notes.now
+    → g.times ≡ entry_in from.times.now
+    → ((ins : Instruction) → Contains (allowed g.loads g.notes from.location.number) ins → HasTaken from raised ins)
+    → row.stop ≡ raised.stop
+    → HasEdges g.notes.marks from.location.number raised.onward.items row.edges.items
+    → IsRow g from.location.number from.angle row
+row_of_raised g from raised row notes times taken stop edges hop there =
+    let place = from.location.number in
+    let so = of_allowed g.notes (allowed g.loads g.notes place) hop there in
+    let is : IsRaised from raised hop.ins hop.way =
+    taken hop.ins so.0 hop.way (subst (λ (n : Notes). Contains (ways n hop.ins) hop.way) notes so.1) in
+    let ended : ℕ = latest from hop.ins hop.way in
+    let long : longest g.times place hop.ins hop.way from.angle ≡ ended =
+    ap (λ (table : Op → Entry). longest table place hop.ins hop.way from.angle) times in
+    record {
+      ends = omega (arith, is.ends, long, stop);
+      goes_on = λ next on free.
+          let reached = is.goes_on next on in
+          let arrives : arrival g place from.angle hop next ≡ found next ended = ap (found next) long in
+          let slot : ℕ = slot_of next (found next ended % 50) in
+          let back : place_of slot ≡ next = slot_place next (found next ended % 50) reached.0 (omega arith) in
+          let edge = edges.each slot reached.1.0 reached.1.1
+          (subst (λ (n : ℕ). ¬ IsShut g.notes.marks place n) (sym back) free) in (
+            reached.0,
+            (
+              edge.0,
+              edge.1,
+              record {
+                onto = edge.2 ∙ ap (λ (clock : ℕ). slot_of next (clock % 50)) (sym arrives);
+                mark = edge.3 ∙ ap (mark_on g.notes.marks place) back;
+                time = omega (arith, arrives, reached.1.2, edge.4);
+              },
+            ),
+          );
+    }

@@ -1,0 +1,15 @@
+use Rattle.std.proofs.Common.{ℕ, suc, ◌-◌, ◌<◌, ◌≤◌}
+use Rattle.drum_core.specs.Instruction.{instruction}
+use Rattle.drum_ceiling.specs.Raised.{GrowsTo, HasTaken}
+use Rattle.drum_ceiling.proofs.raised.Raised.take_pattern.Given as goal
+
+-- the instructions with a lower data address were looked at
+abbrev pub invariant-loop-d : goal.invariant-loop-d
+invariant-loop-d l = record {
+  from : l.pattern.d_from ≤ l.d;
+  taken : (d : ℕ) → l.pattern.d_from ≤ d → d < l.d → HasTaken l.from l.self (instruction l.pattern.op d l.pattern.i);
+  grown : GrowsTo l.fn.self l.self;
+}
+
+abbrev pub decreases-loop-d : goal.decreases-loop-d
+decreases-loop-d l = suc l.pattern.d_to - l.d

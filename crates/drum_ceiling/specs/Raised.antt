@@ -1,0 +1,40 @@
+-- The latest ends of the hops that were looked at, of a location whose instruction is found at an
+-- angle.
+use Rattle.std.specs.Prelude.{◌≡◌, ℕ, ◌+◌, ◌%◌, ◌≤◌, List, Option, Some, Contains, slice_get}
+use Rattle.drum_core.specs.declared.instruction.Instruction.{Instruction}
+use Rattle.drum_core.specs.Location.{IsLocation}
+use Rattle.drum_times.specs.Entries.{entry_in}
+use Rattle.drum_machine.specs.Timing.{found}
+use Rattle.drum_machine.specs.Ways.{Way, to, ways}
+use Rattle.drum_flow.specs.Longest.{longest}
+use Rattle.drum_ceiling.specs.declared.found.Found.{Found}
+use Rattle.drum_ceiling.specs.declared.raised.Raised.{Raised}
+use Rattle.drum_ceiling.specs.Slot.{slot_of}
+
+-- The most that stands at the number of this place, where it is found at this clock, is no less.
+abbrev pub IsReachedBy : List (Option ℕ) → ℕ → ℕ → ℕ → Type 0
+IsReachedBy onward next angle clock =
+    (time : ℕ) × (slice_get onward (slot_of next (clock % 50)) ≡ Some (Some time))
+    × (clock ≤ angle + time)
+
+-- when a hop of the location ends at the latest, from when its instruction is found
+abbrev pub latest : Found → Instruction → Way → ℕ
+latest from ins way =
+    longest (entry_in from.times.now) from.location.number ins way from.angle
+
+-- The hop was looked at: what is kept is no less than what it takes.
+pub record IsRaised (from : Found) (raised : Raised) (ins : Instruction) (way : Way) : Type 0 where
+  pub ends : latest from ins way ≤ from.angle + raised.stop
+  pub goes_on : (next : ℕ) → way ≡ to next → IsLocation next
+      × IsReachedBy raised.onward.items next from.angle (found next (latest from ins way))
+
+-- So were all hops of an instruction.
+abbrev pub HasTaken : Found → Raised → Instruction → Type 0
+HasTaken from raised ins =
+    (way : Way) → Contains (ways from.notes.now ins) way → IsRaised from raised ins way
+
+-- What is kept never falls.
+pub record GrowsTo (before after : Raised) : Type 0 where
+  pub stop : before.stop ≤ after.stop
+  pub onward : (slot time : ℕ) → slice_get before.onward.items slot ≡ Some (Some time)
+      → (later : ℕ) × (slice_get after.onward.items slot ≡ Some (Some later)) × (time ≤ later)

@@ -1,0 +1,24 @@
+//! What the hops of a location take at most, by where they lead.
+
+use crate::slot::Slot;
+
+/// The hops that lead from where one instruction is found to where another is.
+#[derive(Clone, Copy, Debug, PartialEq, Eq)]
+pub struct Edge {
+    /// Where they lead.
+    pub onto: Slot,
+    /// The most word times that they take, from when the one instruction is found to when the other
+    /// is.
+    pub time: u32,
+    /// The place of the mark that stands on the edge of their locations.
+    pub mark: Option<u8>,
+}
+
+/// What the hops of a location take at most, from when its instruction is found at one angle.
+#[derive(Debug, Drop)]
+pub struct Row {
+    /// The most word times until one of them ends.
+    pub stop: u32,
+    /// Where they lead, without the edges that may never be passed.
+    pub edges: Vec<Edge>,
+}

@@ -1,0 +1,75 @@
+//! All hops of a location, looked at pattern by pattern: of data addresses with the same ways, at
+//! one angle, one alone.
+
+ghost use Rattle.std.specs.Prelude.{◌≡◌, ℕ, ◌+◌, ◌<◌, ◌≤◌, Contains};
+ghost use Rattle.drum_core.specs.Instruction.{instruction};
+ghost use Rattle.drum_core.specs.declared.instruction.Instruction as digits;
+ghost use Rattle.drum_core.specs.Loads.{loads_in};
+ghost use Rattle.drum_times.specs.Allowed.{allowed, matching};
+ghost use Rattle.drum_ceiling.specs.Raised.{GrowsTo, HasTaken};
+ghost use Rattle.drum_ceiling.specs.Taking.{AreAlike};
+
+use crate::found::Found;
+use crate::raised::Raised;
+use drum_core::{Deck, Instruction};
+use drum_flow::Hop;
+use drum_flow::alike::same_ways_end;
+use drum_flow::patterns::{Patterns, instruction_of};
+use drum_machine::Ways;
+use drum_times::Pattern;
+
+/// How many angles the drum has.
+const ANGLES: u16 = 50;
+
+impl Raised {
+    /// Looks at all hops of an instruction.
+    fn take_instruction(&mut self, from: &Found<'_>, instruction: Instruction)
+        ensures taken { HasTaken from.now self.new instruction }
+        ensures grown { GrowsTo self.old self.new }
+    {
+        for way in Ways::of(from.notes, instruction) {
+            self.take(from, Hop { instruction, way });
+        }
+    }
+
+    /// Looks at the hops of a pattern's instructions with these data addresses, which have the same
+    /// ways and are alike: those of one revolution tell of all.
+    fn take_alike(&mut self, from: &Found<'_>, pattern: Pattern, start: u16, end: u16)
+        requires some { start ≤ pattern.d_to }
+        requires within { end ≤ pattern.d_to + 1 }
+        requires alike { AreAlike from.now.notes.now pattern start end }
+        ensures taken { (d : ℕ) → start ≤ d → d < end
+            → HasTaken from.now self.new (instruction pattern.op d pattern.i) }
+        ensures grown { GrowsTo self.old self.new }
+    {
+        let last = end.min(start + ANGLES);
+        for d in start..last {
+            self.take_instruction(from, instruction_of(pattern, d));
+        }
+    }
+
+    /// Looks at all hops of a pattern's instructions.
+    fn take_pattern(&mut self, from: &Found<'_>, pattern: Pattern)
+        ensures taken { (ins : digits.Instruction) → Contains (matching pattern) ins
+            → HasTaken from.now self.new ins }
+        ensures grown { GrowsTo self.old self.new }
+    {
+        let mut d = pattern.d_from;
+        while d <= pattern.d_to {
+            let end = same_ways_end(from.notes, instruction_of(pattern, d)).min(pattern.d_to + 1);
+            self.take_alike(from, pattern, d, end);
+            d = end;
+        }
+    }
+
+    /// Looks at all hops of the location.
+    pub fn take_all(&mut self, deck: &Deck, from: &Found<'_>)
+        ensures taken { (ins : digits.Instruction)
+            → Contains (allowed (loads_in deck.now) from.now.notes.now from.now.location.number) ins
+            → HasTaken from.now self.new ins }
+    {
+        for pattern in Patterns::at(deck, from.notes, from.location) {
+            self.take_pattern(from, pattern);
+        }
+    }
+}
