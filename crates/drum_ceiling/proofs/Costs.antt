@@ -1,7 +1,7 @@
 -- What edges cost is the sum of the prices, each times how often its mark is passed.
 use Rattle.std.proofs.Common.{◌≡◌, ℕ, zero, suc, ◌+◌, ◌*◌, ◌<◌, ◌≤◌, cond, List, [], ◌∷◌, length, Option, Some, None}
 use Rattle.std.proofs.Common.{refl, ap, sym, arith, mul-add}
-use Rattle.std.specs.Prelude.{nat_eq}
+use Rattle.std.specs.Prelude.{nat_eq, slice_index}
 use Rattle.std.specs.Option.{option_eq}
 use Rattle.std.proofs.Math.Nat.{mul-le-mul_left}
 use Rattle.std.proofs.lemmas.Bool.{eq-eqb, ne_eqb}
@@ -9,7 +9,7 @@ use Rattle.std.proofs.lemmas.List.Sums.{sum_by-cons}
 use Rattle.drum_times.specs.declared.notes.mark.Mark.{Mark}
 use Rattle.drum_times.specs.Marks.{mark_on}
 use Rattle.drum_machine.specs.Since.{Edge, passes_of}
-use Rattle.drum_ceiling.specs.Certificate.{cost, price_at, price_of, price_on, priced_from}
+use Rattle.drum_ceiling.specs.Certificate.{cost, price_of, price_on, priced_from}
 
 -- once where this is the mark, else never
 abbrev once : Option ℕ → ℕ → ℕ
@@ -57,7 +57,7 @@ priced_past (price ∷ prices) place m before =
 
 -- and one of these its price
 priced_one : (prices : List ℕ) (place j m : ℕ) → place + j ≡ m
-    → priced_from prices place (once (Some m)) ≡ price_at prices j
+    → priced_from prices place (once (Some m)) ≡ slice_index prices j
 priced_one [] place j m at = refl
 priced_one (price ∷ prices) place zero m at =
     rw (eq-eqb m place (omega (arith, at)))

@@ -1,5 +1,6 @@
 pub mod Bounded
 pub mod Ceilings
+pub mod Certified
 pub mod Costs
 pub mod Pushed
 pub mod Raises

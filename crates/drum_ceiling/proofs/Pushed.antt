@@ -1,6 +1,10 @@
 -- What a list with one more at its end has.
-use Rattle.std.proofs.Common.{◌≡◌, ◌⊎◌, ℕ, zero, suc, List, [], ◌∷◌, ◌++◌, length, Some, refl, inl, inr, subst, arith}
+use Rattle.std.proofs.Common.{◌≡◌, ◌⊎◌, ℕ, zero, suc, ◌+◌, ◌<◌, ◌≤◌, List, [], ◌∷◌, ◌++◌, length, take, Some, refl}
+use Rattle.std.proofs.Common.{ap, ◌∙◌, inl, inr, subst, arith}
 use Rattle.std.specs.Prelude.{slice_get, Contains}
+use Rattle.std.proofs.lemmas.List.{take_all, take_more}
+use Rattle.std.proofs.lemmas.List.Elements.{Contains-push_cases}
+use Rattle.std.proofs.lemmas.Option.{get_or_from_slice_get, slice_get_within}
 use Rattle.drum_flow.proofs.Lists.{contains_cases, contains_here, contains_none, contains_there}
 
 pub pushed : {X : Type 0} (xs : List X) (x y : X) (k : ℕ) → slice_get (xs ++ x ∷ []) k ≡ Some y
@@ -19,3 +23,16 @@ contains_before (z ∷ xs) x y there = elim (contains_cases z y xs there) [
   | inl same ↦ subst (Contains (z ∷ (xs ++ x ∷ []))) same (contains_here z (xs ++ x ∷ []))
   | inr behind ↦ contains_there z y (xs ++ x ∷ []) (contains_before xs x y behind)
 ]
+
+-- what the first so many and one more have
+pub taken_cases : {X : Type 0} (xs : List X) (k : ℕ) (x y : X) → slice_get xs k ≡ Some x → Contains (take (k + 1) xs) y
+    → Contains (take k xs) y ⊎ (x ≡ y)
+taken_cases xs k x y here there =
+    let inside : k < length xs = slice_get_within xs k x here in
+    let more : take (k + 1) xs ≡ take k xs ++ x ∷ [] =
+    take_more xs k x inside ∙ ap (λ (z : _). take k xs ++ z ∷ []) (get_or_from_slice_get xs k x x here) in
+    Contains-push_cases (take k xs) x y (subst (λ (ys : List _). Contains ys y) more there)
+
+-- all of them are the first so many, where there are no more
+pub all_taken : {X : Type 0} (xs : List X) (k : ℕ) → length xs ≤ k → take k xs ≡ xs
+all_taken xs k past = take_all k xs past

@@ -1,6 +1,6 @@
 -- Certificates: a price for each pass of a mark and a potential for each place, which together
 -- bound every walk (this project's choice).
-use Rattle.std.specs.Prelude.{◌≡◌, ℕ, ◌+◌, ◌*◌, ◌%◌, ◌<◌, ◌≤◌, List, [], ◌∷◌, sum_by, slice_get, length, zero, suc, Option, Some, None, Contains}
+use Rattle.std.specs.Prelude.{◌≡◌, ℕ, ◌+◌, ◌*◌, ◌%◌, ◌<◌, ◌≤◌, List, [], ◌∷◌, sum_by, slice_get, slice_index, length, Option, Some, None, Contains}
 use Rattle.drum_times.specs.declared.notes.mark.Mark.{Mark}
 use Rattle.drum_times.specs.Marks.{mark_on}
 use Rattle.drum_machine.specs.Since.{Edge}
@@ -10,16 +10,10 @@ use Rattle.drum_flow.specs.Hops.{Hop, hops}
 use Rattle.drum_flow.specs.Longest.{longest}
 use Rattle.drum_flow.specs.Walk.{Setting}
 
--- the price of the mark at a place
-abbrev pub price_at : List ℕ → ℕ → ℕ
-price_at [] k = 0
-price_at (price ∷ prices) zero = price
-price_at (price ∷ prices) (suc k) = price_at prices k
-
 -- the price of a pass of this mark; of none, 0
 abbrev pub price_of : List ℕ → Option ℕ → ℕ
 price_of prices None = 0
-price_of prices (Some k) = price_at prices k
+price_of prices (Some k) = slice_index prices k
 
 -- the price of an edge: that of the mark on it
 abbrev pub price_on : List Mark → List ℕ → ℕ → ℕ → ℕ

@@ -1,4 +1,5 @@
 pub mod Certificate
+pub mod Paying
 pub mod Raised
 pub mod Rows
 pub mod Slot

@@ -2,6 +2,7 @@
 //! counts are: a base, and for each mark a price times how often it can be passed.
 #![tactic(auto)]
 
+pub mod certificate;
 mod found;
 pub mod laws;
 mod raised;

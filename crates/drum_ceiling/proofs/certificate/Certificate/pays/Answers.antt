@@ -1,0 +1,29 @@
+use Rattle.std.proofs.Common.{◌≡◌, List, Some, length, sym, ap, subst, ◌∙◌, inl, inr, refl, arith}
+use Rattle.std.specs.Prelude.{Contains, slice_get}
+use Rattle.std.proofs.lemmas.Option.{slice_get-get_or}
+use Rattle.drum_ceiling.specs.declared.row.Edge.{Edge}
+use Rattle.drum_ceiling.specs.Paying.{IsEdgePaid}
+use Rattle.drum_ceiling.proofs.Pushed.{all_taken, taken_cases}
+use Rattle.drum_ceiling.proofs.certificate.Certificate.pays.Goals as goal
+
+pub loop-edge-preserved : goal.loop-edge-preserved
+loop-edge-preserved c edge there =
+    let edges = c.deref-edge-items.result.now in
+    let k = c.loop-edge.edge-index in
+    let here : slice_get edges k ≡ Some c.edge-item.result =
+    slice_get-get_or edges k c.edge-item.result c.loop-edge-test.true ∙ ap Some (sym c.edge-item.is) in
+    elim (taken_cases edges k c.edge-item.result edge here there) [
+      | inl before ↦ c.loop-edge.invariant edge before
+      | inr same ↦ subst (IsEdgePaid c.args.self.now.prices.items c.args.self.now.potentials.items c.args.owed) same
+          (c.pays_edge.ensures c.if-not-pays_edge.false)
+    ]
+
+pub returns : goal.returns
+returns c stop = record {
+  ends = grind arith;
+  edges = λ edge there.
+      c.loop-edge.invariant edge
+      (subst (λ (all : List Edge). Contains all edge)
+      (sym c.deref-edge-items.ensures.value
+      ∙ sym (all_taken c.deref-edge-items.result.now c.loop-edge.edge-index c.loop-edge-test.false)) there);
+}
