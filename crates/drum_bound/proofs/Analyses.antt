@@ -23,7 +23,7 @@ use Rattle.drum_bound.specs.declared.keys.Keys.{Keys}
 use Rattle.drum_bound.specs.declared.latest.Latest.{Latest}
 use Rattle.drum_bound.specs.declared.scan.Scan.{Scan}
 use Rattle.drum_bound.specs.declared.worst.Worst.{Worst}
-use Rattle.drum_bound.specs.AnalysisOf.{IsAnalysis, ArePasses, setting, bound_of, counts_in_all, passed_of, rows_of}
+use Rattle.drum_bound.specs.AnalysisOf.{IsAnalysis, ArePasses, bound_of, counts_in_all, passed_of, rows_of}
 use Rattle.drum_bound.specs.AnalysisOf.{turns_of, visits_of, words_of}
 use Rattle.drum_bound.proofs.EntriesRaised.{are_raised}
 use Rattle.drum_bound.proofs.EntryEnds.{ends_of, are_ends, as_many_ends}
@@ -42,19 +42,6 @@ use Rattle.drum_bound.specs.Visited.{Visited, IsWalkOf}
 use Rattle.drum_bound.specs.Worst.{IsWorst}
 use Rattle.drum_bound.specs.Held.{kept_in}
 use Rattle.drum_bound.proofs.Worsts.{is_worst}
-
--- A deck loads drum words alone.
-pub loaded_on_drum : (deck : Deck) (place : ℕ) (w : Word) → loads_in deck place ≡ Some w → place < 2000
-loaded_on_drum deck place w loads = go (slice_get deck.image.items place) refl loads
-  where
-    go : (one : Option (Option Given)) → slice_get deck.image.items place ≡ one
-        → option_map (λ given. given.word) (found_in one) ≡ Some w → place < 2000
-    go None at none = absurd (cc)
-    go (Some one) at some = omega (arith, slice_get_within deck.image.items place one at, deck.image.ok.0, deck.whole)
-
--- What the walks of a deck under sound notes are in is right.
-pub is_proper : (deck : Deck) (times : Times) (notes : Notes) → AreSound notes → IsProper (setting deck times notes)
-is_proper deck times notes sound = record { on_drum = loaded_on_drum deck; starts = deck.on_drum; notes = sound }
 
 -- What a finished scan and its walk are, of these keys and this timing table.
 pub record IsFound (keys : Keys) (times : Times) (cells : Cells) (visits : List Visited) : Type 0 where

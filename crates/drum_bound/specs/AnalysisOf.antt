@@ -13,6 +13,7 @@ use Rattle.drum_machine.specs.Run.{Turn, IsRun, IsFirstState, used_from}
 use Rattle.drum_machine.specs.Step.{State}
 use Rattle.drum_flow.specs.Accepted.{counts_of, IsAccepted, IsFixed}
 use Rattle.drum_flow.specs.Hops.{hops}
+use Rattle.drum_flow.specs.SettingOf.{setting}
 use Rattle.drum_flow.specs.Walk.{Setting, Taken, IsWalk}
 use Rattle.drum_bound.specs.declared.analysis.Analysis.{Analysis}
 use Rattle.drum_bound.specs.declared.cells.Cells.{Cells}
@@ -23,11 +24,6 @@ use Rattle.drum_bound.specs.Table.{Row, IsTable}
 use Rattle.drum_bound.specs.Under.{ArriveUnder}
 use Rattle.drum_bound.specs.Visited.{Visited, AreInTime, IsWalkOf, passes_in, seen_visit}
 use Rattle.drum_bound.specs.Worst.{IsWorst}
-
--- what the walks of a deck under its notes are in, with a timing table
-abbrev pub setting : Deck → Times → Notes → Setting
-setting deck times notes =
-    record { loads = loads_in deck; notes = notes; times = entry_in times; start = start_in deck }
 
 -- the bound, in word times
 abbrev pub bound_of : Analysis → ℕ

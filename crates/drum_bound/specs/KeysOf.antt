@@ -14,7 +14,7 @@ use Rattle.drum_flow.specs.HopsLeft.{hops_left}
 use Rattle.drum_flow.specs.Walk.{Setting}
 use Rattle.drum_bound.specs.declared.keys.Keys.{Keys}
 use Rattle.drum_bound.specs.declared.keys.Node.{Node}
-use Rattle.drum_bound.specs.AnalysisOf.{setting}
+use Rattle.drum_flow.specs.SettingOf.{setting}
 use Rattle.drum_bound.specs.Keys.{keys_of, IsOrdered}
 
 -- what the walks of an accepted flow are in, with a timing table

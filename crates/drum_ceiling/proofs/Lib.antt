@@ -1,4 +1,5 @@
 pub mod Bounded
+pub mod ByOrder
 pub mod Ceilings
 pub mod Certified
 pub mod Costs

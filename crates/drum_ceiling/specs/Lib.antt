@@ -1,5 +1,8 @@
+pub mod CeilingOf
 pub mod Certificate
+pub mod Passing
 pub mod Paying
+pub mod Priced
 pub mod Raised
 pub mod Rows
 pub mod Slot

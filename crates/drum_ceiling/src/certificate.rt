@@ -1,11 +1,15 @@
 //! Prices of marks and potentials of where instructions are found, and whether they are a
 //! certificate.
 
-ghost use Rattle.std.specs.Prelude.{◌≡◌, ℕ, ◌+◌, ◌<◌, ◌≤◌, IsTrue, IfSome, Contains, vec_len, Option};
+ghost use Rattle.std.specs.Prelude.{◌≡◌, ℕ, ◌^◌, ◌<◌, ◌≤◌, IsTrue, IfSome, All, length, vec_len};
+ghost use Rattle.drum_flow.specs.Walk.{Setting};
 ghost use Rattle.drum_ceiling.specs.Certificate.{price_of};
-ghost use Rattle.drum_ceiling.specs.Slot.{at_slot, slot_of};
+ghost use Rattle.drum_ceiling.specs.Priced.{ArePrices};
+ghost use Rattle.drum_ceiling.specs.Rows.{AreRows};
+ghost use Rattle.drum_ceiling.specs.Slot.{at_slot};
 ghost use Rattle.drum_ceiling.specs.Paying.{IsPaid, IsEdgePaid, IsSlotPaid};
 
+use crate::prices::{FIRST_WAIT, Prices};
 use crate::row::{Edge, Row};
 use crate::slot::Slot;
 
@@ -32,7 +36,7 @@ impl Certificate {
     }
 
     /// The potential of where an instruction is found.
-    fn potential(&self, slot: Slot) -> Option<u64>
+    pub fn potential(&self, slot: Slot) -> Option<u64>
         ensures { result ≡ at_slot self.now.potentials.items slot.number }
     {
         match self.potentials.get(usize::from(slot.number)) {
@@ -93,5 +97,40 @@ impl Certificate {
             }
         }
         true
+    }
+
+    /// Whether no price is above this one.
+    fn is_low(&self, highest: u64) -> bool
+        ensures { IsTrue result → All (λ price. price ≤ highest) self.now.prices.items }
+    {
+        self.prices.iter().all(|price| *price <= highest)
+    }
+
+    /// Its prices with the base, where it is a certificate: each mark has a price, none above the
+    /// highest, and each potential pays for all hops from there, that of the start among them.
+    pub fn checked(
+        self,
+        rows: &[Option<Row>],
+        start: Slot,
+        marks: usize,
+        highest: u64,
+    ) -> Option<Prices>
+        requires { highest < 2 ^ 38 }
+        ensures { IfSome result (λ found. (g : Setting) → AreRows g rows.now
+            → g.start ≡ start.number → g.start < 2000 → length g.notes.marks ≡ marks
+            → ArePrices g highest found.prices.items found.base) }
+    {
+        let owed = self.potential(start)?;
+        if owed > highest || self.prices.len() != marks {
+            return None;
+        }
+        if !self.is_low(highest) || !self.pays_all(rows) {
+            return None;
+        }
+        let base = FIRST_WAIT + owed;
+        Some(Prices {
+            prices: self.prices,
+            base,
+        })
     }
 }

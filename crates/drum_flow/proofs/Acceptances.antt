@@ -19,9 +19,9 @@ use Rattle.drum_flow.specs.Executed.{added_by, with_new, found_after, IsOrder}
 use Rattle.drum_flow.specs.Fixed.{AreFlagged}
 use Rattle.drum_flow.specs.Flow.{AreExecuted}
 use Rattle.drum_flow.specs.Free.{IsFreeCycle, IsFreeOrder, IsCycleRefusal}
-use Rattle.drum_flow.specs.Graph.{AreDifferent, GoOn, LeadRound, IsClosed}
+use Rattle.drum_flow.specs.Graph.{height, AreDifferent, GoOn, LeadRound, IsClosed}
 use Rattle.drum_flow.specs.Size.{IsTooMuch}
-use Rattle.drum_flow.proofs.Heights.{height, lower}
+use Rattle.drum_flow.proofs.Heights.{lower}
 
 -- what is so of one deck and its notes is so of those that are the same
 pub moved : (Holds : Deck → Notes → Type 0) (deck other : Deck) (notes others : Notes) → deck ≡ other → notes ≡ others

@@ -8,22 +8,13 @@ use Rattle.std.proofs.lemmas.Bool.Decides.{eqb_tells}
 use Rattle.drum_core.specs.declared.word.Word.{Word}
 use Rattle.drum_times.specs.Allowed.{Notes}
 use Rattle.drum_flow.specs.Accepted.{IsFree}
-use Rattle.drum_flow.specs.Graph.{AreDifferent, GoOn}
+use Rattle.drum_flow.specs.Graph.{height, height_by, AreDifferent, GoOn}
 use Rattle.drum_flow.proofs.Lists.{contains_there, contains_cases, contains_none}
 
--- how far before the end of a list a member stands
-abbrev pub height_by : Bool → ℕ → ℕ → ℕ
-height_by true here there = here
-height_by false here there = there
-
-abbrev pub height : List ℕ → ℕ → ℕ
-height [] x = 0
-height (a ∷ xs) x = height_by (eqb a x) (suc (length xs)) (height xs x)
-
-height_here : (a x : ℕ) (xs : List ℕ) → a ≡ x → height (a ∷ xs) x ≡ suc (length xs)
+pub height_here : (a x : ℕ) (xs : List ℕ) → a ≡ x → height (a ∷ xs) x ≡ suc (length xs)
 height_here a x xs same = ap (λ (b : Bool). height_by b (suc (length xs)) (height xs x)) (eq-eqb a x same)
 
-height_there : (a x : ℕ) (xs : List ℕ) → a ≢ x → height (a ∷ xs) x ≡ height xs x
+pub height_there : (a x : ℕ) (xs : List ℕ) → a ≢ x → height (a ∷ xs) x ≡ height xs x
 height_there a x xs ne = elim (eqb_tells a x) [
   | inl same ↦ absurd (ne same.1)
   | inr other ↦ ap (λ (b : Bool). height_by b (suc (length xs)) (height xs x)) other.0

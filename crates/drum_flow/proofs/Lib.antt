@@ -14,10 +14,12 @@ pub mod KeptWalk
 pub mod Lists
 pub mod LongestLaws
 pub mod Matched
+pub mod Members
 pub mod Orders
 pub mod PassLaws
 pub mod Products
 pub mod Profiles
+pub mod Proper
 mod Refusals
 pub mod Searches
 pub mod Translations

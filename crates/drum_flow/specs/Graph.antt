@@ -1,6 +1,6 @@
 -- Graphs of numbered nodes: an order in which every edge goes on, and cycles. `row` says which
 -- nodes the edges of a node lead to.
-use Rattle.std.specs.Prelude.{ℕ, ◌<◌, List, [], ◌∷◌, length, Contains}
+use Rattle.std.specs.Prelude.{ℕ, suc, ◌<◌, ◌==◌, Bool, true, false, List, [], ◌∷◌, length, Contains}
 use Rattle.drum_flow.specs.declared.graph.Graph.{Graph}
 use Rattle.drum_flow.specs.declared.graph.sorted.Sorted.{Sorted}
 use Rattle.drum_flow.specs.declared.graph.sorted.Sorted.TheVariants.{Ordered, Cyclic}
@@ -54,3 +54,13 @@ pub record IsCycle (row : ℕ → List ℕ) (size : ℕ) (cycle : List ℕ) : Ty
 abbrev pub IsSorted : (ℕ → List ℕ) → ℕ → Sorted → Type 0
 IsSorted row size (Ordered order) = IsTopologicalOrder row size order.items
 IsSorted row size (Cyclic cycle) = IsCycle row size cycle.items
+
+-- how far before the end of a list the first of this number stands; 0 where there is none
+abbrev pub height_by : Bool → ℕ → ℕ → ℕ
+height_by true here behind = here
+height_by false here behind = behind
+
+abbrev pub height : List ℕ → ℕ → ℕ
+height [] place = 0
+height (node ∷ nodes) place =
+    height_by (node == place) (suc (length nodes)) (height nodes place)

@@ -15,7 +15,7 @@ use Rattle.drum_machine.specs.Step.{State}
 use Rattle.drum_flow.specs.Acceptance.{IsRefusal}
 use Rattle.drum_flow.specs.Accepted.{IsAccepted, IsFixed}
 use Rattle.drum_flow.specs.Walk.{Setting}
-use Rattle.drum_bound.specs.AnalysisOf.{setting}
+use Rattle.drum_flow.specs.SettingOf.{setting}
 use Rattle.drum_bound.specs.Visited.{Visited, IsWalkOf}
 use Rattle.drum_bound.specs.Worst.{IsWorst}
 use Rattle.drum_tool.specs.declared.documents.Documents.{Documents}

@@ -6,7 +6,7 @@ ghost use Rattle.drum_machine.specs.Machine.{GoesOn};
 ghost use Rattle.drum_machine.specs.Monitor.{IsToldOf};
 ghost use Rattle.drum_machine.specs.Run.{Turn};
 ghost use Rattle.drum_machine.specs.Step.{State};
-ghost use Rattle.drum_bound.specs.AnalysisOf.{setting};
+ghost use Rattle.drum_flow.specs.SettingOf.{setting};
 ghost use Rattle.drum_tool.specs.Documents.{IsBounded};
 ghost use Rattle.drum_tool.specs.Following.{
   AreOfRun,

@@ -1,7 +1,7 @@
 //! The replay of a run, up to its verdict.
 
 ghost use Rattle.std.specs.Prelude.{◌≡◌, IfErr, IfOk, option_map};
-ghost use Rattle.drum_bound.specs.AnalysisOf.{setting};
+ghost use Rattle.drum_flow.specs.SettingOf.{setting};
 ghost use Rattle.drum_tool.specs.Begun.{IsBegun, left_before};
 ghost use Rattle.drum_tool.specs.Given.{given};
 ghost use Rattle.drum_tool.specs.Replay.{IsReplay, IsReplayFault};

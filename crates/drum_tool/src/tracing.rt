@@ -3,7 +3,7 @@
 ghost use Rattle.std.specs.Prelude.{◌≡◌, ◌+◌, ◌^◌, ◌<◌, ◌≤◌, List, MatchResult, []};
 ghost use Rattle.drum_times.specs.Entries.{entry_in};
 ghost use Rattle.drum_machine.specs.Run.{Turn};
-ghost use Rattle.drum_bound.specs.AnalysisOf.{setting};
+ghost use Rattle.drum_flow.specs.SettingOf.{setting};
 ghost use Rattle.drum_lines.specs.Sent.{IsWritten, fails_by};
 ghost use Rattle.drum_listing.specs.TraceText.{turn_lines};
 ghost use Rattle.drum_tool.specs.Begun.{IsBegun, IsReady};

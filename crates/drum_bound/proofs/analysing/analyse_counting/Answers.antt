@@ -10,8 +10,9 @@ use Rattle.drum_flow.specs.Free.{IsFreeOrder}
 use Rattle.drum_flow.proofs.Acceptances.{moved}
 use Rattle.drum_flow.proofs.KeptWalk.{kept_walk}
 use Rattle.drum_flow.specs.RunHops.{hops_taken}
-use Rattle.drum_bound.specs.AnalysisOf.{IsAnalysis, rows_of, setting}
-use Rattle.drum_bound.proofs.Analyses.{is_proper}
+use Rattle.drum_flow.specs.SettingOf.{setting}
+use Rattle.drum_flow.proofs.Proper.{is_proper}
+use Rattle.drum_bound.specs.AnalysisOf.{IsAnalysis, rows_of}
 use Rattle.drum_bound.proofs.Ordering.{as_many, can_have_keys}
 use Rattle.drum_bound.proofs.Unders.{arrive_under}
 use Rattle.drum_bound.proofs.analysing.analyse_counting.Goals as goal

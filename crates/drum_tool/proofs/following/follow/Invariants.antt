@@ -1,6 +1,6 @@
 use Rattle.std.proofs.Common.{◌-◌, ◌+◌, List}
 use Rattle.drum_machine.specs.Run.{Turn}
-use Rattle.drum_bound.specs.AnalysisOf.{setting}
+use Rattle.drum_flow.specs.SettingOf.{setting}
 use Rattle.drum_tool.specs.Following.{IsFollowing, state_of, used_so_far, waits_of}
 use Rattle.drum_tool.proofs.following.follow.Given as goal
 

@@ -4,7 +4,7 @@ use Rattle.drum_core.specs.Loads.{loads_in}
 use Rattle.drum_machine.specs.Feed.{cards_left}
 use Rattle.drum_machine.specs.Machine.{state_in}
 use Rattle.drum_machine.specs.Monitor.{answer_of}
-use Rattle.drum_bound.specs.AnalysisOf.{setting}
+use Rattle.drum_flow.specs.SettingOf.{setting}
 use Rattle.drum_bound.specs.Worst.{IsWorst}
 use Rattle.drum_tool.specs.Begun.{left_before}
 use Rattle.drum_tool.specs.declared.following.Following.{Following}

@@ -1,4 +1,4 @@
-use Rattle.drum_bound.specs.AnalysisOf.{setting}
+use Rattle.drum_flow.specs.SettingOf.{setting}
 use Rattle.drum_tool.specs.Given.{given}
 use Rattle.drum_tool.proofs.Beginning.{replay_before, replay_followed}
 use Rattle.drum_tool.proofs.replaying.replay.Goals as goal

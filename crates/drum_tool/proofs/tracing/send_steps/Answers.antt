@@ -4,7 +4,7 @@ use Rattle.std.proofs.lemmas.Result.{err_from_is_err_and}
 use Rattle.drum_core.specs.declared.op.Op.{Op}
 use Rattle.drum_times.specs.declared.entry.Entry.{Entry}
 use Rattle.drum_machine.specs.Run.{Turn}
-use Rattle.drum_bound.specs.AnalysisOf.{setting}
+use Rattle.drum_flow.specs.SettingOf.{setting}
 use Rattle.drum_lines.specs.declared.failed_write.WriteFault.{WriteFault}
 use Rattle.drum_lines.specs.declared.verdict.Verdict.{Verdict}
 use Rattle.drum_lines.specs.Sent.{IsSent}

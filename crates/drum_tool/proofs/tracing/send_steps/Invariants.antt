@@ -1,7 +1,7 @@
 use Rattle.std.proofs.Common.{◌≡◌, ◌+◌, ◌-◌, ◌*◌, ◌≤◌, List, Ok}
 use Rattle.drum_times.specs.Entries.{entry_in}
 use Rattle.drum_machine.specs.Run.{Turn}
-use Rattle.drum_bound.specs.AnalysisOf.{setting}
+use Rattle.drum_flow.specs.SettingOf.{setting}
 use Rattle.drum_lines.specs.Sent.{IsSent}
 use Rattle.drum_listing.specs.TraceText.{turn_lines}
 use Rattle.drum_tool.specs.Following.{IsFollowing, state_of, used_so_far, waits_of}

@@ -2,7 +2,7 @@ use Rattle.std.proofs.Common.{ℕ, ◌+◌, ◌∷◌, ◌++◌, [], sym, subst,
 use Rattle.drum_core.specs.Loads.{loads_in}
 use Rattle.drum_times.specs.Entries.{entry_in}
 use Rattle.drum_machine.specs.Monitor.{HasSeen, IsToldOf}
-use Rattle.drum_bound.specs.AnalysisOf.{setting}
+use Rattle.drum_flow.specs.SettingOf.{setting}
 use Rattle.drum_lines.specs.declared.verdict.Verdict.TheVariants.{Left}
 use Rattle.drum_tool.specs.Following.{IsFollowed, turn_of}
 use Rattle.drum_tool.proofs.Followed.{goes_on, leaves_here, replayed, stops_here, told}
