@@ -3,7 +3,7 @@ use Rattle.std.proofs.Common.{◌≡◌, ℕ, zero, suc, ◌+◌, ◌*◌, ◌<�
 use Rattle.std.proofs.Common.{refl, ap, sym, arith, mul-add}
 use Rattle.std.specs.Prelude.{nat_eq, slice_index}
 use Rattle.std.specs.Option.{option_eq}
-use Rattle.std.proofs.Math.Nat.{mul-le-mul_left}
+use Rattle.std.proofs.Math.Nat.{mul-le-mul_left, mul-le-mul_right}
 use Rattle.std.proofs.lemmas.Bool.{eq-eqb, ne_eqb}
 use Rattle.std.proofs.lemmas.List.Sums.{sum_by-cons}
 use Rattle.drum_times.specs.declared.notes.mark.Mark.{Mark}
@@ -87,3 +87,26 @@ cost_by_marks marks prices (edge ∷ edges) =
       priced_both prices 0 (once found) (λ k. passes_of marks k edges),
       priced_same prices 0 (λ k. passes_of marks k (edge ∷ edges)) (λ k. once found k + passes_of marks k edges) more,
     )
+
+-- where each is counted as often, up to as many as there are prices, as much is paid
+pub priced_alike : (prices : List ℕ) (place : ℕ) (times others : ℕ → ℕ)
+    → ((k : ℕ) → place ≤ k → k < place + length prices → times k ≡ others k)
+    → priced_from prices place times ≡ priced_from prices place others
+priced_alike prices place times others same =
+    let more = priced_more prices place times others (λ k low high. omega (arith, same k low high)) in
+    let less = priced_more prices place others times (λ k low high. omega (arith, same k low high)) in
+    omega (arith, more, less)
+
+-- where no price is above the highest, and nothing is counted more than so often, no more than that is paid for each
+pub priced_few : (prices : List ℕ) (place highest most : ℕ) (times : ℕ → ℕ)
+    → ((k : ℕ) → k < length prices → slice_index prices k ≤ highest) → ((k : ℕ) → times k ≤ most)
+    → priced_from prices place times ≤ length prices * (highest * most)
+priced_few [] place highest most times low few = omega arith
+priced_few (price ∷ prices) place highest most times low few =
+    let own : price ≤ highest = low 0 (omega arith) in
+    let first : price * times place ≤ price * most = mul-le-mul_left price (few place) in
+    let then : price * most ≤ highest * most = mul-le-mul_right most own in
+    let others = priced_few prices (place + 1) highest most times (λ k within. low (suc k) (omega (arith, within))) few in
+    let more : length (price ∷ prices) * (highest * most) ≡ length prices * (highest * most) + highest * most =
+    omega arith in
+    omega (arith, first, then, others, more)

@@ -1,5 +1,6 @@
 pub mod Bounded
 pub mod ByOrder
+pub mod CeilingLaws
 pub mod Ceilings
 pub mod Certified
 pub mod Costs

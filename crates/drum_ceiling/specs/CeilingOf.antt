@@ -15,7 +15,7 @@ use Rattle.drum_flow.specs.Accepted.{IsAdmitted, IsAltered, IsFixed, IsFreeRound
 use Rattle.drum_flow.specs.MostPasses.{edges_taken}
 use Rattle.drum_flow.specs.SettingOf.{setting}
 use Rattle.drum_flow.specs.Walk.{Taken, IsWalk, time_of}
-use Rattle.drum_ceiling.specs.declared.ceiling.Ceiling.{Ceiling}
+use Rattle.drum_ceiling.specs.declared.answer.Ceiling.{Ceiling}
 use Rattle.drum_ceiling.specs.Passing.{summed, AreMostPasses}
 use Rattle.drum_ceiling.specs.Priced.{farthest, ArePrices}
 
@@ -37,33 +37,33 @@ total_of ceiling = ceiling.total
 
 -- A ceiling of a deck with its timing table and notes is right.
 pub record IsCeilingOf (deck : Deck) (times : Times) (notes : Notes) (ceiling : Ceiling) : Type 0
-    where
-  -- the deck with its notes is admitted; the prices and the base are those of a certificate, and
-  -- none is above what it takes at most to go through each executed word once
-  pub executed : List ℕ
-  pub admitted : IsAdmitted (loads_in deck) notes (start_in deck) executed
-  pub prices : ArePrices (setting deck times notes) (length executed * farthest)
-      (prices_of ceiling) (base_of ceiling)
-  -- the total is their sum
-  pub passes : AreMostPasses notes.marks (passes_in ceiling)
-  pub total : total_of ceiling ≡ summed notes.marks (prices_of ceiling) (base_of ceiling)
-  pub small : total_of ceiling < 2 ^ 127
-  -- no walk of the flow graph takes more, nor passes a mark more often
-  pub walks : (angle : ℕ) (hops : List Taken) → IsWalk (setting deck times notes) angle hops
-      → time_of hops ≤ total_of ceiling
-  pub passed : (angle k : ℕ) (hops : List Taken) → IsWalk (setting deck times notes) angle hops
-      → k < length notes.marks
-      → passes_of notes.marks k (edges_taken hops) ≤ slice_index (passes_in ceiling) k
-  -- no run that keeps to the notes uses more at any moment, nor passes a mark more often
-  pub kept : (s : State) (steps : List Turn)
-      → IsFirstState (loads_in deck) (IsFixed (loads_in deck) notes (start_in deck)) (start_in deck)
-      s → IsRun (entry_in times) s steps → IsKept (loads_in deck) notes s steps
-      → used_from 0 steps ≤ total_of ceiling
-  pub kept_passed : (s : State) (steps : List Turn) (k : ℕ)
-      → IsFirstState (loads_in deck) (IsFixed (loads_in deck) notes (start_in deck)) (start_in deck)
-      s → IsRun (entry_in times) s steps → IsKept (loads_in deck) notes s steps
-      → k < length notes.marks
-      → passes_of notes.marks k (edges_of steps) ≤ slice_index (passes_in ceiling) k
+  where
+    -- the deck with its notes is admitted; the prices and the base are those of a certificate, and
+    -- none is above what it takes at most to go through each executed word once
+    pub executed : List ℕ
+    pub admitted : IsAdmitted (loads_in deck) notes (start_in deck) executed
+    pub prices : ArePrices (setting deck times notes) (length executed * farthest)
+        (prices_of ceiling) (base_of ceiling)
+    -- the total is their sum
+    pub passes : AreMostPasses notes.marks (passes_in ceiling)
+    pub total : total_of ceiling ≡ summed notes.marks (prices_of ceiling) (base_of ceiling)
+    pub small : total_of ceiling < 2 ^ 127
+    -- no walk of the flow graph takes more, nor passes a mark more often
+    pub walks : (angle : ℕ) (hops : List Taken) → IsWalk (setting deck times notes) angle hops
+        → time_of hops ≤ total_of ceiling
+    pub passed : (angle k : ℕ) (hops : List Taken) → IsWalk (setting deck times notes) angle hops
+        → k < length notes.marks
+        → passes_of notes.marks k (edges_taken hops) ≤ slice_index (passes_in ceiling) k
+    -- no run that keeps to the notes uses more at any moment, nor passes a mark more often
+    pub kept : (s : State) (steps : List Turn)
+        → IsFirstState (loads_in deck) (IsFixed (loads_in deck) notes (start_in deck)) (start_in deck)
+        s → IsRun (entry_in times) s steps → IsKept (loads_in deck) notes s steps
+        → used_from 0 steps ≤ total_of ceiling
+    pub kept_passed : (s : State) (steps : List Turn) (k : ℕ)
+        → IsFirstState (loads_in deck) (IsFixed (loads_in deck) notes (start_in deck)) (start_in deck)
+        s → IsRun (entry_in times) s steps → IsKept (loads_in deck) notes s steps
+        → k < length notes.marks
+        → passes_of notes.marks k (edges_of steps) ≤ slice_index (passes_in ceiling) k
 
 -- The sum of the prices and the base of some certificate is too large.
 pub record IsTooDear (deck : Deck) (times : Times) (notes : Notes) : Type 0 where

@@ -12,7 +12,7 @@ ghost use Rattle.drum_flow.specs.SettingOf.{setting};
 ghost use Rattle.drum_ceiling.specs.CeilingOf.{IsCeilingOf, IsCeilingRefusal};
 ghost use Rattle.drum_ceiling.specs.Priced.{farthest, ArePrices};
 
-use crate::ceiling::Ceiling;
+use crate::answer::Ceiling;
 use crate::passes::passes_of;
 use crate::prices::{Prices, highest_of, prices_by_order};
 use crate::rows::rows_of;
@@ -68,12 +68,7 @@ fn product_of(accepted: &AcceptedFlow<'_>, marks: &[Mark]) -> u128
 ///
 /// Those of [`accept`](drum_flow::accept), but that [`Refusal::TooLarge`] comes last, and only
 /// where the number would be 2^127 or more.
-pub fn ceiling(
-    alloc: Global,
-    deck: &Deck,
-    times: &Times,
-    notes: &Notes,
-) -> Result<Ceiling, Refusal>
+pub fn ceiling(alloc: Global, deck: &Deck, times: &Times, notes: &Notes) -> Result<Ceiling, Refusal>
     ensures given { IfOk result (IsCeilingOf deck.now times.now notes.now) }
     ensures refused { IfErr result (IsCeilingRefusal deck.now times.now notes.now) }
 {

@@ -2,17 +2,20 @@
 //! counts are: a base, and for each mark a price times how often it can be passed.
 #![tactic(auto)]
 
-mod ceiling;
-pub mod certificate;
+mod answer;
+mod certificate;
 mod finding;
 mod found;
 pub mod laws;
 mod passes;
 mod prices;
 mod raised;
-pub mod row;
-pub mod rows;
+mod row;
+mod rows;
 mod search;
-pub mod slot;
+mod slot;
 mod taking;
 mod total;
+
+pub use answer::Ceiling;
+pub use finding::ceiling;
