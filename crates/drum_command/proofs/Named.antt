@@ -51,6 +51,10 @@ draw_is_named : IsNamed line.draw
 unfolding clap_on_literals
 draw_is_named = record { walked = refl; passes = refl; found = refl; files = refl }
 
+ceiling_is_named : IsNamed line.ceiling
+unfolding clap_on_literals
+ceiling_is_named = record { walked = refl; passes = refl; found = refl; files = refl }
+
 replay_is_named : IsNamed line.replay
 unfolding clap_on_literals
 replay_is_named = record { walked = refl; passes = refl; found = refl; files = refl }
@@ -124,8 +128,8 @@ is_line verb named given words names =
 pub all_lines : All IsLine verbs
 all_lines = all_verbs IsLine (is_line line.bound bound_is_named common_given)
     (is_line line.report report_is_named common_given) (is_line line.walk walk_is_named common_given)
-    (is_line line.draw draw_is_named common_given) (is_line line.replay replay_is_named run_given)
-    (is_line line.trace trace_is_named run_given)
+    (is_line line.draw draw_is_named common_given) (is_line line.ceiling ceiling_is_named common_given)
+    (is_line line.replay replay_is_named run_given) (is_line line.trace trace_is_named run_given)
 
 -- the same of words that are the line of a command
 pub line_of : (words files : List Text) (verb : Verb) → IsLine verb → IsLineOf verb files words

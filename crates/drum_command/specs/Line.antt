@@ -9,7 +9,7 @@ use Rattle.clap.specs.Simple.{new_shape}
 use Rattle.clap.specs.Walk.{is_empty}
 use Rattle.clap.specs.declared.builder.action.ArgAction.TheVariants.{Set}
 use Rattle.drum_command.specs.declared.command.Command.{Command}
-use Rattle.drum_command.specs.declared.command.Command.TheVariants.{Bound, Report, Walk, Draw, Replay, Trace}
+use Rattle.drum_command.specs.declared.command.Command.TheVariants.{Bound, Report, Walk, Draw, Ceiling, Replay, Trace}
 use Rattle.drum_command.specs.declared.command.Files.{Files}
 
 -- a command: its name, and what the files that it names are called, in their order
@@ -37,6 +37,9 @@ walk = record { name = codes "walk"; files = common_files }
 abbrev pub draw : Verb
 draw = record { name = codes "draw"; files = common_files }
 
+abbrev pub ceiling : Verb
+ceiling = record { name = codes "ceiling"; files = common_files }
+
 abbrev pub replay : Verb
 replay = record { name = codes "replay"; files = run_files }
 
@@ -45,7 +48,7 @@ trace = record { name = codes "trace"; files = run_files }
 
 -- the commands that there are
 abbrev pub verbs : List Verb
-verbs = bound ∷ report ∷ walk ∷ draw ∷ replay ∷ trace ∷ []
+verbs = bound ∷ report ∷ walk ∷ draw ∷ ceiling ∷ replay ∷ trace ∷ []
 
 -- ---- the same, as clap's arguments and commands
 
@@ -99,6 +102,7 @@ said_by (Bound files) = (codes "bound", map Some (common files))
 said_by (Report files) = (codes "report", map Some (common files))
 said_by (Walk files) = (codes "walk", map Some (common files))
 said_by (Draw files) = (codes "draw", map Some (common files))
+said_by (Ceiling files) = (codes "ceiling", map Some (common files))
 said_by (Replay files inputs) = (codes "replay", map Some (with_inputs files inputs.now))
 said_by (Trace files inputs) = (codes "trace", map Some (with_inputs files inputs.now))
 

@@ -22,6 +22,9 @@ pub enum Command<'a> {
     Walk(Files<'a>),
     /// A picture of it.
     Draw(Files<'a>),
+    /// A number of word times that no run which keeps to the notes passes, however much the notes
+    /// let the deck's loops run.
+    Ceiling(Files<'a>),
     /// The verdict on one run, which is given the inputs of the last file.
     Replay(Files<'a>, &'a str),
     /// That run, step by step, and the verdict on it.

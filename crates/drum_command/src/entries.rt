@@ -79,6 +79,12 @@ pub(crate) fn entries() -> &'static [Entry]
             files: COMMON_FILES,
         },
         Entry {
+            name: "ceiling",
+            about: "Prints `ceiling C`: a bound that may be too high, for counts of any size",
+            example: "Example: drum650 ceiling deck.txt times.toml notes.toml",
+            files: COMMON_FILES,
+        },
+        Entry {
             name: "replay",
             about: "Lets the deck run once on inputs, and prints the verdict on that run",
             example: "Example: drum650 replay deck.txt times.toml notes.toml inputs.txt",

@@ -30,6 +30,7 @@ fn command_of<'a>(name: &str, found: &ArgMatches<'a>) -> Command<'a>
         "report" => Command::Report(files_in(found)),
         "walk" => Command::Walk(files_in(found)),
         "draw" => Command::Draw(files_in(found)),
+        "ceiling" => Command::Ceiling(files_in(found)),
         "replay" => Command::Replay(files_in(found), file_in(found, INPUTS)),
         "trace" => Command::Trace(files_in(found), file_in(found, INPUTS)),
         _ => unreachable!(),
