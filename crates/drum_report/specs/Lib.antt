@@ -1,2 +1,3 @@
+pub mod CeilingText
 pub mod Report
 pub mod TalliesOf
