@@ -22,7 +22,7 @@ use Rattle.drum_flow.specs.Walk.{Setting}
 use Rattle.drum_tool.specs.Replay.{Given, IsReplayFault}
 use Rattle.drum_lines.specs.FaultStatus.{after_deck, after_input, after_note, after_refusal, failed_by, reads_failed}
 use Rattle.drum_lines.specs.FaultStatus.{status_after}
-use Rattle.drum_tool.specs.Documents.{IsAnalysisFault, IsBound}
+use Rattle.drum_tool.specs.Documents.{IsAnalysisFault, IsBound, IsRefusedFor}
 use Rattle.drum_tool.specs.Asked.{files_of}
 use Rattle.drum_tool.specs.Files.{AreTold, FilesTold, Held}
 use Rattle.drum_tool.specs.Reply.{AnswersCommand, AnswersOn, IsFault, Reply, SaysBound, SaysTrace, TellsOfReads}
@@ -59,22 +59,22 @@ pub err_map : {A E : Type 0} (P Q : E → Type 0) (result : Result A E) → IfEr
 err_map P Q (Ok a) p f = tt
 err_map P Q (Err e) p f = f e p
 
--- the analysis of documents tells of no failed read
-unread : (documents : Documents) (fault : Fault) → IsAnalysisFault documents fault → reads_failed fault ≡ 0
-unread documents (faults.Refused refusal) is = refl
-unread documents faults.NoPart is = absurd is
-unread documents (faults.Part part what) is = absurd is
-unread documents faults.Memory is = absurd is
-unread documents (faults.Deck fault) is = absurd is
-unread documents (faults.Times fault) is = absurd is
-unread documents (faults.Notes fault) is = absurd is
-unread documents (faults.Inputs fault) is = absurd is
-unread documents (faults.Loaded location) is = absurd is
+-- a refusal tells of no failed read
+pub refused_unread : (Is : Refusal → Type 0) (fault : Fault) → IsRefusedFor Is fault → reads_failed fault ≡ 0
+refused_unread Is (faults.Refused refusal) is = refl
+refused_unread Is faults.NoPart is = absurd is
+refused_unread Is (faults.Part part what) is = absurd is
+refused_unread Is faults.Memory is = absurd is
+refused_unread Is (faults.Deck fault) is = absurd is
+refused_unread Is (faults.Times fault) is = absurd is
+refused_unread Is (faults.Notes fault) is = absurd is
+refused_unread Is (faults.Inputs fault) is = absurd is
+refused_unread Is (faults.Loaded location) is = absurd is
 
 pub analysed_unread : {A : Type 0} (documents : Documents) (result : Result A Fault)
     → IfErr result (IsAnalysisFault documents) → failed_by result ≡ 0
 analysed_unread documents (Ok found) is = refl
-analysed_unread documents (Err fault) is = unread documents fault is
+analysed_unread documents (Err fault) is = refused_unread _ fault is
 
 -- nor does a replay
 unread_replay : (g : Setting) (given : Given) (fault : Fault) → IsReplayFault g given fault → reads_failed fault ≡ 0

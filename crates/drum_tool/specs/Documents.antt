@@ -12,12 +12,15 @@ use Rattle.drum_times.specs.Says.{SayTimes, SayNotes, AreNoTimes, AreNoNotes}
 use Rattle.drum_machine.specs.Keeps.{IsKept}
 use Rattle.drum_machine.specs.Run.{Turn, IsRun, IsFirstState, used_from}
 use Rattle.drum_machine.specs.Step.{State}
+use Rattle.drum_flow.specs.declared.refusal.Refusal.{Refusal}
 use Rattle.drum_flow.specs.Acceptance.{IsRefusal}
 use Rattle.drum_flow.specs.Accepted.{IsAccepted, IsFixed}
 use Rattle.drum_flow.specs.Walk.{Setting}
 use Rattle.drum_flow.specs.SettingOf.{setting}
 use Rattle.drum_bound.specs.Visited.{Visited, IsWalkOf}
 use Rattle.drum_bound.specs.Worst.{IsWorst}
+use Rattle.drum_ceiling.specs.declared.answer.Ceiling.{Ceiling}
+use Rattle.drum_ceiling.specs.CeilingOf.{IsCeilingOf, IsCeilingRefusal}
 use Rattle.drum_tool.specs.declared.documents.Documents.{Documents}
 use Rattle.drum_lines.specs.declared.fault.Fault.{Fault}
 use Rattle.drum_lines.specs.declared.fault.Fault.TheVariants as fault
@@ -47,11 +50,25 @@ pub record IsBound (documents : Documents) (bound : ℕ) : Type 0 where
 abbrev pub IsWorstWalk : Documents → ℕ → ℕ → List Visited → Type 0
 IsWorstWalk documents bound angle walk = IsWalkOf (setting_of documents) angle bound walk
 
+-- Their ceiling: no walk takes more than its total, and no run that keeps to the notes ever uses
+-- more, and so each number of it is right.
+abbrev pub IsCeiling : Documents → Ceiling → Type 0
+IsCeiling documents = IsCeilingOf documents.deck documents.times documents.notes
+
+-- a fault that is a refusal, and such a one
+abbrev pub IsRefusedFor : (Refusal → Type 0) → Fault → Type 0
+IsRefusedFor Is (fault.Refused refusal) = Is refusal
+IsRefusedFor Is _ = ⊥
+
 -- why they have no bound: the deck with its notes is refused
 abbrev pub IsAnalysisFault : Documents → Fault → Type 0
-IsAnalysisFault documents (fault.Refused refusal) =
-    IsRefusal (loads_in documents.deck) documents.notes (start_in documents.deck) refusal
-IsAnalysisFault documents _ = ⊥
+IsAnalysisFault documents =
+    IsRefusedFor (IsRefusal (loads_in documents.deck) documents.notes (start_in documents.deck))
+
+-- why they have no ceiling: it is, but for its size; or what it comes to is too large
+abbrev pub IsCeilingFault : Documents → Fault → Type 0
+IsCeilingFault documents =
+    IsRefusedFor (IsCeilingRefusal documents.deck documents.times documents.notes)
 
 -- the text is that of the deck
 abbrev pub SaysDeck : List ℕ → Deck → Type 0

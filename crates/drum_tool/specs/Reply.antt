@@ -4,8 +4,9 @@ use Rattle.drum_times.specs.Entries.{entry_in}
 use Rattle.drum_machine.specs.Run.{Turn}
 use Rattle.drum_flow.specs.Walk.{Setting}
 use Rattle.drum_bound.specs.Visited.{Visited}
+use Rattle.drum_ceiling.specs.declared.answer.Ceiling as ceilings
 use Rattle.drum_command.specs.declared.command.Command.{Command}
-use Rattle.drum_command.specs.declared.command.Command.TheVariants.{Bound, Report, Walk, Draw, Replay, Trace}
+use Rattle.drum_command.specs.declared.command.Command.TheVariants.{Bound, Report, Walk, Draw, Ceiling, Replay, Trace}
 use Rattle.drum_inputs.specs.declared.inputs.Inputs.{Inputs}
 use Rattle.drum_tool.specs.declared.documents.Documents.{Documents}
 use Rattle.drum_lines.specs.declared.fault.Fault.{Fault}
@@ -20,11 +21,12 @@ use Rattle.drum_lines.specs.FaultStatus.{reads_failed, status_after}
 use Rattle.drum_lines.specs.FaultText.{fault_text}
 use Rattle.drum_lines.specs.Status.{status_of}
 use Rattle.drum_lines.specs.VerdictText.{verdict_text}
+use Rattle.drum_report.specs.CeilingText.{ceiling_text}
 use Rattle.drum_report.specs.Report.{report_text}
 use Rattle.drum_listing.specs.TraceText.{turn_lines}
 use Rattle.drum_listing.specs.WalkText.{walk_text}
 use Rattle.drum_tool.specs.Asked.{Asked, Looks, Named}
-use Rattle.drum_tool.specs.Documents.{IsAnalysisFault, IsBound, IsDeckAccepted, IsWorstWalk, setting_of}
+use Rattle.drum_tool.specs.Documents.{IsAnalysisFault, IsBound, IsCeiling, IsCeilingFault, IsDeckAccepted, IsWorstWalk, setting_of}
 use Rattle.drum_tool.specs.Files.{AreHeld, AreInputsHeld, AreNoInputsHeld, AreNotHeld, Held}
 use Rattle.drum_tool.specs.Given.{given}
 use Rattle.drum_tool.specs.Joined.{Gives, GivesNone}
@@ -39,7 +41,7 @@ pub data Reply : Type 0 where
 
 -- ---- what is said
 
--- a bound, a report of a walk, a walk from an angle, a picture, and the line of a fault
+-- a bound, a report of a walk, a walk from an angle, a picture, a ceiling, and the line of a fault
 abbrev pub bound_reply : ℕ → Reply
 bound_reply bound = says (bound_text bound) Done
 
@@ -52,6 +54,9 @@ walk_reply documents angle walk bound =
 
 abbrev pub picture_reply : List ℕ → Reply
 picture_reply picture = says picture Done
+
+abbrev pub ceiling_reply : Documents → ceilings.Ceiling → Reply
+ceiling_reply documents ceiling = says (ceiling_text documents.notes ceiling) Done
 
 abbrev pub fault_reply : Fault → Reply
 fault_reply fault = complains (fault_text fault) (status_after fault)
@@ -120,6 +125,12 @@ abbrev pub SaysPicture : Documents → Reply → Type 0
 SaysPicture documents reply =
     IsDeckAccepted (setting_of documents) × (picture : List ℕ) × (reply ≡ picture_reply picture)
 
+-- a ceiling, each of whose numbers is right
+abbrev pub SaysCeiling : Documents → Reply → Type 0
+SaysCeiling documents reply =
+    (ceiling : ceilings.Ceiling) × IsCeiling documents ceiling
+    × (reply ≡ ceiling_reply documents ceiling)
+
 -- ---- what is said of a run
 
 -- the verdict on the run that is fixed by what is given
@@ -136,19 +147,28 @@ SaysTrace g given reply =
 
 -- ---- to commands
 
--- why there are no documents, or why the analysis refuses those that there are
-abbrev pub IsFault : (Documents → Type 0) → (Fault → Type 0) → Fault → Type 0
-IsFault Are AreNone fault =
-    AreNone fault ⊎ ((documents : Documents) × Are documents × IsAnalysisFault documents fault)
+-- why there are no documents, or why those that there are get no answer
+abbrev pub IsFaultBy : (Documents → Fault → Type 0) → (Documents → Type 0) → (Fault → Type 0)
+    → Fault → Type 0
+IsFaultBy Refuses Are AreNone fault =
+    AreNone fault ⊎ ((documents : Documents) × Are documents × Refuses documents fault)
 
 -- To a command on documents, where so many reads failed: what it says of them, or why there is
 -- nothing to say.
+abbrev pub AnswersBy : (Documents → Fault → Type 0) → (Documents → Reply → Type 0)
+    → (Documents → Type 0) → (Fault → Type 0) → ℕ → Reply → Type 0
+AnswersBy Refuses Says Are AreNone failures reply =
+    ((documents : Documents) × Are documents × (failures ≡ 0) × Says documents reply)
+    ⊎ ((fault : Fault) × IsFaultBy Refuses Are AreNone fault
+    × (failures ≡ reads_failed fault) × (reply ≡ fault_reply fault))
+
+-- the same, where the analysis refuses documents
+abbrev pub IsFault : (Documents → Type 0) → (Fault → Type 0) → Fault → Type 0
+IsFault = IsFaultBy IsAnalysisFault
+
 abbrev pub AnswersOn : (Documents → Reply → Type 0) → (Documents → Type 0) → (Fault → Type 0)
     → ℕ → Reply → Type 0
-AnswersOn Says Are AreNone failures reply =
-    ((documents : Documents) × Are documents × (failures ≡ 0) × Says documents reply)
-    ⊎ ((fault : Fault) × IsFault Are AreNone fault
-    × (failures ≡ reads_failed fault) × (reply ≡ fault_reply fault))
+AnswersOn = AnswersBy IsAnalysisFault
 
 -- why there are no documents, else why there are no inputs, else why there is no replay
 abbrev pub IsFaultWith : (Documents → Type 0) → (Fault → Type 0) → (Inputs → Type 0)
@@ -177,6 +197,11 @@ AnswersJoined bytes = AnswersOn SaysBound (Gives bytes) (GivesNone bytes)
 abbrev pub AnswersOnFiles : (Documents → Reply → Type 0) → Held → ℕ → Reply → Type 0
 AnswersOnFiles Says held = AnswersOn Says (AreHeld held) (AreNotHeld held)
 
+-- the same, where what refuses them is that they have no ceiling
+abbrev pub AnswersCeilingOfFiles : Held → ℕ → Reply → Type 0
+AnswersCeilingOfFiles held =
+    AnswersBy IsCeilingFault SaysCeiling (AreHeld held) (AreNotHeld held)
+
 abbrev pub AnswersRunOfFiles : (Setting → Given → Reply → Type 0) → Held → ℕ → Reply → Type 0
 AnswersRunOfFiles Says held =
     AnswersRun Says (AreHeld held) (AreNotHeld held)
@@ -185,6 +210,9 @@ AnswersRunOfFiles Says held =
 -- and why there is nothing to say
 abbrev pub IsFaultOfFiles : Held → Fault → Type 0
 IsFaultOfFiles held = IsFault (AreHeld held) (AreNotHeld held)
+
+abbrev pub IsCeilingFaultOfFiles : Held → Fault → Type 0
+IsCeilingFaultOfFiles held = IsFaultBy IsCeilingFault (AreHeld held) (AreNotHeld held)
 
 abbrev pub IsRunFaultOfFiles : Held → Fault → Type 0
 IsRunFaultOfFiles held =
@@ -197,5 +225,6 @@ AnswersCommand held (Bound files) = AnswersOnFiles SaysBound held
 AnswersCommand held (Report files) = AnswersOnFiles SaysReport held
 AnswersCommand held (Walk files) = AnswersOnFiles SaysWalk held
 AnswersCommand held (Draw files) = AnswersOnFiles SaysPicture held
+AnswersCommand held (Ceiling files) = AnswersCeilingOfFiles held
 AnswersCommand held (Replay files inputs) = AnswersRunOfFiles SaysVerdict held
 AnswersCommand held (Trace files inputs) = AnswersRunOfFiles SaysTrace held

@@ -4,7 +4,7 @@ ghost use Rattle.std.specs.Prelude.{◌≡◌, ◌+◌, ◌^◌, ◌≤◌, ℕ,
 ghost use Rattle.drum_bound.specs.AnalysisOf.{angle_of, bound_of, visits_of};
 ghost use Rattle.drum_lines.specs.FaultStatus.{failed_by};
 ghost use Rattle.drum_tool.specs.Begun.{IsBegun};
-ghost use Rattle.drum_tool.specs.Documents.{IsBound, IsWorstWalk, setting_of};
+ghost use Rattle.drum_tool.specs.Documents.{IsBound, IsCeiling, IsWorstWalk, setting_of};
 ghost use Rattle.drum_tool.specs.Asked.{AsksFor, Looks, LooksFor, all_named_in, fault_in, files_of, named_in};
 ghost use Rattle.drum_tool.specs.Files.{AreHeld, AreInputsHeld, AreTold, Held};
 ghost use Rattle.drum_tool.specs.Output.{Tells, device};
@@ -13,6 +13,7 @@ ghost use Rattle.drum_tool.specs.Reply.{
   AnswersCommand,
   AnswersOnFiles,
   AnswersRunOfFiles,
+  IsCeilingFaultOfFiles,
   IsFaultOfFiles,
   IsRunFaultOfFiles,
   LooksAsTold,
@@ -31,9 +32,10 @@ use crate::files::inputs_of;
 use crate::replaying::{Begun, begin, replay};
 use crate::source::Source;
 use crate::telling::{
-    complain, tell_bound, tell_report, tell_text, tell_trace, tell_verdict, tell_walk,
+    complain, tell_bound, tell_ceiling, tell_report, tell_text, tell_trace, tell_verdict, tell_walk,
 };
 use drum_bound::{Analysis, Refusal};
+use drum_ceiling::Ceiling;
 use drum_command::{Command, Files};
 use drum_core::Output;
 use drum_inputs::Inputs;
@@ -66,6 +68,28 @@ fn analysis<S: Source>(
     let documents = Documents::of_files(alloc, source, files)?;
     let analysis = documents.analyse(alloc)?;
     Ok((documents, analysis))
+}
+
+/// The documents in files, and their ceiling.
+fn ceiling<S: Source>(
+    alloc: Global,
+    source: &mut S,
+    files: Files<'_>,
+) -> Result<(Documents, Ceiling), Fault>
+    requires { S.failed source.old ≤ 2 ^ 61 }
+    ensures held { IfOk result (λ done. (held : Held)
+        → AreTold (S.files source.old) held (named_in files.entry) → AreHeld held done.0) }
+    ensures ceiling { IfOk result (λ done. IsCeiling done.0 done.1) }
+    ensures fault { IfErr result (λ fault. (held : Held)
+        → AreTold (S.files source.old) held (named_in files.entry)
+        → IsCeilingFaultOfFiles held fault) }
+    ensures counted { S.failed source.new ≡ S.failed source.old + failed_by result }
+    ensures asked { AsksFor (S.asked source.old) (S.asked source.new)
+        (Looks (named_in files.entry) (fault_in result)) }
+{
+    let documents = Documents::of_files(alloc, source, files)?;
+    let ceiling = documents.ceiling(alloc)?;
+    Ok((documents, ceiling))
 }
 
 /// A picture of the worst walk of an analysis.
@@ -223,6 +247,10 @@ pub fn obey<S: Source, O: Output, E: Output>(
         },
         Command::Draw(files) => match picture_of(alloc, source, files) {
             Ok(picture) => tell_text(out, picture.as_bytes()),
+            Err(fault) => complain(err, fault),
+        },
+        Command::Ceiling(files) => match ceiling(alloc, source, files) {
+            Ok((documents, ceiling)) => tell_ceiling(out, &documents, &ceiling),
             Err(fault) => complain(err, fault),
         },
         Command::Replay(files, inputs) => match verdict(alloc, source, files, inputs) {

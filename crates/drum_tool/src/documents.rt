@@ -1,8 +1,9 @@
 ghost use Rattle.std.specs.Prelude.{IfOk, IfErr};
 ghost use Rattle.drum_bound.specs.AnalysisOf.{angle_of, bound_of, visits_of};
-ghost use Rattle.drum_tool.specs.Documents.{IsAnalysisFault, IsBound, IsWorstWalk};
+ghost use Rattle.drum_tool.specs.Documents.{IsAnalysisFault, IsBound, IsCeiling, IsCeilingFault, IsWorstWalk};
 
 use drum_bound::{Analysis, analyse};
+use drum_ceiling::{Ceiling, ceiling};
 use drum_core::Deck;
 use drum_lines::Fault;
 use drum_times::{Notes, Times};
@@ -44,5 +45,21 @@ impl Documents {
         ensures fault { IfErr result (IsAnalysisFault self.now) }
     {
         Ok(self.analyse(alloc)?.bound())
+    }
+
+    /// Their ceiling.
+    ///
+    /// # Errors
+    ///
+    /// [`Fault::Refused`] where the deck with its notes isn't accepted, but for its size; where what
+    /// the ceiling comes to is too large; or memory is wanting.
+    pub(crate) fn ceiling(&self, alloc: Global) -> Result<Ceiling, Fault>
+        ensures ceiling { IfOk result (IsCeiling self.now) }
+        ensures fault { IfErr result (IsCeilingFault self.now) }
+    {
+        match ceiling(alloc, &self.deck, &self.times, &self.notes) {
+            Ok(found) => Ok(found),
+            Err(refusal) => Err(Fault::Refused(refusal)),
+        }
     }
 }

@@ -1,17 +1,22 @@
 //! Laws of the definitions, each the contract of a function that does nothing.
 
-ghost use Rattle.std.specs.Prelude.{◌≡◌, ◌≢◌, ◌⊎◌, ℕ, List, [], ◌∷◌, Option, Some, codes, length, take};
+ghost use Rattle.std.specs.Prelude.{◌≡◌, ◌≢◌, ◌≤◌, ◌⊎◌, ℕ, List, [], ◌∷◌, Option, Some, codes, length, take};
 ghost use Rattle.clap.specs.Words.{Text, fault_of};
 ghost use Rattle.drum_command.specs.Line.{drum650};
 ghost use Rattle.drum_command.specs.declared.refused.Refused.{Refused};
 ghost use Rattle.drum_machine.specs.Run.{Turn};
 ghost use Rattle.drum_flow.specs.Walk.{Setting};
+ghost use Rattle.drum_bound.specs.Worst.{IsWorst};
+ghost use Rattle.drum_ceiling.specs.declared.answer.Ceiling.{Ceiling};
+ghost use Rattle.drum_ceiling.specs.CeilingOf.{total_of};
 ghost use Rattle.drum_lines.specs.declared.fault.Fault.{Fault};
 ghost use Rattle.drum_lines.specs.declared.part.Part.TheVariants as part;
 ghost use Rattle.drum_lines.specs.declared.status.Status.TheVariants.{Done};
 ghost use Rattle.drum_lines.specs.declared.verdict.Verdict.{Verdict};
 ghost use Rattle.drum_lines.specs.FaultStatus.{status_after};
+ghost use Rattle.drum_tool.specs.declared.documents.Documents.{Documents};
 ghost use Rattle.drum_tool.specs.Asked.{named};
+ghost use Rattle.drum_tool.specs.Documents.{IsCeiling, setting_of};
 ghost use Rattle.drum_tool.specs.Files.{AreTold, FilesTold, Held};
 ghost use Rattle.drum_tool.specs.Replay.{Given, IsReplayed, IsVerdict};
 ghost use Rattle.drum_tool.specs.Reply.{Reply, bound_reply, fault_reply};
@@ -66,6 +71,13 @@ pub fn bound_is_of_the_input()
         → Answers [] (Some bytes) files failures reply
         → ((bound : ℕ) × IsBoundOfJoined bytes bound × (reply ≡ bound_reply bound))
         ⊎ ((fault : Fault) × (reply ≡ fault_reply fault)) }
+{}
+
+/// A ceiling of documents is never below what their worst walk takes.
+pub fn no_ceiling_is_below_the_bound()
+    ensures { (documents : Documents) (bound : ℕ) (ceiling : Ceiling)
+        → IsWorst (setting_of documents) bound → IsCeiling documents ceiling
+        → bound ≤ total_of ceiling }
 {}
 
 /// After no fault's line does the program end as after a result that is done.

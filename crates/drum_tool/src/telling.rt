@@ -8,11 +8,12 @@ ghost use Rattle.drum_lines.specs.FaultStatus.{status_after};
 ghost use Rattle.drum_lines.specs.FaultText.{fault_text};
 ghost use Rattle.drum_listing.specs.WalkText.{walk_text};
 ghost use Rattle.drum_tool.specs.Begun.{IsBegun, IsReady};
-ghost use Rattle.drum_tool.specs.Documents.{setting_of};
+ghost use Rattle.drum_tool.specs.Documents.{IsCeiling, setting_of};
 ghost use Rattle.drum_tool.specs.Output.{Device, GetsComplaint, GetsResult, Tells, device, ended_with};
 ghost use Rattle.drum_tool.specs.Replay.{Given};
 ghost use Rattle.drum_tool.specs.Reply.{Reply, SaysTrace};
 ghost use Rattle.drum_lines.specs.Status.{status_of};
+ghost use Rattle.drum_report.specs.CeilingText.{ceiling_text};
 ghost use Rattle.drum_report.specs.Report.{report_text};
 ghost use Rattle.drum_lines.specs.VerdictText.{verdict_text};
 
@@ -20,12 +21,13 @@ use crate::documents::Documents;
 use crate::replaying::Begun;
 use crate::tracing::trace;
 use drum_bound::Analysis;
+use drum_ceiling::Ceiling;
 use drum_core::Output;
 use drum_lines::{
     Fault, Status, Verdict, WriteFault, write_bound, write_fault, write_text, write_verdict,
 };
 use drum_listing::list_walk;
-use drum_report::report;
+use drum_report::{report, report_ceiling};
 
 /// How the program ends once a result was written.
 fn ended(written: Result<(), WriteFault>, done: Status) -> Status
@@ -69,6 +71,17 @@ pub fn tell_walk<O: Output>(out: &mut O, documents: &Documents, analysis: &Analy
         (bound_of analysis.now)) Status.Done result }
 {
     ended(list_walk(analysis, &documents.times, out), Status::Done)
+}
+
+/// Writes a ceiling.
+pub fn tell_ceiling<O: Output>(out: &mut O, documents: &Documents, ceiling: &Ceiling) -> Status
+    requires called { O.called out.old ≤ 2 ^ 62 }
+    requires right { IsCeiling documents.now ceiling.now }
+    ensures { GetsResult (device (O.written out.old) (O.failed out.old))
+        (device (O.written out.new) (O.failed out.new))
+        (ceiling_text documents.now.notes ceiling.now) Status.Done result }
+{
+    ended(report_ceiling(ceiling, &documents.notes, out), Status::Done)
 }
 
 /// Writes a verdict.

@@ -5,7 +5,7 @@ use Rattle.drum_lines.specs.FaultStatus.{reads_failed}
 use Rattle.drum_lines.specs.declared.status.Status.TheVariants.{Done}
 use Rattle.drum_tool.specs.Documents.{IsBound}
 use Rattle.drum_tool.specs.Output.{GetsResult, device}
-use Rattle.drum_tool.specs.Reply.{bound_reply, fault_reply, picture_reply, report_reply, verdict_reply}
+use Rattle.drum_tool.specs.Reply.{bound_reply, ceiling_reply, fault_reply, picture_reply, report_reply, verdict_reply}
 use Rattle.drum_tool.specs.Reply.{walk_reply}
 use Rattle.drum_tool.specs.Asked.{all_named_in, named_in}
 use Rattle.drum_tool.proofs.Asking.{no_line, no_line_of_trace, told_fault, told_well}
@@ -153,6 +153,41 @@ returns-in-Draw-clause-told g c =
           (fault_of_reads fault, rw c.in-Draw.is (λ held told. inr (fault, c.in-Err-picture_of.ensures.fault held told, refl, refl)))),
       rw c.in-Draw.is (told_fault (named_in c.in-Draw.files) (g.S.Source.asked c.args.source.now)
           (g.S.Source.asked c.picture_of.new.source) fault c.in-Err-picture_of.ensures.asked),
+    )
+
+pub returns-in-Ok-ceiling-clause-told : goal.returns-in-Ok-ceiling-clause-told
+returns-in-Ok-ceiling-clause-told g c =
+    let documents = c.in-Ok-ceiling.documents in
+    let ceiling = c.in-Ok-ceiling.ceiling in
+    let reply = ceiling_reply documents ceiling in (
+      reply,
+      (c.tell_ceiling.ensures, refl),
+      (λ failures count.
+          counted (Replied (g.S.Source.files c.args.source.now) c.args.command reply) _ _ failures 0
+          c.in-Ok-ceiling.ensures.counted count (
+            result_of_no_read _ _,
+            rw c.in-Ceiling.is (λ held told. inl (
+              documents,
+              c.in-Ok-ceiling.ensures.held held told,
+              refl,
+              (ceiling, c.in-Ok-ceiling.ensures.ceiling, refl),
+            )),
+          )),
+      rw c.in-Ceiling.is (told_well (named_in c.in-Ceiling.files) (g.S.Source.asked c.args.source.now)
+          (g.S.Source.asked c.ceiling.new.source) reply (no_line _ _) c.in-Ok-ceiling.ensures.asked),
+    )
+
+pub returns-in-Ceiling-clause-told : goal.returns-in-Ceiling-clause-told
+returns-in-Ceiling-clause-told g c =
+    let fault = c.in-Err-ceiling.fault in (
+      fault_reply fault,
+      (refl, c.complain-in-Err-ceiling.ensures.line, c.complain-in-Err-ceiling.ensures.status),
+      (λ failures count.
+          counted (Replied (g.S.Source.files c.args.source.now) c.args.command (fault_reply fault)) _ _ failures
+          (reads_failed fault) c.in-Err-ceiling.ensures.counted count
+          (fault_of_reads fault, rw c.in-Ceiling.is (λ held told. inr (fault, c.in-Err-ceiling.ensures.fault held told, refl, refl)))),
+      rw c.in-Ceiling.is (told_fault (named_in c.in-Ceiling.files) (g.S.Source.asked c.args.source.now)
+          (g.S.Source.asked c.ceiling.new.source) fault c.in-Err-ceiling.ensures.asked),
     )
 
 pub returns-in-Ok-verdict-clause-told : goal.returns-in-Ok-verdict-clause-told

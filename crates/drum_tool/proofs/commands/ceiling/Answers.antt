@@ -1,0 +1,33 @@
+use Rattle.std.proofs.Common.{inl, inr}
+use Rattle.std.proofs.lemmas.Result.{err_from_is_err_and}
+use Rattle.drum_tool.specs.Asked.{named_in}
+use Rattle.drum_tool.proofs.Asking.{of_file, of_none, refusal_of_none}
+use Rattle.drum_tool.proofs.commands.ceiling.Goals as goal
+
+pub returns-in_err-documents-clause-fault : goal.returns-in_err-documents-clause-fault
+returns-in_err-documents-clause-fault g c =
+    let p = err_from_is_err_and c.from_residual.result c.from_residual.ensures.1 in
+    rw (p.1, p.2) (λ held told. inl (c.in_err-documents.ensures.fault held told))
+
+pub returns-in_err-ceiling-clause-fault : goal.returns-in_err-ceiling-clause-fault
+returns-in_err-ceiling-clause-fault g c =
+    let p = err_from_is_err_and c.from_residual-in_err-ceiling.result c.from_residual-in_err-ceiling.ensures.1 in
+    rw (p.1, p.2) (λ held told. inr (
+      c.in_ok-documents.documents,
+      c.in_ok-documents.ensures.held held told,
+      c.in_err-ceiling.ensures.fault,
+    ))
+
+pub returns-in_err-documents-clause-asked : goal.returns-in_err-documents-clause-asked
+returns-in_err-documents-clause-asked g c =
+    let p = err_from_is_err_and c.from_residual.result c.from_residual.ensures.1 in
+    rw (p.1, p.2) (of_file (named_in c.args.files) (g.S.Source.asked c.args.source.now)
+    (g.S.Source.asked c.of_files.new.source) c.in_err-documents.field-0.0 c.in_err-documents.ensures.asked)
+
+pub returns-in_err-ceiling-clause-asked : goal.returns-in_err-ceiling-clause-asked
+returns-in_err-ceiling-clause-asked g c =
+    let p = err_from_is_err_and c.from_residual-in_err-ceiling.result c.from_residual-in_err-ceiling.ensures.1 in
+    rw (p.1, p.2) (of_none (named_in c.args.files) (g.S.Source.asked c.args.source.now)
+    (g.S.Source.asked c.of_files.new.source) c.in_err-ceiling.field-0.0
+    (refusal_of_none _ c.in_err-ceiling.field-0.0 c.in_err-ceiling.ensures.fault)
+    c.in_ok-documents.ensures.asked)
