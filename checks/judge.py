@@ -7,6 +7,7 @@ from damage import FILES, files_of_joined, joined
 from faults import fault_of, has_its_form, is_accepted, names_what_is_there
 from results import (
     bound_of,
+    ceiling_of,
     kept_of,
     left_of,
     pictured_bound,
@@ -55,6 +56,7 @@ def result_of(asked, status, text):
         "report": ("report", lambda: reported_bound(text, files)),
         "walk": ("walk", lambda: walked_bound(text, files)),
         "draw": ("picture", lambda: pictured_bound(text)),
+        "ceiling": ("ceiling", lambda: ceiling_of(text, files)),
     }
     kind, read = kinds.get(command, ("bound", lambda: bound_of(text)))
     bound = read()
@@ -113,6 +115,18 @@ def is_within(told, bound, files):
     return other.fault is None and told.used <= other.bound and told.bound in (None, other.bound)
 
 
+def is_no_lower(told, bound, files):
+    """Whether a ceiling goes with what `bound` gives: it isn't below the bound, and has the same
+    fault; where a bound has too many counts there may be a ceiling, or a round without a mark."""
+    other = told_of(("bound", files), bound)
+    if other is None:
+        return False
+    if other.fault and other.fault.ending == "product":
+        is_free = told.fault is None or told.fault.ending == "cycle"
+        return is_free or told.fault == other.fault
+    return told.fault == other.fault and (told.fault is not None or other.bound <= told.bound)
+
+
 def agrees(asked, ran, told, run):
     """Whether a run agrees with what the other commands tell of the same files."""
     command, files = asked
@@ -127,6 +141,8 @@ def agrees(asked, ran, told, run):
         walk, report = (other("walk"), ran) if command == "report" else (ran, other("report"))
         is_one = ends_alike(walk, bound) and ends_alike(report, bound)
         return is_one and is_counted(walk, report, files)
+    if command == "ceiling":
+        return is_no_lower(told, bound, files)
     if command == "draw":
         is_one = (ran.status, ran.err) == (bound.status, bound.err)
         return is_one and (told.fault is not None or bound.out == b"bound %d\n" % told.bound)

@@ -1,6 +1,6 @@
 """Whether a result has its form and its lines go together: a bound, a report, a walk, a picture, a
-verdict or a trace, of a deck, a timing table, notes and inputs that are accepted. Each function
-gives what the result tells, or None where it isn't as docs/FORMATS.md says."""
+ceiling, a verdict or a trace, of a deck, a timing table, notes and inputs that are accepted. Each
+function gives what the result tells, or None where it isn't as docs/FORMATS.md says."""
 
 import functools
 import re
@@ -25,6 +25,8 @@ SPENT = "visits {0} time {0}".format(NUMBER)
 CARD = re.compile("card ([0-9]{4}) " + SPENT)
 OTHER = re.compile("other " + SPENT)
 MARK = re.compile("mark {0} {0} passed {1} of {1}".format(PLACE, NUMBER))
+PRICED = re.compile("mark {0} {0} passes {1} price {1}".format(PLACE, NUMBER))
+SUMS = re.compile("base {0}\nceiling {0}\n".format(NUMBER))
 VISIT = re.compile(
     "{0} ([0-9][0-9]) ([0-9]{{4}}) ([0-9]{{4}}) (?:to {0}|(late)|(early)) "
     "begun {1} found {1} ready {1}(?: data {1})? ended {1}".format(PLACE, NUMBER)
@@ -139,6 +141,29 @@ def report_of_walk(walk, files):
         edge = mark["from"], mark["to"]
         text.append("mark %04d %04d passed %d of %d" % (*edge, passes.get(edge, 0), mark["most"]))
     return "\n".join(text + walk.splitlines()[-1:]) + "\n"
+
+
+# Ceilings.
+
+
+def ceiling_of(text, files):
+    """The number that ends a ceiling, to which its base and its marks' passes at their prices add
+    up. A mark can be passed `most` times, and as often again for each pass of an outer one."""
+    marks = document_of(files["notes"]).get("mark", [])
+    lines = text.splitlines(keepends=True)
+    sums = SUMS.fullmatch("".join(lines[-2:]))
+    if not sums or len(lines) != len(marks) + 2:
+        return None
+    total, begun = int(sums.group(1)), []
+    for mark, line in zip(marks, lines):
+        outer = begun[mark["inside"] - 1] if "inside" in mark else 1
+        begun.append(outer * (mark["most"] + 1))
+        matched = PRICED.fullmatch(line[:-1])
+        told = matched and [int(matched.group(place)) for place in (1, 2, 3)]
+        if told != [mark["from"], mark["to"], outer * mark["most"]]:
+            return None
+        total += int(matched.group(3)) * int(matched.group(4))
+    return total if total == int(sums.group(2)) else None
 
 
 # Moments, in walks and in traces.
