@@ -93,8 +93,7 @@ module _ (g : Setting) (rows : List (Option Row)) (prices : List ℕ) (potential
           let stands : at_slot potentials (slot_of next (when % 50)) ≡ Some later.0 =
           ap (at_slot potentials) (sym edge.1.2.onto) ∙ later.1 in
           let price : price_of prices edge.1.0.mark ≡ price_on g.notes.marks prices place next =
-          ap (price_of prices) edge.1.2.mark in
-          (
+          ap (price_of prices) edge.1.2.mark in (
             later.0,
             found_own potentials next (when % 50) later.0 edge.0 (omega arith) drum stands,
             omega (arith, edge.1.2.time, later.2, price),
