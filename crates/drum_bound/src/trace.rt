@@ -57,7 +57,7 @@ impl Scan<'_> {
             instruction: hop.instruction,
             way: hop.way,
             begun: begin.clock - angle,
-            ended: end.clock - angle,
+            took: (end.clock - begin.clock) as u32,
         }
     }
 

@@ -1,4 +1,4 @@
-use Rattle.std.proofs.Common.{◌≡◌, ℕ, ◌-◌, ◌%◌, ◌<◌, List, length, Some, None, ap, sym, ◌∙◌, subst, arith}
+use Rattle.std.proofs.Common.{◌≡◌, ℕ, ◌+◌, ◌-◌, ◌%◌, ◌<◌, List, length, Some, None, ap, sym, ◌∙◌, subst, arith}
 use Rattle.std.specs.Prelude.{slice_get, vec_len}
 use Rattle.std.proofs.Math.Nat.{mod-lt}
 use Rattle.std.proofs.lemmas.Option.{slice_get-get_or}
@@ -12,7 +12,7 @@ use Rattle.drum_bound.specs.ScanOf.{IsDone, order_of, setting_in, size_in}
 use Rattle.drum_bound.specs.TakenOf.{taken_of}
 use Rattle.drum_bound.specs.Visited.{visited}
 use Rattle.drum_bound.proofs.KeyLaws.{some_places}
-use Rattle.drum_bound.proofs.Finished.{kept_after}
+use Rattle.drum_bound.proofs.Finished.{ends_soon, kept_after}
 use Rattle.drum_bound.proofs.Nodes.{as_long}
 use Rattle.drum_bound.proofs.scan.Scan.visit.Goals as goal
 
@@ -24,13 +24,11 @@ overflow_sub-result c =
       c.start_angle-angle.ensures,
     )
 
-pub overflow_sub-result-2 : goal.overflow_sub-result-2
-overflow_sub-result-2 c =
+pub overflow_cast-result : goal.overflow_cast-result
+overflow_cast-result c =
     omega (
       arith,
-      kept_after c.args.self.now c.args.origin.key c.args.begin c.requires.done c.requires.begun,
-      c.start_angle-angle.ensures,
-      c.requires.later,
+      ends_soon c.args.self.now c.args.origin c.args.begin c.args.end.clock c.requires.from c.requires.begun,
     )
 
 -- the index of a key's location is one of the order
@@ -73,6 +71,13 @@ returns c = λ hop is.
     let ended = c.args.end.clock - c.start_angle-angle.result in
     let read = c.in-Some.ensures (place_at order key)
     (place_read scan key c.len.result c.requires.done c.requires.from.below c.len.ensures) in
+    let sum : begun + (c.args.end.clock - c.args.begin.clock) ≡ ended =
+    omega (
+      arith,
+      kept_after scan key c.args.begin c.requires.done c.requires.begun,
+      c.start_angle-angle.ensures,
+      c.requires.later,
+    ) in
     let same : seen_hop c.in-Some.hop ≡ hop = go (seen_hop c.in-Some.hop) hop (sym read ∙ is) in
     ap (λ (place : ℕ). record {
       place = place;
@@ -80,8 +85,16 @@ returns c = λ hop is.
       way =
           seen_way c.in-Some.hop.way;
       begun = begun;
-      ended = ended;
+      ended = begun + (c.args.end.clock - c.args.begin.clock);
     }) c.location_at.ensures
+    ∙ ap (λ (end : ℕ). record {
+      place = place_at order key;
+      ins = c.in-Some.hop.instruction;
+      way =
+          seen_way c.in-Some.hop.way;
+      begun = begun;
+      ended = end;
+    }) sum
     ∙ ap (λ (h : Hop). visited (taken_of g order key h begun ended)) same
     ∙ ap (λ (angle : ℕ). visited (taken_of g order key hop (c.args.begin.clock - angle) (c.args.end.clock - angle)))
     c.start_angle-angle.ensures
