@@ -4,7 +4,9 @@ ghost use Rattle.std.specs.Prelude.{◌≡◌, ℕ, ◌-◌, ◌<◌, ◌≤◌,
 ghost use Rattle.std.specs.Option.{option_map};
 ghost use Rattle.drum_flow.specs.Hops.{Hop as HopOf, hops};
 ghost use Rattle.drum_flow.specs.Seen.{seen_hop};
+ghost use Rattle.drum_bound.specs.AnalysisOf.{ArePasses};
 ghost use Rattle.drum_bound.specs.Held.{kept_in};
+ghost use Rattle.drum_bound.specs.KeysOf.{marks_in};
 ghost use Rattle.drum_bound.specs.ScanOf.{IsDone, order_of, setting_in, size_in};
 ghost use Rattle.drum_bound.specs.Scanned.{cell_at, IsEndOf, IsKeyHop};
 ghost use Rattle.drum_bound.specs.Table.{start_angle};
@@ -16,7 +18,16 @@ use crate::latest::Latest;
 use crate::scan::Scan;
 use crate::visit::Visit;
 use drum_flow::Hop;
+use drum_times::Mark;
 use std::alloc::{AllocError, Global};
+
+/// A walk, and how often it passes each mark, by the marks' places; what stands past the last mark
+/// means nothing.
+#[derive(Debug, Drop)]
+pub struct Trace {
+    pub visits: Vec<Visit>,
+    pub passed: [u64; Mark::MOST],
+}
 
 impl Scan<'_> {
     /// The hop of this number of a location, of this index: one of its leaps, or, where none are
@@ -62,14 +73,18 @@ impl Scan<'_> {
     }
 
     /// The walk whose end is the latest of all, followed back from it, from the start angle behind
-    /// the start's.
-    pub fn walk(&self, alloc: Global) -> Result<Vec<Visit>, AllocError>
+    /// the start's; and how often it passes each mark.
+    pub fn walk(&self, alloc: Global) -> Result<Trace, AllocError>
         requires { IsDone self.now }
-        ensures { let angle = start_angle (setting_in self.now).start in
-            IfOk result (λ visits. IsWalkOf (setting_in self.now) angle
-            (self.now.cells.last.clock - angle) (map seen_visit visits.items)) }
+        ensures walk { let angle = start_angle (setting_in self.now).start in
+            IfOk result (λ trace. IsWalkOf (setting_in self.now) angle
+            (self.now.cells.last.clock - angle) (map seen_visit trace.visits.items)) }
+        ensures passed { IfOk result (λ trace. ArePasses (marks_in self.now.keys.now)
+            (map seen_visit trace.visits.items) trace.passed) }
     {
+        let marks = self.keys.marks();
         let mut visits = Vec::new(alloc);
+        let mut passed = [0; Mark::MOST];
         let mut end = self.cells.last();
         let mut near = 0;
         while let Some(origin) = end.origin {
@@ -77,10 +92,12 @@ impl Scan<'_> {
                 unreachable!()
             };
             near = index;
-            visits.push(self.visit(origin, begin, end))?;
+            let visit = self.visit(origin, begin, end);
+            visit.count_passes(marks, &mut passed);
+            visits.push(visit)?;
             end = begin;
         }
         visits.reverse();
-        Ok(visits)
+        Ok(Trace { visits, passed })
     }
 }
