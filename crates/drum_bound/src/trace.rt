@@ -1,6 +1,6 @@
 //! The walk whose end is the latest of all that a finished scan keeps.
 
-ghost use Rattle.std.specs.Prelude.{◌≡◌, ℕ, ◌-◌, ◌<◌, ◌≤◌, length, map, slice_get, Some, IfOk};
+ghost use Rattle.std.specs.Prelude.{◌≡◌, ℕ, ◌-◌, ◌%◌, ◌<◌, ◌≤◌, length, map, slice_get, Some, IfOk};
 ghost use Rattle.std.specs.Option.{option_map};
 ghost use Rattle.drum_flow.specs.Hops.{Hop as HopOf, hops};
 ghost use Rattle.drum_flow.specs.Seen.{seen_hop};
@@ -45,9 +45,11 @@ impl Scan<'_> {
         }
     }
 
-    /// The hop of a key, between the word times used when it begins and when it ends.
-    fn visit(&self, origin: KeyHop, begin: Latest, end: Latest) -> Visit
+    /// The hop of a key, of whose location this is the index, between the word times used when it
+    /// begins and when it ends.
+    fn visit(&self, origin: KeyHop, index: usize, begin: Latest, end: Latest) -> Visit
         requires done { IsDone self.now }
+        requires index { index ≡ origin.key % length (order_of self.now) }
         requires from { IsEndOf (setting_in self.now) (order_of self.now) (size_in self.now)
             (kept_in self.now.cells) origin end.clock }
         requires begun { cell_at (kept_in self.now.cells) origin.key ≡ Some begin }
@@ -58,13 +60,11 @@ impl Scan<'_> {
             origin.key hop (begin.clock - angle) (end.clock - angle)) }
     {
         let angle = self.start_angle();
-        let key = origin.key as usize;
-        let index = key % self.keys.nodes.len();
         let Some(hop) = self.hop_at(index, origin.number as usize) else {
             unreachable!()
         };
         Visit {
-            place: self.keys.location_at(key),
+            place: self.keys.location(index),
             instruction: hop.instruction,
             way: hop.way,
             begun: begin.clock - angle,
@@ -86,13 +86,16 @@ impl Scan<'_> {
         let mut visits = Vec::new(alloc);
         let mut passed = [0; Mark::MOST];
         let mut end = self.cells.last();
-        let mut near = 0;
+        let (mut near, mut first) = (0, 0);
         while let Some(origin) = end.origin {
-            let Some((index, begin)) = self.cells.kept_at(origin.key as usize, near) else {
+            let key = origin.key as usize;
+            let Some((entry, begin)) = self.cells.kept_at(key, near) else {
                 unreachable!()
             };
-            near = index;
-            let visit = self.visit(origin, begin, end);
+            near = entry;
+            let index = self.keys.index_at(key, first);
+            first = key - index;
+            let visit = self.visit(origin, index, begin, end);
             visit.count_passes(marks, &mut passed);
             visits.push(visit)?;
             end = begin;

@@ -223,6 +223,7 @@ impl Entries {
     }
 
     /// Adds the entry of a key, of so many, at which nothing is kept.
+    #[inline(always)]
     fn add(
         &mut self,
         key: u32,

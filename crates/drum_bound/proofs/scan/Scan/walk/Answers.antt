@@ -54,6 +54,7 @@ loop-end-preserved c =
           (passes_more (marks_in scan.keys.now) visits visit c.loop-end.passed new c.loop-end.invariant.passes
           (λ k mark at. c.count_passes.ensures.counted k mark
           (subst (λ (all : List Mark). slice_get all k ≡ Some mark) (sym marks) at)));
+      first = c.index_at-index.ensures.first;
       few = λ k.
           omega (
             arith,

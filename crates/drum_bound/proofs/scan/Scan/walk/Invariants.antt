@@ -1,4 +1,4 @@
-use Rattle.std.proofs.Common.{ℕ, ◌+◌, ◌≤◌, map, reverse}
+use Rattle.std.proofs.Common.{◌≡◌, ℕ, ◌+◌, ◌%◌, ◌≤◌, length, map, reverse}
 use Rattle.std.specs.Prelude.{slice_index}
 use Rattle.drum_bound.specs.AnalysisOf.{ArePasses}
 use Rattle.drum_bound.specs.Held.{kept_in}
@@ -12,6 +12,7 @@ abbrev pub invariant-loop-end : goal.invariant-loop-end
 invariant-loop-end l = record {
   traced : IsTraced (setting_in l.self) (order_of l.self) (kept_in l.self.cells) l.self.cells.last l.end l.visits.items;
   passes : ArePasses (marks_in l.self.keys.now) (map seen_visit (reverse l.visits.items)) l.passed;
+  first : l.first % length (order_of l.self) ≡ 0;
   few : (k : ℕ) → slice_index l.passed k + key_after l.end.origin ≤ size_in l.self;
 }
 
