@@ -3,11 +3,11 @@
 
     bench/ceiling.py PROGRAM [COUNT]
 
-PROGRAM is the built drum650 (`bench/run ceiling` hands it over). Over the 22 programs of ceiling_programs.py its `ceiling` is compared
-with its `bound`, and over them and COUNT random decks (300, unless it is given) with the optimum
-that glpsol gives of the linear program: flow from the start through the graph of the hops, of each
-mark's edges together at most as often as the mark can be passed. Without glpsol that is left out.
-A deck where they differ is printed, with what was found."""
+PROGRAM is the built drum650 (`bench/run ceiling` hands it over). Over the 22 programs of
+ceiling_programs.py its `ceiling` is compared with its `bound`, and over them and COUNT random decks
+(300, unless it is given) with the optimum that glpsol gives of the linear program: flow from the
+start through the graph of the hops, of each mark's edges together at most as often as the mark can
+be passed. Without glpsol that is left out. A deck where they differ is printed, with what was found."""
 
 import os
 import re
@@ -66,7 +66,7 @@ class Flow:
 
     def owed(self, node):
         """What a walk is worth at least that ends there: where a mark's edge leads, or at the start,
-        the wait too."""
+        the wait as well."""
         onto = [edge[1] for edge in self.edges if self.most(edge[0][0], edge[1][0]) is not None]
         return max(self.stops[node], FIRST_WAIT if node in [self.start, *onto] else 0)
 
