@@ -1,13 +1,16 @@
 -- What a finished scan, as it is held, gives to the lemmas on its cells.
-use Rattle.std.proofs.Common.{◌≡◌, ℕ, ◌<◌, ◌≤◌, Some}
+use Rattle.std.proofs.Common.{◌≡◌, ℕ, ◌+◌, ◌<◌, ◌≤◌, Some, sym, ◌∙◌, arith}
 use Rattle.drum_core.specs.declared.deck.Deck.{Deck}
 use Rattle.drum_core.specs.Loads.{start_in}
+use Rattle.drum_machine.specs.Timing.{longest_step}
 use Rattle.drum_flow.specs.Flow.{deck_of}
+use Rattle.drum_flow.proofs.LongestLaws.{longest_near}
+use Rattle.drum_bound.specs.declared.key_hop.KeyHop.{KeyHop}
 use Rattle.drum_bound.specs.declared.latest.Latest.{Latest}
 use Rattle.drum_bound.specs.declared.scan.Scan.{Scan}
-use Rattle.drum_bound.specs.Keys.{IsOrdered}
-use Rattle.drum_bound.specs.ScanOf.{IsDone, order_of, setting_in}
-use Rattle.drum_bound.specs.Scanned.{cell_at}
+use Rattle.drum_bound.specs.Keys.{place_at, IsOrdered}
+use Rattle.drum_bound.specs.ScanOf.{IsDone, order_of, setting_in, size_in}
+use Rattle.drum_bound.specs.Scanned.{cell_at, IsEndOf}
 use Rattle.drum_bound.specs.Table.{start_angle}
 use Rattle.drum_bound.specs.Held.{kept_in}
 use Rattle.drum_bound.proofs.Walked.{not_before}
@@ -31,3 +34,18 @@ pub kept_after : (scan : Scan) (key : ℕ) (kept : Latest) → IsDone scan → c
 kept_after scan key kept done there =
     not_before (setting_in scan) (order_of scan) (kept_in scan.cells) scan.cells.last (is_ordered scan done)
     (starts_on_drum scan) done.scanned key kept there
+
+-- an end of a hop comes soon behind what its key keeps
+pub ends_soon : (scan : Scan) (origin : KeyHop) (begin : Latest) (clock : ℕ)
+    → IsEndOf (setting_in scan) (order_of scan) (size_in scan) (kept_in scan.cells) origin clock
+    → cell_at (kept_in scan.cells) origin.key ≡ Some begin → clock ≤ begin.clock + longest_step
+ends_soon scan origin begin clock end there =
+    omega (
+      arith,
+      end.end,
+      longest_near (setting_in scan).times (place_at (order_of scan) origin.key) end.hop.ins end.hop.way end.kept.clock,
+      same end.kept begin (sym end.there ∙ there),
+    )
+  where
+    same : (a b : Latest) → Some a ≡ Some b → a.clock ≡ b.clock
+    same a b e = cc

@@ -2,9 +2,12 @@
 use Rattle.std.proofs.Common.{◌≡◌, ℕ, ◌+◌, ◌-◌, ◌<◌, ◌≤◌, List, [], ◌∷◌, ◌++◌, map, reverse, ap, sym, ◌∙◌, subst}
 use Rattle.std.proofs.Common.{inl, inr, ◌⊎◌, Option, Some, None, arith}
 use Rattle.std.proofs.lemmas.List.{reverse-append}
+use Rattle.std.specs.Prelude.{slice_get, slice_index}
+use Rattle.drum_times.specs.declared.notes.mark.Mark.{Mark}
 use Rattle.drum_machine.specs.Counts.{no_counts}
+use Rattle.drum_machine.specs.WaysLeft.{seen_way}
 use Rattle.drum_flow.specs.Hops.{Hop}
-use Rattle.drum_flow.specs.Walk.{Setting, Taken, IsWalkFrom, IsWalk, time_from, time_of}
+use Rattle.drum_flow.specs.Walk.{Setting, Taken, IsWalkFrom, IsWalk, passes_by, time_from, time_of}
 use Rattle.drum_bound.specs.declared.latest.Latest.{Latest}
 use Rattle.drum_bound.specs.declared.key_hop.KeyHop.{KeyHop}
 use Rattle.drum_bound.specs.declared.visit.Visit.{Visit}
@@ -12,7 +15,8 @@ use Rattle.drum_bound.specs.Keys.{keys_of, place_at, counts_at, IsOrdered}
 use Rattle.drum_flow.proofs.LongestLaws.{longest_later}
 use Rattle.drum_bound.specs.Scanned.{cell_at, IsKeyHop, IsEndOf, IsBackedBy, IsLastBy, Scanned}
 use Rattle.drum_bound.specs.Table.{start_angle}
-use Rattle.drum_bound.specs.Visited.{Visited, visited, seen_visit, IsWalkOf}
+use Rattle.drum_bound.specs.AnalysisOf.{ArePasses}
+use Rattle.drum_bound.specs.Visited.{Visited, visited, passes_in, seen_visit, IsWalkOf}
 use Rattle.drum_bound.specs.TakenOf.{taken_of}
 use Rattle.drum_bound.proofs.Walked.{hop_before, hop_last}
 
@@ -45,6 +49,18 @@ visits_more hop hops visits visit same is =
     ap (λ (others : List Visited). visited hop ∷ others) same
     ∙ ap (λ (first : Visited). first ∷ map seen_visit (reverse visits)) (sym is)
     ∙ sym (ap (map seen_visit) (reverse-append visits (visit ∷ [])))
+
+-- The passes of marks, with one more visit before the others.
+pub passes_more : (marks : List Mark) (visits : List Visit) (visit : Visit) (old new : List ℕ)
+    → ArePasses marks (map seen_visit (reverse visits)) old
+    → ((k : ℕ) (mark : Mark) → slice_get marks k ≡ Some mark
+    → slice_index new k ≡ slice_index old k + passes_by mark visit.place.number (seen_way visit.way))
+    → ArePasses marks (map seen_visit (reverse (visits ++ visit ∷ []))) new
+passes_more marks visits visit old new so_far counted k mark at =
+    subst (λ (walk : List Visit). slice_index new k ≡ passes_in mark (map seen_visit walk))
+    (sym (reverse-append visits (visit ∷ [])))
+    (counted k mark at ∙ ap (λ (n : ℕ). n + passes_by mark visit.place.number (seen_way visit.way)) (so_far k mark at)
+    ∙ omega arith)
 
 module _ (g : Setting) (order : List ℕ) (cells : List (Option Latest)) (last : Latest)
     (ordered : IsOrdered g.loads g.notes g.start order) (starts : g.start < 2000)

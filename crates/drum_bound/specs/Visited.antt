@@ -26,7 +26,7 @@ seen_visit visit = record {
   ins = visit.instruction;
   way = seen_way visit.way;
   begun = visit.begun;
-  ended = visit.ended;
+  ended = visit.begun + visit.took;
 }
 
 -- These are the hops of a walk from this angle that takes so many word times.

@@ -1,38 +1,22 @@
 //! The analysis: what it promises of the bound, the walk and the table, and the way to them.
 
-ghost use Rattle.std.specs.Prelude.{◌≡◌, ℕ, ◌+◌, ◌<◌, ◌≤◌, length, map, IfOk, IfErr};
+ghost use Rattle.std.specs.Prelude.{◌≡◌, ◌+◌, ◌<◌, length, IfOk, IfErr};
 ghost use Rattle.drum_core.specs.Loads.{loads_in, start_in};
 ghost use Rattle.drum_flow.specs.Acceptance.{IsRefusal};
 ghost use Rattle.drum_flow.specs.AcceptedFlow.{in_order};
-ghost use Rattle.drum_bound.specs.AnalysisOf.{ArePasses, IsAnalysis, IsAnalysisOf, turns_of, words_of};
+ghost use Rattle.drum_bound.specs.AnalysisOf.{IsAnalysis, IsAnalysisOf, turns_of, words_of};
 ghost use Rattle.drum_bound.specs.KeysOf.{AreKeys, CanHaveKeys, order_in, setting_of, setting_with};
-ghost use Rattle.drum_bound.specs.Visited.{seen_visit};
 
 use crate::analysis::Analysis;
 use crate::keys::Keys;
-use crate::passed::passes;
 use crate::scan::Scan;
 use crate::steps::Steps;
-use crate::visit::Visit;
 use drum_core::Deck;
 use drum_flow::{AcceptedFlow, Refusal};
-use drum_times::{Mark, Notes, Times};
+use drum_times::{Notes, Times};
 use std::alloc::{AllocError, Global};
 use std::marker::Brand;
 use std::sync::ledger::{Blank, Ledger};
-
-/// How often a walk passes each mark, by the marks' places.
-fn passes_of_marks(walk: &[Visit], marks: &[Mark]) -> [u64; Mark::MOST]
-    requires { length marks.now ≤ 8 }
-    ensures passed { ArePasses marks.now (map seen_visit walk.now) result }
-    ensures places { length result ≡ 8 }
-{
-    let mut passed = [0; Mark::MOST];
-    for place in 0..marks.len() {
-        passed[place] = passes(walk, &marks[place]);
-    }
-    passed
-}
 
 /// The analysis by the keys of an accepted deck.
 fn analysis_by<'a, L: Ledger>(
@@ -48,9 +32,8 @@ fn analysis_by<'a, L: Ledger>(
 {
     let leaps = keys.leaps(alloc, times)?;
     let scan = Scan::of(alloc, times, keys, &leaps, steps)?;
-    let walk = scan.walk(alloc)?;
-    let passed = passes_of_marks(&walk, keys.marks());
-    Ok(Analysis::of(scan.cells, walk, passed))
+    let trace = scan.walk(alloc)?;
+    Ok(Analysis::of(scan.cells, trace.visits, trace.passed))
 }
 
 /// The analysis of an accepted flow.

@@ -210,7 +210,7 @@ impl Cells {
         self.entries
             .keep(onto.key as u32, keys, onto.location, onto.counts, &end)?;
         self.rounds[onto.round] = true;
-        self.last = self.last.later(end.latest());
+        self.last.raise(end.latest());
         Ok(())
     }
 
@@ -234,7 +234,7 @@ impl Cells {
     {
         self.made += 1;
         let end = End::of(search, number, leap, steps);
-        self.last = self.last.later(end.latest());
+        self.last.raise(end.latest());
     }
 
     /// Makes the end of a hop that a full mark bars: it is kept nowhere.

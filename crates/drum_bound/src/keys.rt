@@ -1,6 +1,6 @@
 //! The keys of the table of worst times.
 
-ghost use Rattle.std.specs.Prelude.{◌≡◌, ℕ, ◌<◌, ◌≤◌, length, slice_get, Some, Contains, IfOk};
+ghost use Rattle.std.specs.Prelude.{◌≡◌, ℕ, ◌-◌, ◌%◌, ◌<◌, ◌≤◌, length, slice_get, Some, Contains, IfOk};
 ghost use Rattle.drum_machine.specs.Counts.{no_counts, AreWithin};
 ghost use Rattle.drum_flow.specs.Accepted.{counts_of as counts_in_all};
 ghost use Rattle.drum_flow.specs.AcceptedFlow.{in_order};
@@ -8,7 +8,7 @@ ghost use Rattle.drum_flow.specs.Flow.{executed_in};
 ghost use Rattle.drum_flow.specs.Graph.{AreDifferent};
 ghost use Rattle.drum_flow.specs.HopsLeft.{hops_left};
 ghost use Rattle.drum_machine.specs.CountsIn.{counts_in};
-ghost use Rattle.drum_bound.specs.Keys.{place_at, IsKey};
+ghost use Rattle.drum_bound.specs.Keys.{IsKey};
 ghost use Rattle.drum_bound.specs.Table.{start_angle as start_angle_of};
 ghost use Rattle.drum_bound.specs.KeysOf.{AreKeys, CanHaveKeys, HaveHops, HaveIndices, hops_in, marks_in, nodes_in, numbers, order_in, start_of};
 
@@ -126,6 +126,15 @@ impl<'a> Keys<'a> {
         self.accepted.flow().notes().marks()
     }
 
+    /// The location of this index in the order.
+    #[inline(always)]
+    pub fn location(&self, index: usize) -> Location
+        requires there { index < length (order_in self.now) }
+        ensures { slice_get (order_in self.now) index ≡ Some result.number }
+    {
+        self.accepted.order()[index]
+    }
+
     /// The location of this index in the order, with its hops.
     pub fn node(&self, index: usize) -> Node<'a>
         requires keys { AreKeys self.now }
@@ -136,13 +145,23 @@ impl<'a> Keys<'a> {
         self.nodes[index]
     }
 
-    /// The location of a key.
-    pub fn location_at(&self, key: usize) -> Location
+    /// The index of a key's location in the order. It is told the first key of some counts: where
+    /// the key has those, there is nothing to divide.
+    #[inline(always)]
+    pub fn index_at(&self, key: usize, first: usize) -> usize
         requires keys { AreKeys self.now }
         requires below { key < self.now.size }
-        ensures { result.number ≡ place_at (order_in self.now) key }
+        requires first { first % length (order_in self.now) ≡ 0 }
+        ensures value { result ≡ key % length (order_in self.now) }
+        ensures within { result ≤ key }
+        ensures first { (key - result) % length (order_in self.now) ≡ 0 }
     {
-        self.nodes[key % self.nodes.len()].location
+        let words = self.nodes.len();
+        if first <= key && key - first < words {
+            key - first
+        } else {
+            key % words
+        }
     }
 
     /// The index of a location in the order.

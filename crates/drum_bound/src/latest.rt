@@ -15,11 +15,13 @@ pub struct Latest {
 }
 
 impl Latest {
-    /// What comes, where it is later than this; else this.
+    /// Becomes what comes, where that is later.
     #[inline(always)]
-    pub fn later(self, new: Latest) -> Latest
-        ensures { result ≡ later self new }
+    pub fn raise(&mut self, new: Latest)
+        ensures { self.new ≡ later self.old new }
     {
-        if self.clock < new.clock { new } else { self }
+        if self.clock < new.clock {
+            *self = new;
+        }
     }
 }

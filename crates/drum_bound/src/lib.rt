@@ -11,7 +11,6 @@ mod latest;
 pub mod laws;
 mod leap;
 mod numbers;
-mod passed;
 mod recent;
 mod round;
 mod scan;

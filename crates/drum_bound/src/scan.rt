@@ -244,17 +244,17 @@ impl<'a> Scan<'a> {
         let Some(begun) = self.cells.clock_at(key) else {
             return Ok(());
         };
-        let node = self.keys.node(index);
+        let location = self.keys.location(index);
         let search = Search {
             key,
-            location: node.location,
+            location,
             begun,
-            found: found(node.location, begun),
+            found: found(location, begun),
         };
         let leaps: &'a [Option<Vec<Leap>>] = self.leaps;
         match &leaps[index] {
             Some(leaps) => self.take_leaps(round, &search, leaps, steps),
-            None => self.take_hops(round, &search, node.hops, steps),
+            None => self.take_hops(round, &search, self.keys.node(index).hops, steps),
         }
     }
 

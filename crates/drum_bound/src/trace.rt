@@ -1,10 +1,12 @@
 //! The walk whose end is the latest of all that a finished scan keeps.
 
-ghost use Rattle.std.specs.Prelude.{◌≡◌, ℕ, ◌-◌, ◌<◌, ◌≤◌, length, map, slice_get, Some, IfOk};
+ghost use Rattle.std.specs.Prelude.{◌≡◌, ℕ, ◌-◌, ◌%◌, ◌<◌, ◌≤◌, length, map, slice_get, Some, IfOk};
 ghost use Rattle.std.specs.Option.{option_map};
 ghost use Rattle.drum_flow.specs.Hops.{Hop as HopOf, hops};
 ghost use Rattle.drum_flow.specs.Seen.{seen_hop};
+ghost use Rattle.drum_bound.specs.AnalysisOf.{ArePasses};
 ghost use Rattle.drum_bound.specs.Held.{kept_in};
+ghost use Rattle.drum_bound.specs.KeysOf.{marks_in};
 ghost use Rattle.drum_bound.specs.ScanOf.{IsDone, order_of, setting_in, size_in};
 ghost use Rattle.drum_bound.specs.Scanned.{cell_at, IsEndOf, IsKeyHop};
 ghost use Rattle.drum_bound.specs.Table.{start_angle};
@@ -16,7 +18,16 @@ use crate::latest::Latest;
 use crate::scan::Scan;
 use crate::visit::Visit;
 use drum_flow::Hop;
+use drum_times::Mark;
 use std::alloc::{AllocError, Global};
+
+/// A walk, and how often it passes each mark, by the marks' places; what stands past the last mark
+/// means nothing.
+#[derive(Debug, Drop)]
+pub struct Trace {
+    pub visits: Vec<Visit>,
+    pub passed: [u64; Mark::MOST],
+}
 
 impl Scan<'_> {
     /// The hop of this number of a location, of this index: one of its leaps, or, where none are
@@ -34,9 +45,11 @@ impl Scan<'_> {
         }
     }
 
-    /// The hop of a key, between the word times used when it begins and when it ends.
-    fn visit(&self, origin: KeyHop, begin: Latest, end: Latest) -> Visit
+    /// The hop of a key, of whose location this is the index, between the word times used when it
+    /// begins and when it ends.
+    fn visit(&self, origin: KeyHop, index: usize, begin: Latest, end: Latest) -> Visit
         requires done { IsDone self.now }
+        requires index { index ≡ origin.key % length (order_of self.now) }
         requires from { IsEndOf (setting_in self.now) (order_of self.now) (size_in self.now)
             (kept_in self.now.cells) origin end.clock }
         requires begun { cell_at (kept_in self.now.cells) origin.key ≡ Some begin }
@@ -47,40 +60,47 @@ impl Scan<'_> {
             origin.key hop (begin.clock - angle) (end.clock - angle)) }
     {
         let angle = self.start_angle();
-        let key = origin.key as usize;
-        let index = key % self.keys.nodes.len();
         let Some(hop) = self.hop_at(index, origin.number as usize) else {
             unreachable!()
         };
         Visit {
-            place: self.keys.location_at(key),
+            place: self.keys.location(index),
             instruction: hop.instruction,
             way: hop.way,
             begun: begin.clock - angle,
-            ended: end.clock - angle,
+            took: (end.clock - begin.clock) as u32,
         }
     }
 
     /// The walk whose end is the latest of all, followed back from it, from the start angle behind
-    /// the start's.
-    pub fn walk(&self, alloc: Global) -> Result<Vec<Visit>, AllocError>
+    /// the start's; and how often it passes each mark.
+    pub fn walk(&self, alloc: Global) -> Result<Trace, AllocError>
         requires { IsDone self.now }
-        ensures { let angle = start_angle (setting_in self.now).start in
-            IfOk result (λ visits. IsWalkOf (setting_in self.now) angle
-            (self.now.cells.last.clock - angle) (map seen_visit visits.items)) }
+        ensures walk { let angle = start_angle (setting_in self.now).start in
+            IfOk result (λ trace. IsWalkOf (setting_in self.now) angle
+            (self.now.cells.last.clock - angle) (map seen_visit trace.visits.items)) }
+        ensures passed { IfOk result (λ trace. ArePasses (marks_in self.now.keys.now)
+            (map seen_visit trace.visits.items) trace.passed) }
     {
+        let marks = self.keys.marks();
         let mut visits = Vec::new(alloc);
+        let mut passed = [0; Mark::MOST];
         let mut end = self.cells.last();
-        let mut near = 0;
+        let (mut near, mut first) = (0, 0);
         while let Some(origin) = end.origin {
-            let Some((index, begin)) = self.cells.kept_at(origin.key as usize, near) else {
+            let key = origin.key as usize;
+            let Some((entry, begin)) = self.cells.kept_at(key, near) else {
                 unreachable!()
             };
-            near = index;
-            visits.push(self.visit(origin, begin, end))?;
+            near = entry;
+            let index = self.keys.index_at(key, first);
+            first = key - index;
+            let visit = self.visit(origin, index, begin, end);
+            visit.count_passes(marks, &mut passed);
+            visits.push(visit)?;
             end = begin;
         }
         visits.reverse();
-        Ok(visits)
+        Ok(Trace { visits, passed })
     }
 }

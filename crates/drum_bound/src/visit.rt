@@ -1,6 +1,7 @@
 //! The hops of a walk, as they are handed out.
 
-ghost use Rattle.std.specs.Prelude.{◌≡◌};
+ghost use Rattle.std.specs.Prelude.{◌≡◌, ℕ, ◌+◌, ◌^◌, ◌<◌, ◌≤◌, length, slice_get, slice_index, Some};
+ghost use Rattle.drum_times.specs.declared.notes.mark.Mark.{Mark as MarkOf};
 ghost use Rattle.drum_machine.specs.WaysLeft.{seen_way};
 ghost use Rattle.drum_flow.specs.Walk.{passes_by};
 
@@ -17,13 +18,22 @@ pub struct Visit {
     pub instruction: Instruction,
     /// How it ends.
     pub way: Way,
+    /// The word times that it takes. (It stands here, beside what is as narrow.)
+    pub took: u32,
     /// The word times used when it begins.
     pub begun: u64,
-    /// The word times used when it ends.
-    pub ended: u64,
+    /// As the bound: no hop of a walk begins later.
+    pub ghost early: { begun < 2 ^ 50 },
 }
 
 impl Visit {
+    /// The word times used when it ends.
+    pub fn ended(&self) -> u64
+        ensures { result ≡ self.now.begun + self.now.took }
+    {
+        self.begun + u64::from(self.took)
+    }
+
     /// How often the hop passes a mark: once where it goes along the mark's edge, else never.
     pub fn passes(&self, mark: &Mark) -> u64
         ensures { result ≡ passes_by mark.now self.now.place.number (seen_way self.now.way) }
@@ -31,6 +41,21 @@ impl Visit {
         match self.way {
             Way::To(onto) if mark.is_on(self.place, onto) => 1,
             _ => 0,
+        }
+    }
+
+    /// Counts the hop's passes of marks, by their places.
+    #[inline(always)]
+    pub fn count_passes(&self, marks: &[Mark], passed: &mut [u64; Mark::MOST])
+        requires marks { length marks.now ≤ 8 }
+        requires few { (k : ℕ) → slice_index passed.old k < 2 ^ 63 }
+        ensures counted { (k : ℕ) (mark : MarkOf) → slice_get marks.now k ≡ Some mark
+            → slice_index passed.new k ≡ slice_index passed.old k
+            + passes_by mark self.now.place.number (seen_way self.now.way) }
+        ensures once { (k : ℕ) → slice_index passed.new k ≤ slice_index passed.old k + 1 }
+    {
+        for (place, mark) in marks.iter().enumerate() {
+            passed[place] += self.passes(mark);
         }
     }
 }

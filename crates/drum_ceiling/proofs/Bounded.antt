@@ -1,6 +1,6 @@
 -- A certificate bounds every walk.
 use Rattle.std.proofs.Common.{◌≡◌, ℕ, zero, suc, ◌+◌, ◌-◌, ◌*◌, ◌/◌, ◌%◌, ◌<◌, ◌≤◌, Bool, true, List, [], ◌∷◌, ◌++◌}
-use Rattle.std.proofs.Common.{Option, Some, None, refl, ap, ◌∙◌, subst, arith, eq-eqb}
+use Rattle.std.proofs.Common.{Option, Some, None, refl, ap, sym, ◌∙◌, subst, arith, eq-eqb}
 use Rattle.std.specs.Prelude.{◌==◌, if◌then◌else◌, slice_get, Contains}
 use Rattle.std.proofs.lemmas.List.Sums.{sum_by-cons}
 use Rattle.drum_core.specs.declared.op.Op.{Op}
@@ -20,7 +20,7 @@ use Rattle.drum_flow.specs.MostPasses.{edge_taken, edges_taken}
 use Rattle.drum_flow.specs.Walk.{FollowHop, IsTimed, IsWalk, IsWalkFrom, Setting, Taken, time_from, time_of}
 use Rattle.drum_flow.proofs.FromAngles.{found_angle, leap_time}
 use Rattle.drum_flow.proofs.LongestLaws.{longest_from_found, longest_later, longest_monotone, no_later}
-use Rattle.drum_ceiling.specs.Certificate.{cost, price_on, IsCertificate, IsShut, Pays}
+use Rattle.drum_ceiling.specs.Certificate.{cost, mark_by, price_of, price_on, IsCertificate, IsShut, Pays}
 
 -- a mark that is passed within what the marks allow may be passed
 may_be_passed : (all : List Mark) (m k place : ℕ) (marks : List Mark) (counts : List ℕ) (mark : Mark) → place + k ≡ m
@@ -39,7 +39,7 @@ may_be_passed all m (suc k) place (first ∷ marks) (count ∷ counts) mark at w
 
 -- what a walk takes is not shut
 open_edge : (marks : List Mark) (counts : List ℕ) (from onto : ℕ) → AreWithin marks (after_pass marks from onto counts)
-    → ¬ IsShut marks from onto
+    → ¬ IsShut marks from (to onto)
 open_edge marks counts from onto within (k, mark, on, there, none) =
     let passed : AreWithin marks (passed_from marks k 0 counts) =
     subst (λ (found : Option ℕ). AreWithin marks (elim found [
@@ -47,6 +47,12 @@ open_edge marks counts from onto within (k, mark, on, there, none) =
       | Some m ↦ passed_from marks m 0 counts
     ])) on within in
     omega (arith, none, may_be_passed marks k k 0 marks counts mark (omega arith) passed there)
+
+-- nor is a hop without a mark
+open_stop : (marks : List Mark) (place : ℕ) (way : Way) → mark_by marks place way ≡ None → ¬ IsShut marks place way
+open_stop marks place way none (k, mark, on, there, most) =
+    let clash : None ≡ Some k = sym none ∙ on in
+    cc
 
 -- the search ends some revolutions later where it begins as many later
 found_later : (place k t : ℕ) → found place (t + 50 * k) ≡ found place t + 50 * k
@@ -64,9 +70,10 @@ module _ (g : Setting) (prices : List ℕ) (potential : ℕ → ℕ → Option �
     (is : IsCertificate g prices potential base) (angle : ℕ) where
   -- What a potential pays for at the clock of its angle it pays for at each later one.
   pays_at : (place clock owed : ℕ) → potential place (clock % 50) ≡ Some owed → (hop : Hop)
-      → Contains (hops g.loads g.notes place) hop → Pays g prices potential place clock owed hop
-  pays_at place clock owed at hop has =
-      let one = is.pays place (clock % 50) owed (omega arith) at hop has in
+      → Contains (hops g.loads g.notes place) hop → ¬ IsShut g.notes.marks place hop.way
+      → Pays g prices potential place clock owed hop
+  pays_at place clock owed at hop has free =
+      let one = is.pays place (clock % 50) owed (omega arith) at hop has free in
       let whole : clock ≡ clock % 50 + 50 * (clock / 50) = omega arith in
       let from : ℕ = longest g.times place hop.ins hop.way (clock % 50) in
       let moved : longest g.times place hop.ins hop.way clock ≡ clock + (from - clock % 50) =
@@ -76,8 +83,8 @@ module _ (g : Setting) (prices : List ℕ) (potential : ℕ → ℕ → Option �
       omega (arith, moved, whole, later) in
       record {
         ends = omega (arith, one.ends, ended, whole);
-        goes_on = λ next on free.
-            let so = one.goes_on next on free in
+        goes_on = λ next on.
+            let so = one.goes_on next on in
             let arrives : found next (longest g.times place hop.ins hop.way clock)
             ≡ found next from + 50 * (clock / 50) =
             ap (found next) ended ∙ found_later next (clock / 50) from in
@@ -86,22 +93,22 @@ module _ (g : Setting) (prices : List ℕ) (potential : ℕ → ℕ → Option �
             (so.0, ap (potential next) turned ∙ so.1, omega (arith, so.2, arrives, whole));
       }
 
-  -- From a place on, where its instruction is found at a clock at the latest, a walk ends no later than its potential and
-  -- the prices of its edges allow.
-  walk_below : (place time : ℕ) (counts : List ℕ) (hops : List Taken) (clock owed : ℕ)
+  -- From a place on, where its instruction is found at a clock at the latest, a walk ends 49 word times before a limit at
+  -- the latest, and what the prices of its edges add to it: where the time before is such, and the clock with the
+  -- potential is within the limit.
+  walk_below : (place time : ℕ) (counts : List ℕ) (hops : List Taken) (clock owed limit : ℕ)
       → IsWalkFrom g angle place time counts hops → found place (angle + time) ≤ clock → found place clock ≡ clock
-      → potential place (clock % 50) ≡ Some owed
-      → angle + time_from time hops ≤ clock + owed + cost g.notes.marks prices (edges_taken hops)
-  walk_below place time counts [] clock owed walk before found_then at =
-      omega (arith, (found_keeps_time place).never_earlier (angle + time), before)
-  walk_below place time counts (hop ∷ hops) clock owed walk before found_then at =
+      → potential place (clock % 50) ≡ Some owed → angle + time + 49 ≤ limit → clock + owed ≤ limit
+      → angle + time_from time hops + 49 ≤ limit + cost g.notes.marks prices (edges_taken hops)
+  walk_below place time counts [] clock owed limit walk before found_then at used within = omega (arith, used)
+  walk_below place time counts (hop ∷ hops) clock owed limit walk before found_then at used within =
       by (λ next from so_far. walk_below next from so_far hops) hop.way refl walk.1
     where
       one : Hop
       one = record { ins = hop.ins; way = hop.way }
 
-      pays : Pays g prices potential place clock owed one
-      pays = pays_at place clock owed at one walk.0.allowed
+      pays : ¬ IsShut g.notes.marks place hop.way → Pays g prices potential place clock owed one
+      pays free = pays_at place clock owed at one walk.0.allowed free
 
       latest : ℕ
       latest = longest g.times place hop.ins hop.way clock
@@ -122,44 +129,53 @@ module _ (g : Setting) (prices : List ℕ) (potential : ℕ → ℕ → Option �
                 longest_monotone g.times place hop.ins hop.way (found place (angle + time)) clock before,
               )
 
-      stops : (way : Way) → hop.way ≡ way → edge_taken hop.place way ≡ [] → hops ≡ []
-          → angle + time_from hop.ended hops
-          ≤ clock + owed + cost g.notes.marks prices (edges_taken (hop ∷ hops))
-      stops way is none last =
-          omega (arith, ended, pays.ends, ap (time_from hop.ended) last)
+      stops : (way : Way) → hop.way ≡ way → edge_taken hop.place way ≡ [] → mark_by g.notes.marks place way ≡ None
+          → hops ≡ []
+          → angle + time_from hop.ended hops + 49 ≤ limit + cost g.notes.marks prices (edges_taken (hop ∷ hops))
+      stops way is none unmarked last =
+          let free = open_stop g.notes.marks place hop.way
+          (ap (mark_by g.notes.marks place) is ∙ unmarked) in
+          let price : price_of prices (mark_by g.notes.marks place hop.way) ≡ 0 =
+          ap (price_of prices) (ap (mark_by g.notes.marks place) is ∙ unmarked) in
+          omega (arith, ended, (pays free).ends, ap (time_from hop.ended) last, price, within)
 
       Bounded : ℕ → ℕ → List ℕ → Type 0
-      Bounded next from so_far = (arrival later : ℕ) → IsWalkFrom g angle next from so_far hops
+      Bounded next from so_far = (arrival later limit : ℕ) → IsWalkFrom g angle next from so_far hops
           → found next (angle + from) ≤ arrival → found next arrival ≡ arrival
-          → potential next (arrival % 50) ≡ Some later
-          → angle + time_from from hops ≤ arrival + later + cost g.notes.marks prices (edges_taken hops)
+          → potential next (arrival % 50) ≡ Some later → angle + from + 49 ≤ limit → arrival + later ≤ limit
+          → angle + time_from from hops + 49 ≤ limit + cost g.notes.marks prices (edges_taken hops)
 
       by : ((next from : ℕ) (so_far : List ℕ) → Bounded next from so_far) → (way : Way) → hop.way ≡ way
           → FollowHop way (λ next.
           AreWithin g.notes.marks (after_pass g.notes.marks place next counts)
           × IsWalkFrom g angle next hop.ended (after_pass g.notes.marks place next counts) hops) hops
-          → angle + time_from hop.ended hops
-          ≤ clock + owed + cost g.notes.marks prices (edges_taken (hop ∷ hops))
-      by further early is last = stops early is refl last
+          → angle + time_from hop.ended hops + 49 ≤ limit + cost g.notes.marks prices (edges_taken (hop ∷ hops))
+      by further early is last = stops early is refl refl last
       by further (to next) is rest =
-          let so = pays.goes_on next is (open_edge g.notes.marks counts place next rest.0) in
+          let free : ¬ IsShut g.notes.marks place hop.way =
+          subst (λ (w : Way). ¬ IsShut g.notes.marks place w) (sym is)
+          (open_edge g.notes.marks counts place next rest.0) in
+          let so = (pays free).goes_on next is in
           let edge : Edge = record { from = hop.place; onto = next } in
           let edges : edges_taken (hop ∷ hops) ≡ edge ∷ edges_taken hops =
           ap (λ (w : Way). edge_taken hop.place w ++ edges_taken hops) is in
           let price : price_on g.notes.marks prices hop.place next ≡ price_on g.notes.marks prices place next =
           ap (λ (n : ℕ). price_on g.notes.marks prices n next) walk.0.here in
+          let marked : price_of prices (mark_by g.notes.marks place hop.way) ≡ price_on g.notes.marks prices place next =
+          ap (λ (w : Way). price_of prices (mark_by g.notes.marks place w)) is in
           let arrival : ℕ = found next latest in
+          let more : ℕ = limit + price_on g.notes.marks prices place next in
           omega (
             arith,
-            further next hop.ended (after_pass g.notes.marks place next counts) arrival so.0 rest.1
+            further next hop.ended (after_pass g.notes.marks place next counts) arrival so.0 more rest.1
                 ((found_keeps_time next).monotone (angle + hop.ended) latest ended)
-                (first_again (available_recurs next) latest) so.1,
-            so.2,
+                (first_again (available_recurs next) latest) so.1
+                (omega (arith, ended, (pays free).ends, marked, within)) (omega (arith, so.2, within)),
             ap (cost g.notes.marks prices) edges,
             sum_by-cons (λ (e : Edge). price_on g.notes.marks prices e.from e.onto) edge (edges_taken hops),
             price,
           )
-      by further late is last = stops late is refl last
+      by further late is last = stops late is refl refl last
 
   -- A walk takes no more than the base and the prices of its edges.
   pub walk_cost : (hops : List Taken) → g.start < 2000 → IsWalk g angle hops
@@ -167,12 +183,13 @@ module _ (g : Setting) (prices : List ℕ) (potential : ℕ → ℕ → Option �
   walk_cost hops below walk =
       let clock : ℕ = found g.start angle in
       let same : angle + 0 ≡ angle = omega arith in
-      let at : potential g.start (clock % 50) ≡ Some is.starts.0 =
-      ap (potential g.start) (found_angle g.start angle below) ∙ is.starts.1 in
+      let at : potential g.start (clock % 50) ≡ Some base =
+      ap (potential g.start) (found_angle g.start angle below) ∙ is.starts in
+      let near : clock ≤ angle + 49 = (found_keeps_time g.start).within_span angle in
+      let limit : ℕ = angle + 49 + base in
       omega (
         arith,
-        walk_below g.start 0 (no_counts g.notes.marks) hops clock is.starts.0 walk.from_start
-            (omega (arith, ap (found g.start) same)) (first_again (available_recurs g.start) angle) at,
-        (found_keeps_time g.start).within_span angle,
-        is.starts.2,
+        walk_below g.start 0 (no_counts g.notes.marks) hops clock base limit walk.from_start
+            (omega (arith, ap (found g.start) same)) (first_again (available_recurs g.start) angle) at
+            (omega arith) (omega (arith, near)),
       )

@@ -38,7 +38,7 @@ prices_by marks price = map (λ _. price) marks
 
 -- the base
 abbrev pub base_by : List ℕ → ℕ → ℕ
-base_by order start = 49 + height order start * farthest
+base_by order start = height order start * farthest
 
 -- what a potential that there is comes to
 owed_by : (more owed : ℕ) → for_each more ≡ Some owed → (1 ≤ more) × (owed ≡ more * farthest)
@@ -138,7 +138,7 @@ module _ (g : Setting) (executed order : List ℕ) (proper : IsProper g)
       let near = longest_near g.times place hop.ins hop.way angle in
       record {
         ends = omega (arith, near, is.0, is.1);
-        goes_on = λ next on free_of.
+        goes_on = λ next on.
             let edge : IsEdge g.loads g.notes place next = (
               hop.ins,
               subst (λ (w : Way). Contains (hops g.loads g.notes place) (record { ins = hop.ins; way = w })) on has,
@@ -155,10 +155,6 @@ module _ (g : Setting) (executed order : List ℕ) (proper : IsProper g)
   pub certificate_by : IsCertificate g (prices_by g.notes.marks price) (potential_by order) (base_by order g.start)
   certificate_by = record {
     each = length-map g.notes.marks (λ _. price);
-    starts = (
-      height order g.start * farthest,
-      has_potential (height order g.start) (height_some order g.start start_there),
-      refl,
-    );
-    pays = λ place angle owed on_drum at hop has. pays place angle owed at hop has;
+    starts = has_potential (height order g.start) (height_some order g.start start_there);
+    pays = λ place angle owed on_drum at hop has free. pays place angle owed at hop has;
   }

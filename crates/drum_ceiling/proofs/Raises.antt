@@ -28,7 +28,7 @@ grows_on a b c first then = record {
 pub raised_more : (from : Found) (before after : Raised) (ins : Instruction) (way : Way) → GrowsTo before after
     → IsRaised from before ins way → IsRaised from after ins way
 raised_more from before after ins way grows is = record {
-  ends = omega (arith, is.ends, grows.stop);
+  ends = λ unmarked. omega (arith, is.ends unmarked, grows.stop);
   goes_on = λ next on.
       let so = is.goes_on next on in
       let more = grows.onward (slot_of next (found next (latest from ins way) % 50)) so.1.0 so.1.1 in
@@ -48,7 +48,7 @@ taken_alike from raised ins other op kind angle same has way there =
     let long : latest from ins way ≡ latest from other way =
     longest_alike (entry_in from.times.now) from.location.number from.angle ins other way op kind angle in
     record {
-      ends = omega (arith, is.ends, long);
+      ends = λ unmarked. omega (arith, is.ends unmarked, long);
       goes_on = λ next on. subst (λ (clock : ℕ). IsLocation next
           × IsReachedBy raised.onward.items next from.angle (found next clock)) long (is.goes_on next on);
     }

@@ -20,7 +20,7 @@ use Rattle.drum_flow.proofs.Lists.{contains_cases, contains_here, contains_none,
 use Rattle.drum_ceiling.specs.declared.found.Found.{Found}
 use Rattle.drum_ceiling.specs.declared.raised.Raised.{Raised}
 use Rattle.drum_ceiling.specs.declared.row.Row.{Row}
-use Rattle.drum_ceiling.specs.Certificate.{arrival, IsShut}
+use Rattle.drum_ceiling.specs.Certificate.{arrival, mark_by, IsShut}
 use Rattle.drum_ceiling.specs.Raised.{latest, HasTaken, IsRaised}
 use Rattle.drum_ceiling.specs.Rows.{HasEdges, IsRow, Takes}
 use Rattle.drum_ceiling.specs.Slot.{place_of, slot_of}
@@ -68,7 +68,7 @@ pub row_of_raised : (g : Setting) (from : Found) (raised : Raised) (row : Row) �
     → row.stop ≡ raised.stop
     → HasEdges g.notes.marks from.location.number raised.onward.items row.edges.items
     → IsRow g from.location.number from.angle row
-row_of_raised g from raised row notes times taken stop edges hop there =
+row_of_raised g from raised row notes times taken stop edges hop there free =
     let place = from.location.number in
     let so = of_allowed g.notes (allowed g.loads g.notes place) hop there in
     let is : IsRaised from raised hop.ins hop.way =
@@ -77,14 +77,21 @@ row_of_raised g from raised row notes times taken stop edges hop there =
     let long : longest g.times place hop.ins hop.way from.angle ≡ ended =
     ap (λ (table : Op → Entry). longest table place hop.ins hop.way from.angle) times in
     record {
-      ends = omega (arith, is.ends, long, stop);
-      goes_on = λ next on free.
+      ends = λ unmarked. omega (
+        arith,
+        is.ends (ap (λ (n : Notes). mark_by n.marks place hop.way) (sym notes) ∙ unmarked),
+        long,
+        stop,
+      );
+      goes_on = λ next on.
           let reached = is.goes_on next on in
           let arrives : arrival g place from.angle hop next ≡ found next ended = ap (found next) long in
           let slot : ℕ = slot_of next (found next ended % 50) in
           let back : place_of slot ≡ next = slot_place next (found next ended % 50) reached.0 (omega arith) in
-          let edge = edges.each slot reached.1.0 reached.1.1
-          (subst (λ (n : ℕ). ¬ IsShut g.notes.marks place n) (sym back) free) in (
+          let open_there : ¬ IsShut g.notes.marks place (to (place_of slot)) =
+          subst (λ (n : ℕ). ¬ IsShut g.notes.marks place (to n)) (sym back)
+          (subst (λ (w : Way). ¬ IsShut g.notes.marks place w) on free) in
+          let edge = edges.each slot reached.1.0 reached.1.1 open_there in (
             reached.0,
             (
               edge.0,

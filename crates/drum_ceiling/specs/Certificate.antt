@@ -5,7 +5,7 @@ use Rattle.drum_times.specs.declared.notes.mark.Mark.{Mark}
 use Rattle.drum_times.specs.Marks.{mark_on}
 use Rattle.drum_machine.specs.Since.{Edge}
 use Rattle.drum_machine.specs.Timing.{found}
-use Rattle.drum_machine.specs.Ways.{to}
+use Rattle.drum_machine.specs.Ways.{Way, early, to, late}
 use Rattle.drum_flow.specs.Hops.{Hop, hops}
 use Rattle.drum_flow.specs.Longest.{longest}
 use Rattle.drum_flow.specs.Walk.{Setting}
@@ -19,34 +19,43 @@ price_of prices (Some k) = slice_index prices k
 abbrev pub price_on : List Mark → List ℕ → ℕ → ℕ → ℕ
 price_on marks prices from onto = price_of prices (mark_on marks from onto)
 
--- no walk takes the edge: the mark on it may never be passed
-abbrev pub IsShut : List Mark → ℕ → ℕ → Type 0
-IsShut marks from onto = (k : ℕ) × (mark : Mark) × (mark_on marks from onto ≡ Some k)
+-- the mark on the edge by which a hop of the place goes on, if it does
+abbrev pub mark_by : List Mark → ℕ → Way → Option ℕ
+mark_by marks place early = None
+mark_by marks place (to next) = mark_on marks place next
+mark_by marks place late = None
+
+-- no walk takes such a hop: its mark may never be passed
+abbrev pub IsShut : List Mark → ℕ → Way → Type 0
+IsShut marks place way = (k : ℕ) × (mark : Mark) × (mark_by marks place way ≡ Some k)
     × (slice_get marks k ≡ Some mark) × (mark.most ≡ 0)
 
 -- when the next instruction is found, where a hop that is found at this clock takes longest
 abbrev pub arrival : Setting → ℕ → ℕ → Hop → ℕ → ℕ
 arrival g place clock hop next = found next (longest g.times place hop.ins hop.way clock)
 
--- The potential of a place, from the clock at which its instruction is found, pays for a hop: till
--- it ends; and where it goes on, with the edge's price, for the search and the next potential.
+-- The potential of a place, whose instruction is found at this clock, pays for a hop, with the
+-- price of its mark: till it ends; and where it goes on, for the search and the next potential. A
+-- potential counts from 49 word times before, so that no search is paid for that a walk ends before.
 pub record Pays (g : Setting) (prices : List ℕ) (potential : ℕ → ℕ → Option ℕ)
     (place clock owed : ℕ) (hop : Hop) : Type 0 where
-  pub ends : longest g.times place hop.ins hop.way clock ≤ clock + owed
-  pub goes_on : (next : ℕ) → hop.way ≡ to next → ¬ IsShut g.notes.marks place next → (later : ℕ)
+  pub ends : longest g.times place hop.ins hop.way clock + 49
+      ≤ clock + owed + price_of prices (mark_by g.notes.marks place hop.way)
+  pub goes_on : (next : ℕ) → hop.way ≡ to next → (later : ℕ)
       × (potential next (arrival g place clock hop next % 50) ≡ Some later)
       × (arrival g place clock hop next + later
       ≤ clock + owed + price_on g.notes.marks prices place next)
 
 -- The prices and the potentials, by places and the angles at which their instructions are found,
--- are a certificate: each mark has a price, the start has a potential, and each potential pays for
--- each hop.
+-- are a certificate: each mark has a price, the start's potential is the base, and each potential
+-- pays for each hop that a walk may take.
 pub record IsCertificate (g : Setting) (prices : List ℕ) (potential : ℕ → ℕ → Option ℕ)
     (base : ℕ) : Type 0 where
   pub each : length prices ≡ length g.notes.marks
-  pub starts : (owed : ℕ) × (potential g.start (g.start % 50) ≡ Some owed) × (base ≡ 49 + owed)
+  pub starts : potential g.start (g.start % 50) ≡ Some base
   pub pays : (place angle owed : ℕ) → angle < 50 → potential place angle ≡ Some owed → (hop : Hop)
-      → Contains (hops g.loads g.notes place) hop → Pays g prices potential place angle owed hop
+      → Contains (hops g.loads g.notes place) hop → ¬ IsShut g.notes.marks place hop.way
+      → Pays g prices potential place angle owed hop
 
 -- the sum of the prices, each times a number of its mark's; the first has this place
 abbrev pub priced_from : List ℕ → ℕ → (ℕ → ℕ) → ℕ

@@ -13,4 +13,4 @@ pub record ArePrices (g : Setting) (highest : ℕ) (prices : List ℕ) (base : �
   pub potential : ℕ → ℕ → Option ℕ
   pub certificate : IsCertificate g prices potential base
   pub low : All (λ price. price ≤ highest) prices
-  pub base_low : base ≤ 49 + highest
+  pub base_low : base ≤ highest

@@ -1,6 +1,6 @@
 -- The latest ends of the hops that were looked at, of a location whose instruction is found at an
 -- angle.
-use Rattle.std.specs.Prelude.{◌≡◌, ℕ, ◌+◌, ◌%◌, ◌≤◌, List, Option, Some, Contains, slice_get}
+use Rattle.std.specs.Prelude.{◌≡◌, ℕ, ◌+◌, ◌%◌, ◌≤◌, List, Option, Some, None, Contains, slice_get}
 use Rattle.drum_core.specs.declared.instruction.Instruction.{Instruction}
 use Rattle.drum_core.specs.Location.{IsLocation}
 use Rattle.drum_times.specs.Entries.{entry_in}
@@ -9,6 +9,7 @@ use Rattle.drum_machine.specs.Ways.{Way, to, ways}
 use Rattle.drum_flow.specs.Longest.{longest}
 use Rattle.drum_ceiling.specs.declared.found.Found.{Found}
 use Rattle.drum_ceiling.specs.declared.raised.Raised.{Raised}
+use Rattle.drum_ceiling.specs.Certificate.{mark_by}
 use Rattle.drum_ceiling.specs.Slot.{slot_of}
 
 -- The most that stands at the number of this place, where it is found at this clock, is no less.
@@ -22,9 +23,11 @@ abbrev pub latest : Found → Instruction → Way → ℕ
 latest from ins way =
     longest (entry_in from.times.now) from.location.number ins way from.angle
 
--- The hop was looked at: what is kept is no less than what it takes.
+-- The hop was looked at: what is kept is no less than what it takes, and without a mark, than that
+-- and 49 word times more till it ends.
 pub record IsRaised (from : Found) (raised : Raised) (ins : Instruction) (way : Way) : Type 0 where
-  pub ends : latest from ins way ≤ from.angle + raised.stop
+  pub ends : mark_by from.notes.now.marks from.location.number way ≡ None
+      → latest from ins way + 49 ≤ from.angle + raised.stop
   pub goes_on : (next : ℕ) → way ≡ to next → IsLocation next
       × IsReachedBy raised.onward.items next from.angle (found next (latest from ins way))
 

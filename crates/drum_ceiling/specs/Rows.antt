@@ -1,5 +1,5 @@
 -- Rows: what the hops of a location take at most, from when its instruction is found at an angle.
-use Rattle.std.specs.Prelude.{◌≡◌, ℕ, ◌+◌, ◌%◌, ◌≤◌, List, Option, Some, Contains, slice_get}
+use Rattle.std.specs.Prelude.{◌≡◌, ℕ, ◌+◌, ◌%◌, ◌≤◌, List, Option, Some, None, Contains, slice_get}
 use Rattle.drum_core.specs.Location.{IsLocation}
 use Rattle.drum_times.specs.declared.notes.mark.Mark.{Mark}
 use Rattle.drum_times.specs.Marks.{mark_on}
@@ -9,7 +9,7 @@ use Rattle.drum_flow.specs.Longest.{longest}
 use Rattle.drum_flow.specs.Walk.{Setting}
 use Rattle.drum_ceiling.specs.declared.row.Edge.{Edge}
 use Rattle.drum_ceiling.specs.declared.row.Row.{Row}
-use Rattle.drum_ceiling.specs.Certificate.{arrival, IsShut}
+use Rattle.drum_ceiling.specs.Certificate.{arrival, mark_by, IsShut}
 use Rattle.drum_ceiling.specs.Slot.{place_of, slot_of}
 
 -- The edge is that of a hop to this place, and takes as long as that can.
@@ -19,18 +19,18 @@ pub record IsEdgeOf (g : Setting) (place angle : ℕ) (hop : Hop) (next : ℕ) (
     pub mark : edge.mark ≡ mark_on g.notes.marks place next
     pub time : arrival g place angle hop next ≤ angle + edge.time
 
--- The row has the hop: it ends no later than the row says, and where it goes on along an edge that
--- may be passed, the row has its edge.
+-- The row has the hop: without a mark it ends no later than the row says, less 49 word times; and
+-- where it goes on, the row has its edge.
 pub record Takes (g : Setting) (place angle : ℕ) (row : Row) (hop : Hop) : Type 0 where
-  pub ends : longest g.times place hop.ins hop.way angle ≤ angle + row.stop
-  pub goes_on : (next : ℕ) → hop.way ≡ to next → ¬ IsShut g.notes.marks place next
-      → IsLocation next × ((edge : Edge) × Contains row.edges.items edge
-      × IsEdgeOf g place angle hop next edge)
+  pub ends : mark_by g.notes.marks place hop.way ≡ None
+      → longest g.times place hop.ins hop.way angle + 49 ≤ angle + row.stop
+  pub goes_on : (next : ℕ) → hop.way ≡ to next → IsLocation next
+      × ((edge : Edge) × Contains row.edges.items edge × IsEdgeOf g place angle hop next edge)
 
--- The row has all hops of the place.
+-- The row has all hops of the place that a walk may take.
 abbrev pub IsRow : Setting → ℕ → ℕ → Row → Type 0
-IsRow g place angle row =
-    (hop : Hop) → Contains (hops g.loads g.notes place) hop → Takes g place angle row hop
+IsRow g place angle row = (hop : Hop) → Contains (hops g.loads g.notes place) hop
+    → ¬ IsShut g.notes.marks place hop.way → Takes g place angle row hop
 
 -- Each row that there is is that of the location and the angle of its number.
 abbrev pub AreRows : Setting → List (Option Row) → Type 0
@@ -41,6 +41,6 @@ AreRows g rows = (slot : ℕ) (row : Row) → slice_get rows slot ≡ Some (Some
 pub record HasEdges (marks : List Mark) (from : ℕ) (onward : List (Option ℕ))
     (edges : List Edge) : Type 0 where
   pub each : (slot time : ℕ) → slice_get onward slot ≡ Some (Some time)
-      → ¬ IsShut marks from (place_of slot) → (edge : Edge) × Contains edges edge
+      → ¬ IsShut marks from (to (place_of slot)) → (edge : Edge) × Contains edges edge
       × (edge.onto.number ≡ slot) × (edge.mark ≡ mark_on marks from (place_of slot))
       × (edge.time ≡ time)

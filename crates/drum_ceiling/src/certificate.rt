@@ -9,7 +9,8 @@ ghost use Rattle.drum_ceiling.specs.Rows.{AreRows};
 ghost use Rattle.drum_ceiling.specs.Slot.{at_slot};
 ghost use Rattle.drum_ceiling.specs.Paying.{IsPaid, IsEdgePaid, IsSlotPaid};
 
-use crate::prices::{FIRST_WAIT, Prices};
+use crate::found::LONGEST_SEARCH;
+use crate::prices::Prices;
 use crate::row::{Edge, Row};
 use crate::slot::Slot;
 
@@ -54,6 +55,9 @@ impl Certificate {
         let Some(later) = self.potential(edge.onto) else {
             return false;
         };
+        if edge.mark.is_some() && later < LONGEST_SEARCH {
+            return false;
+        }
         let price = self.price_of(edge.mark);
         u128::from(edge.time) + u128::from(later) <= u128::from(owed) + u128::from(price)
     }
@@ -127,10 +131,9 @@ impl Certificate {
         if !self.is_low(highest) || !self.pays_all(rows) {
             return None;
         }
-        let base = FIRST_WAIT + owed;
         Some(Prices {
             prices: self.prices,
-            base,
+            base: owed,
         })
     }
 }

@@ -16,7 +16,7 @@ use crate::answer::Ceiling;
 use crate::passes::passes_of;
 use crate::prices::{Prices, highest_of, prices_by_order};
 use crate::rows::rows_of;
-use crate::search::search;
+use crate::search;
 use crate::slot::Slot;
 use crate::total::total;
 use drum_core::Deck;
@@ -43,11 +43,11 @@ fn prices_of(
         (length (executed_in accepted.now.flow) * farthest) found.prices.items found.base) }
 {
     let flow = accepted.flow();
-    let start = Slot::of(flow.deck().start(), 0);
+    let start = flow.deck().start();
     let rows = rows_of(alloc, flow, times)?;
-    let found = search(alloc, &rows, accepted.order(), start, passes)?;
+    let found = search::find(alloc, &rows, accepted.order(), start, passes)?;
     let marks = flow.notes().marks().len();
-    match found.checked(&rows, start, marks, highest_of(flow)) {
+    match found.checked(&rows, Slot::of(start, 0), marks, highest_of(flow)) {
         Some(prices) => Ok(prices),
         None => prices_by_order(alloc, accepted),
     }

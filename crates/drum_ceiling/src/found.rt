@@ -1,11 +1,15 @@
 //! A location whose instruction is found at an angle, under notes and with a timing table.
 
-ghost use Rattle.std.specs.Prelude.{◌≡◌, ◌%◌, ◌<◌};
+ghost use Rattle.std.specs.Prelude.{◌≡◌, ◌%◌, ◌<◌, ◌↔◌, IsSome, IsTrue};
 
 use crate::slot::Slot;
 use drum_core::Location;
 use drum_flow::Flow;
-use drum_times::{Notes, Times};
+use drum_machine::Way;
+use drum_times::{Mark, Notes, Times};
+
+/// The most word times that the search for an instruction takes.
+pub const LONGEST_SEARCH: u64 = 49;
 
 /// Where hops begin: at a location, from when its instruction is found.
 #[derive(Clone, Copy, Debug)]
@@ -20,6 +24,8 @@ pub struct Found<'a> {
 
 impl<'a> Found<'a> {
     ghost use Rattle.drum_flow.specs.Flow.{notes_of};
+    ghost use Rattle.drum_machine.specs.WaysLeft.{seen_way};
+    ghost use Rattle.drum_ceiling.specs.Certificate.{mark_by};
     ghost use Rattle.drum_ceiling.specs.Slot.{place_of};
 
     /// The location and the angle of this number, under the notes of a flow graph.
@@ -34,6 +40,17 @@ impl<'a> Found<'a> {
             times,
             location: slot.location(),
             angle: slot.angle(),
+        }
+    }
+
+    /// Whether a hop of the location that ends by this way goes on along an edge with a mark.
+    pub fn is_marked(&self, way: Way) -> bool
+        ensures { IsTrue result
+            ↔ IsSome (mark_by self.now.notes.now.marks self.now.location.number (seen_way way)) }
+    {
+        match way {
+            Way::To(next) => Mark::on_edge(self.notes.marks(), self.location, next).is_some(),
+            Way::Early | Way::Late => false,
         }
     }
 }

@@ -19,9 +19,6 @@ use std::alloc::{AllocError, Global};
 /// The most word times that a hop takes, with the search for the next instruction.
 const FARTHEST: u64 = 92_000_148;
 
-/// The most word times until the first instruction is found.
-pub const FIRST_WAIT: u64 = 49;
-
 /// A price for each mark, and a base.
 #[derive(Debug, Drop)]
 pub struct Prices {
@@ -61,7 +58,7 @@ pub fn prices_by_order(alloc: Global, accepted: &AcceptedFlow<'_>) -> Result<Pri
     for _ in flow.notes().marks() {
         prices.push(highest)?;
     }
-    let base = FIRST_WAIT + height * FARTHEST;
+    let base = height * FARTHEST;
     Ok(Prices { prices, base })
 }
 

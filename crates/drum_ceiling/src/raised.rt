@@ -4,7 +4,7 @@ ghost use Rattle.std.specs.Prelude.{◌≡◌, ℕ, ◌≤◌, Some, slice_get, 
 ghost use Rattle.drum_machine.specs.WaysLeft.{seen_way};
 ghost use Rattle.drum_flow.specs.Profile.{MayEnd};
 
-use crate::found::Found;
+use crate::found::{Found, LONGEST_SEARCH};
 use crate::slot::Slot;
 use drum_core::{Clockwork, Seek};
 use drum_flow::Hop;
@@ -16,7 +16,7 @@ use std::alloc::{AllocError, Global};
 /// angle.
 #[derive(Debug, Drop)]
 pub struct Raised {
-    /// The most word times until one of them ends.
+    /// The most word times until one of them without a mark ends, and 49 more; 0 of none.
     pub stop: u32,
     /// By the numbers of where they lead, the most word times until the next instruction is found.
     pub onward: Vec<Option<u32>>,
@@ -42,7 +42,9 @@ impl Raised {
     {
         let angle = from.angle;
         let ended = longest(from.times, from.location, hop, angle);
-        self.stop = self.stop.max((ended - angle) as u32);
+        if !from.is_marked(hop.way) {
+            self.stop = self.stop.max((ended + LONGEST_SEARCH - angle) as u32);
+        }
         if let Way::To(next) = hop.way {
             let found = Seek::of(next).go(ended);
             self.reach(Slot::of(next, found), (found - angle) as u32);

@@ -17,7 +17,7 @@ pub struct Edge {
 /// What the hops of a location take at most, from when its instruction is found at one angle.
 #[derive(Debug, Drop)]
 pub struct Row {
-    /// The most word times until one of them ends.
+    /// The most word times until one of them without a mark ends, and 49 more; 0 of none.
     pub stop: u32,
     /// Where they lead, without the edges that may never be passed.
     pub edges: Vec<Edge>,

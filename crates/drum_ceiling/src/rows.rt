@@ -2,6 +2,7 @@
 
 ghost use Rattle.std.specs.Prelude.{◌≡◌, ℕ, ◌%◌, ◌≤◌, length, Contains, IfOk, IfSome, IsTrue};
 ghost use Rattle.drum_times.specs.Marks.{mark_on};
+ghost use Rattle.drum_machine.specs.Ways.{to};
 ghost use Rattle.drum_flow.specs.Flow.{deck_of, notes_of};
 ghost use Rattle.drum_flow.specs.SettingOf.{setting};
 ghost use Rattle.drum_ceiling.specs.Certificate.{IsShut};
@@ -19,7 +20,7 @@ use std::alloc::{AllocError, Global};
 
 /// Whether the edge may never be passed.
 fn is_shut(marks: &[Mark], from: Location, onto: Location) -> bool
-    ensures { IsTrue result → IsShut marks.now from.number onto.number }
+    ensures { IsTrue result → IsShut marks.now from.number (to onto.number) }
 {
     match Mark::on_edge(marks, from, onto) {
         Some(place) => marks[place].most == 0,

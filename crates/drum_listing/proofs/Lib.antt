@@ -1,4 +1,3 @@
 mod Checks
-pub mod Begun
 pub mod Lines
 pub mod Turns

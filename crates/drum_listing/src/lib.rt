@@ -5,9 +5,11 @@
 mod moments;
 mod moments_text;
 mod step_line;
+mod told;
 mod visit_line;
 mod walk;
 
 pub use moments::Moments;
 pub use step_line::send_step;
+pub use told::Told;
 pub use walk::list_walk;

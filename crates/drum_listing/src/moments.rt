@@ -1,6 +1,7 @@
 //! When an instruction is found, is ready and has its data.
 
-use drum_bound::{Visit, Way};
+use crate::told::Told;
+use drum_bound::Way;
 use drum_core::Op;
 use drum_machine::moments::{found, reached};
 use drum_times::Times;
@@ -24,15 +25,15 @@ impl Moments {
     ghost use Rattle.drum_machine.specs.WaysLeft.{seen_way};
     ghost use Rattle.drum_listing.specs.Moments.{is_early, moments_of};
 
-    /// The moments of a visit, on a drum with this angle at time 0.
-    pub fn of(visit: &Visit, times: &Times, angle: u8) -> Moments
-        requires { visit.now.begun ≤ 2 ^ 62 }
-        ensures { result ≡ moments_of (entry_in times.now) angle visit.now.place.number
-            visit.now.instruction (seen_way visit.now.way) visit.now.begun }
+    /// The moments of a hop, on a drum with this angle at time 0.
+    pub fn of(told: &Told, times: &Times, angle: u8) -> Moments
+        requires { told.now.begun ≤ 2 ^ 62 }
+        ensures { result ≡ moments_of (entry_in times.now) angle told.now.place.number
+            told.now.instruction (seen_way told.now.way) told.now.begun }
     {
         let start = u64::from(angle);
-        let clock = found(visit.place, start + visit.begun);
-        let Some(op) = Op::of(visit.instruction.op()) else {
+        let clock = found(told.place, start + told.begun);
+        let Some(op) = Op::of(told.instruction.op()) else {
             return Moments {
                 found: clock - start,
                 ready: None,
@@ -43,20 +44,20 @@ impl Moments {
         Moments {
             found: clock - start,
             ready: Some(x - start),
-            operand: Moments::operand_from(x, visit, op, start),
+            operand: Moments::operand_from(x, told, op, start),
         }
     }
 
     /// From the clock x on, the word times used when the operation has its data.
-    fn operand_from(x: u64, visit: &Visit, op: Op, start: u64) -> Option<u64>
+    fn operand_from(x: u64, told: &Told, op: Op, start: u64) -> Option<u64>
         requires soon { x ≤ 2 ^ 62 + 2 ^ 39 }
         requires later { start ≤ x }
-        ensures { let d = visit.now.instruction.d in result
-            ≡ (if is_early (seen_way visit.now.way) || not (is_operand (operand_of op) d) then None
+        ensures { let d = told.now.instruction.d in result
+            ≡ (if is_early (seen_way told.now.way) || not (is_operand (operand_of op) d) then None
             else Some (reached_at op d x - start)) }
     {
-        let d = visit.instruction.d();
-        if matches!(visit.way, Way::Early) || !op.operand().suits(d) {
+        let d = told.instruction.d();
+        if matches!(told.way, Way::Early) || !op.operand().suits(d) {
             None
         } else {
             Some(reached(op, d, x) - start)

@@ -10,14 +10,16 @@ ghost use Rattle.drum_machine.specs.Run.{Turn};
 ghost use Rattle.drum_machine.specs.Step.{fetched};
 ghost use Rattle.drum_flow.specs.RunHops.{hop_of};
 ghost use Rattle.drum_machine.specs.WaysLeft.{seen_way};
-ghost use Rattle.drum_bound.specs.Visited.{seen_visit, visited};
+ghost use Rattle.drum_bound.specs.Visited.{visited};
 ghost use Rattle.drum_lines.specs.Sent.{IsSent, fails_by};
 ghost use Rattle.drum_listing.specs.Pieces.{fetch_text};
+ghost use Rattle.drum_listing.specs.Told.{seen_told};
 ghost use Rattle.drum_listing.specs.TraceText.{turn_line};
 
 use crate::moments::Moments;
 use crate::moments_text::send_times;
-use drum_bound::{Visit, Way};
+use crate::told::Told;
+use drum_bound::Way;
 use drum_core::{Instruction, Location, Output, Word};
 use drum_lines::{WriteFault, four_digits, send, spelling_of};
 use drum_machine::{Step, Why};
@@ -44,10 +46,10 @@ fn word_of(step: &Step) -> Word
     }
 }
 
-/// A step as a visit of the location where it begins, with so many word times used before it.
-fn visit_of(step: &Step, before: u64) -> Visit
-    ensures visit { (times : Op → Entry) (turn : Turn) → IsToldOf times turn step.now
-        → turn.origin.time ≡ before → seen_visit result ≡ visited (hop_of turn) }
+/// A step as a hop from the location where it begins, with so many word times used before it.
+fn told_of(step: &Step, before: u64) -> Told
+    ensures told { (times : Op → Entry) (turn : Turn) → IsToldOf times turn step.now
+        → turn.origin.time ≡ before → seen_told result ≡ visited (hop_of turn) }
     ensures begun { result.begun ≡ before }
 {
     match *step {
@@ -57,7 +59,7 @@ fn visit_of(step: &Step, before: u64) -> Visit
             next,
             used,
             ..
-        } => Visit {
+        } => Told {
             place: origin,
             instruction: Instruction::of(word),
             way: Way::To(next),
@@ -69,7 +71,7 @@ fn visit_of(step: &Step, before: u64) -> Visit
             word,
             why,
             used,
-        } => Visit {
+        } => Told {
             place: origin,
             instruction: Instruction::of(word),
             way: way_of(why),
@@ -137,8 +139,8 @@ pub fn send_step<O: Output>(
     ensures calls { O.called writer.new ≤ O.called writer.old + 200 }
     ensures few { IfOk result (λ total. total ≤ sent + 200) }
 {
-    let visit = visit_of(step, before);
-    let moments = Moments::of(&visit, times, angle);
-    let sent = send_fetch(writer, sent, number, visit.place, word_of(step))?;
-    send_times(writer, sent, &moments, visit.ended)
+    let told = told_of(step, before);
+    let moments = Moments::of(&told, times, angle);
+    let sent = send_fetch(writer, sent, number, told.place, word_of(step))?;
+    send_times(writer, sent, &moments, told.ended)
 }

@@ -6,10 +6,12 @@ ghost use Rattle.drum_machine.specs.WaysLeft.{seen_way};
 ghost use Rattle.drum_bound.specs.Visited.{seen_visit};
 ghost use Rattle.drum_lines.specs.Sent.{IsSent, fails_by};
 ghost use Rattle.drum_listing.specs.Pieces.{onto_digits, way_name as name_of};
+ghost use Rattle.drum_listing.specs.Told.{seen_told};
 ghost use Rattle.drum_listing.specs.WalkText.{hop_text, visit_line};
 
 use crate::moments::Moments;
 use crate::moments_text::send_times;
+use crate::told::Told;
 use drum_bound::{Visit, Way};
 use drum_core::Output;
 use drum_lines::{WriteFault, four_digits, send, two_digits};
@@ -43,19 +45,19 @@ fn onto_with(digits: &mut [u8; 4], way: Way) -> &[u8]
 }
 
 /// Writes where a hop begins, its instruction, how it ends, and when it begins.
-fn send_hop<O: Output>(writer: &mut O, sent: usize, visit: &Visit) -> Result<usize, WriteFault>
+fn send_hop<O: Output>(writer: &mut O, sent: usize, told: &Told) -> Result<usize, WriteFault>
     requires called { O.called writer.old ≤ 2 ^ 62 + 2 ^ 60 }
     requires few { sent ≤ 2 ^ 60 }
     ensures sent { IsSent (O.written writer.old) (O.written writer.new) sent result
-        (hop_text (seen_visit visit.now)) }
+        (hop_text (seen_told told.now)) }
     ensures failures { O.failed writer.new ≡ O.failed writer.old + fails_by result }
     ensures calls { O.called writer.new ≤ O.called writer.old + 60 }
     ensures few { IfOk result (λ total. total ≤ sent + 60) }
 {
-    let place = four_digits(visit.place.number());
-    let op = two_digits(visit.instruction.op());
-    let d = four_digits(visit.instruction.d());
-    let i = four_digits(visit.instruction.i());
+    let place = four_digits(told.place.number());
+    let op = two_digits(told.instruction.op());
+    let d = four_digits(told.instruction.d());
+    let i = four_digits(told.instruction.i());
     let mut onto = [0; 4];
     let mut begun = Buffer::new();
     let pieces: [&[u8]; 12] = [
@@ -67,10 +69,10 @@ fn send_hop<O: Output>(writer: &mut O, sent: usize, visit: &Visit) -> Result<usi
         b" ",
         &i,
         b" ",
-        way_name(visit.way),
-        onto_with(&mut onto, visit.way),
+        way_name(told.way),
+        onto_with(&mut onto, told.way),
         b" begun ",
-        begun.format(visit.begun).as_bytes(),
+        begun.format(told.begun).as_bytes(),
     ];
     send(writer, sent, &pieces)
 }
@@ -85,14 +87,14 @@ pub fn send_visit<O: Output>(
 ) -> Result<usize, WriteFault>
     requires called { O.called writer.old ≤ 2 ^ 62 + 2 ^ 60 }
     requires few { sent ≤ 2 ^ 60 }
-    requires early { visit.now.begun ≤ 2 ^ 62 }
     ensures sent { IsSent (O.written writer.old) (O.written writer.new) sent result
         (visit_line (entry_in times.now) angle (seen_visit visit.now)) }
     ensures failures { O.failed writer.new ≡ O.failed writer.old + fails_by result }
     ensures calls { O.called writer.new ≤ O.called writer.old + 200 }
     ensures few { IfOk result (λ total. total ≤ sent + 200) }
 {
-    let moments = Moments::of(visit, times, angle);
-    let sent = send_hop(writer, sent, visit)?;
-    send_times(writer, sent, &moments, visit.ended)
+    let told = Told::of(visit);
+    let moments = Moments::of(&told, times, angle);
+    let sent = send_hop(writer, sent, &told)?;
+    send_times(writer, sent, &moments, told.ended)
 }

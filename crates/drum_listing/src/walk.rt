@@ -1,6 +1,6 @@
 //! The worst walk of an analysis, visit by visit.
 
-ghost use Rattle.std.specs.Prelude.{◌≡◌, ◌+◌, ◌^◌, ◌≤◌, All, IfOk, flat_map, length};
+ghost use Rattle.std.specs.Prelude.{◌≡◌, ◌+◌, ◌^◌, ◌≤◌, IfOk, flat_map, length};
 ghost use Rattle.drum_times.specs.Entries.{entry_in};
 ghost use Rattle.drum_bound.specs.AnalysisOf.{angle_of, bound_of, visits_of};
 ghost use Rattle.drum_bound.specs.Visited.{seen_visit};
@@ -22,7 +22,6 @@ fn send_visits<O: Output>(
 ) -> Result<usize, WriteFault>
     requires called { O.called writer.old ≤ 2 ^ 62 }
     requires few { length walk.now ≤ 4000000 }
-    requires early { All (λ visit. visit.begun ≤ 2 ^ 62) walk.now }
     ensures sent { IsSent (O.written writer.old) (O.written writer.new) 0 result
         (flat_map (λ visit. visit_line (entry_in times.now) angle (seen_visit visit)) walk.now) }
     ensures failures { O.failed writer.new ≡ O.failed writer.old + fails_by result }

@@ -60,7 +60,7 @@ impl Parts {
     pub(crate) fn of(visit: &Visit, angle: u64, times: &Times) -> Parts {
         let angle = angle.min(49);
         let begun = visit.begun.min(LATEST) + angle;
-        let ended = visit.ended.min(LATEST) + angle;
+        let ended = visit.ended().min(LATEST) + angle;
         let found = moments::found(visit.place, begun);
         match Op::of(visit.instruction.op()) {
             Some(op) => Parts::of_op(visit, op, times.entry(op), [begun, found, ended]),

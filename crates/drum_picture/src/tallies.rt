@@ -78,7 +78,7 @@ impl Tallies {
     /// Counts a hop.
     fn count(&mut self, visit: &Visit) {
         if let Some(tally) = self.all.get_mut(place_of(visit.place)) {
-            let time = visit.ended.saturating_sub(visit.begun);
+            let time = u64::from(visit.took);
             tally.visits = tally.visits.saturating_add(1);
             tally.time = tally.time.saturating_add(time);
         }

@@ -113,20 +113,28 @@ visits_fit here walk i within few =
           walk within,
     )
 
+-- what a visit takes
+spends : (visit : Visit) → (seen_visit visit).ended - visit.begun ≡ visit.took
+spends visit = omega arith
+
+time_seen : (old new : Tally) (visit : Visit) → new.time ≡ old.time + visit.took
+    → new.time ≡ old.time + ((seen_visit visit).ended - visit.begun)
+time_seen old new visit time = omega (arith, time, spends visit)
+
 pub times_fit : (here : ℕ → Bool) (walk : List Visit) (i : ℕ) (visit : Visit) → i < length walk
     → visit ≡ get_or walk i visit → time_in (map seen_visit walk) < 2 ^ 62
-    → (tally_of (visits_at here (map seen_visit (take i walk)))).time + (visit.ended - visit.begun) < 2 ^ 62
+    → (tally_of (visits_at here (map seen_visit (take i walk)))).time + visit.took < 2 ^ 62
 times_fit here walk i visit within is short =
     let spent : Visited → ℕ = λ v. v.ended - v.begun in
     let more : time_in (map seen_visit (take (i + 1) walk)) ≡ time_in (map seen_visit (take i walk))
-    + (visit.ended - visit.begun) =
+    + spent (seen_visit visit) =
     ap time_in (seen_more walk i visit within)
     ∙ sum_by_push spent (map seen_visit (take i walk)) (seen_visit (get_or walk i visit))
-    ∙ ap (λ (v : Visit). time_in (map seen_visit (take i walk)) + (v.ended - v.begun)) (sym is) in
+    ∙ ap (λ (v : Visit). time_in (map seen_visit (take i walk)) + spent (seen_visit v)) (sym is) in
     let part : time_in (map seen_visit (take (i + 1) walk)) ≤ time_in (map seen_visit walk) =
     subst (λ (visits : List Visited). time_in visits ≤ time_in (map seen_visit walk)) (take-map seen_visit (i + 1) walk)
     (sum_by-take-le spent (map seen_visit walk) (i + 1)) in
-    omega (arith, time_part here (map seen_visit (take i walk)), more, part, short)
+    omega (arith, time_part here (map seen_visit (take i walk)), more, spends visit, part, short)
 
 -- The tallies by line with a hop more: at a location of a card, and elsewhere.
 pub by_line_some : (deck : Deck) (walk : List Visit) (i : ℕ) (visit : Visit) (cards : List Tally) (line : ℕ)
@@ -134,7 +142,7 @@ pub by_line_some : (deck : Deck) (walk : List Visit) (i : ℕ) (visit : Visit) (
     → i < length walk → visit ≡ get_or walk i visit → card_in deck visit.place.number ≡ Some line → line ≤ 4000
     → length cards ≡ 4001
     → tally.visits ≡ (get_or cards line past).visits + 1
-    → tally.time ≡ (get_or cards line past).time + (visit.ended - visit.begun)
+    → tally.time ≡ (get_or cards line past).time + visit.took
     → AreByLine deck (map seen_visit (take i walk)) cards
     → AreByLine deck (map seen_visit (take (i + 1) walk)) (set cards line tally)
 by_line_some deck walk i visit cards line tally past within is of within_lines places visits time by_line other low =
@@ -155,7 +163,8 @@ by_line_some deck walk i visit cards line tally past within is of within_lines p
           ∙ slice_get-set_same cards line tally (omega (arith, within_lines, places)) in
           put ∙ ap Some (tally_more (is_of_card deck other) before (seen_visit visit) here tally
           (visits ∙ ap (λ (t : Tally). t.visits + 1) old)
-          (time ∙ ap (λ (t : Tally). t.time + (visit.ended - visit.begun)) old))
+          (time_seen (get_or cards line past) tally visit time
+          ∙ ap (λ (t : Tally). t.time + ((seen_visit visit).ended - visit.begun)) old))
       | inr differ ↦
           let here : is_of_card deck other visit.place.number ≡ false = giver ∙ ne_eqb line other differ in
           slice_get-set_other cards line other tally differ ∙ by_line other low
@@ -190,7 +199,7 @@ other_some deck walk i visit other line within is of so_far =
 
 pub other_none : (deck : Deck) (walk : List Visit) (i : ℕ) (visit : Visit) (other tally : Tally)
     → i < length walk → visit ≡ get_or walk i visit → card_in deck visit.place.number ≡ None
-    → tally.visits ≡ other.visits + 1 → tally.time ≡ other.time + (visit.ended - visit.begun)
+    → tally.visits ≡ other.visits + 1 → tally.time ≡ other.time + visit.took
     → other ≡ tally_of (visits_at (is_of_none deck) (map seen_visit (take i walk)))
     → tally ≡ tally_of (visits_at (is_of_none deck) (map seen_visit (take (i + 1) walk)))
 other_none deck walk i visit other tally within is of visits time so_far =
@@ -201,7 +210,7 @@ other_none deck walk i visit other tally within is of visits time so_far =
     ap (λ (found : Option ℕ). elim found as (λ _. Bool) [ Some g ↦ false | None ↦ true ]) of in
     tally_more (is_of_none deck) before (seen_visit visit) here tally
     (visits ∙ ap (λ (t : Tally). t.visits + 1) so_far)
-    (time ∙ ap (λ (t : Tally). t.time + (visit.ended - visit.begun)) so_far)
+    (time_seen other tally visit time ∙ ap (λ (t : Tally). t.time + ((seen_visit visit).ended - visit.begun)) so_far)
     ∙ ap (λ (walked : List Visited). tally_of (visits_at (is_of_none deck) walked)) (sym after)
 
 -- the passes of a mark with a hop more

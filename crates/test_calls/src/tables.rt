@@ -78,7 +78,7 @@ fn has_hops(rt: &impl Abort, analysis: &Analysis, wanted: &[(u16, u64, u64)]) {
     let hops = analysis
         .walk()
         .iter()
-        .map(|visit| (visit.place.number(), visit.begun, visit.ended));
+        .map(|visit| (visit.place.number(), visit.begun, visit.ended()));
     assert!(rt; hops.eq(wanted.iter().copied()));
 }
 

@@ -2,6 +2,7 @@
 
 use crate::page::Page;
 use drum_bound::{Analysis, Flow, Refusal};
+use drum_ceiling::Ceiling;
 use drum_core::{Deck, DeckFault, WholeError};
 use drum_machine::{Machine, Memory};
 use drum_times::{NoteFault, Notes, Times};
@@ -18,6 +19,7 @@ pub(crate) enum Answer<'a> {
     Machine(Result<Machine, Memory>),
     Flow(Result<Flow<'a>, Refusal>),
     Analysis(Result<Analysis, Refusal>),
+    Ceiling(Result<Ceiling, Refusal>),
     Verdict(Result<Verdict, Fault>),
     /// How the program ended, and what went out.
     Ran(Status, Page, Page),
@@ -45,6 +47,7 @@ impl Answer<'_> {
             | Answer::Machine(Err(Memory))
             | Answer::Flow(Err(Refusal::Memory))
             | Answer::Analysis(Err(Refusal::Memory))
+            | Answer::Ceiling(Err(Refusal::Memory))
             | Answer::Verdict(Err(Fault::Memory | Fault::Refused(Refusal::Memory))) => true,
             Answer::Ran(Status::Failed, out, err) => {
                 out.text().is_empty() && WANTS.iter().any(|want| err.is(want))

@@ -3,6 +3,7 @@
 use crate::answer::Answer;
 use crate::page::Page;
 use drum_bound::{accept, analyse, flow};
+use drum_ceiling::ceiling;
 use drum_core::{Reading, Word, Writing, read_deck, read_whole};
 use drum_machine::{Machine, Setup};
 use drum_times::{read_notes, read_times};
@@ -24,6 +25,7 @@ pub(crate) enum Call<'a> {
     Flow(&'a Documents),
     Accept(&'a Documents),
     Analyse(&'a Documents),
+    Ceiling(&'a Documents),
     /// A replay with these inputs.
     Replay(&'a Documents, &'a str),
     /// Words, and the files that they name.
@@ -78,6 +80,9 @@ impl<'a> Call<'a> {
             (Call::Accept(of), _) => Answer::Flow(accept(alloc, &of.deck, &of.notes)),
             (Call::Analyse(of), _) => {
                 Answer::Analysis(analyse(alloc, &of.deck, &of.times, &of.notes))
+            }
+            (Call::Ceiling(of), _) => {
+                Answer::Ceiling(ceiling(alloc, &of.deck, &of.times, &of.notes))
             }
             (Call::Replay(of, _), Spent::Inputs(inputs)) => {
                 Answer::Verdict(replay(alloc, &of.deck, &of.times, &of.notes, inputs))

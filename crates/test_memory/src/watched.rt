@@ -106,6 +106,7 @@ fn of_documents(rt: HostRuntime) -> Result<(), Fail> {
         holds(&rt, Call::Flow(&documents))?;
         holds(&rt, Call::Accept(&documents))?;
         holds(&rt, Call::Analyse(&documents))?;
+        holds(&rt, Call::Ceiling(&documents))?;
         holds(&rt, Call::Replay(&documents, "ANGLE 01\n"))?;
         holds(
             &rt,
@@ -132,6 +133,7 @@ fn of_refusals(rt: HostRuntime) -> Result<(), Fail> {
         let documents = documents(rt.alloc(), deck, &notes)?;
         holds(&rt, Call::Accept(&documents))?;
         holds(&rt, Call::Analyse(&documents))?;
+        holds(&rt, Call::Ceiling(&documents))?;
     }
     Ok(())
 }

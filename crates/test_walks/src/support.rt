@@ -76,8 +76,8 @@ fn holds_together(rt: &impl Abort, subject: &Subject, analysis: &Analysis) {
     for visit in analysis.walk() {
         assert_eq!(rt; sought, Some(visit.place));
         assert_eq!(rt; visit.begun, used);
-        assert!(rt; visit.begun <= visit.ended);
-        used = visit.ended;
+        assert!(rt; visit.begun <= visit.ended());
+        used = visit.ended();
         sought = match visit.way {
             Way::To(next) => Some(next),
             Way::Early | Way::Late => None,

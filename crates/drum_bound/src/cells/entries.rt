@@ -169,6 +169,7 @@ impl Entries {
 
     /// Keeps an end of a hop that goes on at a key, of so many, at this location and with the
     /// counts of this number, where it is later than what is kept there.
+    #[inline(always)]
     pub fn keep(
         &mut self,
         key: u32,
@@ -194,6 +195,7 @@ impl Entries {
     }
 
     /// Raises the entry of a key, where the end is later.
+    #[inline(always)]
     fn raise(&mut self, key: u32, index: usize, end: &End)
         requires kept { AreKept self.old }
         requires there { IsEntryOf key (pairs_of self.old) index }
@@ -221,6 +223,7 @@ impl Entries {
     }
 
     /// Adds the entry of a key, of so many, at which nothing is kept.
+    #[inline(always)]
     fn add(
         &mut self,
         key: u32,

@@ -1,4 +1,4 @@
-ghost use Rattle.std.specs.Prelude.{◌≡◌, ◌+◌, ◌-◌, ◌^◌, ◌<◌, ◌≤◌};
+ghost use Rattle.std.specs.Prelude.{◌≡◌, ◌+◌, ◌^◌, ◌<◌};
 
 use drum_bound::Visit;
 
@@ -15,15 +15,14 @@ impl Tally {
 
     /// The tally with a hop more.
     pub fn with(&self, visit: &Visit) -> Tally
-        requires later { visit.now.begun ≤ visit.now.ended }
         requires few { self.now.visits < 2 ^ 62 }
-        requires short { self.now.time + (visit.now.ended - visit.now.begun) < 2 ^ 62 }
+        requires short { self.now.time + visit.now.took < 2 ^ 62 }
         ensures visits { result.visits ≡ self.now.visits + 1 }
-        ensures time { result.time ≡ self.now.time + (visit.now.ended - visit.now.begun) }
+        ensures time { result.time ≡ self.now.time + visit.now.took }
     {
         Tally {
             visits: self.visits + 1,
-            time: self.time + (visit.ended - visit.begun),
+            time: self.time + u64::from(visit.took),
         }
     }
 }

@@ -76,7 +76,7 @@ fn two_words_answer(rt: &impl Abort, analysis: &Analysis) {
     }
     assert_eq!(rt; analysis.walk().len(), 2);
     for (visit, said) in analysis.walk().iter().zip([(100, 0, 55), (106, 55, 56)]) {
-        assert_eq!(rt; (visit.place.number(), visit.begun, visit.ended), said);
+        assert_eq!(rt; (visit.place.number(), visit.begun, visit.ended()), said);
     }
 }
 

@@ -1,8 +1,7 @@
 use Rattle.std.proofs.Common.{◌≡◌, ℕ, ◌+◌, ◌-◌, List, Vec, Global, length, map, ap, sym, ◌∙◌, subst, arith}
 use Rattle.std.proofs.lemmas.List.{length-map}
-use Rattle.drum_times.specs.declared.notes.mark.Mark.{Mark}
 use Rattle.drum_times.specs.declared.times.Times.{Times}
-use Rattle.drum_flow.specs.Flow.{deck_of, notes_of}
+use Rattle.drum_flow.specs.Flow.{deck_of}
 use Rattle.drum_flow.specs.AcceptedFlow.{in_order}
 use Rattle.drum_bound.specs.declared.analysis.Analysis.{Analysis}
 use Rattle.drum_bound.specs.declared.cells.Cells.{Cells}
@@ -11,7 +10,7 @@ use Rattle.drum_bound.specs.declared.visit.Visit.{Visit}
 use Rattle.drum_bound.specs.AnalysisOf.{ArePasses}
 use Rattle.drum_bound.specs.Held.{kept_in}
 use Rattle.drum_bound.specs.Keys.{keys_of}
-use Rattle.drum_bound.specs.KeysOf.{setting_of}
+use Rattle.drum_bound.specs.KeysOf.{marks_in, setting_of}
 use Rattle.drum_bound.specs.ScanOf.{AreCells}
 use Rattle.drum_bound.specs.Scanned.{turns_below, Scanned}
 use Rattle.drum_bound.specs.Table.{start_angle}
@@ -31,10 +30,10 @@ of-requires-2 v c =
     let keys = c.args.keys.now in
     let times = c.args.times.now in
     let cells = c.in_ok-scan.scan.cells in
-    let visits = map seen_visit c.in_ok-walk.walk.items in
+    let visits = map seen_visit c.in_ok-trace.trace.visits.items in
     let is : IsFound keys times cells visits =
     is_found keys times c.in_ok-scan.scan visits c.in_ok-scan.ensures.keys c.in_ok-scan.ensures.times
-    c.in_ok-scan.ensures.done c.in_ok-walk.ensures in
+    c.in_ok-scan.ensures.done c.in_ok-trace.ensures.walk in
     let g = setting_of keys.accepted.now times in
     record {
       in_time = subst (AreInTime 0 visits) (sym (bound keys times cells visits is))
@@ -56,19 +55,16 @@ returns-clause-is v c =
     let keys = c.args.keys.now in
     let times = c.args.times.now in
     let cells = c.in_ok-scan.scan.cells in
-    let visits = map seen_visit c.in_ok-walk.walk.items in
+    let visits = map seen_visit c.in_ok-trace.trace.visits.items in
     let g = setting_of keys.accepted.now times in
     let order = in_order keys.accepted.now in
     let is : IsFound keys times cells visits =
     is_found keys times c.in_ok-scan.scan visits c.in_ok-scan.ensures.keys c.in_ok-scan.ensures.times
-    c.in_ok-scan.ensures.done c.in_ok-walk.ensures in
+    c.in_ok-scan.ensures.done c.in_ok-trace.ensures.walk in
     let analysis : Analysis = c.of-2.result in
-    let marks : c.marks.result.now ≡ (notes_of keys.accepted.now.flow).marks = c.marks.ensures.all in
-    let passed : ArePasses c.marks.result.now visits c.passes_of_marks-passed.result =
-    subst (λ (walk : List Visit). ArePasses c.marks.result.now (map seen_visit walk) c.passes_of_marks-passed.result)
-    c.deref-2.ensures.value c.passes_of_marks-passed.ensures.passed in
-    let own : ArePasses g.notes.marks visits c.passes_of_marks-passed.result =
-    subst (λ (all : List Mark). ArePasses all visits c.passes_of_marks-passed.result) marks passed in
+    let own : ArePasses g.notes.marks visits c.in_ok-trace.trace.passed =
+    subst (λ (one : Keys). ArePasses (marks_in one) visits c.in_ok-trace.trace.passed) c.in_ok-scan.ensures.keys
+    c.in_ok-trace.ensures.passed in
     let same : c.of-2.result.cells ≡ cells = c.of-2.ensures.cells in
     let walked : map seen_visit c.of-2.result.walk.items ≡ visits =
     ap (λ (walk : Vec Visit Global). map seen_visit walk.items) c.of-2.ensures.walk in
@@ -89,9 +85,9 @@ returns-clause-is v c =
 pub returns-clause-words : goal.returns-clause-words
 returns-clause-words v c =
     let is : IsFound c.args.keys.now c.args.times.now c.in_ok-scan.scan.cells
-    (map seen_visit c.in_ok-walk.walk.items) =
-    is_found c.args.keys.now c.args.times.now c.in_ok-scan.scan (map seen_visit c.in_ok-walk.walk.items)
-    c.in_ok-scan.ensures.keys c.in_ok-scan.ensures.times c.in_ok-scan.ensures.done c.in_ok-walk.ensures in
+    (map seen_visit c.in_ok-trace.trace.visits.items) =
+    is_found c.args.keys.now c.args.times.now c.in_ok-scan.scan (map seen_visit c.in_ok-trace.trace.visits.items)
+    c.in_ok-scan.ensures.keys c.in_ok-scan.ensures.times c.in_ok-scan.ensures.done c.in_ok-trace.ensures.walk in
     ap (λ (cells : Cells). cells.words) c.of-2.ensures.cells ∙ is.are.words
 
 pub returns-clause-counted : goal.returns-clause-counted

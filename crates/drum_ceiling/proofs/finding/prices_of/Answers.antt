@@ -28,13 +28,13 @@ returns-in-Some c =
     subst (AreRows g) (sym c.deref-2.ensures.value)
     (subst (λ (one : Flow). AreRows (setting (deck_of one) c.args.times.now (notes_of one)) c.in_ok-rows.rows.items)
     c.flow-flow.ensures c.in_ok-rows.ensures) in
-    let start : start_in (deck_of flow) ≡ c.start.result.number =
-    sym (c.start.ensures.held ∙ ap start_in (c.deck.ensures ∙ ap deck_of c.flow-flow.ensures)) in
-    let below : start_in (deck_of flow) < 2000 = omega (arith, start, c.start.ensures.on_drum) in
+    let start : start_in (deck_of flow) ≡ c.start-start.result.number =
+    sym (c.start-start.ensures.held ∙ ap start_in (c.deck.ensures ∙ ap deck_of c.flow-flow.ensures)) in
+    let below : start_in (deck_of flow) < 2000 = omega (arith, start, c.start-start.ensures.on_drum) in
     let marks : length (notes_of flow).marks ≡ length c.marks-marks.result.now =
     ap (λ (n : Notes). length n.marks) (sym (c.notes.ensures ∙ ap notes_of c.flow-flow.ensures))
     ∙ sym (ap (λ (ms : List Mark). length ms) c.marks-marks.ensures.all) in
     subst (λ (most : ℕ). ArePrices g most c.in-Some.prices.prices.items c.in-Some.prices.base) told
     (c.in-Some.ensures g rows
-    (start ∙ start_number c.start.result.number c.of-start.result.number c.start.ensures.on_drum c.of-start.ensures) below
+    (start ∙ start_number c.start-start.result.number c.of.result.number c.start-start.ensures.on_drum c.of.ensures) below
     marks)

@@ -1,4 +1,4 @@
-use Rattle.std.proofs.Common.{◌≡◌, ℕ, ◌+◌, ◌*◌, ◌≤◌, List, length, map, take, ap, sym, subst, ◌∙◌, arith}
+use Rattle.std.proofs.Common.{◌≡◌, ℕ, ◌*◌, ◌≤◌, List, length, map, take, ap, sym, subst, ◌∙◌, arith}
 use Rattle.std.specs.Prelude.{All}
 use Rattle.std.proofs.lemmas.List.{length-map}
 use Rattle.std.proofs.lemmas.List.Elements.{All-map}
@@ -22,21 +22,6 @@ use Rattle.drum_ceiling.proofs.prices.prices_by_order.Goals as goal
 
 pub overflow_mul-base : goal.overflow_mul-base
 overflow_mul-base c =
-    let accepted = c.args.accepted.now in
-    let few = no_more (in_order accepted) (executed_in accepted.flow) c.requires.order.different c.requires.order.only in
-    omega (
-      arith,
-      few,
-      c.height_of-height.ensures.low,
-      ap (λ (all : List ℕ). length all) c.order.ensures,
-      length-map c.order.result.now (λ (one : Location). one.number),
-      c.highest_of-highest.ensures.told,
-      c.highest_of-highest.ensures.low,
-      ap (λ (flow : Flow). length (executed_in flow)) c.flow-flow.ensures,
-    )
-
-pub overflow_add-base : goal.overflow_add-base
-overflow_add-base c =
     let accepted = c.args.accepted.now in
     let few = no_more (in_order accepted) (executed_in accepted.flow) c.requires.order.different c.requires.order.only in
     omega (
@@ -76,7 +61,7 @@ returns c times =
     let height_is : c.height_of-height.result ≡ height order (start_in deck) =
     c.height_of-height.ensures.value ∙ ap (λ (places : List ℕ). height places c.start.result.number) c.order.ensures
     ∙ ap (height order) start in
-    let base : base_by order (start_in deck) ≡ 49 + c.height_of-height.result * 92000148 = omega (arith, height_is) in
+    let base : base_by order (start_in deck) ≡ c.height_of-height.result * 92000148 = omega (arith, height_is) in
     let proper = is_proper deck times notes (subst AreSound same_notes c.marks-items.ensures.sound) in
     let is : IsCertificate g (prices_by notes.marks highest) (potential_by order) (base_by order (start_in deck)) =
     certificate_by g executed order proper c.requires.admitted c.requires.order highest (omega (arith, few)) in

@@ -5,6 +5,7 @@ use Rattle.std.proofs.lemmas.Bool.{cases_lt}
 use Rattle.std.proofs.lemmas.List.Elements.{Contains-push}
 use Rattle.std.proofs.lemmas.Option.{slice_get-get_or, slice_get_within}
 use Rattle.drum_times.specs.Marks.{mark_on}
+use Rattle.drum_machine.specs.Ways.{to}
 use Rattle.drum_ceiling.specs.declared.row.Edge.{Edge}
 use Rattle.drum_ceiling.specs.Certificate.{IsShut}
 use Rattle.drum_ceiling.specs.Rows.{HasEdges}
@@ -47,7 +48,8 @@ loop-number-preserved-then-is_shut c slot time high at free =
       | inr last ↦ (
           let same : slot ≡ c.loop-number.number = omega (arith, high, last) in
           let place : c.location.result.number ≡ place_of slot = c.location.ensures ∙ ap place_of (sym same) in
-          absurd (free (subst (IsShut c.args.marks.now c.args.from.number) place (c.is_shut.ensures c.if-is_shut.true))))
+          absurd (free (subst (λ (n : ℕ). IsShut c.args.marks.now c.args.from.number (to n)) place
+          (c.is_shut.ensures c.if-is_shut.true))))
     ]
 
 pub loop-number-preserved : goal.loop-number-preserved

@@ -1,41 +1,41 @@
 use Rattle.std.proofs.Common.{Err, subst}
 use Rattle.std.proofs.lemmas.Result.{err_from_is_err_and}
 use Rattle.drum_times.specs.Entries.{entry_in}
-use Rattle.drum_bound.specs.Visited.{seen_visit}
 use Rattle.drum_lines.specs.Sent.{IsSent}
 use Rattle.drum_lines.proofs.Sending.{IsSent-cut, IsSent-then}
 use Rattle.drum_listing.specs.Pieces.{fetch_text, times_text}
+use Rattle.drum_listing.specs.Told.{seen_told}
 use Rattle.drum_listing.proofs.Lines.{turn_told}
 use Rattle.drum_listing.proofs.step_line.send_step.Goals as goal
 
 pub returns-in_err-sent-clause-sent : goal.returns-in_err-sent-clause-sent
 returns-in_err-sent-clause-sent g c turn tells start before =
     let times = entry_in c.args.times.now in
-    let visit = c.visit_of-visit.result in
+    let hop = c.told_of-told.result in
     let moments = c.of-moments.result in
     let old = g.O.Output.written c.args.writer.now in
     let new = g.O.Output.written c.send_fetch.new.writer in
     let fault = c.in_err-sent.field-0.0 in
     let p = err_from_is_err_and c.from_residual.result c.from_residual.ensures.1 in
-    let fetch = fetch_text c.args.number visit.place.number c.word_of.result in
+    let fetch = fetch_text c.args.number hop.place.number c.word_of.result in
     rw (p.1, p.2) (subst (IsSent old new c.args.sent (Err fault))
-    (turn_told times c.args.number c.args.angle turn (seen_visit visit) c.word_of.result moments
-    (c.visit_of-visit.ensures.visit times turn tells before)
+    (turn_told times c.args.number c.args.angle turn (seen_told hop) c.word_of.result moments
+    (c.told_of-told.ensures.told times turn tells before)
     (c.word_of.ensures times turn tells) start c.of-moments.ensures)
-    (IsSent-cut old new c.args.sent fault fetch (times_text moments visit.ended) c.in_err-sent.ensures.sent))
+    (IsSent-cut old new c.args.sent fault fetch (times_text moments hop.ended) c.in_err-sent.ensures.sent))
 
 pub returns-clause-sent : goal.returns-clause-sent
 returns-clause-sent g c turn tells start before =
     let times = entry_in c.args.times.now in
-    let visit = c.visit_of-visit.result in
+    let hop = c.told_of-told.result in
     let moments = c.of-moments.result in
     let old = g.O.Output.written c.args.writer.now in
     let between = g.O.Output.written c.send_fetch.new.writer in
     let new = g.O.Output.written c.send_times.new.writer in
-    let fetch = fetch_text c.args.number visit.place.number c.word_of.result in
+    let fetch = fetch_text c.args.number hop.place.number c.word_of.result in
     subst (IsSent old new c.args.sent c.send_times.result)
-    (turn_told times c.args.number c.args.angle turn (seen_visit visit) c.word_of.result moments
-    (c.visit_of-visit.ensures.visit times turn tells before)
+    (turn_told times c.args.number c.args.angle turn (seen_told hop) c.word_of.result moments
+    (c.told_of-told.ensures.told times turn tells before)
     (c.word_of.ensures times turn tells) start c.of-moments.ensures)
     (IsSent-then old between new c.args.sent c.in_ok-sent.sent c.send_times.result fetch
-    (times_text moments visit.ended) c.in_ok-sent.ensures.sent c.send_times.ensures.sent)
+    (times_text moments hop.ended) c.in_ok-sent.ensures.sent c.send_times.ensures.sent)

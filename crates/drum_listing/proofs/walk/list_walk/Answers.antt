@@ -1,4 +1,4 @@
-use Rattle.std.proofs.Common.{◌≡◌, ℕ, List, flat_map, map, Ok, Err, ap, sym, ◌∙◌, subst, arith}
+use Rattle.std.proofs.Common.{◌≡◌, ℕ, List, flat_map, map, Ok, Err, ap, ◌∙◌, subst}
 use Rattle.std.proofs.lemmas.Result.{err_from_is_err_and}
 use Rattle.drum_core.specs.declared.op.Op.{Op}
 use Rattle.drum_times.specs.declared.entry.Entry.{Entry}
@@ -6,33 +6,13 @@ use Rattle.drum_times.specs.Entries.{entry_in}
 use Rattle.drum_bound.specs.declared.analysis.Analysis.{Analysis}
 use Rattle.drum_bound.specs.declared.visit.Visit.{Visit}
 use Rattle.drum_bound.specs.AnalysisOf.{angle_of, bound_of, visits_of}
-use Rattle.drum_bound.specs.Visited.{Visited, seen_visit, AreInTime}
+use Rattle.drum_bound.specs.Visited.{seen_visit}
 use Rattle.drum_lines.specs.BoundText.{bound_text}
 use Rattle.drum_lines.specs.Sent.{IsSent}
 use Rattle.drum_lines.proofs.Sending.{IsSent-cut, IsSent-then, written_whole, written_cut}
 use Rattle.drum_listing.specs.WalkText.{visit_line, walk_text}
-use Rattle.drum_listing.proofs.Begun.{begun_within}
 use Rattle.drum_listing.proofs.Lines.{flat_map_map}
 use Rattle.drum_listing.proofs.walk.list_walk.Goals as goal
-
--- none of the analysis's hops begins after its bound
-begun_early : (analysis : Analysis) (walk : List Visit) → map seen_visit walk ≡ visits_of analysis
-    → ∥ AreInTime 0 (visits_of analysis) (bound_of analysis) ∥₁
-    → ∥ AreInTime 0 (map seen_visit walk) (bound_of analysis) ∥₁
-begun_early analysis walk told in_time =
-    subst (λ (visits : List Visited). ∥ AreInTime 0 visits (bound_of analysis) ∥₁) (sym told) in_time
-
-pub send_visits-requires-clause-early : goal.send_visits-requires-clause-early
-send_visits-requires-clause-early g c k d within =
-    let analysis = c.args.analysis.now in
-    let walk = c.walk.result.now in
-    omega (
-      arith,
-      begun_within walk (bound_of analysis)
-          (begun_early analysis walk c.walk.ensures.told c.walk.ensures.in_time) k d within,
-      c.bound-bound.ensures.told,
-      c.bound-bound.ensures.below,
-    )
 
 -- the lines that went out are those of the analysis's hops
 lines_told : (times : Op → Entry) (angle : ℕ) (analysis : Analysis) (walk : List Visit) → angle ≡ angle_of analysis

@@ -8,16 +8,6 @@ use Rattle.drum_lines.proofs.Sending.{sent_more, sent_cut}
 use Rattle.drum_listing.specs.WalkText.{visit_line}
 use Rattle.drum_listing.proofs.walk.send_visits.Goals as goal
 
-pub send_visit-requires-clause-early : goal.send_visit-requires-clause-early
-send_visit-requires-clause-early g c =
-    let visit = c.visit-item.result in
-    omega (
-      arith,
-      ap (λ (one : Visit). one.begun) c.visit-item.is,
-      c.requires.early c.loop-visit.visit-index visit
-          c.loop-visit-test.true,
-    )
-
 pub returns-in_err-sent-clause-sent : goal.returns-in_err-sent-clause-sent
 returns-in_err-sent-clause-sent g c =
     let line : Visit → List ℕ = λ visit. visit_line (entry_in c.args.times.now) c.args.angle (seen_visit visit) in

@@ -14,15 +14,8 @@ use Rattle.drum_report.specs.declared.reporting.tally.Tally.{Tally}
 use Rattle.drum_report.specs.declared.reporting.tallies.Tallies.{Tallies}
 use Rattle.drum_report.specs.TalliesOf.{AreTallies, told_of_others}
 use Rattle.drum_lines.proofs.Sending.{cut_second, cut_third, all_four, written_whole, written_cut}
-use Rattle.drum_report.proofs.Spending.{ends, spends, later}
+use Rattle.drum_report.proofs.Spending.{ends, spends}
 use Rattle.drum_report.proofs.reporting.report.Goals as goal
-
-pub of-tallies-requires-clause-later : goal.of-tallies-requires-clause-later
-of-tallies-requires-clause-later g c =
-    let analysis = c.args.analysis.now in
-    later c.walk.result.now (bound_of analysis)
-    (subst (λ (visits : List Visited). ∥ AreInTime 0 visits (bound_of analysis) ∥₁) (sym c.walk.ensures.told)
-    c.walk.ensures.in_time)
 
 pub of-tallies-requires-clause-short : goal.of-tallies-requires-clause-short
 of-tallies-requires-clause-short g c =

@@ -15,11 +15,11 @@ overflow_add-self g c = omega (arith, c.requires.1.few)
 pub returns : goal.returns
 returns g c = record {
   same = ap (λ (limit : length (pairs_of c.args.self.now.entries) ≤ size_of c.args.self.now). record c.args.self.now {
-    last = c.later-self.result;
+    last = c.raise.new.self;
     made = c.args.self.now.made + 1;
     limit = limit;
   }) (le_prop _ c.args.self.now.limit)
       ∙ ap (λ (last : Latest). record c.args.self.now { last = last; made = c.args.self.now.made + 1 })
-      (c.later-self.ensures ∙ ap (later c.args.self.now.last) (c.latest.ensures ∙ c.of-end.ensures.latest));
+      (c.raise.ensures ∙ ap (later c.args.self.now.last) (c.latest.ensures ∙ c.of-end.ensures.latest));
   counted = c.of-end.ensures.counted;
 }

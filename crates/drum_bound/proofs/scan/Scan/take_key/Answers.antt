@@ -23,7 +23,7 @@ returns-in_default-clause-scanned g c =
 pub take_leaps-requires-clause-search : goal.take_leaps-requires-clause-search
 take_leaps-requires-clause-search g c = record {
   there = place_is (order_of c.args.self.now) (c.args.round.now.own.first + c.args.index) c.args.index
-      c.node-node.result.location.number c.node-node.ensures.location c.requires.rest;
+      c.location-location.result.number c.location-location.ensures c.requires.rest;
   begun = c.in-Some.ensures;
   found = c.found.ensures.value;
 }
@@ -34,21 +34,21 @@ take_leaps-requires-clause-leaps g c =
     let key = c.args.round.now.own.first + c.args.index in
     let leaps = c.in-Some-leaps.leaps in
     let all = scan.leaps.now in
-    let there = place_is (order_of scan) key c.args.index c.node-node.result.location.number
-    c.node-node.ensures.location c.requires.rest in
+    let there = place_is (order_of scan) key c.args.index c.location-location.result.number
+    c.location-location.ensures c.requires.rest in
     let at : slice_get all c.args.index ≡ Some (Some leaps) =
     slice_get_read all (length all) c.args.index c.index-leaps-index.result refl
     (omega (arith, c.requires.index, c.requires.scanned.leaps.long)) c.index-leaps-index.is
     ∙ ap (λ (one : Option (Vec Leap Global)). Some one) c.in-Some-leaps.is in
     subst (λ (place : ℕ). AreLeaps (setting_in scan) (order_of scan) place c.deref.result.now) there
-    (subst (AreLeaps (setting_in scan) (order_of scan) c.node-node.result.location.number) (sym c.deref.ensures.value)
-    (c.requires.scanned.leaps.each c.args.index c.node-node.result.location.number leaps c.node-node.ensures.location
+    (subst (AreLeaps (setting_in scan) (order_of scan) c.location-location.result.number) (sym c.deref.ensures.value)
+    (c.requires.scanned.leaps.each c.args.index c.location-location.result.number leaps c.location-location.ensures
     at))
 
 pub take_hops-requires-clause-search : goal.take_hops-requires-clause-search
 take_hops-requires-clause-search g c = record {
   there = place_is (order_of c.args.self.now) (c.args.round.now.own.first + c.args.index) c.args.index
-      c.node-node.result.location.number c.node-node.ensures.location c.requires.rest;
+      c.location-location.result.number c.location-location.ensures c.requires.rest;
   begun = c.in-Some.ensures;
   found = c.found.ensures.value;
 }
@@ -56,7 +56,7 @@ take_hops-requires-clause-search g c = record {
 pub take_hops-requires-clause-hops : goal.take_hops-requires-clause-hops
 take_hops-requires-clause-hops g c =
     let scan = c.args.self.now in
-    c.node-node.ensures.hops
+    c.node.ensures.hops
     ∙ ap (λ (place : ℕ). hops (setting_in scan).loads (setting_in scan).notes place)
     (place_is (order_of scan) (c.args.round.now.own.first + c.args.index) c.args.index
-    c.node-node.result.location.number c.node-node.ensures.location c.requires.rest)
+    c.node.result.location.number c.node.ensures.location c.requires.rest)

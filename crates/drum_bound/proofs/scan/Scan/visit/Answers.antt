@@ -1,5 +1,5 @@
-use Rattle.std.proofs.Common.{◌≡◌, ℕ, ◌-◌, ◌%◌, ◌<◌, List, length, Some, None, ap, sym, ◌∙◌, subst, arith}
-use Rattle.std.specs.Prelude.{slice_get, vec_len}
+use Rattle.std.proofs.Common.{◌≡◌, ℕ, ◌+◌, ◌-◌, ◌%◌, ◌<◌, List, length, Some, None, ap, sym, ◌∙◌, subst, arith}
+use Rattle.std.specs.Prelude.{slice_get}
 use Rattle.std.proofs.Math.Nat.{mod-lt}
 use Rattle.std.proofs.lemmas.Option.{slice_get-get_or}
 use Rattle.drum_flow.specs.Hops.{Hop}
@@ -8,12 +8,11 @@ use Rattle.drum_flow.specs.Seen.{seen_hop}
 use Rattle.drum_flow.specs.Walk.{Setting}
 use Rattle.drum_bound.specs.declared.scan.Scan.{Scan}
 use Rattle.drum_bound.specs.Keys.{place_at}
-use Rattle.drum_bound.specs.ScanOf.{IsDone, order_of, setting_in, size_in}
+use Rattle.drum_bound.specs.ScanOf.{order_of, setting_in, size_in}
 use Rattle.drum_bound.specs.TakenOf.{taken_of}
 use Rattle.drum_bound.specs.Visited.{visited}
 use Rattle.drum_bound.proofs.KeyLaws.{some_places}
-use Rattle.drum_bound.proofs.Finished.{kept_after}
-use Rattle.drum_bound.proofs.Nodes.{as_long}
+use Rattle.drum_bound.proofs.Finished.{ends_soon, kept_after}
 use Rattle.drum_bound.proofs.scan.Scan.visit.Goals as goal
 
 pub overflow_sub-result : goal.overflow_sub-result
@@ -24,41 +23,41 @@ overflow_sub-result c =
       c.start_angle-angle.ensures,
     )
 
-pub overflow_sub-result-2 : goal.overflow_sub-result-2
-overflow_sub-result-2 c =
+pub overflow_cast-result : goal.overflow_cast-result
+overflow_cast-result c =
     omega (
       arith,
-      kept_after c.args.self.now c.args.origin.key c.args.begin c.requires.done c.requires.begun,
-      c.start_angle-angle.ensures,
-      c.requires.later,
+      ends_soon c.args.self.now c.args.origin c.args.begin c.args.end.clock c.requires.from c.requires.begun,
     )
 
--- the index of a key's location is one of the order
-index_inside : (scan : Scan) (key words : ℕ) → IsDone scan → key < size_in scan → words ≡ vec_len scan.keys.now.nodes
-    → key % words < length (order_of scan)
-index_inside scan key words done below is =
-    let long : words ≡ length (order_of scan) = as_long scan.keys.now words done.keys is in
-    subst (λ (n : ℕ). key % n < length (order_of scan)) (sym long)
+-- the index of a key's location is one of the order, and the location there is the key's
+index_inside : (scan : Scan) (key index : ℕ) → key < size_in scan → index ≡ key % length (order_of scan)
+    → index < length (order_of scan)
+index_inside scan key index below at =
+    subst (λ (n : ℕ). n < length (order_of scan)) (sym at)
     (mod-lt key (some_places (setting_in scan).notes.marks (order_of scan) key below))
 
--- and the location there is the key's
-place_read : (scan : Scan) (key words : ℕ) → IsDone scan → key < size_in scan → words ≡ vec_len scan.keys.now.nodes
-    → slice_get (order_of scan) (key % words) ≡ Some (place_at (order_of scan) key)
-place_read scan key words done below is =
-    let long : words ≡ length (order_of scan) = as_long scan.keys.now words done.keys is in
-    ap (λ (n : ℕ). slice_get (order_of scan) (key % n)) long
+place_read : (scan : Scan) (key index : ℕ) → key < size_in scan → index ≡ key % length (order_of scan)
+    → slice_get (order_of scan) index ≡ Some (place_at (order_of scan) key)
+place_read scan key index below at =
+    ap (slice_get (order_of scan)) at
     ∙ slice_get-get_or (order_of scan) (key % length (order_of scan)) 0
     (mod-lt key (some_places (setting_in scan).notes.marks (order_of scan) key below))
 
 pub hop_at-requires-clause-there : goal.hop_at-requires-clause-there
 hop_at-requires-clause-there c =
-    index_inside c.args.self.now c.args.origin.key c.len.result c.requires.done c.requires.from.below c.len.ensures
+    index_inside c.args.self.now c.args.origin.key c.args.index c.requires.from.below c.requires.index
+
+pub location-requires : goal.location-requires
+location-requires c = record {
+  there = index_inside c.args.self.now c.args.origin.key c.args.index c.requires.from.below c.requires.index;
+}
 
 pub unreachable-requires : goal.unreachable-requires
 unreachable-requires c =
     go c.requires.from.hop
     (sym c.requires.from.is ∙ c.in_default.ensures (place_at (order_of c.args.self.now) c.args.origin.key)
-    (place_read c.args.self.now c.args.origin.key c.len.result c.requires.done c.requires.from.below c.len.ensures))
+    (place_read c.args.self.now c.args.origin.key c.args.index c.requires.from.below c.requires.index))
   where
     go : (hop : Hop) → Some hop ≡ None → ⊥
     go hop e = cc
@@ -72,7 +71,17 @@ returns c = λ hop is.
     let begun = c.args.begin.clock - c.start_angle-angle.result in
     let ended = c.args.end.clock - c.start_angle-angle.result in
     let read = c.in-Some.ensures (place_at order key)
-    (place_read scan key c.len.result c.requires.done c.requires.from.below c.len.ensures) in
+    (place_read scan key c.args.index c.requires.from.below c.requires.index) in
+    let there : c.location.result.number ≡ place_at order key =
+    at c.location.result.number (place_at order key)
+    (sym c.location.ensures ∙ place_read scan key c.args.index c.requires.from.below c.requires.index) in
+    let sum : begun + (c.args.end.clock - c.args.begin.clock) ≡ ended =
+    omega (
+      arith,
+      kept_after scan key c.args.begin c.requires.done c.requires.begun,
+      c.start_angle-angle.ensures,
+      c.requires.later,
+    ) in
     let same : seen_hop c.in-Some.hop ≡ hop = go (seen_hop c.in-Some.hop) hop (sym read ∙ is) in
     ap (λ (place : ℕ). record {
       place = place;
@@ -80,11 +89,22 @@ returns c = λ hop is.
       way =
           seen_way c.in-Some.hop.way;
       begun = begun;
-      ended = ended;
-    }) c.location_at.ensures
+      ended = begun + (c.args.end.clock - c.args.begin.clock);
+    }) there
+    ∙ ap (λ (end : ℕ). record {
+      place = place_at order key;
+      ins = c.in-Some.hop.instruction;
+      way =
+          seen_way c.in-Some.hop.way;
+      begun = begun;
+      ended = end;
+    }) sum
     ∙ ap (λ (h : Hop). visited (taken_of g order key h begun ended)) same
     ∙ ap (λ (angle : ℕ). visited (taken_of g order key hop (c.args.begin.clock - angle) (c.args.end.clock - angle)))
     c.start_angle-angle.ensures
   where
     go : (one other : Hop) → Some one ≡ Some other → one ≡ other
     go one other e = cc
+
+    at : (one other : ℕ) → Some one ≡ Some other → one ≡ other
+    at one other e = cc

@@ -1,5 +1,8 @@
-use Rattle.std.proofs.Common.{◌≡◌, ℕ, ◌-◌, List, Some, map, ap, sym, ◌∙◌, subst}
-use Rattle.std.specs.Prelude.{option_map}
+use Rattle.std.proofs.Common.{◌≡◌, ℕ, ◌-◌, List, Some, map, reverse, ap, arith, sym, ◌∙◌, subst}
+use Rattle.std.specs.Prelude.{option_map, slice_get}
+use Rattle.drum_times.specs.declared.notes.mark.Mark.{Mark}
+use Rattle.drum_bound.specs.AnalysisOf.{ArePasses}
+use Rattle.drum_bound.specs.KeysOf.{marks_in}
 use Rattle.drum_bound.specs.declared.latest.Latest.{Latest}
 use Rattle.drum_bound.specs.declared.visit.Visit.{Visit}
 use Rattle.drum_bound.specs.Visited.{IsWalkOf, seen_visit}
@@ -7,42 +10,64 @@ use Rattle.drum_bound.specs.ScanOf.{order_of, setting_in}
 use Rattle.drum_bound.specs.Scanned.{cell_at}
 use Rattle.drum_bound.specs.Table.{start_angle}
 use Rattle.drum_bound.proofs.Finished.{is_ordered, starts_on_drum}
-use Rattle.drum_bound.proofs.Traces.{IsTraced, begins_before, origin_kept, trace_more, trace_whole}
+use Rattle.drum_bound.proofs.Traces.{IsTraced, begins_before, falls, key_after, origin_kept, passes_more, trace_more}
+use Rattle.drum_bound.proofs.Traces.{trace_whole}
 use Rattle.drum_bound.specs.Held.{kept_in}
 use Rattle.drum_bound.proofs.scan.Scan.walk.Goals as goal
 
-pub visit-requires-clause-from : goal.visit-requires-clause-from
-visit-requires-clause-from c =
+pub visit-visit-requires-clause-from : goal.visit-visit-requires-clause-from
+visit-visit-requires-clause-from c =
     let scan = c.args.self.now in
     origin_kept (setting_in scan) (order_of scan) (kept_in scan.cells) scan.cells.last (is_ordered scan c.requires)
     (starts_on_drum scan) c.requires.scanned
-    c.loop-end.end c.loop-end.visits.items c.in-Some.origin c.loop-end.invariant c.in-Some.is
+    c.loop-end.end c.loop-end.visits.items c.in-Some.origin c.loop-end.invariant.traced c.in-Some.is
 
-pub visit-requires-clause-later : goal.visit-requires-clause-later
-visit-requires-clause-later c =
+pub visit-visit-requires-clause-later : goal.visit-visit-requires-clause-later
+visit-visit-requires-clause-later c =
     let scan = c.args.self.now in
     let there : cell_at (kept_in scan.cells) c.in-Some.origin.key ≡ Some c.in-Some-kept_at.begin =
     sym c.kept_at.ensures ∙ ap (option_map (λ (kept : ℕ × Latest). kept.1)) c.in-Some-kept_at.is in
     begins_before (setting_in scan) (order_of scan) (kept_in scan.cells) scan.cells.last (is_ordered scan c.requires)
     (starts_on_drum scan) c.requires.scanned
-    c.loop-end.end c.loop-end.visits.items c.in-Some.origin c.in-Some-kept_at.begin c.loop-end.invariant c.in-Some.is
+    c.loop-end.end c.loop-end.visits.items c.in-Some.origin c.in-Some-kept_at.begin c.loop-end.invariant.traced c.in-Some.is
     there
 
 pub loop-end-preserved : goal.loop-end-preserved
 loop-end-preserved c =
     let scan = c.args.self.now in
-    let there : cell_at (kept_in scan.cells) c.in-Some.origin.key ≡ Some c.in-Some-kept_at.begin =
+    let visits = c.loop-end.visits.items in
+    let visit = c.visit-visit.result in
+    let begin = c.in-Some-kept_at.begin in
+    let new = c.count_passes.new.passed in
+    let there : cell_at (kept_in scan.cells) c.in-Some.origin.key ≡ Some begin =
     sym c.kept_at.ensures ∙ ap (option_map (λ (kept : ℕ × Latest). kept.1)) c.in-Some-kept_at.is in
-    subst (λ (visits : List Visit).
-    IsTraced (setting_in scan) (order_of scan) (kept_in scan.cells) scan.cells.last c.in-Some-kept_at.begin visits)
-    (sym {A = List Visit} c.in_ok-push.ensures.items)
-    (trace_more (setting_in scan) (order_of scan) (kept_in scan.cells) scan.cells.last (is_ordered scan c.requires)
-    (starts_on_drum scan) c.requires.scanned
-    c.loop-end.end c.in-Some-kept_at.begin c.loop-end.visits.items c.in-Some.origin c.visit.result c.loop-end.invariant
-    c.in-Some.is there c.visit.ensures)
+    let marks : c.marks-marks.result.now ≡ marks_in scan.keys.now = c.marks-marks.ensures.all in
+    record {
+      traced = subst (λ (all : List Visit).
+          IsTraced (setting_in scan) (order_of scan) (kept_in scan.cells) scan.cells.last begin all)
+          (sym {A = List Visit} c.in_ok-push.ensures.items)
+          (trace_more (setting_in scan) (order_of scan) (kept_in scan.cells) scan.cells.last (is_ordered scan c.requires)
+          (starts_on_drum scan) c.requires.scanned c.loop-end.end begin visits c.in-Some.origin visit
+          c.loop-end.invariant.traced c.in-Some.is there c.visit-visit.ensures);
+      passes = subst (λ (all : List Visit). ArePasses (marks_in scan.keys.now) (map seen_visit (reverse all)) new)
+          (sym {A = List Visit} c.in_ok-push.ensures.items)
+          (passes_more (marks_in scan.keys.now) visits visit c.loop-end.passed new c.loop-end.invariant.passes
+          (λ k mark at. c.count_passes.ensures.counted k mark
+          (subst (λ (all : List Mark). slice_get all k ≡ Some mark) (sym marks) at)));
+      first = c.index_at-index.ensures.first;
+      few = λ k.
+          omega (
+            arith,
+            c.loop-end.invariant.few k,
+            c.count_passes.ensures.once k,
+            ap key_after c.in-Some.is,
+            falls (setting_in scan) (order_of scan) (kept_in scan.cells) scan.cells.last (is_ordered scan c.requires)
+                (starts_on_drum scan) c.requires.scanned c.in-Some.origin begin there,
+          );
+    }
 
-pub returns : goal.returns
-returns c =
+pub returns-clause-walk : goal.returns-clause-walk
+returns-clause-walk c =
     let scan = c.args.self.now in
     subst (λ (visits : List Visit).
     IsWalkOf (setting_in scan) (start_angle (setting_in scan).start)
@@ -50,4 +75,4 @@ returns c =
     (sym {A = List Visit} c.reverse.ensures.items)
     (trace_whole (setting_in scan) (order_of scan) (kept_in scan.cells) scan.cells.last (is_ordered scan c.requires)
     (starts_on_drum scan) c.requires.scanned
-    c.loop-end.end c.loop-end.visits.items c.loop-end.invariant c.in_default.is)
+    c.loop-end.end c.loop-end.visits.items c.loop-end.invariant.traced c.in_default.is)

@@ -4,18 +4,18 @@ use Rattle.drum_machine.specs.Machine.{Tells}
 use Rattle.drum_machine.specs.Step.{fetched}
 use Rattle.drum_machine.specs.WaysLeft.{seen_way}
 use Rattle.drum_listing.proofs.Turns.{went_on, stopped_there}
-use Rattle.drum_listing.proofs.step_line.visit_of.Goals as goal
+use Rattle.drum_listing.proofs.step_line.told_of.Goals as goal
 
-pub returns-in-Went-clause-visit : goal.returns-in-Went-clause-visit
-returns-in-Went-clause-visit c times turn told time =
+pub returns-in-Went-clause-told : goal.returns-in-Went-clause-told
+returns-in-Went-clause-told c times turn told time =
     let w = c.in-Went in
     went_on turn turn.outcome told.origin w.origin w.next w.word (reads_load turn.origin) w.load told.punched w.punched
     w.used c.args.before c.of.result refl
     (subst (Tells turn.outcome told.origin (fetched turn.origin) (reads_load turn.origin) told.punched) w.is told.tells)
     told.sought time c.of.ensures.is
 
-pub returns-in-Stopped-clause-visit : goal.returns-in-Stopped-clause-visit
-returns-in-Stopped-clause-visit c times turn told time =
+pub returns-in-Stopped-clause-told : goal.returns-in-Stopped-clause-told
+returns-in-Stopped-clause-told c times turn told time =
     let w = c.in-Stopped in
     stopped_there turn turn.outcome told.origin w.origin w.word (reads_load turn.origin) told.punched w.why w.used
     c.args.before c.of-in-Stopped.result (seen_way c.way_of.result) refl

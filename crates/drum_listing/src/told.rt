@@ -1,0 +1,40 @@
+//! A hop as its line tells it.
+
+ghost use Rattle.std.specs.Prelude.{◌≡◌, ◌^◌, ◌<◌};
+ghost use Rattle.drum_bound.specs.Visited.{seen_visit};
+ghost use Rattle.drum_listing.specs.Told.{seen_told};
+
+use drum_bound::{Visit, Way};
+use drum_core::{Instruction, Location};
+
+/// A hop as its line tells it: of a walk, or of a step that is handed in. A step may end at any
+/// moment, so it is no [`Visit`].
+#[derive(Clone, Copy, Debug, PartialEq, Eq)]
+pub struct Told {
+    /// Where it begins.
+    pub place: Location,
+    /// The instruction there.
+    pub instruction: Instruction,
+    /// How it ends.
+    pub way: Way,
+    /// The word times used when it begins.
+    pub begun: u64,
+    /// The word times used when it ends.
+    pub ended: u64,
+}
+
+impl Told {
+    /// A hop of a walk.
+    pub fn of(visit: &Visit) -> Told
+        ensures same { seen_told result ≡ seen_visit visit.now }
+        ensures early { result.begun < 2 ^ 50 }
+    {
+        Told {
+            place: visit.place,
+            instruction: visit.instruction,
+            way: visit.way,
+            begun: visit.begun,
+            ended: visit.ended(),
+        }
+    }
+}
