@@ -8,7 +8,10 @@ use Rattle.drum_core.specs.declared.deck.fault.DeckFault.TheVariants as of_deck
 use Rattle.drum_inputs.specs.declared.fault.InputFault.{InputFault}
 use Rattle.drum_inputs.specs.declared.fault.InputFault.TheVariants as of_input
 use Rattle.drum_inputs.specs.declared.inputs.Inputs.{Inputs}
+use Rattle.drum_ceiling.specs.CeilingOf.{IsCeilingRefusal}
+use Rattle.drum_core.specs.Loads.{loads_in, start_in}
 use Rattle.drum_flow.specs.declared.refusal.Refusal.{Refusal}
+use Rattle.drum_flow.specs.Acceptance.{IsRefusal}
 use Rattle.drum_flow.specs.Walk.{Setting}
 use Rattle.drum_lines.specs.declared.fault.Fault.{Fault}
 use Rattle.drum_lines.specs.declared.fault.Fault.TheVariants as faults
@@ -17,10 +20,11 @@ use Rattle.drum_lines.specs.declared.part.Part.TheVariants as part
 use Rattle.drum_lines.specs.declared.part.PartFault.TheVariants as what
 use Rattle.drum_lines.specs.declared.status.Status as statuses
 use Rattle.drum_lines.specs.FaultStatus.{reads_failed}
+use Rattle.drum_tool.specs.declared.documents.Documents.{Documents}
 use Rattle.drum_tool.specs.Asked.{AreLookedAt, AreLookedAtUpTo, Asked, AsksFor, IsLookedAt, IsOfText, IsRead, Looks, MayWant}
 use Rattle.drum_tool.specs.Asked.{Named, Reading, failures_told, fault_in, most_of, part_of, reading}
 use Rattle.drum_tool.specs.Asked.{returned, sought}
-use Rattle.drum_tool.specs.Documents.{IsRefusedFor}
+use Rattle.drum_tool.specs.Documents.{IsAnalysisFault, IsCeilingFault, IsRefusedFor}
 use Rattle.drum_tool.specs.Files.{AreTold, FilesTold, Held, behind}
 use Rattle.drum_tool.specs.Replay.{Given, IsReplayFault}
 use Rattle.drum_tool.specs.Reply.{IsLineOf, LooksAsTold, Reply, SaysTrace, cut_reply, fault_reply, says, trace_reply}
@@ -238,7 +242,7 @@ no_line_of_trace g given reply (inr (turns, replayed, is)) fault clash =
     let bad : cut_reply g turns ≡ fault_reply fault = sym is ∙ clash in cc
 
 -- neither a refusal nor a replay has a fault of a file
-pub refusal_of_none : (Is : Refusal → Type 0) (told : Fault) → IsRefusedFor Is told → part_of told ≡ None
+refusal_of_none : (Is : Refusal → Type 0) (told : Fault) → IsRefusedFor Is told → part_of told ≡ None
 refusal_of_none Is (faults.Refused refusal) is = refl
 refusal_of_none Is faults.NoPart is = absurd is
 refusal_of_none Is (faults.Part part what) is = absurd is
@@ -248,6 +252,14 @@ refusal_of_none Is (faults.Times fault) is = absurd is
 refusal_of_none Is (faults.Notes fault) is = absurd is
 refusal_of_none Is (faults.Inputs fault) is = absurd is
 refusal_of_none Is (faults.Loaded location) is = absurd is
+
+pub analysis_of_none : (documents : Documents) (told : Fault) → IsAnalysisFault documents told → part_of told ≡ None
+analysis_of_none documents told is =
+    refusal_of_none (IsRefusal (loads_in documents.deck) documents.notes (start_in documents.deck)) told is
+
+pub ceiling_of_none : (documents : Documents) (told : Fault) → IsCeilingFault documents told → part_of told ≡ None
+ceiling_of_none documents told is =
+    refusal_of_none (IsCeilingRefusal documents.deck documents.times documents.notes) told is
 
 pub replay_of_none : (g : Setting) (given : Given) (told : Fault) → IsReplayFault g given told → part_of told ≡ None
 replay_of_none g given (faults.Refused refusal) is = refl
