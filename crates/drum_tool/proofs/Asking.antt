@@ -1,13 +1,7 @@
 -- What is asked of a source, piece by piece.
-use Rattle.std.proofs.Common.{◌≡◌, ◌≢◌, ℕ, ◌+◌, ◌≤◌, zero, suc, List, [], ◌∷◌, ◌++◌, Option, Some, None, Result, Ok, Err}
-use Rattle.std.proofs.Common.{IfErr, IsErrOf, ◌⊎◌, ◌↔◌, refl, inl, inr, ap, sym, ◌∙◌, subst, arith, append_assoc}
+use Rattle.std.proofs.Common.{◌≡◌, ℕ, ◌+◌, ◌≤◌, List, [], ◌∷◌, ◌++◌, Option, Some, None, Result, Ok, Err}
+use Rattle.std.proofs.Common.{IfErr, ◌⊎◌, refl, inl, inr, ap, sym, ◌∙◌, subst, arith, append_assoc}
 use Rattle.std.proofs.Common.{append-nil}
-use Rattle.drum_core.specs.declared.deck.Deck.{Deck}
-use Rattle.drum_core.specs.declared.deck.fault.DeckFault.{DeckFault}
-use Rattle.drum_core.specs.declared.deck.fault.DeckFault.TheVariants as of_deck
-use Rattle.drum_inputs.specs.declared.fault.InputFault.{InputFault}
-use Rattle.drum_inputs.specs.declared.fault.InputFault.TheVariants as of_input
-use Rattle.drum_inputs.specs.declared.inputs.Inputs.{Inputs}
 use Rattle.drum_ceiling.specs.CeilingOf.{IsCeilingRefusal}
 use Rattle.drum_core.specs.Loads.{loads_in, start_in}
 use Rattle.drum_flow.specs.declared.refusal.Refusal.{Refusal}
@@ -16,7 +10,6 @@ use Rattle.drum_flow.specs.Walk.{Setting}
 use Rattle.drum_lines.specs.declared.fault.Fault.{Fault}
 use Rattle.drum_lines.specs.declared.fault.Fault.TheVariants as faults
 use Rattle.drum_lines.specs.declared.part.Part as parts
-use Rattle.drum_lines.specs.declared.part.Part.TheVariants as part
 use Rattle.drum_lines.specs.declared.part.PartFault.TheVariants as what
 use Rattle.drum_lines.specs.declared.status.Status as statuses
 use Rattle.drum_lines.specs.FaultStatus.{reads_failed}

@@ -1,4 +1,4 @@
-use Rattle.std.proofs.Common.{ℕ, List, ◌++◌, flat_map, Ok, Err, ap, ◌∙◌, subst}
+use Rattle.std.proofs.Common.{ℕ, List, flat_map, Ok, Err, ap, ◌∙◌, subst}
 use Rattle.std.proofs.lemmas.Result.{err_from_is_err_and}
 use Rattle.std.specs.List.{enumerate_from}
 use Rattle.drum_times.specs.declared.notes.mark.Mark.{Mark}
