@@ -56,12 +56,12 @@ pub record IsCeilingOf (deck : Deck) (times : Times) (notes : Notes) (ceiling : 
         → passes_of notes.marks k (edges_taken hops) ≤ slice_index (passes_in ceiling) k
     -- no run that keeps to the notes uses more at any moment, nor passes a mark more often
     pub kept : (s : State) (steps : List Turn)
-        → IsFirstState (loads_in deck) (IsFixed (loads_in deck) notes (start_in deck)) (start_in deck)
-        s → IsRun (entry_in times) s steps → IsKept (loads_in deck) notes s steps
+        → IsFirstState (loads_in deck) (IsFixed (loads_in deck) notes (start_in deck))
+        (start_in deck) s → IsRun (entry_in times) s steps → IsKept (loads_in deck) notes s steps
         → used_from 0 steps ≤ total_of ceiling
     pub kept_passed : (s : State) (steps : List Turn) (k : ℕ)
-        → IsFirstState (loads_in deck) (IsFixed (loads_in deck) notes (start_in deck)) (start_in deck)
-        s → IsRun (entry_in times) s steps → IsKept (loads_in deck) notes s steps
+        → IsFirstState (loads_in deck) (IsFixed (loads_in deck) notes (start_in deck))
+        (start_in deck) s → IsRun (entry_in times) s steps → IsKept (loads_in deck) notes s steps
         → k < length notes.marks
         → passes_of notes.marks k (edges_of steps) ≤ slice_index (passes_in ceiling) k
 

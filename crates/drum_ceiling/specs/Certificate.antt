@@ -36,7 +36,7 @@ arrival g place clock hop next = found next (longest g.times place hop.ins hop.w
 
 -- The potential of a place, whose instruction is found at this clock, pays for a hop, with the
 -- price of its mark: till it ends; and where it goes on, for the search and the next potential. A
--- potential counts from 49 word times before, so that no search is paid for that a walk ends before.
+-- potential counts from 49 word times before, so that a walk's end isn't charged with a search.
 pub record Pays (g : Setting) (prices : List ℕ) (potential : ℕ → ℕ → Option ℕ)
     (place clock owed : ℕ) (hop : Hop) : Type 0 where
   pub ends : longest g.times place hop.ins hop.way clock + 49

@@ -4,13 +4,10 @@ use super::by_slot::BySlot;
 use super::leap::{Head, Leap};
 use super::reach::Reach;
 use super::reached::Reached;
+use crate::found::LONGEST_SEARCH;
 use crate::row::{Edge, Row};
 use crate::slot::Slot;
 use std::alloc::{AllocError, Global};
-
-/// The most word times until an instruction is found. A walk that ends with a mark's edge is paid
-/// for where that leads, by a potential that has room for the wait.
-const LONGEST_WAIT: u64 = 49;
 
 /// An edge with a mark.
 #[derive(Clone, Copy, Debug)]
@@ -101,9 +98,10 @@ impl Leaps {
         slot: Slot,
         reach: &Reach,
     ) -> Result<(), AllocError> {
+        // An end behind a mark's edge is paid for by a potential that has room for a search.
         self.heads.push(Head {
             slot,
-            end: reach.end.max(LONGEST_WAIT),
+            end: reach.end.max(LONGEST_SEARCH),
         })?;
         for crossing in &crossings.list {
             if let Some(time) = reach.found.at(crossing.from) {
