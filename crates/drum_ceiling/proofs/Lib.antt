@@ -4,6 +4,7 @@ pub mod CeilingLaws
 pub mod Ceilings
 pub mod Certified
 pub mod Costs
+pub mod LastEnds
 pub mod Pushed
 pub mod Raises
 pub mod RowLaws

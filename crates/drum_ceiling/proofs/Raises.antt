@@ -1,12 +1,14 @@
 -- What was looked at stays so: what is kept never falls.
-use Rattle.std.proofs.Common.{◌≡◌, ℕ, ◌+◌, ◌%◌, ◌≤◌, List, Option, Some, subst, sym, arith}
-use Rattle.std.specs.Prelude.{slice_get, Contains}
+use Rattle.std.proofs.Common.{◌≡◌, ℕ, ◌%◌, ◌≤◌, Some, subst, sym, ◌∙◌, ◌<◌, refl, arith}
+use Rattle.std.specs.Prelude.{slice_get}
+use Rattle.std.proofs.lemmas.Bool.{lt-ltb}
 use Rattle.drum_core.specs.declared.instruction.Instruction.{Instruction}
 use Rattle.drum_core.specs.Kind.{kind_of}
 use Rattle.drum_core.specs.Location.{IsLocation}
 use Rattle.drum_times.specs.Entries.{entry_in}
 use Rattle.drum_machine.specs.Timing.{found}
-use Rattle.drum_machine.specs.Ways.{Way, ways}
+use Rattle.drum_machine.specs.Ways.{Way, to}
+use Rattle.drum_machine.proofs.Chained.{found_keeps_time}
 use Rattle.drum_flow.proofs.DataAngles.{longest_alike}
 use Rattle.drum_ceiling.specs.declared.found.Found.{Found}
 use Rattle.drum_ceiling.specs.declared.raised.Raised.{Raised}
@@ -39,12 +41,11 @@ pub taken_more : (from : Found) (before after : Raised) (ins : Instruction) → 
     → HasTaken from before ins → HasTaken from after ins
 taken_more from before after ins grows has way there = raised_more from before after ins way grows (has way there)
 
--- An instruction that takes as long as one that was looked at, by the same ways, was looked at.
-pub taken_alike : (from : Found) (raised : Raised) (ins other : Instruction) → ins.op ≡ other.op
-    → kind_of ins.d ≡ kind_of other.d → ins.d % 50 ≡ other.d % 50
-    → ways from.notes.now ins ≡ ways from.notes.now other → HasTaken from raised ins → HasTaken from raised other
-taken_alike from raised ins other op kind angle same has way there =
-    let is = has way (subst (λ (all : List Way). Contains all way) (sym same) there) in
+-- A hop that takes as long as one that was looked at, by the same way, was looked at;
+pub raised_alike : (from : Found) (raised : Raised) (ins other : Instruction) (way : Way) → ins.op ≡ other.op
+    → kind_of ins.d ≡ kind_of other.d → ins.d % 50 ≡ other.d % 50 → IsRaised from raised ins way
+    → IsRaised from raised other way
+raised_alike from raised ins other way op kind angle is =
     let long : latest from ins way ≡ latest from other way =
     longest_alike (entry_in from.times.now) from.location.number from.angle ins other way op kind angle in
     record {
@@ -52,3 +53,26 @@ taken_alike from raised ins other op kind angle same has way there =
       goes_on = λ next on. subst (λ (clock : ℕ). IsLocation next
           × IsReachedBy raised.onward.items next from.angle (found next clock)) long (is.goes_on next on);
     }
+
+-- and so was one that ends no later, if it goes on on the drum: there the angle tells nothing.
+pub raised_sooner : (from : Found) (raised : Raised) (ins other : Instruction) (way : Way)
+    → latest from other way ≤ latest from ins way → ((next : ℕ) → way ≡ to next → next < 2000)
+    → IsRaised from raised ins way → IsRaised from raised other way
+raised_sooner from raised ins other way sooner on_drum is = record {
+  ends = λ unmarked. omega (arith, is.ends unmarked, sooner);
+  goes_on = λ next on.
+      let so = is.goes_on next on in
+      let below : next < 2000 = on_drum next on in
+      let slot : (angle : ℕ) → slot_of next angle ≡ next = λ angle. rw (lt-ltb next 2000 below) refl in
+      let before : found next (latest from other way) ≤ found next (latest from ins way) =
+      (found_keeps_time next).monotone (latest from other way) (latest from ins way) sooner in
+      let same : slot_of next (found next (latest from ins way) % 50) ≡ slot_of next (found next (latest from other way) % 50) =
+      slot (found next (latest from ins way) % 50) ∙ sym (slot (found next (latest from other way) % 50)) in (
+        so.0,
+        (
+          so.1.0,
+          subst (λ (n : ℕ). slice_get raised.onward.items n ≡ Some (Some so.1.0)) same so.1.1,
+          omega (arith, so.1.2, before),
+        ),
+      );
+}

@@ -6,4 +6,5 @@ pub mod Priced
 pub mod Raised
 pub mod Rows
 pub mod Slot
+pub mod Slowest
 pub mod Taking

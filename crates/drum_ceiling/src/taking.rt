@@ -1,39 +1,54 @@
-//! All hops of a location, looked at pattern by pattern: of data addresses with the same ways, at
-//! one angle, one alone.
+//! All hops of a location, looked at pattern by pattern and way by way: of data addresses with the
+//! same ways the slowest alone, or those of one revolution.
 
 ghost use Rattle.std.specs.Prelude.{◌≡◌, ℕ, ◌+◌, ◌<◌, ◌≤◌, Contains};
 ghost use Rattle.drum_core.specs.Instruction.{instruction};
 ghost use Rattle.drum_core.specs.declared.instruction.Instruction as digits;
 ghost use Rattle.drum_core.specs.Loads.{loads_in};
 ghost use Rattle.drum_times.specs.Allowed.{allowed, matching};
-ghost use Rattle.drum_ceiling.specs.Raised.{GrowsTo, HasTaken};
+ghost use Rattle.drum_machine.specs.WaysLeft.{seen_way};
+ghost use Rattle.drum_flow.specs.Profile.{MayEnd};
+ghost use Rattle.drum_ceiling.specs.Raised.{GrowsTo, HasTaken, IsRaised};
+ghost use Rattle.drum_ceiling.specs.Slowest.{AreOfOnePart};
 ghost use Rattle.drum_ceiling.specs.Taking.{AreAlike};
 
 use crate::found::Found;
 use crate::raised::Raised;
-use drum_core::{Deck, Instruction};
+use crate::slowest::ANGLES;
+use drum_core::Deck;
 use drum_flow::Hop;
 use drum_flow::alike::same_ways_end;
 use drum_flow::patterns::{Patterns, instruction_of};
-use drum_machine::Ways;
+use drum_machine::{Way, Ways};
 use drum_times::Pattern;
 
-/// How many angles the drum has.
-const ANGLES: u16 = 50;
-
 impl Raised {
-    /// Looks at all hops of an instruction.
-    fn take_instruction(&mut self, from: &Found<'_>, instruction: Instruction)
-        ensures taken { HasTaken from.now self.new instruction }
+    /// Looks at the hops by one way of a pattern's instructions with these data addresses, which
+    /// are of one part: at the slowest alone, or at those of one revolution, which tell of all.
+    fn take_way(&mut self, from: &Found<'_>, pattern: Pattern, way: Way, start: u16, end: u16)
+        requires some { start ≤ pattern.d_to }
+        requires within { end ≤ pattern.d_to + 1 }
+        requires part { AreOfOnePart start end }
+        requires may_end { (d : ℕ) → start ≤ d → d < end
+            → MayEnd (instruction pattern.op d pattern.i) (seen_way way) }
+        ensures taken { (d : ℕ) → start ≤ d → d < end
+            → IsRaised from.now self.new (instruction pattern.op d pattern.i) (seen_way way) }
         ensures grown { GrowsTo self.old self.new }
     {
-        for way in Ways::of(from.notes, instruction) {
+        if let Some(d) = from.slowest(pattern, way, start, end) {
+            let instruction = instruction_of(pattern, d);
+            self.take(from, Hop { instruction, way });
+            return;
+        }
+        let last = end.min(start + ANGLES);
+        for d in start..last {
+            let instruction = instruction_of(pattern, d);
             self.take(from, Hop { instruction, way });
         }
     }
 
     /// Looks at the hops of a pattern's instructions with these data addresses, which have the same
-    /// ways and are alike: those of one revolution tell of all.
+    /// ways and are of one part.
     fn take_alike(&mut self, from: &Found<'_>, pattern: Pattern, start: u16, end: u16)
         requires some { start ≤ pattern.d_to }
         requires within { end ≤ pattern.d_to + 1 }
@@ -42,9 +57,8 @@ impl Raised {
             → HasTaken from.now self.new (instruction pattern.op d pattern.i) }
         ensures grown { GrowsTo self.old self.new }
     {
-        let last = end.min(start + ANGLES);
-        for d in start..last {
-            self.take_instruction(from, instruction_of(pattern, d));
+        for way in Ways::of(from.notes, instruction_of(pattern, start)) {
+            self.take_way(from, pattern, way, start, end);
         }
     }
 

@@ -1,55 +1,67 @@
-use Rattle.std.proofs.Common.{◌≡◌, ℕ, ◌+◌, ◌-◌, ◌%◌, ◌^◌, ◌<◌, ◌≤◌, subst, sym, ap, inl, inr, ◌∙◌, refl, arith}
-use Rattle.std.proofs.lemmas.Bool.{cases_lt}
-use Rattle.drum_core.specs.declared.instruction.Instruction.{Instruction}
+use Rattle.std.proofs.Common.{◌≡◌, ℕ, ◌<◌, ◌≤◌, List, ap, sym, subst, inl, inr, ◌∙◌}
+use Rattle.std.specs.Prelude.{Contains}
 use Rattle.drum_core.specs.Instruction.{instruction}
-use Rattle.drum_core.specs.Kind.{kind_of}
-use Rattle.drum_times.specs.declared.notes.pattern.Pattern.{Pattern}
-use Rattle.drum_ceiling.specs.Raised.{HasTaken}
-use Rattle.drum_ceiling.proofs.Raises.{grows_on, taken_alike, taken_more}
+use Rattle.drum_machine.specs.Ways.{Way, ways}
+use Rattle.drum_machine.specs.WaysLeft.{seen_way, ways_left}
+use Rattle.drum_flow.proofs.Lists.{contains_cases, contains_here, contains_none, contains_there}
+use Rattle.drum_flow.proofs.Profiles.{way_may_end}
+use Rattle.drum_ceiling.specs.Raised.{IsRaised}
+use Rattle.drum_ceiling.proofs.Raises.{grows_on, grows_same, raised_more}
 use Rattle.drum_ceiling.proofs.raised.Raised.take_alike.Goals as goal
 
-pub loop-d-preserved : goal.loop-d-preserved
-loop-d-preserved c =
-    let from = c.args.from.now in
-    let pattern = c.args.pattern in
+pub loop-way-init : goal.loop-way-init
+loop-way-init c =
+    let notes = c.args.from.now.notes.now in
+    let all : ways_left c.into_iter-way-iterator.result ≡ ways notes (instruction c.args.pattern.op c.args.start c.args.pattern.i) =
+    ap ways_left c.into_iter-way-iterator.ensures.into_iter_gives ∙ c.of-way-items.ensures
+    ∙ ap (ways notes) c.instruction_of.ensures in
     record {
-      taken = λ d low high. elim (cases_lt d c.loop-d.d) [
-        | inl before ↦ taken_more from c.loop-d.self c.take_instruction.new.self (instruction pattern.op d pattern.i)
-            c.take_instruction.ensures.grown (c.loop-d.invariant.taken d low before)
-        | inr last ↦ (
-            let here : c.loop-d.d ≡ d = omega (arith, high, last) in
-            let made : c.instruction_of.result ≡ instruction pattern.op d pattern.i =
-            c.instruction_of.ensures ∙ ap (λ (n : ℕ). instruction pattern.op n pattern.i) here in
-            subst (HasTaken from c.take_instruction.new.self) made c.take_instruction.ensures.taken)
-      ];
-      grown = grows_on c.args.self.now c.loop-d.self c.take_instruction.new.self c.loop-d.invariant.grown
-          c.take_instruction.ensures.grown;
+      within = λ way there. subst (λ (some : List Way). Contains some way) all there;
+      taken = λ way there. inr (subst (λ (some : List Way). Contains some way) (sym all) there);
+      grown = grows_same c.args.self.now;
     }
 
--- a data address within a revolution of the first, at the same angle
-turned : (start end d : ℕ) → start ≤ d → d < end → (one : ℕ) × (start ≤ one) × (one < end) × (one < start + 50)
-    × (one ≤ d) × (one % 50 ≡ d % 50)
-turned start end d low high =
-    let less : (d - start) % 50 ≤ d - start = omega arith in (
-      start + (d - start) % 50,
-      omega arith,
-      omega (arith, low, high, less),
-      omega arith,
-      omega (arith, low, less),
-      omega (arith, low),
-    )
+pub take_way-requires-clause-may_end : goal.take_way-requires-clause-may_end
+take_way-requires-clause-may_end c d low high =
+    let notes = c.args.from.now.notes.now in
+    let way = seen_way c.in-Some.way in
+    let there : Contains (ways_left c.loop-way.way-iterator) way =
+    subst (λ (left : List Way). Contains left way) (sym c.in-Some.ensures.steps)
+    (contains_here way (ways_left c.next.new.self)) in
+    way_may_end notes (instruction c.args.pattern.op d c.args.pattern.i) way
+    (subst (λ (all : List Way). Contains all way) (sym (c.requires.alike.ways d low high))
+    (c.loop-way.invariant.within way there))
 
-pub returns-clause-taken : goal.returns-clause-taken
-returns-clause-taken c d low high =
+pub loop-way-preserved : goal.loop-way-preserved
+loop-way-preserved c =
     let from = c.args.from.now in
     let pattern = c.args.pattern in
-    let one = turned c.args.start c.args.end d low high in
-    let past = c.loop-d-test.false in
-    let last : one.0 < c.loop-d.d = omega (arith, one.2, one.3, past, c.min-last.ensures) in
-    let four : d < 10 ^ 4 = omega (arith, high, c.requires.within, pattern.four) in
-    let own : one.0 % 10 ^ 4 ≡ one.0 = omega (arith, one.4, four) in
-    let its : d % 10 ^ 4 ≡ d = omega (arith, four) in
-    taken_alike from c.loop-d.self (instruction pattern.op one.0 pattern.i) (instruction pattern.op d pattern.i) refl
-    (ap kind_of own ∙ c.requires.alike.kinds one.0 d one.1 one.2 low high one.5 ∙ sym (ap kind_of its))
-    (ap (λ (n : ℕ). n % 50) own ∙ one.5 ∙ sym (ap (λ (n : ℕ). n % 50) its))
-    (c.requires.alike.ways one.0 d one.1 one.2 low high) (c.loop-d.invariant.taken one.0 one.1 last)
+    let own = seen_way c.in-Some.way in
+    let rest = ways_left c.next.new.self in
+    record {
+      within = λ way there. c.loop-way.invariant.within way
+          (subst (λ (left : List Way). Contains left way) (sym c.in-Some.ensures.steps)
+          (contains_there own way rest there));
+      taken = λ way there. elim (c.loop-way.invariant.taken way there) [
+        | inl before ↦ inl (λ d low high. raised_more from c.loop-way.self c.take_way.new.self
+            (instruction pattern.op d pattern.i) way c.take_way.ensures.grown (before d low high))
+        | inr left ↦ elim (contains_cases own way rest
+            (subst (λ (left : List Way). Contains left way) c.in-Some.ensures.steps left)) [
+              | inl same ↦ inl (subst (λ (one : Way). (d : ℕ) → c.args.start ≤ d → d < c.args.end
+                  → IsRaised from c.take_way.new.self (instruction pattern.op d pattern.i) one) same
+                  c.take_way.ensures.taken)
+              | inr later ↦ inr later
+            ]
+      ];
+      grown = grows_on c.args.self.now c.loop-way.self c.take_way.new.self c.loop-way.invariant.grown
+          c.take_way.ensures.grown;
+    }
+
+pub returns-clause-taken : goal.returns-clause-taken
+returns-clause-taken c d low high way there =
+    elim (c.loop-way.invariant.taken way
+    (subst (λ (all : List Way). Contains all way) (c.requires.alike.ways d low high) there)) [
+      | inl taken ↦ taken d low high
+      | inr left ↦ absurd (contains_none way
+          (subst (λ (left : List Way). Contains left way) c.in-None.ensures.steps.0 left))
+    ]

@@ -1,11 +1,17 @@
-use Rattle.std.proofs.Common.{ℕ, ◌<◌, ◌≤◌}
+use Rattle.std.proofs.Common.{ℕ, ◌<◌, ◌≤◌, ◌⊎◌, Contains}
 use Rattle.drum_core.specs.Instruction.{instruction}
-use Rattle.drum_ceiling.specs.Raised.{GrowsTo, HasTaken}
+use Rattle.drum_machine.specs.Ways.{Way, ways}
+use Rattle.drum_machine.specs.WaysLeft.{ways_left}
+use Rattle.drum_ceiling.specs.Raised.{GrowsTo, IsRaised}
 use Rattle.drum_ceiling.proofs.raised.Raised.take_alike.Given as goal
 
--- the instructions with the data addresses so far were looked at
-abbrev pub invariant-loop-d : goal.invariant-loop-d
-invariant-loop-d l = record {
-  taken : (d : ℕ) → l.fn.start ≤ d → d < l.d → HasTaken l.from l.self (instruction l.pattern.op d l.pattern.i);
+-- by each of the ways each of the instructions was looked at, or it is left
+abbrev pub invariant-loop-way : goal.invariant-loop-way
+invariant-loop-way l = record {
+  within : (way : Way) → Contains (ways_left l.way-iterator) way
+      → Contains (ways l.from.notes.now (instruction l.pattern.op l.fn.start l.pattern.i)) way;
+  taken : (way : Way) → Contains (ways l.from.notes.now (instruction l.pattern.op l.fn.start l.pattern.i)) way
+      → ((d : ℕ) → l.fn.start ≤ d → d < l.fn.end
+      → IsRaised l.from l.self (instruction l.pattern.op d l.pattern.i) way) ⊎ Contains (ways_left l.way-iterator) way;
   grown : GrowsTo l.fn.self l.self;
 }

@@ -1,8 +1,8 @@
-use Rattle.std.proofs.Common.{◌≡◌, List, subst, sym, ap, ◌∙◌}
-use Rattle.std.specs.Prelude.{Contains, flat_map}
+use Rattle.std.proofs.Common.{List, subst, sym}
+use Rattle.std.specs.Prelude.{Contains}
 use Rattle.drum_core.specs.declared.instruction.Instruction.{Instruction}
 use Rattle.drum_core.specs.Loads.{loads_in}
-use Rattle.drum_times.specs.Allowed.{allowed, matching}
+use Rattle.drum_times.specs.Allowed.{allowed}
 use Rattle.drum_flow.specs.Patterns.{patterns_left}
 use Rattle.drum_flow.proofs.Matched.{each_in_more, patterns_all, patterns_taken}
 use Rattle.drum_ceiling.specs.Raised.{HasTaken}

@@ -1,11 +1,10 @@
-use Rattle.std.proofs.Common.{◌≡◌, ℕ, ◌^◌, ◌<◌, ◌≤◌, subst, sym, ap, inl, inr, ◌∙◌, refl, arith}
+use Rattle.std.proofs.Common.{◌≡◌, ℕ, ◌<◌, ◌≤◌, sym, ap, inl, inr, ◌∙◌, arith}
 use Rattle.std.specs.Prelude.{nat_lt}
 use Rattle.std.proofs.lemmas.Bool.{cases_lt}
 use Rattle.drum_core.specs.declared.instruction.Instruction.{Instruction}
 use Rattle.drum_core.specs.Instruction.{instruction}
 use Rattle.drum_core.specs.Location.{is_location}
-use Rattle.drum_machine.specs.Ways.{Way, ways}
-use Rattle.drum_flow.proofs.DataAngles.{kind_alike}
+use Rattle.drum_machine.specs.Ways.{ways}
 use Rattle.drum_flow.proofs.Matched.{each_in_pattern, matching_at, matching_d, matching_with_d}
 use Rattle.drum_ceiling.specs.Raised.{HasTaken}
 use Rattle.drum_ceiling.proofs.Raises.{grows_on, taken_more}
@@ -26,13 +25,11 @@ take_alike-requires-clause-alike c =
     λ d low high. sym (ap (ways notes) (matching_with_d pattern ins c.loop-d.d d made))
     ∙ c.same_ways_end.ensures.same d (own d low) (within d high) in
     record {
-      ways = λ d other low high other_low other_high. its d low high ∙ sym (its other other_low other_high);
-      kinds = λ d other low high other_low other_high angle.
-          kind_alike d other angle
-          (c.same_ways_end.ensures.drum d (own d low) (within d high)
-          ∙ sym (c.same_ways_end.ensures.drum other (own other other_low) (within other other_high)))
-          (c.same_ways_end.ensures.locations d (own d low) (within d high)
-          ∙ sym (c.same_ways_end.ensures.locations other (own other other_low) (within other other_high)));
+      ways = λ d low high. its d low high ∙ ap (ways notes) made;
+      part = record {
+        drum = λ d low high. c.same_ways_end.ensures.drum d (own d low) (within d high) ∙ ap (λ (n : ℕ). nat_lt n 2000) at;
+        locations = λ d low high. c.same_ways_end.ensures.locations d (own d low) (within d high) ∙ ap is_location at;
+      };
     }
 
 pub loop-d-preserved : goal.loop-d-preserved
