@@ -1,7 +1,7 @@
 -- A row has all hops of its location.
-use Rattle.std.proofs.Common.{◌≡◌, ℕ, ◌+◌, ◌-◌, ◌*◌, ◌/◌, ◌%◌, ◌<◌, ◌≤◌, List, [], ◌∷◌, map, Option, Some, suc, refl}
+use Rattle.std.proofs.Common.{◌≡◌, ℕ, ◌+◌, ◌-◌, ◌*◌, ◌/◌, ◌%◌, ◌<◌, ◌≤◌, List, [], ◌∷◌, map, refl}
 use Rattle.std.proofs.Common.{ap, sym, subst, ◌∙◌, inl, inr, arith}
-use Rattle.std.specs.Prelude.{Contains, flat_map, nat_lt, slice_get, if◌then◌else◌}
+use Rattle.std.specs.Prelude.{Contains, flat_map}
 use Rattle.std.proofs.lemmas.Bool.{cases_lt, le-ltb, lt-ltb}
 use Rattle.std.proofs.lemmas.List.Elements.{Contains-append_cases}
 use Rattle.drum_core.specs.declared.instruction.Instruction.{Instruction}
@@ -14,7 +14,7 @@ use Rattle.drum_core.specs.declared.op.Op.{Op}
 use Rattle.drum_machine.specs.Timing.{found}
 use Rattle.drum_machine.specs.Ways.{Way, to, ways}
 use Rattle.drum_flow.specs.Longest.{longest}
-use Rattle.drum_flow.specs.Hops.{Hop, hops, hops_of}
+use Rattle.drum_flow.specs.Hops.{Hop, hops_of}
 use Rattle.drum_flow.specs.Walk.{Setting}
 use Rattle.drum_flow.proofs.Lists.{contains_cases, contains_here, contains_none, contains_there}
 use Rattle.drum_ceiling.specs.declared.found.Found.{Found}
@@ -22,7 +22,7 @@ use Rattle.drum_ceiling.specs.declared.raised.Raised.{Raised}
 use Rattle.drum_ceiling.specs.declared.row.Row.{Row}
 use Rattle.drum_ceiling.specs.Certificate.{arrival, mark_by, IsShut}
 use Rattle.drum_ceiling.specs.Raised.{latest, HasTaken, IsRaised}
-use Rattle.drum_ceiling.specs.Rows.{HasEdges, IsRow, Takes}
+use Rattle.drum_ceiling.specs.Rows.{HasEdges, IsRow}
 use Rattle.drum_ceiling.specs.Slot.{place_of, slot_of}
 
 -- a location's number tells the location,

@@ -2,9 +2,8 @@ use Rattle.std.proofs.Common.{◌≡◌, ℕ, ◌*◌, ◌≤◌, List, length, 
 use Rattle.std.specs.Prelude.{All}
 use Rattle.std.proofs.lemmas.List.{length-map}
 use Rattle.std.proofs.lemmas.List.Elements.{All-map}
-use Rattle.drum_core.specs.declared.deck.Deck.{Deck}
 use Rattle.drum_core.specs.declared.location.Location.{Location}
-use Rattle.drum_core.specs.Loads.{loads_in, start_in}
+use Rattle.drum_core.specs.Loads.{start_in}
 use Rattle.drum_times.specs.declared.notes.mark.Mark.{Mark}
 use Rattle.drum_times.specs.Allowed.{Notes, AreSound}
 use Rattle.drum_flow.specs.declared.flow_graph.Flow.{Flow}
@@ -15,7 +14,7 @@ use Rattle.drum_flow.specs.SettingOf.{setting}
 use Rattle.drum_flow.proofs.Members.{no_more}
 use Rattle.drum_flow.proofs.Proper.{is_proper}
 use Rattle.drum_ceiling.specs.Certificate.{IsCertificate}
-use Rattle.drum_ceiling.specs.Priced.{farthest, ArePrices}
+use Rattle.drum_ceiling.specs.Priced.{farthest}
 use Rattle.drum_ceiling.proofs.ByOrder.{base_by, certificate_by, potential_by, prices_by}
 use Rattle.drum_ceiling.proofs.Pushed.{all_taken}
 use Rattle.drum_ceiling.proofs.prices.prices_by_order.Goals as goal

@@ -1,5 +1,5 @@
-use Rattle.std.proofs.Common.{◌≡◌, ◌⊎◌, ℕ, ◌+◌, ◌<◌, List, [], ◌∷◌, ◌++◌, length, Option, Some, None, Vec, Global, sym, ap, subst, ◌∙◌, inl, inr}
-use Rattle.std.proofs.Common.{refl, arith}
+use Rattle.std.proofs.Common.{◌≡◌, ℕ, ◌<◌, List, [], ◌∷◌, ◌++◌, length, Option, Some, None, sym, ap, subst, ◌∙◌, inl, inr}
+use Rattle.std.proofs.Common.{arith}
 use Rattle.std.specs.Prelude.{Contains, slice_get}
 use Rattle.std.proofs.lemmas.Bool.{cases_lt}
 use Rattle.std.proofs.lemmas.List.Elements.{Contains-push}
@@ -8,7 +8,6 @@ use Rattle.drum_times.specs.Marks.{mark_on}
 use Rattle.drum_machine.specs.Ways.{to}
 use Rattle.drum_ceiling.specs.declared.row.Edge.{Edge}
 use Rattle.drum_ceiling.specs.Certificate.{IsShut}
-use Rattle.drum_ceiling.specs.Rows.{HasEdges}
 use Rattle.drum_ceiling.specs.Slot.{place_of}
 use Rattle.drum_ceiling.proofs.Pushed.{contains_before}
 use Rattle.drum_ceiling.proofs.rows.edges_of.Goals as goal

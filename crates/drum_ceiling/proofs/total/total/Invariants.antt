@@ -1,4 +1,4 @@
-use Rattle.std.proofs.Common.{◌≡◌, ℕ, ◌+◌, drop}
+use Rattle.std.proofs.Common.{◌≡◌, ◌+◌, drop}
 use Rattle.std.specs.Prelude.{slice_index}
 use Rattle.drum_ceiling.specs.Certificate.{priced_from}
 use Rattle.drum_ceiling.proofs.total.total.Given as goal

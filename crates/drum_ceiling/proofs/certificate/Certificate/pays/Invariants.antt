@@ -1,4 +1,4 @@
-use Rattle.std.proofs.Common.{ℕ, ◌<◌, take}
+use Rattle.std.proofs.Common.{take}
 use Rattle.std.specs.Prelude.{Contains}
 use Rattle.drum_ceiling.specs.declared.row.Edge.{Edge}
 use Rattle.drum_ceiling.specs.Paying.{IsEdgePaid}
