@@ -1,7 +1,7 @@
 -- What is right of a ceiling, and of a sum that is too large for one.
-use Rattle.std.proofs.Common.{◌≡◌, ℕ, suc, ◌+◌, ◌*◌, ◌^◌, ◌<◌, ◌≤◌, Bool, true, false, List, [], ◌∷◌, ◌++◌, length, refl}
-use Rattle.std.proofs.Common.{ap, sym, subst, ◌∙◌, inl, inr, arith}
-use Rattle.std.specs.Prelude.{◌==◌, if◌then◌else◌, slice_index, All}
+use Rattle.std.proofs.Common.{◌≡◌, ℕ, ◌+◌, ◌*◌, ◌^◌, ◌<◌, ◌≤◌, Bool, true, false, List, [], ◌∷◌, ◌++◌, length, refl}
+use Rattle.std.proofs.Common.{ap, ◌∙◌, inl, inr, arith}
+use Rattle.std.specs.Prelude.{◌==◌, if◌then◌else◌, slice_index}
 use Rattle.std.proofs.Math.Nat.{mul-le-mul_left, mul-le-mul_right}
 use Rattle.std.proofs.lemmas.Bool.{cases_lt}
 use Rattle.drum_core.specs.declared.deck.Deck.{Deck}

@@ -1,5 +1,5 @@
 -- A ceiling, as it is held, and when it is right.
-use Rattle.std.specs.Prelude.{◌≡◌, ℕ, ◌*◌, ◌^◌, ◌<◌, ◌≤◌, List, length, map, slice_index}
+use Rattle.std.specs.Prelude.{◌≡◌, ℕ, ◌*◌, ◌^◌, ◌<◌, ◌≤◌, List, length, slice_index}
 use Rattle.drum_core.specs.declared.deck.Deck.{Deck}
 use Rattle.drum_core.specs.Loads.{loads_in, start_in}
 use Rattle.drum_times.specs.declared.times.Times.{Times}
@@ -10,8 +10,9 @@ use Rattle.drum_machine.specs.Run.{Turn, IsRun, IsFirstState, used_from}
 use Rattle.drum_machine.specs.Since.{edges_of, passes_of}
 use Rattle.drum_machine.specs.Step.{State}
 use Rattle.drum_flow.specs.declared.refusal.Refusal.{Refusal}
-use Rattle.drum_flow.specs.declared.refusal.Refusal.TheVariants.{Memory, NotLoaded, NotInProfile, Alters, Unbounded, TooLarge}
-use Rattle.drum_flow.specs.Accepted.{IsAdmitted, IsAltered, IsFixed, IsFreeRound, IsNotInProfile, IsNotLoaded, IsTooLarge}
+use Rattle.drum_flow.specs.declared.refusal.Refusal.TheVariants.{TooLarge}
+use Rattle.drum_flow.specs.Acceptance.{IsAdmissionRefusal}
+use Rattle.drum_flow.specs.Accepted.{IsAdmitted, IsFixed, IsTooLarge}
 use Rattle.drum_flow.specs.MostPasses.{edges_taken}
 use Rattle.drum_flow.specs.SettingOf.{setting}
 use Rattle.drum_flow.specs.Walk.{Taken, IsWalk, time_of}
@@ -65,27 +66,22 @@ pub record IsCeilingOf (deck : Deck) (times : Times) (notes : Notes) (ceiling : 
         → k < length notes.marks
         → passes_of notes.marks k (edges_of steps) ≤ slice_index (passes_in ceiling) k
 
--- The sum of the prices and the base of some certificate is too large.
-pub record IsTooDear (deck : Deck) (times : Times) (notes : Notes) : Type 0 where
+-- The sum of the prices and the base of some certificate is this number or more.
+pub record IsTooDear (deck : Deck) (times : Times) (notes : Notes) (least : ℕ) : Type 0 where
   pub executed : List ℕ
   pub admitted : IsAdmitted (loads_in deck) notes (start_in deck) executed
   pub prices : List ℕ
   pub base : ℕ
   pub are : ArePrices (setting deck times notes) (length executed * farthest) prices base
-  pub large : 2 ^ 127 ≤ summed notes.marks prices base
+  pub large : least ≤ summed notes.marks prices base
 
--- the refusal is that of the deck with its notes, but for its size; or the sum is too large, and
--- this is the product; or memory is wanting
+-- The refusal is that of the deck with its notes, but for its size; or it is too large, this is the
+-- product, and the sum comes to this number or more; or memory is wanting.
+abbrev pub IsRefusedFrom : ℕ → Deck → Times → Notes → Refusal → Type 0
+IsRefusedFrom least deck times notes (TooLarge product) =
+    IsTooLarge (loads_in deck) notes (start_in deck) product × IsTooDear deck times notes least
+IsRefusedFrom least deck times notes refusal =
+    IsAdmissionRefusal (loads_in deck) notes (start_in deck) refusal
+
 abbrev pub IsCeilingRefusal : Deck → Times → Notes → Refusal → Type 0
-IsCeilingRefusal deck times notes (TooLarge product) =
-    IsTooLarge (loads_in deck) notes (start_in deck) product × IsTooDear deck times notes
-IsCeilingRefusal deck times notes Memory = Unit {0}
-IsCeilingRefusal deck times notes (NotLoaded location) =
-    IsNotLoaded (loads_in deck) notes (start_in deck) location.number
-IsCeilingRefusal deck times notes (NotInProfile location op) =
-    IsNotInProfile (loads_in deck) notes (start_in deck) location.number op
-IsCeilingRefusal deck times notes (Alters writer word) =
-    IsAltered (loads_in deck) notes (start_in deck) writer.number word.number
-IsCeilingRefusal deck times notes (Unbounded cycle) =
-    IsFreeRound (loads_in deck) notes (start_in deck)
-    (map (λ location. location.number) cycle.locations.items)
+IsCeilingRefusal = IsRefusedFrom (2 ^ 127)

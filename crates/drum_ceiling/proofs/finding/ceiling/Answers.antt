@@ -1,4 +1,4 @@
-use Rattle.std.proofs.Common.{◌≡◌, ℕ, ◌+◌, ◌*◌, ◌^◌, ◌<◌, ◌≤◌, List, length, ap, sym, subst, ◌∙◌, arith}
+use Rattle.std.proofs.Common.{◌≡◌, ℕ, ◌+◌, ◌*◌, ◌^◌, ◌≤◌, List, length, ap, sym, subst, ◌∙◌, arith}
 use Rattle.std.specs.Prelude.{slice_index}
 use Rattle.drum_times.specs.declared.notes.mark.Mark.{Mark}
 use Rattle.drum_flow.specs.Accepted.{product_of}
@@ -68,7 +68,7 @@ returns-clause-refused c =
     let large : 2 ^ 127 ≤ summed notes.marks held base = omega (arith, c.in-None.ensures.none, sum) in
     let product : c.product_of.result ≡ product_of executed notes.marks =
     c.product_of.ensures ∙ ap (product_of executed) c.marks-marks.ensures.all in
-    let dear : IsTooDear deck times notes = record {
+    let dear : IsTooDear deck times notes (2 ^ 127) = record {
       executed = executed;
       admitted = admitted;
       prices = held;
