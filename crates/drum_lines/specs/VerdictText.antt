@@ -7,6 +7,8 @@ use Rattle.drum_machine.specs.declared.left.Left.{Left}
 use Rattle.drum_machine.specs.declared.left.Left.TheVariants.{Unlisted, TooOften, Switch, LoadCard}
 use Rattle.drum_machine.specs.declared.why.Why as whys
 use Rattle.drum_machine.specs.declared.why.Why.TheVariants as why
+use Rattle.drum_lines.specs.declared.limit.Limit.{Limit}
+use Rattle.drum_lines.specs.declared.limit.Limit.TheVariants.{Bound, Ceiling}
 use Rattle.drum_lines.specs.declared.verdict.Verdict.{Verdict}
 use Rattle.drum_lines.specs.declared.verdict.Verdict.TheVariants as verdict
 
@@ -34,9 +36,14 @@ left_text Switch step used =
 left_text LoadCard step used =
     codes "left loadcard step " ++ decimal step ++ codes " used " ++ decimal used ++ codes "\n"
 
--- the line of a verdict
-abbrev pub verdict_text : Verdict → List ℕ
-verdict_text (verdict.Kept used bound because) =
-    codes "kept used " ++ decimal used ++ codes " bound " ++ decimal bound
+-- what a limit is called, between two numbers
+abbrev pub limit_name : Limit → List ℕ
+limit_name Bound = codes " bound "
+limit_name Ceiling = codes " ceiling "
+
+-- the line of a verdict on a run whose word times are limited so
+abbrev pub verdict_text : Limit → Verdict → List ℕ
+verdict_text limit (verdict.Kept used bound because) =
+    codes "kept used " ++ decimal used ++ limit_name limit ++ decimal bound
     ++ codes " stop " ++ why_name because ++ codes "\n"
-verdict_text (verdict.Left what step used) = left_text what step used
+verdict_text limit (verdict.Left what step used) = left_text what step used

@@ -4,6 +4,7 @@
 
 mod failed_write;
 mod fault;
+mod limit;
 mod part;
 mod print;
 mod status;
@@ -11,6 +12,7 @@ mod verdict;
 
 pub use failed_write::WriteFault;
 pub use fault::Fault;
+pub use limit::Limit;
 pub use part::{Part, PartFault};
 pub use print::fault_line::write_fault;
 pub use print::verdict_line::{spelling_of, write_verdict};

@@ -11,7 +11,8 @@ pub enum Verdict {
     Kept {
         /// The word times that it used, up to the stop.
         used: u64,
-        /// The word times that a run of this deck can use at most.
+        /// The word times that a run of this deck can use at most: its bound, or, of a trace past
+        /// the limit of the analysis, its ceiling.
         bound: u64,
         /// Why it stopped.
         why: Why,

@@ -9,6 +9,7 @@ use Rattle.drum_flow.specs.Acceptance.{IsRefusal}
 use Rattle.drum_flow.specs.Walk.{Setting}
 use Rattle.drum_lines.specs.declared.fault.Fault.{Fault}
 use Rattle.drum_lines.specs.declared.fault.Fault.TheVariants as faults
+use Rattle.drum_lines.specs.declared.limit.Limit.{Limit}
 use Rattle.drum_lines.specs.declared.part.Part as parts
 use Rattle.drum_lines.specs.declared.part.PartFault.TheVariants as what
 use Rattle.drum_lines.specs.declared.status.Status as statuses
@@ -17,10 +18,11 @@ use Rattle.drum_tool.specs.declared.documents.Documents.{Documents}
 use Rattle.drum_tool.specs.Asked.{AreLookedAt, AreLookedAtUpTo, Asked, AsksFor, IsLookedAt, IsOfText, IsRead, Looks, MayWant}
 use Rattle.drum_tool.specs.Asked.{Named, Reading, failures_told, fault_in, most_of, part_of, reading}
 use Rattle.drum_tool.specs.Asked.{returned, sought}
-use Rattle.drum_tool.specs.Documents.{IsAnalysisFault, IsCeilingFault, IsRefusedFor}
+use Rattle.drum_tool.specs.Documents.{IsAnalysisFault, IsCeilingFault, IsDeckAccepted, IsLimit, IsLimitRefusal, IsRefusedFor}
+use Rattle.drum_tool.specs.Documents.{setting_of}
 use Rattle.drum_tool.specs.Files.{AreTold, FilesTold, Held, behind}
-use Rattle.drum_tool.specs.Replay.{Given, IsReplayFault}
-use Rattle.drum_tool.specs.Reply.{IsLineOf, LooksAsTold, Reply, SaysTrace, cut_reply, fault_reply, says, trace_reply}
+use Rattle.drum_tool.specs.Replay.{Given, IsReplayFault, IsRunFault, IsTraceFault}
+use Rattle.drum_tool.specs.Reply.{IsLineOf, LooksAsTold, Reply, SaysTrace, SaysTurns, cut_reply, fault_reply, says, trace_reply}
 
 -- what is asked is also something else
 pub asks_as : (before after : Option (List Asked)) (P Q : List Asked → Type 0)
@@ -228,13 +230,19 @@ module _ (files : List Named) (before after : Option (List Asked)) where
 pub no_line : (text : List ℕ) (ends : statuses.Status) → IsLineOf None (says text ends)
 no_line text ends fault is = cc
 
-pub no_line_of_trace : (g : Setting) (given : Given) (reply : Reply) → SaysTrace g given reply → IsLineOf None reply
-no_line_of_trace g given reply (inl (turns, verdict, traced, is)) fault clash =
-    let bad : trace_reply g turns verdict ≡ fault_reply fault = sym is ∙ clash in cc
-no_line_of_trace g given reply (inr (turns, replayed, is)) fault clash =
+no_line_of_turns : (g : Setting) (by : Limit) (most : ℕ) (given : Given) (reply : Reply)
+    → SaysTurns g by most given reply → IsLineOf None reply
+no_line_of_turns g by most given reply (inl (turns, verdict, traced, is)) fault clash =
+    let bad : trace_reply g by turns verdict ≡ fault_reply fault = sym is ∙ clash in cc
+no_line_of_turns g by most given reply (inr (turns, replayed, is)) fault clash =
     let bad : cut_reply g turns ≡ fault_reply fault = sym is ∙ clash in cc
 
--- neither a refusal nor a replay has a fault of a file
+pub no_line_of_trace : (documents : Documents) (given : Given) (reply : Reply) → SaysTrace documents given reply
+    → IsLineOf None reply
+no_line_of_trace documents given reply traced =
+    no_line_of_turns (setting_of documents) traced.1.0 traced.1.1 given reply traced.1.3
+
+-- neither a refusal nor a run has a fault of a file
 refusal_of_none : (Is : Refusal → Type 0) (told : Fault) → IsRefusedFor Is told → part_of told ≡ None
 refusal_of_none Is (faults.Refused refusal) is = refl
 refusal_of_none Is faults.NoPart is = absurd is
@@ -254,13 +262,24 @@ pub ceiling_of_none : (documents : Documents) (told : Fault) → IsCeilingFault 
 ceiling_of_none documents told is =
     refusal_of_none (IsCeilingRefusal documents.deck documents.times documents.notes) told is
 
+module _ (g : Setting) (given : Given) (Refuses : Refusal → Type 0) (IsLimited : Type 0) where
+  run_of_none : (told : Fault) → IsRunFault g given Refuses IsLimited told → part_of told ≡ None
+  run_of_none (faults.Refused refusal) is = refl
+  run_of_none faults.NoPart is = absurd is
+  run_of_none (faults.Part part what) is = absurd is
+  run_of_none faults.Memory is = refl
+  run_of_none (faults.Deck fault) is = absurd is
+  run_of_none (faults.Times fault) is = absurd is
+  run_of_none (faults.Notes fault) is = absurd is
+  run_of_none (faults.Inputs fault) is = absurd is
+  run_of_none (faults.Loaded location) is = refl
+
 pub replay_of_none : (g : Setting) (given : Given) (told : Fault) → IsReplayFault g given told → part_of told ≡ None
-replay_of_none g given (faults.Refused refusal) is = refl
-replay_of_none g given faults.NoPart is = absurd is
-replay_of_none g given (faults.Part part what) is = absurd is
-replay_of_none g given faults.Memory is = refl
-replay_of_none g given (faults.Deck fault) is = absurd is
-replay_of_none g given (faults.Times fault) is = absurd is
-replay_of_none g given (faults.Notes fault) is = absurd is
-replay_of_none g given (faults.Inputs fault) is = absurd is
-replay_of_none g given (faults.Loaded location) is = refl
+replay_of_none g given told is =
+    run_of_none g given (IsRefusal g.loads g.notes g.start) (IsDeckAccepted g) told is
+
+pub trace_of_none : (documents : Documents) (given : Given) (told : Fault) → IsTraceFault documents given told
+    → part_of told ≡ None
+trace_of_none documents given told is =
+    run_of_none (setting_of documents) given (IsLimitRefusal documents)
+    ((limit : Limit) × (most : ℕ) × IsLimit documents limit most) told is

@@ -1,5 +1,5 @@
--- A replay before its first step, and what its verdict is.
-use Rattle.std.proofs.Common.{◌≡◌, List, length, refl, sym, subst, arith, Option, Some, None}
+-- A run before its first step, and what its verdict is.
+use Rattle.std.proofs.Common.{◌≡◌, ℕ, List, length, refl, sym, subst, arith, Option, Some, None}
 use Rattle.std.specs.Prelude.{MatchOption, option_map}
 use Rattle.drum_machine.specs.declared.left.Left as lefts
 use Rattle.drum_machine.specs.declared.left.Left.TheVariants as left
@@ -11,7 +11,8 @@ use Rattle.drum_lines.specs.declared.verdict.Verdict.{Verdict}
 use Rattle.drum_tool.specs.declared.replaying.Begun.{Begun}
 use Rattle.drum_tool.specs.Begun.{IsBegun, left_before}
 use Rattle.drum_tool.specs.Following.{IsFollowed, state_of, waits_of}
-use Rattle.drum_tool.specs.Replay.{Given, IsReplay, IsVerdict, used_in}
+use Rattle.drum_bound.specs.Worst.{IsWorst}
+use Rattle.drum_tool.specs.Replay.{Given, HasReplay, IsJudged, IsReplay, IsVerdict, used_in}
 
 -- how a new monitor answers: not at all, or by the switch
 abbrev pub AnswersSwitch : Setting → Setup → Option lefts.Left → Type 0
@@ -35,48 +36,34 @@ of_switch g setup (Some what) verdict answers is =
 
 module _ (g : Setting) (given : Given) (begun : Begun) (is : IsBegun g given begun) where
   -- the verdict that comes before any step
-  says_before : (verdict : Verdict) → begun.verdict ≡ Some verdict → IsVerdict g given begun.bound 0 verdict
+  says_before : (verdict : Verdict) → begun.verdict ≡ Some verdict → IsVerdict g given begun.most 0 verdict
       × (used_in verdict ≡ 0)
   says_before verdict at =
       let before = is.before verdict at in
-      subst (λ (one : Verdict). IsVerdict g given begun.bound 0 one × (used_in one ≡ 0)) (sym before.0)
+      subst (λ (one : Verdict). IsVerdict g given begun.most 0 one × (used_in one ≡ 0)) (sym before.0)
       ((refl, (before.1, refl, refl)), refl)
 
-  pub replay_before : (verdict : Verdict) → begun.verdict ≡ Some verdict → IsReplay g given verdict
-  replay_before verdict at =
-      let says = says_before verdict at in
-      record {
-        has = is.has;
-        worst = begun.bound;
-        is_worst = is.worst;
-        step = 0;
-        says = says.0;
-        within = omega (arith, says.1);
-        short = omega arith;
-      }
-
-  -- which is the one before the first
-  pub before_none : (verdict : Verdict) (at : begun.verdict ≡ Some verdict) → (replay_before verdict at).step ≡ 0
-  unfolding replay_before
-  before_none verdict at = refl
+  pub judged_before : (verdict : Verdict) → begun.verdict ≡ Some verdict → IsJudged g given begun.most 0 verdict
+  judged_before verdict at =
+      let says = says_before verdict at in record { says = says.0; within = omega (arith, says.1); short = omega arith }
 
   -- the verdict of a run that was followed
-  pub replay_followed : (turns : List Turn) (verdict : Verdict)
-      → IsFollowed g (state_of begun.following) (waits_of begun.following) begun.bound turns verdict
-      → IsReplay g given verdict
-  replay_followed turns verdict followed = record {
-    has = is.has;
-    worst = begun.bound;
-    is_worst = is.worst;
-    step = length turns;
+  pub judged_followed : (turns : List Turn) (verdict : Verdict)
+      → IsFollowed g (state_of begun.following) (waits_of begun.following) begun.most turns verdict
+      → IsJudged g given begun.most (length turns) verdict
+  judged_followed turns verdict followed = record {
     says = followed.says given is.are;
     within = followed.within;
     short = followed.short;
   }
 
-  -- which is the one of the last turn
-  pub followed_all : (turns : List Turn) (verdict : Verdict)
-      (followed : IsFollowed g (state_of begun.following) (waits_of begun.following) begun.bound turns verdict)
-      → (replay_followed turns verdict followed).step ≡ length turns
-  unfolding replay_followed
-  followed_all turns verdict followed = refl
+-- what is the verdict of a run is that of a replay
+pub replay_of : (g : Setting) (given : Given) (worst most step : ℕ) (verdict : Verdict) → HasReplay g given
+    → IsWorst g worst → most ≡ worst → IsJudged g given most step verdict → IsReplay g given verdict
+replay_of g given worst most step verdict has is_worst same judged = record {
+  has = has;
+  worst = worst;
+  is_worst = is_worst;
+  step = step;
+  judged = subst (λ (limit : ℕ). IsJudged g given limit step verdict) same judged;
+}

@@ -5,6 +5,7 @@ pub mod Cuts
 pub mod Followed
 pub mod Giving
 pub mod Leading
+pub mod Limits
 pub mod OneRun
 pub mod OneVerdict
 pub mod Replies

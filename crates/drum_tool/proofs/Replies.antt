@@ -19,13 +19,14 @@ use Rattle.drum_tool.specs.declared.documents.Documents.{Documents}
 use Rattle.drum_lines.specs.declared.fault.Fault.{Fault}
 use Rattle.drum_lines.specs.declared.fault.Fault.TheVariants as faults
 use Rattle.drum_flow.specs.Walk.{Setting}
-use Rattle.drum_tool.specs.Replay.{Given, IsReplayFault}
+use Rattle.drum_lines.specs.declared.limit.Limit.{Limit}
+use Rattle.drum_tool.specs.Replay.{Given, IsRunFault}
 use Rattle.drum_lines.specs.FaultStatus.{after_deck, after_input, after_note, after_refusal, failed_by, reads_failed}
 use Rattle.drum_lines.specs.FaultStatus.{status_after}
-use Rattle.drum_tool.specs.Documents.{IsAnalysisFault, IsBound, IsRefusedFor}
+use Rattle.drum_tool.specs.Documents.{IsAnalysisFault, IsBound, IsRefusedFor, setting_of}
 use Rattle.drum_tool.specs.Asked.{files_of}
 use Rattle.drum_tool.specs.Files.{AreTold, FilesTold, Held}
-use Rattle.drum_tool.specs.Reply.{AnswersCommand, AnswersOn, IsFault, Reply, SaysBound, SaysTrace, TellsOfReads}
+use Rattle.drum_tool.specs.Reply.{AnswersCommand, AnswersOn, IsFault, Reply, SaysBound, SaysTrace, SaysTurns, TellsOfReads}
 use Rattle.drum_tool.specs.Reply.{bound_reply, breaks_off, complains, cut_reply, fault_reply, says, trace_reply}
 use Rattle.drum_tool.specs.Words.{refused_reply}
 
@@ -76,17 +77,18 @@ pub analysed_unread : {A : Type 0} (documents : Documents) (result : Result A Fa
 analysed_unread documents (Ok found) is = refl
 analysed_unread documents (Err fault) is = refused_unread _ fault is
 
--- nor does a replay
-unread_replay : (g : Setting) (given : Given) (fault : Fault) → IsReplayFault g given fault → reads_failed fault ≡ 0
-unread_replay g given (faults.Refused refusal) is = refl
-unread_replay g given faults.NoPart is = absurd is
-unread_replay g given (faults.Part part what) is = absurd is
-unread_replay g given faults.Memory is = refl
-unread_replay g given (faults.Deck fault) is = absurd is
-unread_replay g given (faults.Times fault) is = absurd is
-unread_replay g given (faults.Notes fault) is = absurd is
-unread_replay g given (faults.Inputs fault) is = absurd is
-unread_replay g given (faults.Loaded location) is = refl
+-- nor does a run
+unread_run : (g : Setting) (given : Given) (Refuses : Refusal → Type 0) (IsLimited : Type 0) (fault : Fault)
+    → IsRunFault g given Refuses IsLimited fault → reads_failed fault ≡ 0
+unread_run g given Refuses IsLimited (faults.Refused refusal) is = refl
+unread_run g given Refuses IsLimited faults.NoPart is = absurd is
+unread_run g given Refuses IsLimited (faults.Part part what) is = absurd is
+unread_run g given Refuses IsLimited faults.Memory is = refl
+unread_run g given Refuses IsLimited (faults.Deck fault) is = absurd is
+unread_run g given Refuses IsLimited (faults.Times fault) is = absurd is
+unread_run g given Refuses IsLimited (faults.Notes fault) is = absurd is
+unread_run g given Refuses IsLimited (faults.Inputs fault) is = absurd is
+unread_run g given Refuses IsLimited (faults.Loaded location) is = refl
 
 -- what holds where bytes are known
 pub some_map : (left : Option (List ℕ)) (P Q : List ℕ → Type 0) → IfSome left P → ((bytes : List ℕ) → P bytes → Q bytes)
@@ -108,17 +110,23 @@ pub result_of_no_read : (text : List ℕ) (ends : statuses.Status) → TellsOfRe
 result_of_no_read text ends = inr (refl, λ fault is. cc)
 
 -- nor is a text that is given up
-pub trace_of_no_read : (g : Setting) (given : Given) (reply : Reply) → SaysTrace g given reply → TellsOfReads 0 reply
-trace_of_no_read g given reply (inl (turns, verdict, traced, is)) = inr (
+turns_of_no_read : (g : Setting) (by : Limit) (most : ℕ) (given : Given) (reply : Reply)
+    → SaysTurns g by most given reply → TellsOfReads 0 reply
+turns_of_no_read g by most given reply (inl (turns, verdict, traced, is)) = inr (
   refl,
   λ fault clash.
-      let bad : trace_reply g turns verdict ≡ fault_reply fault = sym is ∙ clash in cc,
+      let bad : trace_reply g by turns verdict ≡ fault_reply fault = sym is ∙ clash in cc,
 )
-trace_of_no_read g given reply (inr (turns, replayed, is)) = inr (
+turns_of_no_read g by most given reply (inr (turns, replayed, is)) = inr (
   refl,
   λ fault clash.
       let bad : cut_reply g turns ≡ fault_reply fault = sym is ∙ clash in cc,
 )
+
+pub trace_of_no_read : (documents : Documents) (given : Given) (reply : Reply) → SaysTrace documents given reply
+    → TellsOfReads 0 reply
+trace_of_no_read documents given reply traced =
+    turns_of_no_read (setting_of documents) traced.1.0 traced.1.1 given reply traced.1.3
 
 -- a fault's line tells of as many as the fault does
 pub fault_of_reads : (fault : Fault) → TellsOfReads (reads_failed fault) (fault_reply fault)

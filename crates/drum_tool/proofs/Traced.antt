@@ -25,7 +25,7 @@ use Rattle.drum_tool.specs.Begun.{IsBegun}
 use Rattle.drum_tool.specs.Following.{Goes, IsFollowed, Lead, state_of, waits_of}
 use Rattle.drum_tool.specs.Output.{Device, GetsAll, GetsResult}
 use Rattle.drum_tool.specs.Replay.{Given, IsTraced}
-use Rattle.drum_tool.proofs.Beginning.{before_none, followed_all, replay_before, replay_followed}
+use Rattle.drum_tool.proofs.Beginning.{judged_before, judged_followed}
 
 -- one line more
 pub lines_more : (times : Op → Entry) (number : ℕ) (turns : List Turn) (turn : Turn)
@@ -98,9 +98,9 @@ lead_start times s waits (turn ∷ turns) now left lead =
 
 module _ (g : Setting) (given : Given) (begun : Begun) (is : IsBegun g given begun) where
   -- no turns, where the verdict comes before any,
-  pub traced_before : (verdict : Verdict) → begun.verdict ≡ Some verdict → IsTraced g given [] verdict
+  pub traced_before : (verdict : Verdict) → begun.verdict ≡ Some verdict → IsTraced g given begun.most [] verdict
   traced_before verdict at = record {
-    replay = replay_before g given begun is verdict at;
+    judged = judged_before g given begun is verdict at;
     replayed = record {
       first = state_of begun.following;
       set_up = is.are.set_up;
@@ -108,17 +108,15 @@ module _ (g : Setting) (given : Given) (begun : Begun) (is : IsBegun g given beg
       run = tt;
       fed = tt;
     };
-    all = before_none g given begun is verdict at;
   }
 
   -- and else those that were followed
   pub traced_followed : (turns : List Turn) (verdict : Verdict)
-      → IsFollowed g (state_of begun.following) (waits_of begun.following) begun.bound turns verdict
-      → IsTraced g given turns verdict
+      → IsFollowed g (state_of begun.following) (waits_of begun.following) begun.most turns verdict
+      → IsTraced g given begun.most turns verdict
   traced_followed turns verdict followed = record {
-    replay = replay_followed g given begun is turns verdict followed;
+    judged = judged_followed g given begun is turns verdict followed;
     replayed = followed.of_run given is.are;
-    all = followed_all g given begun is turns verdict followed;
   }
 
 -- what is known of a value, or of an error

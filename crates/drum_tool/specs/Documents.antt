@@ -1,6 +1,6 @@
 -- The documents of a program, a deck, a timing table and notes: what is known of them, and which
 -- texts say them.
-use Rattle.std.specs.Prelude.{ℕ, ◌≤◌, List}
+use Rattle.std.specs.Prelude.{◌≡◌, ℕ, ◌^◌, ◌≤◌, List}
 use Rattle.drum_core.specs.declared.deck.Deck.{Deck}
 use Rattle.drum_core.specs.declared.deck.fault.DeckFault.{DeckFault}
 use Rattle.drum_core.specs.declared.deck.fault.DeckFault.TheVariants as of_deck
@@ -14,16 +14,18 @@ use Rattle.drum_machine.specs.Run.{Turn, IsRun, IsFirstState, used_from}
 use Rattle.drum_machine.specs.Step.{State}
 use Rattle.drum_flow.specs.declared.refusal.Refusal.{Refusal}
 use Rattle.drum_flow.specs.Acceptance.{IsRefusal}
-use Rattle.drum_flow.specs.Accepted.{IsAccepted, IsFixed}
+use Rattle.drum_flow.specs.Accepted.{IsAccepted, IsFixed, IsTooLarge}
 use Rattle.drum_flow.specs.Walk.{Setting}
 use Rattle.drum_flow.specs.SettingOf.{setting}
 use Rattle.drum_bound.specs.Visited.{Visited, IsWalkOf}
 use Rattle.drum_bound.specs.Worst.{IsWorst}
 use Rattle.drum_ceiling.specs.declared.answer.Ceiling.{Ceiling}
-use Rattle.drum_ceiling.specs.CeilingOf.{IsCeilingOf, IsCeilingRefusal}
+use Rattle.drum_ceiling.specs.CeilingOf.{IsCeilingOf, IsCeilingRefusal, IsRefusedFrom, total_of}
 use Rattle.drum_tool.specs.declared.documents.Documents.{Documents}
 use Rattle.drum_lines.specs.declared.fault.Fault.{Fault}
 use Rattle.drum_lines.specs.declared.fault.Fault.TheVariants as fault
+use Rattle.drum_lines.specs.declared.limit.Limit.{Limit}
+use Rattle.drum_lines.specs.declared.limit.Limit.TheVariants as limit
 
 -- what their walks are in
 abbrev pub setting_of : Documents → Setting
@@ -69,6 +71,27 @@ IsAnalysisFault documents =
 abbrev pub IsCeilingFault : Documents → Fault → Type 0
 IsCeilingFault documents =
     IsRefusedFor (IsCeilingRefusal documents.deck documents.times documents.notes)
+
+-- the deck with its notes is too large to be analysed
+abbrev pub IsPastLimit : Documents → ℕ → Type 0
+IsPastLimit documents = IsTooLarge (loads_in documents.deck) documents.notes (start_in documents.deck)
+
+-- What a run that keeps to the notes uses at most: the bound; or, where the deck with its notes is
+-- too large for one, and nothing else is wrong, the total of a ceiling.
+abbrev pub IsLimit : Documents → Limit → ℕ → Type 0
+IsLimit documents limit.Bound most = IsBound documents most
+IsLimit documents limit.Ceiling most =
+    ((product : ℕ) × IsPastLimit documents product)
+    × ((ceiling : Ceiling) × IsCeiling documents ceiling × (most ≡ total_of ceiling))
+
+-- why there is neither: the refusal is that of the deck with its notes, but for its size; or they
+-- are too large, this is the product, and what a ceiling comes to is 2 ^ 50 or more
+abbrev pub IsLimitRefusal : Documents → Refusal → Type 0
+IsLimitRefusal documents =
+    IsRefusedFrom (2 ^ 50) documents.deck documents.times documents.notes
+
+abbrev pub IsLimitFault : Documents → Fault → Type 0
+IsLimitFault documents = IsRefusedFor (IsLimitRefusal documents)
 
 -- the text is that of the deck
 abbrev pub SaysDeck : List ℕ → Deck → Type 0

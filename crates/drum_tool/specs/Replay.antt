@@ -16,6 +16,7 @@ use Rattle.drum_machine.specs.Monitor.{counts_over}
 use Rattle.drum_machine.specs.Run.{Turn, IsRun, used_from}
 use Rattle.drum_machine.specs.Setup.{first_loaded}
 use Rattle.drum_machine.specs.Step.{State, stopped}
+use Rattle.drum_flow.specs.declared.refusal.Refusal.{Refusal}
 use Rattle.drum_flow.specs.Acceptance.{IsRefusal}
 use Rattle.drum_flow.specs.Walk.{Setting}
 use Rattle.drum_bound.specs.Worst.{IsWorst}
@@ -23,7 +24,9 @@ use Rattle.drum_lines.specs.declared.fault.Fault as fails
 use Rattle.drum_lines.specs.declared.fault.Fault.TheVariants as fault
 use Rattle.drum_lines.specs.declared.verdict.Verdict.{Verdict}
 use Rattle.drum_lines.specs.declared.verdict.Verdict.TheVariants.{Kept, Left}
-use Rattle.drum_tool.specs.Documents.{IsDeckAccepted}
+use Rattle.drum_lines.specs.declared.limit.Limit.{Limit}
+use Rattle.drum_tool.specs.declared.documents.Documents.{Documents}
+use Rattle.drum_tool.specs.Documents.{IsDeckAccepted, IsLimit, IsLimitRefusal, setting_of}
 
 -- what a machine is set up with and fed with
 pub record Given : Type 0 where
@@ -96,48 +99,62 @@ abbrev pub used_in : Verdict → ℕ
 used_in (Kept used bound because) = used
 used_in (Left what step used) = used
 
--- There is a replay: no word is given that the deck loads too, and the deck with its notes is
--- accepted.
-pub record HasReplay (g : Setting) (given : Given) : Type 0 where
-  pub own_words : first_loaded g.loads given.setup.words.items ≡ None
-  pub accepted : IsDeckAccepted g
+-- The verdict on the run comes with this step, where kept runs use so many word times at most: no
+-- more are used in it, and it has no more steps than those and one.
+pub record IsJudged (g : Setting) (given : Given) (most step : ℕ) (verdict : Verdict) :
+    Type 0 where
+  pub says : IsVerdict g given most step verdict
+  pub within : used_in verdict ≤ most
+  pub short : step ≤ most + 1
 
--- What a replay answers: the verdict on its one run, in which no more word times are used than any
--- walk takes at most, and which has no more steps than those and one.
+-- no word is given that the deck loads too
+abbrev pub HasOwnWords : Setting → Given → Type 0
+HasOwnWords g given = first_loaded g.loads given.setup.words.items ≡ None
+
+-- there is a replay: the words are the run's own, and the deck with its notes is accepted
+abbrev pub HasReplay : Setting → Given → Type 0
+HasReplay g given = HasOwnWords g given × IsDeckAccepted g
+
+-- What a replay answers: the verdict on its one run, which is held to what any walk takes at most.
 pub record IsReplay (g : Setting) (given : Given) (verdict : Verdict) : Type 0 where
   pub has : HasReplay g given
   pub worst : ℕ
   pub is_worst : IsWorst g worst
   pub step : ℕ
-  pub says : IsVerdict g given worst step verdict
-  pub within : used_in verdict ≤ worst
-  pub short : step ≤ worst + 1
+  pub judged : IsJudged g given worst step verdict
 
--- The turns of its run, up to the one with which the verdict comes: none, where it comes before any
--- step.
-pub record IsTraced (g : Setting) (given : Given) (turns : List Turn) (verdict : Verdict) :
-    Type 0 where
-  pub replay : IsReplay g given verdict
+-- The turns of a run up to the one with which its verdict comes, where kept runs use so many word
+-- times at most: none, where it comes before any step.
+pub record IsTraced (g : Setting) (given : Given) (most : ℕ) (turns : List Turn)
+    (verdict : Verdict) : Type 0 where
+  pub judged : IsJudged g given most (length turns) verdict
   pub replayed : IsReplayed g given turns
-  pub all : replay.step ≡ length turns
 
 -- The turns of a trace that goes out in part: the first of its run, up to one at most with which
 -- the run leaves the notes or stops.
 pub record IsTracedInPart (g : Setting) (given : Given) (turns : List Turn) : Type 0 where
-  pub has : HasReplay g given
   pub before : List Turn
   pub last : Turn
   pub all : turns ≡ before ++ last ∷ []
   pub under_way : IsUnderWay g given before last
 
--- Why there is no replay: a word is given that the deck loads too, of which the first is told; else
--- the deck with its notes is refused; else there is one, and the fault is Memory. (That memory was
--- wanting then is tested, not said.)
-abbrev pub IsReplayFault : Setting → Given → fails.Fault → Type 0
-IsReplayFault g given (fault.Loaded location) =
+-- Why there is no verdict: a word is given that the deck loads too, of which the first is told; else
+-- this is what refuses the documents; else there is what limits the run, and the fault is Memory.
+-- (That memory was wanting then is tested, not said.)
+abbrev pub IsRunFault : Setting → Given → (Refusal → Type 0) → Type 0 → fails.Fault → Type 0
+IsRunFault g given Refuses IsLimited (fault.Loaded location) =
     first_loaded g.loads given.setup.words.items ≡ Some location
-IsReplayFault g given (fault.Refused refusal) =
-    (first_loaded g.loads given.setup.words.items ≡ None)
-    × IsRefusal g.loads g.notes g.start refusal
-IsReplayFault g given fault.Memory = HasReplay g given
-IsReplayFault g given _ = ⊥
+IsRunFault g given Refuses IsLimited (fault.Refused refusal) = HasOwnWords g given × Refuses refusal
+IsRunFault g given Refuses IsLimited fault.Memory = HasOwnWords g given × IsLimited
+IsRunFault g given Refuses IsLimited _ = ⊥
+
+-- of a replay: the analysis refuses them, or there is a bound
+abbrev pub IsReplayFault : Setting → Given → fails.Fault → Type 0
+IsReplayFault g given =
+    IsRunFault g given (IsRefusal g.loads g.notes g.start) (IsDeckAccepted g)
+
+-- of a trace: there is neither a bound nor a ceiling, or there is one
+abbrev pub IsTraceFault : Documents → Given → fails.Fault → Type 0
+IsTraceFault documents given =
+    IsRunFault (setting_of documents) given (IsLimitRefusal documents)
+    ((limit : Limit) × (most : ℕ) × IsLimit documents limit most)

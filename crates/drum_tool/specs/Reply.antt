@@ -3,6 +3,8 @@ use Rattle.std.specs.Prelude.{◌≡◌, ◌≢◌, ℕ, ◌+◌, List, ◌++◌
 use Rattle.drum_times.specs.Entries.{entry_in}
 use Rattle.drum_machine.specs.Run.{Turn}
 use Rattle.drum_flow.specs.Walk.{Setting}
+use Rattle.drum_lines.specs.declared.limit.Limit as limits
+use Rattle.drum_lines.specs.declared.limit.Limit.TheVariants as limit
 use Rattle.drum_bound.specs.Visited.{Visited}
 use Rattle.drum_ceiling.specs.declared.answer.Ceiling as ceilings
 use Rattle.drum_command.specs.declared.command.Command.{Command}
@@ -26,11 +28,11 @@ use Rattle.drum_report.specs.Report.{report_text}
 use Rattle.drum_listing.specs.TraceText.{turn_lines}
 use Rattle.drum_listing.specs.WalkText.{walk_text}
 use Rattle.drum_tool.specs.Asked.{Asked, Looks, Named}
-use Rattle.drum_tool.specs.Documents.{IsAnalysisFault, IsBound, IsCeiling, IsCeilingFault, IsDeckAccepted, IsWorstWalk, setting_of}
+use Rattle.drum_tool.specs.Documents.{IsAnalysisFault, IsBound, IsCeiling, IsCeilingFault, IsDeckAccepted, IsLimit, IsWorstWalk, setting_of}
 use Rattle.drum_tool.specs.Files.{AreHeld, AreInputsHeld, AreNoInputsHeld, AreNotHeld, Held}
 use Rattle.drum_tool.specs.Given.{given}
 use Rattle.drum_tool.specs.Joined.{Gives, GivesNone}
-use Rattle.drum_tool.specs.Replay.{Given, IsReplay, IsReplayFault, IsTraced, IsTracedInPart}
+use Rattle.drum_tool.specs.Replay.{Given, HasOwnWords, IsReplay, IsReplayFault, IsTraced, IsTracedInPart, IsTraceFault}
 
 -- A text, for standard output or for standard error, and how the program ends; or a text that is
 -- given up, since a write of it fails.
@@ -91,11 +93,11 @@ ReadsAll reply ended ended' given given' =
 
 -- a verdict, with the turns of its run before it, and turns alone, on which a write fails
 abbrev pub verdict_reply : Verdict → Reply
-verdict_reply verdict = says (verdict_text verdict) (status_of verdict)
+verdict_reply verdict = says (verdict_text limit.Bound verdict) (status_of verdict)
 
-abbrev pub trace_reply : Setting → List Turn → Verdict → Reply
-trace_reply g turns verdict =
-    says (turn_lines g.times 1 turns ++ verdict_text verdict) (status_of verdict)
+abbrev pub trace_reply : Setting → limits.Limit → List Turn → Verdict → Reply
+trace_reply g by turns verdict =
+    says (turn_lines g.times 1 turns ++ verdict_text by verdict) (status_of verdict)
 
 abbrev pub cut_reply : Setting → List Turn → Reply
 cut_reply g turns = breaks_off (turn_lines g.times 1 turns)
@@ -134,16 +136,25 @@ SaysCeiling documents reply =
 -- ---- what is said of a run
 
 -- the verdict on the run that is fixed by what is given
-abbrev pub SaysVerdict : Setting → Given → Reply → Type 0
-SaysVerdict g given reply =
-    (verdict : Verdict) × IsReplay g given verdict × (reply ≡ verdict_reply verdict)
+abbrev pub SaysVerdict : Documents → Given → Reply → Type 0
+SaysVerdict documents given reply =
+    (verdict : Verdict) × IsReplay (setting_of documents) given verdict
+    × (reply ≡ verdict_reply verdict)
 
--- its turns and the verdict; or its first turns alone, where a write fails
-abbrev pub SaysTrace : Setting → Given → Reply → Type 0
-SaysTrace g given reply =
-    ((turns : List Turn) × (verdict : Verdict) × IsTraced g given turns verdict
-    × (reply ≡ trace_reply g turns verdict))
+-- the turns of a run that is limited so, and its verdict; or its first turns alone, where a write
+-- fails
+abbrev pub SaysTurns : Setting → limits.Limit → ℕ → Given → Reply → Type 0
+SaysTurns g by most given reply =
+    ((turns : List Turn) × (verdict : Verdict) × IsTraced g given most turns verdict
+    × (reply ≡ trace_reply g by turns verdict))
     ⊎ ((turns : List Turn) × IsTracedInPart g given turns × (reply ≡ cut_reply g turns))
+
+-- the turns of the run that is fixed by what is given, limited by the bound or by a ceiling
+abbrev pub SaysTrace : Documents → Given → Reply → Type 0
+SaysTrace documents given reply =
+    HasOwnWords (setting_of documents) given
+    × ((by : limits.Limit) × (most : ℕ) × IsLimit documents by most
+    × SaysTurns (setting_of documents) by most given reply)
 
 -- ---- to commands
 
@@ -170,24 +181,34 @@ abbrev pub AnswersOn : (Documents → Reply → Type 0) → (Documents → Type 
     → ℕ → Reply → Type 0
 AnswersOn = AnswersBy IsAnalysisFault
 
--- why there are no documents, else why there are no inputs, else why there is no replay
-abbrev pub IsFaultWith : (Documents → Type 0) → (Fault → Type 0) → (Inputs → Type 0)
-    → (Fault → Type 0) → Fault → Type 0
-IsFaultWith Are AreNone AreInputs NoInputs fault =
-    AreNone fault
-    ⊎ ((documents : Documents) × Are documents × (NoInputs fault
-    ⊎ ((inputs : Inputs) × AreInputs inputs
-    × IsReplayFault (setting_of documents) (given inputs) fault)))
+-- why there are no documents, else why there are no inputs
+abbrev pub IsFaultBefore : (Documents → Type 0) → (Fault → Type 0) → (Fault → Type 0) → Fault
+    → Type 0
+IsFaultBefore Are AreNone NoInputs fault =
+    AreNone fault ⊎ ((documents : Documents) × Are documents × NoInputs fault)
+
+-- or else why there is no run
+abbrev pub IsFaultWith : (Documents → Given → Fault → Type 0) → (Documents → Type 0)
+    → (Fault → Type 0) → (Inputs → Type 0) → (Fault → Type 0) → Fault → Type 0
+IsFaultWith Refuses Are AreNone AreInputs NoInputs fault =
+    IsFaultBefore Are AreNone NoInputs fault
+    ⊎ ((documents : Documents) × Are documents × (inputs : Inputs) × AreInputs inputs
+    × Refuses documents (given inputs) fault)
 
 -- To a command that lets the deck run: what it says of the run that the inputs fix, or why there is
 -- nothing to say.
-abbrev pub AnswersRun : (Setting → Given → Reply → Type 0) → (Documents → Type 0)
+abbrev pub AnswersRun : (Documents → Given → Fault → Type 0)
+    → (Documents → Given → Reply → Type 0) → (Documents → Type 0)
     → (Fault → Type 0) → (Inputs → Type 0) → (Fault → Type 0) → ℕ → Reply → Type 0
-AnswersRun Says Are AreNone AreInputs NoInputs failures reply =
+AnswersRun Refuses Says Are AreNone AreInputs NoInputs failures reply =
     ((documents : Documents) × Are documents × (inputs : Inputs) × AreInputs inputs
-    × (failures ≡ 0) × Says (setting_of documents) (given inputs) reply)
-    ⊎ ((fault : Fault) × IsFaultWith Are AreNone AreInputs NoInputs fault
+    × (failures ≡ 0) × Says documents (given inputs) reply)
+    ⊎ ((fault : Fault) × IsFaultWith Refuses Are AreNone AreInputs NoInputs fault
     × (failures ≡ reads_failed fault) × (reply ≡ fault_reply fault))
+
+-- why documents with what is given have no replay
+abbrev pub IsReplayRefused : Documents → Given → Fault → Type 0
+IsReplayRefused documents = IsReplayFault (setting_of documents)
 
 -- the reply to a joined form, where so many reads failed
 abbrev pub AnswersJoined : List ℕ → ℕ → Reply → Type 0
@@ -202,9 +223,10 @@ abbrev pub AnswersCeilingOfFiles : Held → ℕ → Reply → Type 0
 AnswersCeilingOfFiles held =
     AnswersBy IsCeilingFault SaysCeiling (AreHeld held) (AreNotHeld held)
 
-abbrev pub AnswersRunOfFiles : (Setting → Given → Reply → Type 0) → Held → ℕ → Reply → Type 0
-AnswersRunOfFiles Says held =
-    AnswersRun Says (AreHeld held) (AreNotHeld held)
+abbrev pub AnswersRunOfFiles : (Documents → Given → Fault → Type 0)
+    → (Documents → Given → Reply → Type 0) → Held → ℕ → Reply → Type 0
+AnswersRunOfFiles Refuses Says held =
+    AnswersRun Refuses Says (AreHeld held) (AreNotHeld held)
     (AreInputsHeld held) (AreNoInputsHeld held)
 
 -- and why there is nothing to say
@@ -214,9 +236,12 @@ IsFaultOfFiles held = IsFault (AreHeld held) (AreNotHeld held)
 abbrev pub IsCeilingFaultOfFiles : Held → Fault → Type 0
 IsCeilingFaultOfFiles held = IsFaultBy IsCeilingFault (AreHeld held) (AreNotHeld held)
 
-abbrev pub IsRunFaultOfFiles : Held → Fault → Type 0
-IsRunFaultOfFiles held =
-    IsFaultWith (AreHeld held) (AreNotHeld held)
+abbrev pub IsFaultBeforeOfFiles : Held → Fault → Type 0
+IsFaultBeforeOfFiles held = IsFaultBefore (AreHeld held) (AreNotHeld held) (AreNoInputsHeld held)
+
+abbrev pub IsRunFaultOfFiles : (Documents → Given → Fault → Type 0) → Held → Fault → Type 0
+IsRunFaultOfFiles Refuses held =
+    IsFaultWith Refuses (AreHeld held) (AreNotHeld held)
     (AreInputsHeld held) (AreNoInputsHeld held)
 
 -- the reply to a command, where the files of its parts hold this and so many reads failed
@@ -226,5 +251,5 @@ AnswersCommand held (Report files) = AnswersOnFiles SaysReport held
 AnswersCommand held (Walk files) = AnswersOnFiles SaysWalk held
 AnswersCommand held (Draw files) = AnswersOnFiles SaysPicture held
 AnswersCommand held (Ceiling files) = AnswersCeilingOfFiles held
-AnswersCommand held (Replay files inputs) = AnswersRunOfFiles SaysVerdict held
-AnswersCommand held (Trace files inputs) = AnswersRunOfFiles SaysTrace held
+AnswersCommand held (Replay files inputs) = AnswersRunOfFiles IsReplayRefused SaysVerdict held
+AnswersCommand held (Trace files inputs) = AnswersRunOfFiles IsTraceFault SaysTrace held

@@ -3,18 +3,20 @@
 ghost use Rattle.std.specs.Prelude.{◌≡◌, ◌+◌, ◌^◌, ◌≤◌, ℕ, List, Option, IfOk, IfErr, length, string_bytes};
 ghost use Rattle.drum_bound.specs.AnalysisOf.{angle_of, bound_of, visits_of};
 ghost use Rattle.drum_lines.specs.FaultStatus.{failed_by};
-ghost use Rattle.drum_tool.specs.Begun.{IsBegun};
-ghost use Rattle.drum_tool.specs.Documents.{IsBound, IsCeiling, IsWorstWalk, setting_of};
+ghost use Rattle.drum_tool.specs.Begun.{IsTraceBegun};
+ghost use Rattle.drum_tool.specs.Documents.{IsBound, IsCeiling, IsWorstWalk};
 ghost use Rattle.drum_tool.specs.Asked.{AsksFor, Looks, LooksFor, all_named_in, fault_in, files_of, named_in};
 ghost use Rattle.drum_tool.specs.Files.{AreHeld, AreInputsHeld, AreTold, Held};
 ghost use Rattle.drum_tool.specs.Output.{Tells, device};
-ghost use Rattle.drum_tool.specs.Replay.{Given};
+ghost use Rattle.drum_tool.specs.Replay.{Given, IsTraceFault};
 ghost use Rattle.drum_tool.specs.Reply.{
   AnswersCommand,
   AnswersOnFiles,
   AnswersRunOfFiles,
   IsCeilingFaultOfFiles,
+  IsFaultBeforeOfFiles,
   IsFaultOfFiles,
+  IsReplayRefused,
   IsRunFaultOfFiles,
   LooksAsTold,
   Reply,
@@ -29,17 +31,18 @@ ghost use Rattle.drum_tool.specs.Reply.{
 
 use crate::documents::Documents;
 use crate::files::inputs_of;
-use crate::replaying::{Begun, begin, replay};
+use crate::replaying::{Begun, replay};
 use crate::source::Source;
 use crate::telling::{
     complain, tell_bound, tell_ceiling, tell_report, tell_text, tell_trace, tell_verdict, tell_walk,
 };
+use crate::tracing::begin_trace;
 use drum_bound::{Analysis, Refusal};
 use drum_ceiling::Ceiling;
 use drum_command::{Command, Files};
 use drum_core::Output;
 use drum_inputs::Inputs;
-use drum_lines::{Fault, Status, Verdict};
+use drum_lines::{Fault, Limit, Status, Verdict};
 use drum_picture::picture;
 use std::alloc::Global;
 
@@ -134,7 +137,7 @@ fn documents_with_inputs<S: Source>(
         → AreHeld held done.0 × AreInputsHeld held done.1) }
     ensures fault { IfErr result (λ fault. (held : Held)
         → AreTold (S.files source.old) held (all_named_in files.entry inputs.entry.now)
-        → IsRunFaultOfFiles held fault) }
+        → IsFaultBeforeOfFiles held fault) }
     ensures counted { S.failed source.new ≡ S.failed source.old + failed_by result }
     ensures asked { AsksFor (S.asked source.old) (S.asked source.new)
         (LooksFor (all_named_in files.entry inputs.entry.now) result) }
@@ -154,10 +157,10 @@ fn verdict<S: Source>(
     requires { S.failed source.old ≤ 2 ^ 61 }
     ensures verdict { IfOk result (λ verdict. (held : Held)
         → AreTold (S.files source.old) held (all_named_in files.entry inputs.entry.now)
-        → AnswersRunOfFiles SaysVerdict held 0 (verdict_reply verdict)) }
+        → AnswersRunOfFiles IsReplayRefused SaysVerdict held 0 (verdict_reply verdict)) }
     ensures fault { IfErr result (λ fault. (held : Held)
         → AreTold (S.files source.old) held (all_named_in files.entry inputs.entry.now)
-        → IsRunFaultOfFiles held fault) }
+        → IsRunFaultOfFiles IsReplayRefused held fault) }
     ensures counted { S.failed source.new ≡ S.failed source.old + failed_by result }
     ensures asked { AsksFor (S.asked source.old) (S.asked source.new)
         (Looks (all_named_in files.entry inputs.entry.now) (fault_in result)) }
@@ -172,7 +175,7 @@ fn verdict<S: Source>(
     )
 }
 
-/// A replay from files, before its first step.
+/// A trace from files, before its first step.
 fn begun<S: Source>(
     alloc: Global,
     source: &mut S,
@@ -180,26 +183,20 @@ fn begun<S: Source>(
     inputs: &str,
 ) -> Result<(Documents, Begun), Fault>
     requires { S.failed source.old ≤ 2 ^ 61 }
-    ensures begun { IfOk result (λ done. (given : Given) × IsBegun (setting_of done.0) given done.1
+    ensures begun { IfOk result (λ done. (given : Given) × IsTraceBegun done.0 given done.1
         × ((held : Held) (reply : Reply)
         → AreTold (S.files source.old) held (all_named_in files.entry inputs.entry.now)
-        → SaysTrace (setting_of done.0) given reply
-        → AnswersRunOfFiles SaysTrace held 0 reply)) }
+        → SaysTrace done.0 given reply
+        → AnswersRunOfFiles IsTraceFault SaysTrace held 0 reply)) }
     ensures fault { IfErr result (λ fault. (held : Held)
         → AreTold (S.files source.old) held (all_named_in files.entry inputs.entry.now)
-        → IsRunFaultOfFiles held fault) }
+        → IsRunFaultOfFiles IsTraceFault held fault) }
     ensures counted { S.failed source.new ≡ S.failed source.old + failed_by result }
     ensures asked { AsksFor (S.asked source.old) (S.asked source.new)
         (Looks (all_named_in files.entry inputs.entry.now) (fault_in result)) }
 {
     let (documents, inputs) = documents_with_inputs(alloc, source, files, inputs)?;
-    let begun = begin(
-        alloc,
-        &documents.deck,
-        &documents.times,
-        &documents.notes,
-        inputs,
-    )?;
+    let begun = begin_trace(alloc, &documents, inputs)?;
     Ok((documents, begun))
 }
 
@@ -254,7 +251,7 @@ pub fn obey<S: Source, O: Output, E: Output>(
             Err(fault) => complain(err, fault),
         },
         Command::Replay(files, inputs) => match verdict(alloc, source, files, inputs) {
-            Ok(verdict) => tell_verdict(out, &verdict),
+            Ok(verdict) => tell_verdict(out, Limit::Bound, &verdict),
             Err(fault) => complain(err, fault),
         },
         Command::Trace(files, inputs) => match begun(alloc, source, files, inputs) {

@@ -1,13 +1,25 @@
-ghost use Rattle.std.specs.Prelude.{IfOk, IfErr};
+ghost use Rattle.std.specs.Prelude.{◌^◌, ◌<◌, IfOk, IfErr};
 ghost use Rattle.drum_bound.specs.AnalysisOf.{angle_of, bound_of, visits_of};
-ghost use Rattle.drum_tool.specs.Documents.{IsAnalysisFault, IsBound, IsCeiling, IsCeilingFault, IsWorstWalk};
+ghost use Rattle.drum_tool.specs.Documents.{
+  IsAnalysisFault,
+  IsBound,
+  IsCeiling,
+  IsCeilingFault,
+  IsLimit,
+  IsLimitFault,
+  IsPastLimit,
+  IsWorstWalk,
+};
 
-use drum_bound::{Analysis, analyse};
+use drum_bound::{Analysis, Refusal, analyse};
 use drum_ceiling::{Ceiling, ceiling};
 use drum_core::Deck;
-use drum_lines::Fault;
+use drum_lines::{Fault, Limit};
 use drum_times::{Notes, Times};
 use std::alloc::Global;
+
+/// What a run that is followed may take at most is below this, in word times: 3,400 years.
+const LONGEST: u128 = 1 << 50;
 
 /// A deck, its timing table and its notes.
 #[derive(Debug, Drop)]
@@ -60,6 +72,44 @@ impl Documents {
         match ceiling(alloc, &self.deck, &self.times, &self.notes) {
             Ok(found) => Ok(found),
             Err(refusal) => Err(Fault::Refused(refusal)),
+        }
+    }
+
+    /// What a run of theirs that keeps to the notes uses at most, in word times, and how that is
+    /// known: by the bound; or, where they are too large for one, by a ceiling.
+    ///
+    /// # Errors
+    ///
+    /// [`Fault::Refused`] where the deck with its notes isn't accepted, but for its size; where a
+    /// ceiling comes to 2^50 word times or more; or memory is wanting.
+    pub(crate) fn limit(&self, alloc: Global) -> Result<(Limit, u64), Fault>
+        ensures limit { IfOk result (λ found. IsLimit self.now found.0 found.1) }
+        ensures below { IfOk result (λ found. found.1 < 2 ^ 50) }
+        ensures fault { IfErr result (IsLimitFault self.now) }
+    {
+        match self.analyse(alloc) {
+            Ok(analysis) => Ok((Limit::Bound, analysis.bound())),
+            Err(Fault::Refused(Refusal::TooLarge(product))) => self.past_limit(alloc, product),
+            Err(fault) => Err(fault),
+        }
+    }
+
+    /// The same, where they are too large for a bound, and this is the product.
+    ///
+    /// # Errors
+    ///
+    /// As [`Documents::limit`].
+    fn past_limit(&self, alloc: Global, product: u128) -> Result<(Limit, u64), Fault>
+        requires past { IsPastLimit self.now product }
+        ensures limit { IfOk result (λ found. IsLimit self.now found.0 found.1) }
+        ensures below { IfOk result (λ found. found.1 < 2 ^ 50) }
+        ensures fault { IfErr result (IsLimitFault self.now) }
+    {
+        let total = self.ceiling(alloc)?.total();
+        if total < LONGEST {
+            Ok((Limit::Ceiling, total as u64))
+        } else {
+            Err(Fault::Refused(Refusal::TooLarge(product)))
         }
     }
 }

@@ -18,9 +18,13 @@ mod tracing;
 
 pub use commands::obey;
 pub use documents::Documents;
+pub use drum_bound::{Analysis, Refusal, Visit, Way, analyse};
+pub use drum_ceiling::{Ceiling, ceiling};
+pub use drum_core::{Deck, DeckFault, Reading, read_deck};
 pub use drum_inputs::{InputFault, Inputs, read_inputs};
 pub use drum_lines::{Fault, Part, PartFault, Status, Verdict, WriteFault};
 pub use drum_report::report;
+pub use drum_times::{NoteFault, Notes, Times, read_notes, read_times};
 pub use replaying::replay;
 pub use running::{run, run_joined};
 pub use source::Source;

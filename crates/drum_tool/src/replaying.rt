@@ -1,8 +1,9 @@
 //! The replay of a run, up to its verdict.
 
-ghost use Rattle.std.specs.Prelude.{◌≡◌, IfErr, IfOk, option_map};
+ghost use Rattle.std.specs.Prelude.{◌≡◌, ◌^◌, ◌<◌, IfErr, IfOk, option_map};
 ghost use Rattle.drum_flow.specs.SettingOf.{setting};
 ghost use Rattle.drum_tool.specs.Begun.{IsBegun, left_before};
+ghost use Rattle.drum_tool.specs.Documents.{IsBounded};
 ghost use Rattle.drum_tool.specs.Given.{given};
 ghost use Rattle.drum_tool.specs.Replay.{IsReplay, IsReplayFault};
 
@@ -10,19 +11,21 @@ use crate::following::{Following, follow};
 use drum_bound::analyse;
 use drum_core::Deck;
 use drum_inputs::Inputs;
-use drum_lines::{Fault, Verdict};
+use drum_lines::{Fault, Limit, Verdict};
 use drum_machine::{Left, Machine, Monitor};
 use drum_times::{Notes, Times};
 use std::alloc::Global;
 
-/// A replay before its first step.
+/// A run before its first step.
 #[derive(Debug, Drop)]
 pub struct Begun {
     pub following: Following,
     /// The drum's angle at time 0.
     pub angle: u8,
-    /// The most word times that a run which keeps to the notes uses.
-    pub bound: u64,
+    /// How it is known what a run that keeps to the notes uses at most.
+    pub limit: Limit,
+    /// The most word times that such a run uses.
+    pub most: u64,
     /// The verdict, where it comes before any step.
     pub verdict: Option<Verdict>,
 }
@@ -41,30 +44,28 @@ fn verdict_before(left: Option<Left>) -> Option<Verdict>
     }
 }
 
-/// A replay of a machine with this deck, which the inputs set up and feed, before its first step.
+/// A run of a machine with this deck, which the inputs set up and feed, before its first step: `most`
+/// is what such a run uses at most, where it keeps to the notes, and `limit` how that is known.
 ///
 /// # Errors
 ///
-/// As [`replay`].
+/// [`Fault::Memory`] where memory for the machine is wanting.
 pub fn begin(
     alloc: Global,
     deck: &Deck,
-    times: &Times,
     notes: &Notes,
     inputs: Inputs,
+    limit: Limit,
+    most: u64,
 ) -> Result<Begun, Fault>
-    ensures begun { IfOk result (IsBegun (setting deck.now times.now notes.now) (given inputs)) }
-    ensures refused { IfErr result
-        (IsReplayFault (setting deck.now times.now notes.now) (given inputs)) }
+    requires below { most < 2 ^ 50 }
+    ensures begun { IfOk result (λ begun. (times : Times)
+        → IsBounded (setting deck.now times notes.now) most
+        → IsBegun (setting deck.now times notes.now) (given inputs) begun) }
+    ensures limited { IfOk result (λ begun. (begun.limit ≡ limit) × (begun.most ≡ most)) }
+    ensures memory { IfErr result (λ fault. fault ≡ Fault.Memory) }
 {
     let Inputs { setup, feed } = inputs;
-    if let Some(location) = setup.loaded_by(deck) {
-        return Err(Fault::Loaded(location));
-    }
-    let analysis = match analyse(alloc, deck, times, notes) {
-        Ok(analysis) => analysis,
-        Err(refusal) => return Err(Fault::Refused(refusal)),
-    };
     let Ok(machine) = Machine::new(alloc, deck, &setup) else {
         return Err(Fault::Memory);
     };
@@ -79,7 +80,8 @@ pub fn begin(
     Ok(Begun {
         following,
         angle: setup.angle,
-        bound: analysis.bound(),
+        limit,
+        most,
         verdict,
     })
 }
@@ -103,14 +105,21 @@ pub fn replay(
     ensures refused { IfErr result
         (IsReplayFault (setting deck.now times.now notes.now) (given inputs)) }
 {
+    if let Some(location) = inputs.setup.loaded_by(deck) {
+        return Err(Fault::Loaded(location));
+    }
+    let bound = match analyse(alloc, deck, times, notes) {
+        Ok(analysis) => analysis.bound(),
+        Err(refusal) => return Err(Fault::Refused(refusal)),
+    };
     let Begun {
         following,
-        bound,
+        most,
         verdict,
         ..
-    } = begin(alloc, deck, times, notes, inputs)?;
+    } = begin(alloc, deck, notes, inputs, Limit::Bound, bound)?;
     match verdict {
         Some(verdict) => Ok(verdict),
-        None => Ok(follow(deck, times, notes, following, bound)),
+        None => Ok(follow(deck, times, notes, following, most)),
     }
 }

@@ -7,7 +7,7 @@ ghost use Rattle.drum_lines.specs.BoundText.{bound_text};
 ghost use Rattle.drum_lines.specs.FaultStatus.{status_after};
 ghost use Rattle.drum_lines.specs.FaultText.{fault_text};
 ghost use Rattle.drum_listing.specs.WalkText.{walk_text};
-ghost use Rattle.drum_tool.specs.Begun.{IsBegun, IsReady};
+ghost use Rattle.drum_tool.specs.Begun.{IsReady, IsTraceBegun};
 ghost use Rattle.drum_tool.specs.Documents.{IsCeiling, setting_of};
 ghost use Rattle.drum_tool.specs.Output.{Device, GetsComplaint, GetsResult, Tells, device, ended_with};
 ghost use Rattle.drum_tool.specs.Replay.{Given};
@@ -24,7 +24,7 @@ use drum_bound::Analysis;
 use drum_ceiling::Ceiling;
 use drum_core::Output;
 use drum_lines::{
-    Fault, Status, Verdict, WriteFault, write_bound, write_fault, write_text, write_verdict,
+    Fault, Limit, Status, Verdict, WriteFault, write_bound, write_fault, write_text, write_verdict,
 };
 use drum_listing::list_walk;
 use drum_report::{report, report_ceiling};
@@ -84,14 +84,14 @@ pub fn tell_ceiling<O: Output>(out: &mut O, documents: &Documents, ceiling: &Cei
     ended(report_ceiling(ceiling, &documents.notes, out), Status::Done)
 }
 
-/// Writes a verdict.
-pub fn tell_verdict<O: Output>(out: &mut O, verdict: &Verdict) -> Status
+/// Writes a verdict on a run whose word times are limited so.
+pub fn tell_verdict<O: Output>(out: &mut O, limit: Limit, verdict: &Verdict) -> Status
     requires { O.called out.old ≤ 2 ^ 62 + 2 ^ 60 }
     ensures { GetsResult (device (O.written out.old) (O.failed out.old))
-        (device (O.written out.new) (O.failed out.new)) (verdict_text verdict.now)
+        (device (O.written out.new) (O.failed out.new)) (verdict_text limit verdict.now)
         (status_of verdict.now) result }
 {
-    ended(write_verdict(out, verdict), verdict.status())
+    ended(write_verdict(out, limit, verdict), verdict.status())
 }
 
 /// Writes the line of a fault, and tells how the program ends after it: a write that fails changes
@@ -106,17 +106,18 @@ pub fn tell_fault<E: Output>(err: &mut E, fault: &Fault) -> Status
     fault.status()
 }
 
-/// Writes the steps of a replay and its verdict.
+/// Writes the steps of a run and its verdict.
 pub fn tell_trace<O: Output>(out: &mut O, documents: &Documents, begun: Begun) -> Status
     requires called { O.called out.old ≤ 2 ^ 62 }
     requires ready { IsReady (setting_of documents.now) begun }
-    ensures { (given : Given) → IsBegun (setting_of documents.now) given begun
-        → (reply : Reply) × SaysTrace (setting_of documents.now) given reply
+    ensures { (given : Given) → IsTraceBegun documents.now given begun
+        → (reply : Reply) × SaysTrace documents.now given reply
         × ((err : Device) → Tells reply (device (O.written out.old) (O.failed out.old))
         (device (O.written out.new) (O.failed out.new)) err err result) }
 {
+    let limit = begun.limit;
     match trace(documents, begun, out) {
-        Ok(verdict) => tell_verdict(out, &verdict),
+        Ok(verdict) => tell_verdict(out, limit, &verdict),
         Err(_) => Status::Failed,
     }
 }

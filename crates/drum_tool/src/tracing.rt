@@ -1,12 +1,12 @@
-//! A replay that writes a line for each of its steps.
+//! A run that is followed with a line for each of its steps.
 
-ghost use Rattle.std.specs.Prelude.{◌≡◌, ◌+◌, ◌^◌, ◌<◌, ◌≤◌, List, MatchResult, []};
+ghost use Rattle.std.specs.Prelude.{◌≡◌, ◌+◌, ◌^◌, ◌<◌, ◌≤◌, List, IfOk, IfErr, MatchResult, []};
 ghost use Rattle.drum_times.specs.Entries.{entry_in};
 ghost use Rattle.drum_machine.specs.Run.{Turn};
 ghost use Rattle.drum_flow.specs.SettingOf.{setting};
 ghost use Rattle.drum_lines.specs.Sent.{IsWritten, fails_by};
 ghost use Rattle.drum_listing.specs.TraceText.{turn_lines};
-ghost use Rattle.drum_tool.specs.Begun.{IsBegun, IsReady};
+ghost use Rattle.drum_tool.specs.Begun.{IsBegun, IsReady, IsTraceBegun};
 ghost use Rattle.drum_tool.specs.Documents.{IsBounded, setting_of};
 ghost use Rattle.drum_tool.specs.Following.{
   AreUnderWay,
@@ -16,15 +16,18 @@ ghost use Rattle.drum_tool.specs.Following.{
   state_of,
   waits_of,
 };
-ghost use Rattle.drum_tool.specs.Replay.{Given, IsTraced, IsTracedInPart};
+ghost use Rattle.drum_tool.specs.Given.{given};
+ghost use Rattle.drum_tool.specs.Replay.{Given, IsTraced, IsTraceFault, IsTracedInPart};
 
 use crate::documents::Documents;
 use crate::following::Following;
-use crate::replaying::Begun;
+use crate::replaying::{Begun, begin};
 use drum_core::{Deck, Output};
-use drum_lines::{Verdict, WriteFault};
+use drum_inputs::Inputs;
+use drum_lines::{Fault, Verdict, WriteFault};
 use drum_listing::send_step;
 use drum_times::{Notes, Times};
+use std::alloc::Global;
 
 /// Follows a run and writes a line for each of its steps, up to the one with which it leaves the
 /// notes or stops, and tells the verdict.
@@ -33,21 +36,21 @@ fn send_steps<O: Output>(
     times: &Times,
     notes: &Notes,
     mut following: Following,
-    bound: u64,
+    most: u64,
     angle: u8,
     out: &mut O,
 ) -> Result<Verdict, WriteFault>
     requires called { O.called out.old ≤ 2 ^ 62 }
-    requires below { bound < 2 ^ 50 }
-    requires bounded { IsBounded (setting deck.now times.now notes.now) bound }
+    requires below { most < 2 ^ 50 }
+    requires bounded { IsBounded (setting deck.now times.now notes.now) most }
     requires angle { (state_of following).start ≡ angle }
     requires begins { CanBegin (setting deck.now times.now notes.now) (state_of following) }
     requires follows { IsFollowing (setting deck.now times.now notes.now) (state_of following)
-        (waits_of following) bound [] following }
+        (waits_of following) most [] following }
     ensures written { (turns : List Turn)
         × MatchResult result
         (IsFollowed (setting deck.now times.now notes.now) (state_of following)
-        (waits_of following) bound turns)
+        (waits_of following) most turns)
         (λ _. AreUnderWay (setting deck.now times.now notes.now) (state_of following)
         (waits_of following) turns)
         × IsWritten (O.written out.old) (O.written out.new) result
@@ -58,12 +61,37 @@ fn send_steps<O: Output>(
     let mut sent = 0;
     loop {
         let before = following.used();
-        let (step, verdict) = following.advance(deck, times, notes, bound);
+        let (step, verdict) = following.advance(deck, times, notes, most);
         sent = send_step(out, sent, times, angle, following.steps, before, &step)?;
         if let Some(verdict) = verdict {
             return Ok(verdict);
         }
     }
+}
+
+/// A trace of documents, which the inputs set up and feed, before its first step.
+///
+/// # Errors
+///
+/// [`Fault::Loaded`] for the first word of the inputs that the deck loads too; else
+/// [`Fault::Refused`] where there is neither a bound nor a ceiling to go by ([`Documents::limit`]);
+/// else [`Fault::Memory`] where memory for the machine is wanting.
+pub fn begin_trace(alloc: Global, documents: &Documents, inputs: Inputs) -> Result<Begun, Fault>
+    ensures begun { IfOk result (IsTraceBegun documents.now (given inputs)) }
+    ensures refused { IfErr result (IsTraceFault documents.now (given inputs)) }
+{
+    if let Some(location) = inputs.setup.loaded_by(&documents.deck) {
+        return Err(Fault::Loaded(location));
+    }
+    let (limit, most) = documents.limit(alloc)?;
+    begin(
+        alloc,
+        &documents.deck,
+        &documents.notes,
+        inputs,
+        limit,
+        most,
+    )
 }
 
 /// Writes a line for each step of a replay, none where its verdict comes before any, and tells the
@@ -82,7 +110,7 @@ pub fn trace<O: Output>(
     requires ready { IsReady (setting_of documents.now) begun }
     ensures written { (given : Given) → IsBegun (setting_of documents.now) given begun
         → (turns : List Turn)
-        × MatchResult result (IsTraced (setting_of documents.now) given turns)
+        × MatchResult result (IsTraced (setting_of documents.now) given begun.most turns)
         (λ _. IsTracedInPart (setting_of documents.now) given turns)
         × IsWritten (O.written out.old) (O.written out.new) result
         (turn_lines (entry_in documents.now.times) 1 turns) }
@@ -92,8 +120,9 @@ pub fn trace<O: Output>(
     let Begun {
         following,
         angle,
-        bound,
+        most,
         verdict,
+        ..
     } = begun;
     match verdict {
         Some(verdict) => Ok(verdict),
@@ -102,7 +131,7 @@ pub fn trace<O: Output>(
             &documents.times,
             &documents.notes,
             following,
-            bound,
+            most,
             angle,
             out,
         ),

@@ -5,47 +5,69 @@ ghost use Rattle.drum_core.specs.Word.{spelling};
 ghost use Rattle.drum_machine.specs.declared.left.Left.TheVariants.{Unlisted, TooOften};
 ghost use Rattle.drum_lines.specs.Sent.{IsWritten, fails_by};
 ghost use Rattle.drum_lines.specs.declared.verdict.Verdict.TheVariants.{Kept};
-ghost use Rattle.drum_lines.specs.VerdictText.{left_text, verdict_text, why_name};
+ghost use Rattle.drum_lines.specs.VerdictText.{left_text, limit_name, verdict_text, why_name};
 
 use super::{four_digits, write_line};
 use crate::failed_write::WriteFault;
+use crate::limit::Limit;
 use crate::verdict::Verdict;
 use drum_core::{Location, Output, Word};
 use drum_machine::{Left, Why};
 use itoa::Buffer;
 
-/// Writes the line of a verdict.
-pub fn write_verdict<O: Output>(output: &mut O, verdict: &Verdict) -> Result<(), WriteFault>
+/// Writes the line of a verdict on a run whose word times are limited so.
+pub fn write_verdict<O: Output>(
+    output: &mut O,
+    limit: Limit,
+    verdict: &Verdict,
+) -> Result<(), WriteFault>
     requires { O.called output.old ≤ 2 ^ 62 + 2 ^ 60 }
     ensures written { IsWritten (O.written output.old) (O.written output.new) result
-        (verdict_text verdict.now) }
+        (verdict_text limit verdict.now) }
     ensures failures { O.failed output.new ≡ O.failed output.old + fails_by result }
 {
     match *verdict {
-        Verdict::Kept { used, bound, why } => write_kept(output, used, bound, why),
+        Verdict::Kept { used, bound, why } => write_kept(output, limit, used, bound, why),
         Verdict::Left { what, step, used } => write_left(output, what, step, used),
     }
 }
 
 /// Writes the line of a run that keeps to the notes.
-fn write_kept<O: Output>(output: &mut O, used: u64, bound: u64, why: Why) -> Result<(), WriteFault>
+fn write_kept<O: Output>(
+    output: &mut O,
+    limit: Limit,
+    used: u64,
+    bound: u64,
+    why: Why,
+) -> Result<(), WriteFault>
     requires { O.called output.old ≤ 2 ^ 62 + 2 ^ 60 }
     ensures written { IsWritten (O.written output.old) (O.written output.new) result
-        (verdict_text (Kept used bound why)) }
+        (verdict_text limit (Kept used bound why)) }
     ensures failures { O.failed output.new ≡ O.failed output.old + fails_by result }
 {
     let mut spent = Buffer::new();
-    let mut limit = Buffer::new();
+    let mut most = Buffer::new();
     let pieces: [&[u8]; 7] = [
         b"kept used ",
         spent.format(used).as_bytes(),
-        b" bound ",
-        limit.format(bound).as_bytes(),
+        word_of(limit),
+        most.format(bound).as_bytes(),
         b" stop ",
         name_of(why),
         b"\n",
     ];
     write_line(output, &pieces)
+}
+
+/// What a limit is called, between two numbers.
+fn word_of(limit: Limit) -> &'static [u8]
+    ensures name { result.now ≡ limit_name limit }
+    ensures short { length result.now ≤ 10 }
+{
+    match limit {
+        Limit::Bound => b" bound ",
+        Limit::Ceiling => b" ceiling ",
+    }
 }
 
 /// What the reason of a stop is called.

@@ -20,7 +20,7 @@ returns-in_err-inputs-clause-fault g c =
       c.in_ok-documents.documents,
       c.in_ok-documents.ensures.held held (first_told (g.S.Source.files c.args.source.now) held (named_in c.args.files)
           (in_file part.Inputs c.args.inputs.now ∷ []) told),
-      inl (c.in_err-inputs.ensures.fault (held part.Inputs) (inputs ∙ told.1.1.1.0)),
+      c.in_err-inputs.ensures.fault (held part.Inputs) (inputs ∙ told.1.1.1.0),
     ))
 
 pub returns-clause-held : goal.returns-clause-held

@@ -11,7 +11,7 @@ use Rattle.drum_tool.proofs.commands.verdict.Goals as goal
 pub returns-in_err-documents-clause-fault : goal.returns-in_err-documents-clause-fault
 returns-in_err-documents-clause-fault g c =
     let p = err_from_is_err_and c.from_residual.result c.from_residual.ensures.1 in
-    rw (p.1, p.2) (λ held told. c.in_err-documents.ensures.fault held told)
+    rw (p.1, p.2) (λ held told. inl (c.in_err-documents.ensures.fault held told))
 
 pub returns-clause-verdict : goal.returns-clause-verdict
 returns-clause-verdict g c =
@@ -23,7 +23,7 @@ pub returns-clause-fault : goal.returns-clause-fault
 returns-clause-fault g c =
     err_map _ _ c.replay.result c.replay.ensures.refused (λ fault is held told.
     let given = c.in_ok-documents.ensures.held held told in
-    inr (c.in_ok-documents.documents, given.0, inr (c.in_ok-documents.inputs, given.1, is)))
+    inr (c.in_ok-documents.documents, given.0, c.in_ok-documents.inputs, given.1, is))
 
 pub returns-in_err-documents-clause-asked : goal.returns-in_err-documents-clause-asked
 returns-in_err-documents-clause-asked g c =

@@ -53,7 +53,7 @@ returns-in_err-sent-clause-written g c =
         turn,
         refl,
         λ given are. record {
-          declared = as_declared all (state_of c.args.following) (waits_of c.args.following) c.args.bound
+          declared = as_declared all (state_of c.args.following) (waits_of c.args.following) c.args.most
               c.requires.begins c.requires.bounded given are;
           replayed = c.advance-step.ensures.of_run (state_of c.args.following) (waits_of c.args.following) turns
               c.requires.begins c.requires.bounded so_far given are;
@@ -83,8 +83,8 @@ returns-in-Some-clause-written g c =
     c.loop-following.invariant.gone
     (c.in_ok-sent.ensures.sent turn (c.advance-step.ensures.told so_far.goes) start (sym c.used-before.ensures)) in (
       more,
-      subst (λ (o : Option Verdict). MatchOption o (IsFollowing all s waits c.args.bound more c.advance-step.new.self)
-          (IsFollowed all s waits c.args.bound more))
+      subst (λ (o : Option Verdict). MatchOption o (IsFollowing all s waits c.args.most more c.advance-step.new.self)
+          (IsFollowed all s waits c.args.most more))
           c.in-Some.is (c.advance-step.ensures.advanced s waits turns c.requires.begins c.requires.bounded so_far),
       written_whole (g.O.Output.written c.args.out.now) (g.O.Output.written c.send_step.new.writer) c.in_ok-sent.sent
           (turn_lines all.times 1 more) gone,
@@ -105,8 +105,8 @@ loop-following-preserved g c =
       turns = more;
       so_far =
           subst (λ (o : Option Verdict). MatchOption o
-          (IsFollowing all s waits c.args.bound more c.advance-step.new.self)
-          (IsFollowed all s waits c.args.bound more))
+          (IsFollowing all s waits c.args.most more c.advance-step.new.self)
+          (IsFollowed all s waits c.args.most more))
           c.in_default.is (c.advance-step.ensures.advanced s waits turns c.requires.begins c.requires.bounded so_far);
       gone =
           behind all.times (g.O.Output.written c.args.out.now) (g.O.Output.written c.loop-following.out)

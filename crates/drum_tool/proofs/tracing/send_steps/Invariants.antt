@@ -11,7 +11,7 @@ use Rattle.drum_tool.proofs.tracing.send_steps.Given as goal
 abbrev pub invariant-loop-following : goal.invariant-loop-following
 invariant-loop-following g l = record {
   turns : List Turn;
-  so_far : IsFollowing (setting l.deck l.times l.notes) (state_of l.fn.following) (waits_of l.fn.following) l.bound
+  so_far : IsFollowing (setting l.deck l.times l.notes) (state_of l.fn.following) (waits_of l.fn.following) l.most
       turns l.following;
   gone : IsSent (g.O.Output.written l.fn.out) (g.O.Output.written l.out) 0 (Ok l.sent)
       (turn_lines (entry_in l.times) 1 turns);
@@ -22,4 +22,4 @@ invariant-loop-following g l = record {
 
 -- each step uses time
 abbrev pub decreases-loop-following : goal.decreases-loop-following
-decreases-loop-following g l = l.bound + 1 - used_so_far l.following
+decreases-loop-following g l = l.most + 1 - used_so_far l.following

@@ -19,7 +19,6 @@ returns-in-None-clause-written g c given is =
           (λ verdict followed. traced_followed (setting_of c.args.documents.now) given c.args.begun is written.0 verdict
           followed)
           (λ fault under_way. record {
-            has = is.has;
             before = under_way.0;
             last = under_way.1;
             all = under_way.2;
