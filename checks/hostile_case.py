@@ -46,7 +46,7 @@ class Case:
         self.name = name
         self.line = line
         self.command = command
-        is_result = line.startswith((b"bound", b"kept", b"left"))
+        is_result = line.startswith((b"bound", b"ceiling", b"kept", b"left"))
         usual = 4 if line.startswith(b"left") else 0 if is_result else 1
         self.status = more.pop("status", usual)
         # The joined form, or where it comes from.

@@ -194,10 +194,30 @@ def of_results():
     yield counting("trace", holds=has_lines(1998 * ROUNDS + 2, kept.line))
 
 
+def ceiling(case, marks_in_it, total):
+    """The ceiling of a case's deck, which some walk reaches."""
+    last = b"ceiling %d\n" % total
+    holds = has_lines(marks_in_it + 2, last)
+    return Case("the ceiling of %s" % case.name, last, "ceiling", holds=holds, **case.parts)
+
+
+def of_ceilings():
+    """Decks at the limit of a bound, and far past it."""
+    yield ceiling(storing_drum(64), 0, 49 + 1999 * 101 + 1)
+    yield ceiling(ring(9999), 1, 49 + 2000 * 10000 - 1)
+    yield ceiling(loops([9999] * 8), 8, 74 + 50 * (10000**8 - 1))
+    # A mark that nobody passes makes the counting ring too large for a bound.
+    traced = counting("trace")
+    parts = dict(traced.parts, notes=traced.parts["notes"] + marks([(0, 0, 9, 0)]))
+    line = traced.line.replace(b"bound", b"ceiling")
+    holds = has_lines(1998 * ROUNDS + 2, line)
+    yield Case("%s by its ceiling" % traced.name, line, "trace", holds=holds, **parts)
+
+
 def of_outputs():
     """Outputs that can't be written, where a result is one line and where it is long."""
     for out in ["/dev/full", "closed", "broken"]:
-        for command in ["bound", "report", "walk", "draw", "replay", "trace"]:
+        for command in ["bound", "report", "walk", "draw", "ceiling", "replay", "trace"]:
             line = KEPT if command in ("replay", "trace") else BOUND
             yield Case("%s, %s" % (command, OUTPUTS[out]), line, command, status=3, out=out)
         name = "bound of a joined form, %s" % OUTPUTS[out]
@@ -284,6 +304,7 @@ def unopened(part):
 def cases():
     yield from of_decks()
     yield from of_results()
+    yield from of_ceilings()
     yield from of_outputs()
     yield from of_joined()
     yield from of_devices()

@@ -19,8 +19,12 @@ from results import (
 
 # What a run gave: its status and both outputs.
 Ran = namedtuple("Ran", "status out err")
-# What is told: its kind, a bound, the word times used, and a fault.
-Told = namedtuple("Told", "kind bound used fault", defaults=[None, None, None])
+# What is told: its kind, a bound or what stands for it, the word times used, a fault, and of a run
+# whether `bound` or `ceiling` limits it.
+Told = namedtuple("Told", "kind bound used fault by", defaults=[None, None, None, None])
+
+# From so many word times on no trace goes by a ceiling.
+LONGEST = 2**50
 
 DONE, REFUSED, USAGE, FAILED, LEFT = range(5)
 
@@ -40,7 +44,8 @@ def hold(property, is_kept):
 def verdict_of(line, status):
     kept, left = kept_of(line), left_of(line)
     if kept and status == DONE:
-        return Told("kept", kept[1], kept[0])
+        used, most, by = kept
+        return Told("kept", most, used, by=by)
     return Told("left", None, left[1]) if left and status == LEFT else None
 
 
@@ -48,7 +53,8 @@ def result_of(asked, status, text):
     """What a result tells that was asked for; None where it is none."""
     command, files = asked
     if command == "replay":
-        return verdict_of(text, status)
+        told = verdict_of(text, status)
+        return told if told and told.by != "ceiling" else None
     if command == "trace":
         line = traced_verdict(text, files)
         return line and verdict_of(line, status)
@@ -127,6 +133,21 @@ def is_no_lower(told, bound, files):
     return told.fault == other.fault and (told.fault is not None or other.bound <= told.bound)
 
 
+def is_within_ceiling(told, bound, ceiling, files):
+    """Whether a trace past the limit of a bound goes with what `ceiling` gives: it tells that, no
+    time in it is above it, and without one it has the same fault, or one of the inputs; a ceiling
+    that is too long is no better than none."""
+    other = told_of(("ceiling", files), ceiling)
+    if other is None:
+        return False
+    if told.fault:
+        is_too_long = other.fault is None and other.bound >= LONGEST
+        fault = told_of(("bound", files), bound).fault if is_too_long else other.fault
+        return told.fault.about == "inputs" or told.fault == fault
+    is_told = told.bound in (None, other.bound) and told.by in (None, "ceiling")
+    return other.fault is None and told.used <= other.bound < LONGEST and is_told
+
+
 def agrees(asked, ran, told, run):
     """Whether a run agrees with what the other commands tell of the same files."""
     command, files = asked
@@ -147,8 +168,13 @@ def agrees(asked, ran, told, run):
         is_one = (ran.status, ran.err) == (bound.status, bound.err)
         return is_one and (told.fault is not None or bound.out == b"bound %d\n" % told.bound)
     trace, replay = (other("trace"), ran) if command == "replay" else (ran, other("replay"))
-    is_one = ends_alike(trace, replay) and told_of(("trace", files), trace) == told
-    return is_one and is_within(told, bound, files)
+    traced, replayed = told_of(("trace", files), trace), told_of(("replay", files), replay)
+    if traced is None or replayed is None or not is_within(replayed, bound, files):
+        return False
+    limit = told_of(("bound", files), bound).fault
+    if limit and limit.ending == "product":
+        return is_within_ceiling(traced, bound, other("ceiling"), files)
+    return ends_alike(trace, replay) and traced == replayed
 
 
 # The properties.

@@ -15,7 +15,7 @@ WORD = "([+-][0-9]{10})"
 STOPS = "programmed|operation|operand|card|quotient|overflow|digit|next"
 
 BOUND = re.compile("bound %s\n" % NUMBER)
-KEPT = re.compile("kept used {0} bound {0} stop ({1})\n".format(NUMBER, STOPS))
+KEPT = re.compile("kept used {0} (bound|ceiling) {0} stop ({1})\n".format(NUMBER, STOPS))
 LEFT = re.compile(
     "left (?:switch|loadcard|unlisted {0} {1}|toooften {0} {0}) step {2} used {2}\n".format(
         PLACE, WORD, NUMBER
@@ -70,10 +70,11 @@ def bound_of(text):
 
 
 def kept_of(text):
-    """The word times used and the bound of a run that keeps to the notes."""
+    """The word times used of a run that keeps to the notes, and what limits them: how many, and
+    whether by a bound or a ceiling."""
     matched = KEPT.fullmatch(text)
-    used, bound = map(int, matched.group(1, 2)) if matched else (1, 0)
-    return (used, bound) if used <= bound else None
+    used, most = map(int, matched.group(1, 3)) if matched else (1, 0)
+    return (used, most, matched.group(2)) if used <= most else None
 
 
 def left_of(text):
