@@ -1,22 +1,15 @@
 -- What a finished scan shows.
-use Rattle.std.proofs.Common.{◌≡◌, ℕ, ◌-◌, ◌*◌, ◌<◌, ◌≤◌, List, length, map, Option, Some, None, refl, ap, sym, ◌∙◌}
+use Rattle.std.proofs.Common.{◌≡◌, ℕ, ◌-◌, ◌*◌, ◌<◌, ◌≤◌, List, length, map, ap, sym, ◌∙◌}
 use Rattle.std.proofs.Common.{subst, arith, mul_comm}
-use Rattle.std.specs.Prelude.{slice_get, sum}
+use Rattle.std.specs.Prelude.{sum}
 use Rattle.std.proofs.Math.Nat.{mul_assoc}
 use Rattle.std.proofs.lemmas.List.{length-map}
-use Rattle.std.proofs.lemmas.Option.{slice_get_within}
-use Rattle.drum_core.specs.declared.deck.Deck.{Deck}
-use Rattle.drum_core.specs.declared.deck.Given.{Given}
-use Rattle.drum_core.specs.declared.word.Word.{Word}
-use Rattle.drum_core.specs.Loads.{found_in, loads_in}
 use Rattle.std.specs.Map.{values_of}
-use Rattle.std.specs.Option.{option_map}
 use Rattle.drum_times.specs.declared.times.Times.{Times}
-use Rattle.drum_times.specs.Allowed.{Notes, AreSound}
 use Rattle.drum_flow.specs.Accepted.{counts_of}
 use Rattle.drum_flow.specs.AcceptedFlow.{in_order}
 use Rattle.drum_flow.specs.Hops.{hops}
-use Rattle.drum_flow.specs.Walk.{Setting, IsProper}
+use Rattle.drum_flow.specs.Walk.{Setting}
 use Rattle.drum_bound.specs.declared.analysis.Analysis.{Analysis}
 use Rattle.drum_bound.specs.declared.cells.Cells.{Cells}
 use Rattle.drum_bound.specs.declared.keys.Keys.{Keys}
