@@ -53,6 +53,8 @@ impl Visit {
             → slice_index passed.new k ≡ slice_index passed.old k
             + passes_by mark self.now.place.number (seen_way self.now.way) }
         ensures once { (k : ℕ) → slice_index passed.new k ≤ slice_index passed.old k + 1 }
+        ensures others { (k : ℕ) → length marks.now ≤ k
+            → slice_index passed.new k ≡ slice_index passed.old k }
     {
         for (place, mark) in marks.iter().enumerate() {
             passed[place] += self.passes(mark);
