@@ -4,8 +4,10 @@ ghost use Rattle.std.specs.Prelude.{◌≡◌};
 
 use std::hash::Hasher;
 
-/// Keeps neighbours together: eight keys in a row share a group of the map's table, so that a scan
-/// in the order of the keys goes through its memory in order.
+/// Keeps neighbours together: nine keys in a row share a group of the map's table, so that a scan
+/// in the order of the keys goes through its memory in order. Nine is as many as the map puts into
+/// a group on average: with fewer, the keys of a table that is nearly full would come to its first
+/// groups again, and overflow them.
 #[derive(Clone, Copy, Debug)]
 pub struct KeyHasher {
     /// The last number that was written.
@@ -29,10 +31,10 @@ impl Hasher for KeyHasher {
       key = fold (λ key byte. key / 256 + byte * 2 ^ 24) hasher.key bytes;
     } };
 
-    ghost finish = { λ hasher. hasher.key / 8 + (hasher.key % 8 + 1) * 2 ^ 24 };
+    ghost finish = { λ hasher. hasher.key / 9 + (hasher.key % 9 + 1) * 2 ^ 24 };
 
     fn finish(&self) -> u64 {
-        self.key / 8 + (self.key % 8 + 1) * 16_777_216
+        self.key / 9 + (self.key % 9 + 1) * 16_777_216
     }
 
     fn write(&mut self, bytes: &[u8]) {
