@@ -1,6 +1,6 @@
 -- The latest ends of the hops that were looked at, of a location whose instruction is found at an
 -- angle.
-use Rattle.std.specs.Prelude.{◌≡◌, ℕ, ◌+◌, ◌%◌, ◌≤◌, List, Option, Some, None, Contains, slice_get}
+use Rattle.std.specs.Prelude.{◌≡◌, ℕ, ◌+◌, ◌%◌, ◌≤◌, List, Option, Some, None, All, Contains, slice_get}
 use Rattle.drum_core.specs.declared.instruction.Instruction.{Instruction}
 use Rattle.drum_core.specs.Location.{IsLocation}
 use Rattle.drum_times.specs.Entries.{entry_in}
@@ -35,6 +35,11 @@ pub record IsRaised (from : Found) (raised : Raised) (ins : Instruction) (way : 
 abbrev pub HasTaken : Found → Raised → Instruction → Type 0
 HasTaken from raised ins =
     (way : Way) → Contains (ways from.notes.now ins) way → IsRaised from raised ins way
+
+-- None was looked at.
+pub record HasNone (raised : Raised) : Type 0 where
+  pub stop : raised.stop ≡ 0
+  pub onward : All (λ most. most ≡ None) raised.onward.items
 
 -- What is kept never falls.
 pub record GrowsTo (before after : Raised) : Type 0 where

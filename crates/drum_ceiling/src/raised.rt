@@ -1,6 +1,6 @@
 //! The latest ends of hops of one location, as they are found.
 
-ghost use Rattle.std.specs.Prelude.{◌≡◌, ℕ, ◌≤◌, Some, slice_get, vec_len};
+ghost use Rattle.std.specs.Prelude.{◌≡◌, ℕ, ◌≤◌, IfOk, Some, slice_get, vec_len};
 ghost use Rattle.drum_machine.specs.WaysLeft.{seen_way};
 ghost use Rattle.drum_flow.specs.Profile.{MayEnd};
 
@@ -24,10 +24,12 @@ pub struct Raised {
 }
 
 impl Raised {
-    ghost use Rattle.drum_ceiling.specs.Raised.{GrowsTo, IsRaised};
+    ghost use Rattle.drum_ceiling.specs.Raised.{GrowsTo, HasNone, IsRaised};
 
     /// None was looked at.
-    pub fn none(alloc: Global) -> Result<Raised, AllocError> {
+    pub fn none(alloc: Global) -> Result<Raised, AllocError>
+        ensures { IfOk result HasNone }
+    {
         Ok(Raised {
             stop: 0,
             onward: vec![in alloc; None; Slot::COUNT]?,
