@@ -1,5 +1,7 @@
 //! The bar: where all word times of the walk go.
 
+use crate::ink::Ink;
+use crate::page::TITLE;
 use crate::scale::scaled;
 use crate::shares::Shares;
 use crate::tenths::Tenths;
@@ -11,7 +13,7 @@ const WIDTH: u64 = 1180;
 /// One part of the bar.
 #[derive(Clone, Copy, Debug)]
 struct Share {
-    class: &'static str,
+    ink: Ink,
     name: &'static str,
     time: u64,
 }
@@ -20,22 +22,22 @@ struct Share {
 fn parts_of(shares: Shares) -> [Share; 4] {
     [
         Share {
-            class: "work",
+            ink: Ink::Work,
             name: "work",
             time: shares.work,
         },
         Share {
-            class: "seek",
+            ink: Ink::Seek,
             name: "waiting for instructions",
             time: shares.instructions,
         },
         Share {
-            class: "data",
+            ink: Ink::Data,
             name: "waiting for data",
             time: shares.data,
         },
         Share {
-            class: "cards",
+            ink: Ink::Cards,
             name: "waiting for cards",
             time: shares.cards,
         },
@@ -44,15 +46,12 @@ fn parts_of(shares: Shares) -> [Share; 4] {
 
 /// Writes what a part is, below the bar.
 fn draw_name(text: &mut String, share: Share, bound: u64, x: u64) -> Result<(), AllocError> {
-    let Share { class, name, time } = share;
+    let Share { ink, name, time } = share;
     let percent = Tenths {
         count: scaled(time, bound, 2000).saturating_add(1) / 2,
     };
     let beside = x.saturating_add(18);
-    write!(
-        text,
-        "<rect class='{class}' x='{x}' y='38' width='11' height='11'/>"
-    )?;
+    write!(text, "<rect {ink} x='{x}' y='38' width='11' height='11'/>")?;
     write!(text, "<text x='{beside}' y='48'>{name}</text>")?;
     write!(
         text,
@@ -65,17 +64,14 @@ pub(crate) fn draw_bar(text: &mut String, shares: Shares, bound: u64) -> Result<
     text.push_str("<g transform='translate(30 742)'>")?;
     write!(
         text,
-        "<text class='title' x='-2' y='-10'>Where all {bound} word times go</text>\n"
+        "<text {TITLE} x='-2' y='-10'>Where all {bound} word times go</text>\n"
     )?;
     let (mut left, mut column) = (0u64, 0u64);
     for share in parts_of(shares) {
-        let (class, x) = (share.class, scaled(left, bound, WIDTH));
+        let (ink, x) = (share.ink, scaled(left, bound, WIDTH));
         left = left.saturating_add(share.time);
         let width = scaled(left, bound, WIDTH).saturating_sub(x);
-        write!(
-            text,
-            "<rect class='{class}' x='{x}' width='{width}' height='24'/>"
-        )?;
+        write!(text, "<rect {ink} x='{x}' width='{width}' height='24'/>")?;
         draw_name(text, share, bound, column)?;
         column = column.saturating_add(300);
     }

@@ -1,5 +1,6 @@
 //! The words beside the drum.
 
+use crate::labels::LARGE_FONT;
 use crate::point::Point;
 use crate::tallies::Tallies;
 use crate::word::Word;
@@ -34,18 +35,19 @@ fn draw_box(text: &mut String, word: Word) -> Result<(), AllocError> {
     let left = left_of(word.number);
     write!(text, "<use href='#beside' x='{left}' y='{TOP}'")?;
     word.finish(text)?;
-    let (ink, number, base) = (word.ink(), word.number, TOP + 145);
+    let (ink, number, base) = (word.label_ink(), word.number, TOP + 145);
     let middle = left.saturating_add(200);
     write!(
         text,
-        "<text class='large{ink}' x='{middle}' y='{base}'>{number}</text>\n"
+        "<text font-size='{LARGE_FONT}'{ink} x='{middle}' y='{base}'>{number}</text>\n"
     )
 }
 
 /// Draws those of 8000 to 8003 that the walk has to do with.
 pub(crate) fn draw_beside(text: &mut String, tallies: &Tallies) -> Result<(), AllocError> {
     let most = tallies.most_time();
-    text.push_str("<defs><rect id='beside' width='400' height='220' rx='30'/></defs>\n")?;
+    text.push_str("<defs><rect id='beside' width='400' height='220' rx='30' stroke-width='8'/>")?;
+    text.push_str("</defs>\n")?;
     for number in 8000..8004u16 {
         if let Some(word) = Word::of(tallies, number, most) {
             draw_box(text, word)?;

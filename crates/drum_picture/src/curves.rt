@@ -2,6 +2,7 @@
 
 use crate::beside::{beside_top, is_beside};
 use crate::edges::{MOST_EDGES, TakenEdge};
+use crate::ink::Ink;
 use crate::point::Point;
 use crate::rings::{RIM, Ring, ring_of};
 use crate::scale::scaled;
@@ -76,12 +77,13 @@ pub(crate) fn draw_curves(
     rings: &[Ring],
     edges: &[TakenEdge],
 ) -> Result<(), AllocError> {
-    let class = if edges.len() > MOST_ARROWS {
-        "hops many"
+    let more = if edges.len() > MOST_ARROWS {
+        "opacity='.45'"
     } else {
-        "hops tipped"
+        "opacity='.8' marker-end='url(#tip)'"
     };
-    write!(text, "<g class='{class}'>\n")?;
+    let ink = Ink::Hop;
+    write!(text, "<g {ink} {more}>\n")?;
     let most = edges.first().map_or(1, |one| one.taken);
     let wide = if most < 2 || edges.len() > MOST_ARROWS {
         8

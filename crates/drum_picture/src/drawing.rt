@@ -6,7 +6,7 @@ use crate::curves::draw_curves;
 use crate::drum::{draw_rim, draw_rings, draw_words};
 use crate::edges::taken_edges;
 use crate::labels::draw_labels;
-use crate::page::{begin, draw_drum_title, draw_rows_key};
+use crate::page::{TITLE, begin, draw_drum_title, draw_rows_key};
 use crate::revolutions::{draw_revolutions, draw_revolutions_title};
 use crate::rings::rings_of;
 use crate::rows::Rows;
@@ -17,9 +17,6 @@ use drum_bound::Analysis;
 use drum_core::Deck;
 use drum_times::Times;
 use std::alloc::{AllocError, Global};
-
-/// What stands in the place of an empty walk.
-const NO_HOP: &str = "<text class='title' x='690' y='112'>The worst walk has no hop</text>\n";
 
 /// Draws the drum: its words, and the edges of the walk between them.
 fn draw_drum(
@@ -49,7 +46,10 @@ fn draw_walk(
     times: &Times,
 ) -> Result<(), AllocError> {
     if walk.visits.is_empty() {
-        return text.push_str(NO_HOP);
+        return write!(
+            text,
+            "<text {TITLE} x='690' y='112'>The worst walk has no hop</text>\n"
+        );
     }
     let rows = Rows::of(alloc, walk, times)?;
     draw_revolutions_title(text, walk, &rows)?;

@@ -1,5 +1,6 @@
 //! The drum, ring by ring.
 
+use crate::ink::Ink;
 use crate::point::Point;
 use crate::rings::{RIM, Ring};
 use crate::tallies::Tallies;
@@ -10,10 +11,10 @@ use std::alloc::AllocError;
 /// Draws a ring without its words, and defines the shape of its words as that at angle 0.
 fn draw_ring(text: &mut String, ring: Ring) -> Result<(), AllocError> {
     let Ring { band, outer, inner } = ring;
-    let (middle, height) = (ring.middle(), ring.height());
+    let (track, middle, height) = (Ink::Track, ring.middle(), ring.height());
     write!(
         text,
-        "<circle class='track' r='{middle}' stroke-width='{height}'/>"
+        "<circle {track} r='{middle}' stroke-width='{height}'/>"
     )?;
     let (far, near) = (Point::end_of_word(outer), Point::end_of_word(inner));
     let (far_right, far_up, near_right, near_up) = (far.x, far.y, near.x, near.y);
@@ -23,7 +24,7 @@ fn draw_ring(text: &mut String, ring: Ring) -> Result<(), AllocError> {
     );
     write!(
         text,
-        "<defs><path id='b{band}' d='M{near_left} {near_up}L{far_left} {far_up}"
+        "<defs><path id='b{band}' stroke-width='8' d='M{near_left} {near_up}L{far_left} {far_up}"
     )?;
     write!(
         text,
@@ -48,10 +49,10 @@ pub(crate) fn draw_rim(text: &mut String) -> Result<(), AllocError> {
     for five in 0..10u16 {
         let angle = five * 5;
         let Point { x, y } = Point::at(angle, RIM + 160);
-        let base = y.saturating_add(38);
+        let (faint, base) = (Ink::Faint, y.saturating_add(38));
         write!(
             text,
-            "<text class='angle faint' x='{x}' y='{base}'>{angle:02}</text>\n"
+            "<text {faint} font-size='115' x='{x}' y='{base}'>{angle:02}</text>\n"
         )?;
     }
     Ok(())

@@ -25,6 +25,11 @@ const LABEL: i64 = 3600;
 /// The most angles that a label takes, which is one on the innermost ring.
 const MOST_ANGLES: u16 = 6;
 
+/// The sizes of labels, in tenths of a pixel.
+const SMALL_FONT: u16 = 78;
+
+pub const LARGE_FONT: u16 = 102;
+
 /// So many tenths of a degree.
 fn tenths(count: u16) -> Tenths {
     Tenths {
@@ -42,14 +47,14 @@ fn draw_inside(text: &mut String, ring: Ring, word: Word) -> Result<(), AllocErr
         ((word_at + 900) % 3600, 0i64.saturating_sub(middle))
     };
     let size = if ring.height() < LARGE {
-        "small"
+        SMALL_FONT
     } else {
-        "large"
+        LARGE_FONT
     };
-    let (degrees, ink, number) = (tenths(label_at), word.ink(), word.number);
+    let (degrees, ink, number) = (tenths(label_at), word.label_ink(), word.number);
     write!(
         text,
-        "<text class='{size}{ink}' transform='rotate({degrees}) "
+        "<text font-size='{size}'{ink} transform='rotate({degrees}) "
     )?;
     write!(text, "translate({along} 34)'>{number:04}</text>\n")
 }
@@ -72,7 +77,7 @@ fn draw_after(text: &mut String, ring: Ring, number: u16) -> Result<(), AllocErr
     let (degrees, base) = (tenths(label_at), up.saturating_add(28));
     write!(
         text,
-        "<text class='small {anchor}' transform='rotate({degrees}) "
+        "<text class='{anchor}' font-size='{SMALL_FONT}' transform='rotate({degrees}) "
     )?;
     write!(text, "translate({along} {base})'>{number:04}</text>\n")
 }

@@ -3,7 +3,8 @@
 //! Each of `tallies`, `edges` and `shares` counts something in one pass over the `walk`, of which
 //! `parts` says when the parts of one hop begin and end, and `rows` which revolutions are shown.
 //! `drum`, with `rings`, `word`, `labels`, `curves` and `beside`, draws the drum; `revolutions`,
-//! with `spans`, draws the walk a revolution a row; `page` and `bar` draw what stands around them.
+//! with `spans`, draws the walk a revolution a row; `page` and `bar` draw what stands around them,
+//! all of it in the colours of `ink`.
 #![tactic(auto)]
 
 mod bar;
@@ -12,6 +13,7 @@ mod curves;
 mod drawing;
 mod drum;
 mod edges;
+mod ink;
 mod labels;
 mod page;
 mod parts;

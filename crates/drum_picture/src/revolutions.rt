@@ -1,5 +1,7 @@
 //! The walk, a revolution a row.
 
+use crate::ink::Ink;
+use crate::page::TITLE;
 use crate::parts::Parts;
 use crate::rows::{MOST_ROWS, MOST_VISITS, Rows};
 use crate::spans::{COLUMN, draw_visit, top_of};
@@ -15,7 +17,7 @@ pub(crate) fn draw_revolutions_title(
 ) -> Result<(), AllocError> {
     let shown = rows.shown.last().map_or(0, |last| last.saturating_add(1));
     let all = walk.revolutions();
-    text.push_str("<text class='title' x='690' y='112'>The worst walk: ")?;
+    write!(text, "<text {TITLE} x='690' y='112'>The worst walk: ")?;
     if shown.saturating_mul(50) >= walk.angle.saturating_add(walk.bound) {
         write!(text, "all {all} revolutions</text>\n")
     } else {
@@ -26,11 +28,8 @@ pub(crate) fn draw_revolutions_title(
 /// Draws the angles above the rows.
 fn draw_angles(text: &mut String) -> Result<(), AllocError> {
     for five in 0..10u64 {
-        let (angle, x) = (five * 5, five * 5 * COLUMN);
-        write!(
-            text,
-            "<text class='faint' x='{x}' y='-16'>{angle:02}</text>"
-        )?;
+        let (faint, angle, x) = (Ink::Faint, five * 5, five * 5 * COLUMN);
+        write!(text, "<text {faint} x='{x}' y='-16'>{angle:02}</text>")?;
     }
     text.push_str("\n")
 }
@@ -45,17 +44,18 @@ fn draw_rows(text: &mut String, rows: &Rows) -> Result<(), AllocError> {
             revolution.saturating_add(1),
         );
         if *revolution > next {
-            let (x, middle) = (-4, y.saturating_sub(6));
+            let (cards, middle) = (Ink::Cards, y.saturating_sub(6));
             write!(
                 text,
-                "<rect class='cut' x='{x}' y='{middle}' width='508' height='2'/>"
+                "<rect {cards} x='-4' y='{middle}' width='508' height='2'/>"
             )?;
         }
         next = number;
-        write!(text, "<rect class='row' y='{y}' width='500' height='9'/>")?;
+        let (empty, faint) = (Ink::Row, Ink::Faint);
+        write!(text, "<rect {empty} y='{y}' width='500' height='9'/>")?;
         write!(
             text,
-            "<text class='faint left' x='-8' y='{base}'>{number}</text>\n"
+            "<text {faint} text-anchor='end' x='-8' y='{base}'>{number}</text>\n"
         )?;
     }
     Ok(())

@@ -1,5 +1,6 @@
 //! The parts of a hop, each a span of a row.
 
+use crate::ink::Ink;
 use crate::parts::{Parts, next_found};
 use crate::rows::{MOST_ROWS, Rows};
 use drum_bound::Visit;
@@ -23,7 +24,7 @@ pub(crate) fn top_of(row: u64) -> u64 {
 fn draw_span(
     text: &mut String,
     rows: &Rows,
-    class: &str,
+    ink: Ink,
     from: u64,
     to: u64,
 ) -> Result<(), AllocError> {
@@ -33,10 +34,7 @@ fn draw_span(
         let right = to.saturating_sub(first).min(50);
         if left < right {
             let (x, y, width) = (left * COLUMN, top_of(row), (right - left) * COLUMN);
-            write!(
-                text,
-                "<path class='{class}' d='M{x} {y}h{width}v9h-{width}z'/>"
-            )?;
+            write!(text, "<path {ink} d='M{x} {y}h{width}v9h-{width}z'/>")?;
         }
     }
     Ok(())
@@ -56,7 +54,7 @@ fn draw_stroke(
     for (row, revolution) in (0..MOST_ROWS).zip(rows.shown.iter()) {
         if *revolution == found / 50 {
             let (x, y, base) = (angle * COLUMN, top_of(row), top_of(row).saturating_sub(2));
-            write!(text, "<path class='stroke' d='M{x} {y}h2v9h-2z'/>")?;
+            write!(text, "<path d='M{x} {y}h2v9h-2z'/>")?;
             if has_room {
                 write!(text, "<text x='{x}' y='{base}'>{number:04}</text>")?;
             }
@@ -90,11 +88,11 @@ pub(crate) fn draw_visit(
 ) -> Result<(), AllocError> {
     text.push_str("<g>")?;
     draw_visit_title(text, visit, parts)?;
-    draw_span(text, rows, "seek", parts.begun, parts.found)?;
+    draw_span(text, rows, Ink::Seek, parts.begun, parts.found)?;
     // the wait for data is drawn over it
-    draw_span(text, rows, "work", parts.found, parts.worked)?;
-    draw_span(text, rows, "data", parts.ready, parts.reached)?;
-    draw_span(text, rows, "cards", parts.worked, parts.ended)?;
+    draw_span(text, rows, Ink::Work, parts.found, parts.worked)?;
+    draw_span(text, rows, Ink::Data, parts.ready, parts.reached)?;
+    draw_span(text, rows, Ink::Cards, parts.worked, parts.ended)?;
     let next = next_found(visit, parts);
     draw_stroke(text, rows, visit.place.number(), parts.found, next)?;
     text.push_str("</g>\n")

@@ -1,3 +1,4 @@
+use crate::ink::Ink;
 use crate::scale::scaled;
 use crate::tallies::{Tallies, Tally};
 use std::alloc::AllocError;
@@ -42,42 +43,46 @@ impl Word {
         })
     }
 
-    /// What is added to the class of a label on this word, so that it can be read.
-    pub(crate) fn ink(self) -> &'static str {
-        if self.shade >= DARK { " white" } else { "" }
+    /// The colour of a label on this word, so that it can be read, as an attribute; none where it
+    /// is that of all texts.
+    pub(crate) fn label_ink(self) -> &'static str {
+        if self.shade >= DARK {
+            " fill='#ffffff'"
+        } else {
+            ""
+        }
+    }
+
+    /// What the word is drawn in.
+    fn ink(self) -> Ink {
+        if self.tally.visits > 0 {
+            Ink::Shade(self.shade)
+        } else if self.tally.executed {
+            Ink::Other
+        } else if self.tally.data > 0 {
+            Ink::Place
+        } else {
+            Ink::Rest
+        }
     }
 
     /// Ends the element of the word, of which the shape is written: its colour, and its title.
     pub(crate) fn finish(self, text: &mut String) -> Result<(), AllocError> {
-        let Word {
-            number,
-            tally,
-            shade,
-        } = self;
-        let (visits, time, data) = (tally.visits, tally.time, tally.data);
-        if visits > 0 {
-            let (more_visits, more_time) = (plural(visits), plural(time));
-            write!(
-                text,
-                " class='s{shade}'><title>{number:04}: {visits} visit{more_visits}, "
-            )?;
-            write!(text, "{time} word time{more_time}")?;
-        } else if tally.executed {
-            write!(
-                text,
-                " class='other'><title>{number:04}: executed by other walks"
-            )?;
-        } else if data > 0 {
-            let more = plural(data);
-            write!(
-                text,
-                " class='place'><title>{number:04}: data, sought {data} time{more}"
-            )?;
-        } else {
-            write!(
-                text,
-                " class='rest'><title>{number:04}: not sought by this walk"
-            )?;
+        let (ink, number) = (self.ink(), self.number);
+        let (visits, time, data) = (self.tally.visits, self.tally.time, self.tally.data);
+        write!(text, " {ink}><title>{number:04}: ")?;
+        match ink {
+            Ink::Other => text.push_str("executed by other walks")?,
+            Ink::Place => {
+                let more = plural(data);
+                write!(text, "data, sought {data} time{more}")?;
+            }
+            Ink::Rest => text.push_str("not sought by this walk")?,
+            _ => {
+                let (more_visits, more_time) = (plural(visits), plural(time));
+                write!(text, "{visits} visit{more_visits}, ")?;
+                write!(text, "{time} word time{more_time}")?;
+            }
         }
         text.push_str("</title></use>\n")
     }
