@@ -118,13 +118,25 @@ MANY_COUNTS = notes(
     "stop", "none", mark(110, 100, 9), mark(100, 100, 9, inside=1), mark(120, 120, 39)
 )
 
-# A deck, notes and inputs. Undamaged, each is accepted.
+# Those of these are far past it, by two marks that nobody passes.
+PAST_LIMIT = notes(
+    "stop",
+    "none",
+    mark(110, 100, 1),
+    mark(100, 100, 2, inside=1),
+    mark(120, 120, 9999),
+    mark(110, 110, 9999),
+)
+
+# A deck, notes and inputs. Undamaged, each is accepted, or would be but for its size.
 EXAMPLES = [
     (TWO_WORDS, LEAST, "ANGLE 01\n"),
     (TWO_WORDS, notes("any", "none", mark(106, 106, 2)), "ANGLE 49\nPROGRAMMED RUN\n"),
     (BRANCH_BACK, LEAST + mark(100, 100, 3), "ANGLE 01\nACCUMULATOR +%020d\n" % 1),
     (LOOPS, LEAST + mark(110, 100, 1) + mark(100, 100, 2, inside=1), "ANGLE 01\n"),
     (LOOPS, MANY_COUNTS, "ACCUMULATOR +%020d\n" % 10**10),
+    (LOOPS, PAST_LIMIT, "ANGLE 01\n"),
+    (LOOPS, PAST_LIMIT, "ANGLE 01\nACCUMULATOR +%020d\n" % 1),
     (STORES, LEAST + STOPS, "ANGLE 01\nDISTRIBUTOR +0112340106\n"),
     (TWO_ROADS, LEAST + mark(210, 110, 1) + mark(210, 120, 1) + ROADS, "PROGRAMMED STOP\n"),
     (CARDS, notes("any", "any", mark(12, 12, 1), mark(49, 49, 1)), WHOLE),
