@@ -74,7 +74,8 @@ IsCeilingFault documents =
 
 -- the deck with its notes is too large to be analysed
 abbrev pub IsPastLimit : Documents → ℕ → Type 0
-IsPastLimit documents = IsTooLarge (loads_in documents.deck) documents.notes (start_in documents.deck)
+IsPastLimit documents =
+    IsTooLarge (loads_in documents.deck) documents.notes (start_in documents.deck)
 
 -- What a run that keeps to the notes uses at most: the bound; or, where the deck with its notes is
 -- too large for one, and nothing else is wrong, the total of a ceiling.

@@ -138,9 +138,9 @@ pub record IsTracedInPart (g : Setting) (given : Given) (turns : List Turn) : Ty
   pub all : turns ≡ before ++ last ∷ []
   pub under_way : IsUnderWay g given before last
 
--- Why there is no verdict: a word is given that the deck loads too, of which the first is told; else
--- this is what refuses the documents; else there is what limits the run, and the fault is Memory.
--- (That memory was wanting then is tested, not said.)
+-- Why there is no verdict: a word is given that the deck loads too, of which the first is told;
+-- else this is what refuses the documents; else there is what limits the run, and the fault is
+-- Memory. (That memory was wanting then is tested, not said.)
 abbrev pub IsRunFault : Setting → Given → (Refusal → Type 0) → Type 0 → fails.Fault → Type 0
 IsRunFault g given Refuses IsLimited (fault.Loaded location) =
     first_loaded g.loads given.setup.words.items ≡ Some location

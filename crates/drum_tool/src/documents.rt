@@ -63,8 +63,8 @@ impl Documents {
     ///
     /// # Errors
     ///
-    /// [`Fault::Refused`] where the deck with its notes isn't accepted, but for its size; where what
-    /// the ceiling comes to is too large; or memory is wanting.
+    /// [`Fault::Refused`] where the deck with its notes isn't accepted, but for its size; where
+    /// what the ceiling comes to is too large; or memory is wanting.
     pub(crate) fn ceiling(&self, alloc: Global) -> Result<Ceiling, Fault>
         ensures ceiling { IfOk result (IsCeiling self.now) }
         ensures fault { IfErr result (IsCeilingFault self.now) }

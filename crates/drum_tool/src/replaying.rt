@@ -44,8 +44,9 @@ fn verdict_before(left: Option<Left>) -> Option<Verdict>
     }
 }
 
-/// A run of a machine with this deck, which the inputs set up and feed, before its first step: `most`
-/// is what such a run uses at most, where it keeps to the notes, and `limit` how that is known.
+/// A run of a machine with this deck, which the inputs set up and feed, before its first step.
+/// `most` is what such a run uses at most, where it keeps to the notes, and `limit` how that is
+/// known.
 ///
 /// # Errors
 ///
