@@ -1,6 +1,6 @@
 -- The documents of a program, a deck, a timing table and notes: what is known of them, and which
 -- texts say them.
-use Rattle.std.specs.Prelude.{◌≡◌, ℕ, ◌^◌, ◌≤◌, List}
+use Rattle.std.specs.Prelude.{◌≡◌, ℕ, ◌^◌, ◌<◌, ◌≤◌, List}
 use Rattle.drum_core.specs.declared.deck.Deck.{Deck}
 use Rattle.drum_core.specs.declared.deck.fault.DeckFault.{DeckFault}
 use Rattle.drum_core.specs.declared.deck.fault.DeckFault.TheVariants as of_deck
@@ -52,8 +52,8 @@ pub record IsBound (documents : Documents) (bound : ℕ) : Type 0 where
 abbrev pub IsWorstWalk : Documents → ℕ → ℕ → List Visited → Type 0
 IsWorstWalk documents bound angle walk = IsWalkOf (setting_of documents) angle bound walk
 
--- Their ceiling: no walk takes more than its total, and no run that keeps to the notes ever uses
--- more, and so each number of it is right.
+-- a ceiling of theirs, each number of which is right: no walk takes more than its total, and no run
+-- that keeps to the notes ever uses more
 abbrev pub IsCeiling : Documents → Ceiling → Type 0
 IsCeiling documents = IsCeilingOf documents.deck documents.times documents.notes
 
@@ -67,26 +67,27 @@ abbrev pub IsAnalysisFault : Documents → Fault → Type 0
 IsAnalysisFault documents =
     IsRefusedFor (IsRefusal (loads_in documents.deck) documents.notes (start_in documents.deck))
 
--- why they have no ceiling: it is, but for its size; or what it comes to is too large
+-- why they have no ceiling: the deck with its notes is refused, but for its size; or the sum of a
+-- certificate is 2 ^ 127 or more
 abbrev pub IsCeilingFault : Documents → Fault → Type 0
 IsCeilingFault documents =
     IsRefusedFor (IsCeilingRefusal documents.deck documents.times documents.notes)
 
--- the deck with its notes is too large to be analysed
-abbrev pub IsPastLimit : Documents → ℕ → Type 0
-IsPastLimit documents =
+-- the deck with its notes is too large for a bound, and this is the product
+abbrev pub IsTooLargeForBound : Documents → ℕ → Type 0
+IsTooLargeForBound documents =
     IsTooLarge (loads_in documents.deck) documents.notes (start_in documents.deck)
 
 -- What a run that keeps to the notes uses at most: the bound; or, where the deck with its notes is
--- too large for one, and nothing else is wrong, the total of a ceiling.
+-- too large for one, and nothing else is wrong, the total of a ceiling that is below 2 ^ 50.
 abbrev pub IsLimit : Documents → Limit → ℕ → Type 0
 IsLimit documents limit.Bound most = IsBound documents most
 IsLimit documents limit.Ceiling most =
-    ((product : ℕ) × IsPastLimit documents product)
+    ((product : ℕ) × IsTooLargeForBound documents product)
     × ((ceiling : Ceiling) × IsCeiling documents ceiling × (most ≡ total_of ceiling))
+    × (most < 2 ^ 50)
 
--- why there is neither: the refusal is that of the deck with its notes, but for its size; or they
--- are too large, this is the product, and what a ceiling comes to is 2 ^ 50 or more
+-- why there is neither: as of a ceiling, but that the sum of a certificate is 2 ^ 50 or more
 abbrev pub IsLimitRefusal : Documents → Refusal → Type 0
 IsLimitRefusal documents =
     IsRefusedFrom (2 ^ 50) documents.deck documents.times documents.notes

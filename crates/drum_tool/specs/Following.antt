@@ -38,7 +38,7 @@ AreUnderWay g s waits turns =
     × ((given : Given) → AreGiven g given s waits → IsUnderWay g given before last)
 
 -- The verdict is that on the run which begins in this state with these waits, it comes with the
--- last of these turns of it, and no time in it is past the bound.
+-- last of these turns of it, and no time in it is past what kept runs use.
 pub record IsFollowed (g : Setting) (s : State) (waits : List ℕ) (bound : ℕ) (turns : List Turn)
     (verdict : Verdict) : Type 0 where
   pub says :

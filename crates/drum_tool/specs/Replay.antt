@@ -86,12 +86,12 @@ IsLeft g given step used left.Switch =
     ¬ IsAsDeclared g.notes.programmed given.setup.programmed × (step ≡ 0) × (used ≡ 0)
 IsLeft g given step used what = LeavesAt g given step used what
 
--- the verdict on the run, which ends or leaves the notes with this step, where this is the deck's
--- worst time
+-- the verdict on the run, which ends or leaves the notes with this step, where kept runs use so
+-- many word times at most
 abbrev pub IsVerdict : Setting → Given → ℕ → ℕ → Verdict → Type 0
-IsVerdict g given worst step (Kept used bound because) =
-    (bound ≡ worst) × StopsAt g given step used because
-IsVerdict g given worst step (Left what number used) =
+IsVerdict g given most step (Kept used bound because) =
+    (bound ≡ most) × StopsAt g given step used because
+IsVerdict g given most step (Left what number used) =
     (number ≡ step) × IsLeft g given step used what
 
 -- the word times that a verdict tells
@@ -153,7 +153,7 @@ abbrev pub IsReplayFault : Setting → Given → fails.Fault → Type 0
 IsReplayFault g given =
     IsRunFault g given (IsRefusal g.loads g.notes g.start) (IsDeckAccepted g)
 
--- of a trace: there is neither a bound nor a ceiling, or there is one
+-- of a trace: there is neither a bound nor a ceiling below 2 ^ 50, or there is one
 abbrev pub IsTraceFault : Documents → Given → fails.Fault → Type 0
 IsTraceFault documents given =
     IsRunFault (setting_of documents) given (IsLimitRefusal documents)

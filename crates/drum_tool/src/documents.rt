@@ -7,7 +7,7 @@ ghost use Rattle.drum_tool.specs.Documents.{
   IsCeilingFault,
   IsLimit,
   IsLimitFault,
-  IsPastLimit,
+  IsTooLargeForBound,
   IsWorstWalk,
 };
 
@@ -80,8 +80,8 @@ impl Documents {
     ///
     /// # Errors
     ///
-    /// [`Fault::Refused`] where the deck with its notes isn't accepted, but for its size; where a
-    /// ceiling comes to 2^50 word times or more; or memory is wanting.
+    /// [`Fault::Refused`] where the deck with its notes isn't accepted, but for its size; where the
+    /// ceiling that is found comes to 2^50 word times or more; or memory is wanting.
     pub(crate) fn limit(&self, alloc: Global) -> Result<(Limit, u64), Fault>
         ensures limit { IfOk result (λ found. IsLimit self.now found.0 found.1) }
         ensures below { IfOk result (λ found. found.1 < 2 ^ 50) }
@@ -100,7 +100,7 @@ impl Documents {
     ///
     /// As [`Documents::limit`].
     fn past_limit(&self, alloc: Global, product: u128) -> Result<(Limit, u64), Fault>
-        requires past { IsPastLimit self.now product }
+        requires large { IsTooLargeForBound self.now product }
         ensures limit { IfOk result (λ found. IsLimit self.now found.0 found.1) }
         ensures below { IfOk result (λ found. found.1 < 2 ^ 50) }
         ensures fault { IfErr result (IsLimitFault self.now) }

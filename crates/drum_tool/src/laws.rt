@@ -10,19 +10,21 @@ ghost use Rattle.drum_bound.specs.Worst.{IsWorst};
 ghost use Rattle.drum_ceiling.specs.declared.answer.Ceiling.{Ceiling};
 ghost use Rattle.drum_ceiling.specs.CeilingOf.{total_of};
 ghost use Rattle.drum_lines.specs.declared.fault.Fault.{Fault};
+ghost use Rattle.drum_lines.specs.declared.limit.Limit.{Limit};
 ghost use Rattle.drum_lines.specs.declared.part.Part.TheVariants as part;
 ghost use Rattle.drum_lines.specs.declared.status.Status.TheVariants.{Done};
 ghost use Rattle.drum_lines.specs.declared.verdict.Verdict.{Verdict};
 ghost use Rattle.drum_lines.specs.FaultStatus.{status_after};
 ghost use Rattle.drum_tool.specs.declared.documents.Documents.{Documents};
 ghost use Rattle.drum_tool.specs.Asked.{named};
-ghost use Rattle.drum_tool.specs.Documents.{IsCeiling, setting_of};
+ghost use Rattle.drum_tool.specs.Documents.{IsCeiling, IsLimit, setting_of};
 ghost use Rattle.drum_tool.specs.Files.{AreTold, FilesTold, Held};
 ghost use Rattle.drum_tool.specs.Replay.{Given, IsReplayed, IsVerdict};
 ghost use Rattle.drum_tool.specs.Reply.{Reply, bound_reply, fault_reply};
 ghost use Rattle.drum_tool.specs.Told.{AreNames, IsBoundOfFiles, IsBoundOfJoined};
 ghost use Rattle.drum_tool.specs.Words.{Answers, AreRefused, refused_reply};
 
+use drum_bound::laws::accepted_is_not_refused;
 use drum_command::laws::each_line_is_taken;
 
 /// What is given fixes one run: as many of its first turns are the same, and those of fewer are a
@@ -79,6 +81,14 @@ pub fn no_ceiling_is_below_the_bound()
         → IsWorst (setting_of documents) bound → IsCeiling documents ceiling
         → bound ≤ total_of ceiling }
 {}
+
+/// What limits a run is either a bound or a ceiling: no documents have both.
+pub fn one_limit()
+    ensures { (documents : Documents) (by other : Limit) (most least : ℕ)
+        → IsLimit documents by most → IsLimit documents other least → by ≡ other }
+{
+    accepted_is_not_refused();
+}
 
 /// After no fault's line does the program end as after a result that is done.
 pub fn no_fault_is_done()

@@ -94,7 +94,7 @@ pub fn begin_trace(alloc: Global, documents: &Documents, inputs: Inputs) -> Resu
     )
 }
 
-/// Writes a line for each step of a replay, none where its verdict comes before any, and tells the
+/// Writes a line for each step of a run, none where its verdict comes before any, and tells the
 /// verdict.
 ///
 /// # Errors
