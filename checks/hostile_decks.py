@@ -198,7 +198,8 @@ def ceiling(case, marks_in_it, total):
     """The ceiling of a case's deck, which some walk reaches."""
     last = b"ceiling %d\n" % total
     holds = has_lines(marks_in_it + 2, last)
-    return Case("the ceiling of %s" % case.name, last, "ceiling", holds=holds, **case.parts)
+    name = "the ceiling of %s" % case.name.removeprefix("bound of ")
+    return Case(name, last, "ceiling", holds=holds, **case.parts)
 
 
 def of_ceilings():
