@@ -2,6 +2,7 @@
 use Rattle.std.proofs.Common.{◌≡◌, ℕ, ◌*◌, ◌<◌, ◌≤◌, List, [], ◌∷◌, ◌++◌, length, refl, ap, sym, subst}
 use Rattle.std.proofs.Common.{Option, Some, arith}
 use Rattle.std.specs.Prelude.{slice_get, Contains}
+use Rattle.drum_core.specs.declared.deck.Deck.{Deck}
 use Rattle.drum_core.specs.declared.word.Word.{Word}
 use Rattle.drum_core.specs.Loads.{loads_in, start_in}
 use Rattle.drum_times.specs.Allowed.{Notes, AreSound}
@@ -11,6 +12,7 @@ use Rattle.drum_flow.specs.Flow.{deck_of, notes_of, executed_in, AreExecuted}
 use Rattle.drum_flow.specs.AcceptedFlow.{in_order}
 use Rattle.drum_flow.specs.Free.{IsFreeOrder}
 use Rattle.drum_flow.specs.Graph.{AreDifferent}
+use Rattle.drum_flow.proofs.Acceptances.{moved}
 use Rattle.drum_flow.proofs.Lists.{contains_from_get}
 use Rattle.drum_flow.proofs.Members.{no_more}
 use Rattle.drum_flow.proofs.Orders.{only_executed, all_executed, lead_push}
@@ -82,3 +84,18 @@ can_have_keys accepted is free sound different = (
       (executed_in accepted.flow) is (in_order accepted) free different sound,
   free.only,
 )
+
+-- So they can of the flow of an accepted deck.
+pub accepted_keys : (accepted : AcceptedFlow) (deck : Deck) (notes : Notes) → deck_of accepted.flow ≡ deck
+    → notes_of accepted.flow ≡ notes
+    → IsAccepted (loads_in deck) notes (start_in deck) (executed_in accepted.flow)
+    → IsFreeOrder (loads_in deck) notes (executed_in accepted.flow) (in_order accepted)
+    → AreSound notes → AreDifferent (executed_in accepted.flow)
+    → CanHaveKeys accepted
+accepted_keys accepted deck notes same equal is free sound different =
+    can_have_keys accepted
+    (moved (λ d n. IsAccepted (loads_in d) n (start_in d) (executed_in accepted.flow)) deck (deck_of accepted.flow)
+    notes (notes_of accepted.flow) (sym same) (sym equal) is)
+    (moved (λ d n. IsFreeOrder (loads_in d) n (executed_in accepted.flow) (in_order accepted)) deck
+    (deck_of accepted.flow) notes (notes_of accepted.flow) (sym same) (sym equal) free)
+    (subst AreSound (sym equal) sound) different

@@ -9,9 +9,10 @@ use Rattle.drum_times.specs.Allowed.{Notes}
 use Rattle.drum_times.specs.Entries.{entry_in}
 use Rattle.drum_machine.specs.Counts.{no_counts}
 use Rattle.drum_machine.specs.Keeps.{IsKept}
-use Rattle.drum_machine.specs.Run.{Turn, IsRun, IsFirstState, used_from}
+use Rattle.drum_machine.specs.Run.{Turn, IsRun, IsFirstState}
 use Rattle.drum_machine.specs.Step.{State}
 use Rattle.drum_flow.specs.Accepted.{counts_of, IsAccepted, IsFixed}
+use Rattle.drum_flow.specs.Bounded.{IsBounded}
 use Rattle.drum_flow.specs.Hops.{hops}
 use Rattle.drum_flow.specs.SettingOf.{setting}
 use Rattle.drum_flow.specs.Walk.{Setting, Taken, IsWalk}
@@ -102,10 +103,7 @@ pub record IsAnalysisOf (deck : Deck) (times : Times) (notes : Notes) (analysis 
   -- of the walks of the flow graph it is right
   pub walks : IsAnalysis (setting deck times notes) analysis
   -- no run that keeps to the notes passes the bound at any moment, nor an entry where it arrives
-  pub kept : (s : State) (steps : List Turn)
-      → IsFirstState (loads_in deck) (IsFixed (loads_in deck) notes (start_in deck)) (start_in deck)
-      s → IsRun (entry_in times) s steps → IsKept (loads_in deck) notes s steps
-      → used_from 0 steps ≤ bound_of analysis
+  pub kept : IsBounded (setting deck times notes) (bound_of analysis)
   pub under : (s : State) (steps : List Turn)
       → IsFirstState (loads_in deck) (IsFixed (loads_in deck) notes (start_in deck)) (start_in deck)
       s → IsRun (entry_in times) s steps → IsKept (loads_in deck) notes s steps

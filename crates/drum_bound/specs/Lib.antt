@@ -1,4 +1,5 @@
 pub mod AnalysisOf
+pub mod BoundOf
 pub mod Digits
 pub mod EndOf
 pub mod Ends

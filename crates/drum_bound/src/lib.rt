@@ -4,6 +4,7 @@
 
 mod analysing;
 mod analysis;
+mod bounding;
 mod cells;
 mod key_hop;
 mod keys;
@@ -22,6 +23,7 @@ mod worst;
 
 pub use analysing::{analyse, analyse_counting};
 pub use analysis::Analysis;
+pub use bounding::bound;
 pub use drum_flow::{Cycle, Flow, Hop, Hops, Refusal, accept, flow};
 pub use drum_machine::Way;
 pub use steps::Steps;

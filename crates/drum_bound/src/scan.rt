@@ -40,6 +40,7 @@ impl<'a> Scan<'a> {
     ghost use Rattle.drum_bound.specs.Table.{start_angle};
     ghost use Rattle.drum_bound.specs.ScanOf.{AreCells, AreCounted, Goes, HasRound, IsAgreed, IsDone, IsReady, IsScanned, hops_of, order_of, place_in, setting_in};
     ghost use Rattle.drum_bound.specs.SearchOf.{IsSearch, end_sought};
+    ghost use Rattle.drum_bound.specs.Worst.{IsWorst};
 
     /// The latest ends at all keys, and of all: each key is taken once, after all that can raise
     /// what is kept there.
@@ -69,6 +70,15 @@ impl<'a> Scan<'a> {
         ensures { result ≡ start_angle (setting_in self.now).start }
     {
         self.keys.start_angle()
+    }
+
+    /// The bound: the time from the start angle to the latest end of all.
+    pub fn bound(&self) -> u64
+        requires { IsDone self.now }
+        ensures worst { IsWorst (setting_in self.now) result }
+        ensures below { result < 2 ^ 50 }
+    {
+        self.cells.last().clock - self.cells.angle()
     }
 
     /// Nothing taken yet: the start's key alone keeps something, the moment of the start.

@@ -6,13 +6,14 @@ use Rattle.drum_times.specs.declared.times.Times.{Times}
 use Rattle.drum_times.specs.Allowed.{Notes}
 use Rattle.drum_times.specs.Entries.{entry_in}
 use Rattle.drum_machine.specs.Keeps.{IsKept}
-use Rattle.drum_machine.specs.Run.{Turn, IsRun, IsFirstState, used_from}
+use Rattle.drum_machine.specs.Run.{Turn, IsRun, IsFirstState}
 use Rattle.drum_machine.specs.Since.{edges_of, passes_of}
 use Rattle.drum_machine.specs.Step.{State}
 use Rattle.drum_flow.specs.declared.refusal.Refusal.{Refusal}
 use Rattle.drum_flow.specs.declared.refusal.Refusal.TheVariants.{TooLarge}
 use Rattle.drum_flow.specs.Acceptance.{IsAdmissionRefusal}
 use Rattle.drum_flow.specs.Accepted.{IsAdmitted, IsFixed, IsTooLarge}
+use Rattle.drum_flow.specs.Bounded.{IsBounded}
 use Rattle.drum_flow.specs.MostPasses.{edges_taken}
 use Rattle.drum_flow.specs.SettingOf.{setting}
 use Rattle.drum_flow.specs.Walk.{Taken, IsWalk, time_of}
@@ -56,10 +57,7 @@ pub record IsCeilingOf (deck : Deck) (times : Times) (notes : Notes) (ceiling : 
         → k < length notes.marks
         → passes_of notes.marks k (edges_taken hops) ≤ slice_index (passes_in ceiling) k
     -- no run that keeps to the notes uses more at any moment, nor passes a mark more often
-    pub kept : (s : State) (steps : List Turn)
-        → IsFirstState (loads_in deck) (IsFixed (loads_in deck) notes (start_in deck))
-        (start_in deck) s → IsRun (entry_in times) s steps → IsKept (loads_in deck) notes s steps
-        → used_from 0 steps ≤ total_of ceiling
+    pub kept : IsBounded (setting deck times notes) (total_of ceiling)
     pub kept_passed : (s : State) (steps : List Turn) (k : ℕ)
         → IsFirstState (loads_in deck) (IsFixed (loads_in deck) notes (start_in deck))
         (start_in deck) s → IsRun (entry_in times) s steps → IsKept (loads_in deck) notes s steps

@@ -6,7 +6,7 @@ use crate::word::Word;
 ///
 /// Source: the IBM 650 Manual of Operation. That the word's sign isn't looked at is this project's
 /// choice.
-#[derive(Clone, Copy, Debug, PartialEq, Eq)]
+#[derive(Clone, Copy, Debug, PartialEq, Eq, Hash)]
 pub struct Instruction {
     /// The operation's two digits.
     pub op: u8,

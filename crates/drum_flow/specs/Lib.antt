@@ -3,6 +3,7 @@ pub mod Accepted
 pub mod AcceptedFlow
 pub mod Alike
 pub mod Altering
+pub mod Bounded
 pub mod Executed
 pub mod Fixed
 pub mod Flow

@@ -12,6 +12,7 @@ use Rattle.drum_machine.specs.declared.machine.Machine.{Machine}
 use Rattle.drum_machine.specs.declared.step.Step.{Step}
 use Rattle.drum_machine.specs.declared.step.Step.TheVariants.{Went, Stopped}
 use Rattle.drum_machine.specs.declared.why.Why as whys
+use Rattle.drum_machine.specs.Contents.{Contents}
 use Rattle.drum_machine.specs.Effect.{punched}
 use Rattle.drum_machine.specs.Ending.{own_notes, stops_by}
 use Rattle.drum_machine.specs.Feed.{cards_left, waits_left, wait_for, cards_after, waits_after}
@@ -36,6 +37,10 @@ sought_by m = m.sought
 -- the word times that it has used
 abbrev pub used_by : Machine → ℕ
 used_by m = m.used
+
+-- what it holds, with the cards in the reader
+abbrev pub held_by : Machine → List Card → Contents
+held_by m cards = contents_with m.registers cards
 
 -- the state of a machine that goes on, with the cards in the reader
 abbrev pub state_in : Machine → List Card → State

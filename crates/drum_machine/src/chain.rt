@@ -4,7 +4,7 @@ ghost use Rattle.std.specs.Prelude.{◌≡◌, ℕ, ◌<◌, ◌≤◌, ◌+◌,
 ghost use Rattle.drum_core.specs.Available.{has_parity};
 ghost use Rattle.drum_core.specs.Moment.{first};
 ghost use Rattle.drum_core.specs.Op.{operand_of, is_operand};
-ghost use Rattle.drum_machine.specs.Timing.{ready, waits_for_operand, reached, ended, longest_step};
+ghost use Rattle.drum_machine.specs.Timing.{ready, waits_for_operand as waits_for, reached, ended, longest_step};
 
 use drum_core::{AtParity, Clockwork, Delay, Location, Op, Seek, Then};
 use drum_times::Entry;
@@ -20,9 +20,9 @@ pub type FromReady = Then<Then<Option<Seek>, AtParity>, Delay>;
 /// A step from its begin to its end. Where it stops early, it takes the first part alone.
 pub type ToEnd = Then<ToReady, FromReady>;
 
-/// Whether the operation waits for its operand at D.
-fn waits(op: Op) -> bool
-    ensures { result ≡ waits_for_operand op }
+/// Whether the operation waits for its operand at D: 10, 11, 14 to 24, 60, 61, 64 to 69.
+pub fn waits_for_operand(op: Op) -> bool
+    ensures { result ≡ waits_for op }
 {
     match op {
         Op::Add(_)
@@ -42,7 +42,7 @@ pub fn to_operand(op: Op, d: u16) -> Option<Seek>
     ensures moment { (x : ℕ) → ⟦<Option<Seek> as Clockwork>⟧.moment result x ≡ reached op d x }
     ensures short { ⟦<Option<Seek> as Clockwork>⟧.most result ≤ 49 }
 {
-    if waits(op) {
+    if waits_for_operand(op) {
         Some(Seek::of(Location { number: d }))
     } else {
         None

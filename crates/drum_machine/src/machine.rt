@@ -1,4 +1,4 @@
-ghost use Rattle.std.specs.Prelude.{◌≡◌, ◌+◌, ◌-◌, ◌^◌, ◌<◌, ◌≤◌, IfOk};
+ghost use Rattle.std.specs.Prelude.{◌≡◌, ◌+◌, ◌-◌, ◌^◌, ◌<◌, ◌≤◌, unsigned_abs, IfOk, length};
 
 use crate::chain::to_ready;
 use crate::feed::{Feed, is_load, is_read};
@@ -41,7 +41,7 @@ impl Machine {
     ghost use Rattle.drum_machine.specs.Timing.{longest_step, ready as ready_at};
     ghost use Rattle.drum_machine.specs.Step.{State, leaves, fetched, instruction_in};
     ghost use Rattle.drum_machine.specs.Registers.{contents_with, outcome_of};
-    ghost use Rattle.drum_machine.specs.Machine.{GoesOn, HasStopped, sought_by, used_by, Tells, Becomes, TakesStep, WritesAlone, EndsByAWay, state_in, op_in, punched_by};
+    ghost use Rattle.drum_machine.specs.Machine.{held_by, GoesOn, HasStopped, sought_by, used_by, Tells, Becomes, TakesStep, WritesAlone, EndsByAWay, state_in, op_in, punched_by};
 
     /// A machine at time 0: it seeks the deck's start; it has the setup's angle, registers, latch
     /// and switches, and no remainder's sign; its drum has the deck's words, elsewhere the setup's,
@@ -79,6 +79,45 @@ impl Machine {
         ensures { result ≡ used_by self.now }
     {
         self.used
+    }
+
+    /// The accumulator: one whole number of twenty digits.
+    pub fn accumulator(&self) -> i128
+        ensures number { (cards : List Card)
+            → result ≡ (held_by self.now cards).accumulator }
+        ensures twenty { unsigned_abs result < 10 ^ 20 }
+    {
+        self.registers.accumulator
+    }
+
+    /// Whether the dividend was minus, while the remainder's sign stands: the upper half of the
+    /// accumulator has that sign then, and the lower half the accumulator's.
+    pub fn remainder(&self) -> Option<bool>
+        ensures { (cards : List Card) → result ≡ (held_by self.now cards).remainder }
+    {
+        self.registers.remainder
+    }
+
+    /// The word in the distributor.
+    pub fn distributor(&self) -> Word
+        ensures { (cards : List Card) → result ≡ (held_by self.now cards).distributor }
+    {
+        self.registers.distributor
+    }
+
+    /// Whether the overflow latch is on.
+    pub fn latch(&self) -> bool
+        ensures { (cards : List Card) → result ≡ (held_by self.now cards).latch }
+    {
+        self.registers.latch
+    }
+
+    /// The 2000 words of the drum, by their locations.
+    pub fn drum(&self) -> &[Word]
+        ensures words { (cards : List Card) → result.now ≡ (held_by self.now cards).drum }
+        ensures all { length result.now ≡ 2000 }
+    {
+        &self.registers.drum
     }
 
     /// The drum's clock, which was the start angle at time 0.

@@ -9,7 +9,7 @@ use drum_core::{Instruction, Location, Op};
 use drum_times::{Notes, Programmed};
 
 /// How a step may end.
-#[derive(Clone, Copy, Debug, PartialEq, Eq)]
+#[derive(Clone, Copy, Debug, PartialEq, Eq, Hash)]
 pub enum Way {
     /// It stops before it acts, at the moment x.
     Early,

@@ -1,6 +1,5 @@
 use Rattle.std.proofs.Common.{◌≡◌, length, sym, ◌∙◌, subst, arith}
 use Rattle.drum_core.specs.Loads.{loads_in, start_in}
-use Rattle.drum_times.specs.Allowed.{AreSound}
 use Rattle.drum_flow.specs.Accepted.{IsAccepted}
 use Rattle.drum_flow.specs.declared.flow_graph.Flow.{Flow}
 use Rattle.drum_flow.specs.Graph.{AreDifferent}
@@ -13,24 +12,15 @@ use Rattle.drum_flow.specs.RunHops.{hops_taken}
 use Rattle.drum_flow.specs.SettingOf.{setting}
 use Rattle.drum_flow.proofs.Proper.{is_proper}
 use Rattle.drum_bound.specs.AnalysisOf.{IsAnalysis, rows_of}
-use Rattle.drum_bound.proofs.Ordering.{as_many, can_have_keys}
+use Rattle.drum_bound.proofs.Ordering.{accepted_keys, as_many}
 use Rattle.drum_bound.proofs.Unders.{arrive_under}
 use Rattle.drum_bound.proofs.analysing.analyse_counting.Goals as goal
 
 pub analysis_of-requires : goal.analysis_of-requires
 analysis_of-requires g c =
-    let accepted = c.in_ok-accepted.accepted in
-    let deck = c.args.deck.now in
-    let notes = c.args.notes.now in
     let ensures = c.in_ok-accepted.ensures in
-    can_have_keys accepted
-    (moved (λ d n. IsAccepted (loads_in d) n (start_in d) (executed_in accepted.flow)) deck
-    (deck_of accepted.flow) notes (notes_of accepted.flow)
-    (sym ensures.deck) (sym ensures.notes) ensures.accepted)
-    (moved (λ d n. IsFreeOrder (loads_in d) n (executed_in accepted.flow) (in_order accepted)) deck
-    (deck_of accepted.flow) notes
-    (notes_of accepted.flow) (sym ensures.deck) (sym ensures.notes) ensures.order)
-    (subst AreSound (sym ensures.notes) c.marks-marks.ensures.sound)
+    accepted_keys c.in_ok-accepted.accepted c.args.deck.now c.args.notes.now ensures.deck ensures.notes
+    ensures.accepted ensures.order c.marks-marks.ensures.sound
     (subst (λ (f : Flow). AreDifferent (executed_in f)) c.flow.ensures c.executed-executed.ensures.different)
 
 pub returns-clause-analysed : goal.returns-clause-analysed

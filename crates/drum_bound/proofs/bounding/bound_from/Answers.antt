@@ -1,0 +1,38 @@
+use Rattle.std.proofs.Common.{subst, arith}
+use Rattle.drum_flow.specs.declared.flow_graph.Flow.{Flow}
+use Rattle.drum_flow.specs.Graph.{AreDifferent}
+use Rattle.drum_flow.specs.Flow.{deck_of, notes_of, executed_in}
+use Rattle.drum_flow.specs.RunHops.{hops_taken}
+use Rattle.drum_flow.specs.SettingOf.{setting}
+use Rattle.drum_flow.proofs.Acceptances.{moved}
+use Rattle.drum_flow.proofs.KeptWalk.{kept_walk}
+use Rattle.drum_flow.proofs.Proper.{is_proper}
+use Rattle.drum_bound.specs.Worst.{IsWorst}
+use Rattle.drum_bound.proofs.Ordering.{accepted_keys}
+use Rattle.drum_bound.proofs.bounding.bound_from.Goals as goal
+
+pub bound_of-requires : goal.bound_of-requires
+bound_of-requires g c =
+    let ensures = c.in_ok-accepted.ensures in
+    accepted_keys c.in_ok-accepted.accepted c.args.deck.now c.args.notes.now ensures.deck ensures.notes
+    ensures.accepted ensures.order c.marks-marks.ensures.sound
+    (subst (λ (f : Flow). AreDifferent (executed_in f)) c.flow.ensures c.executed-executed.ensures.different)
+
+pub returns-clause-bound : goal.returns-clause-bound
+returns-clause-bound g c =
+    let accepted = c.in_ok-accepted.accepted in
+    let deck = c.args.deck.now in
+    let notes = c.args.notes.now in
+    let times = c.args.times.now in
+    let ensures = c.in_ok-accepted.ensures in
+    let worst : IsWorst (setting deck times notes) c.in_ok-found.found =
+    moved (λ d n. IsWorst (setting d times n) c.in_ok-found.found) (deck_of accepted.flow) deck
+    (notes_of accepted.flow) notes ensures.deck ensures.notes c.in_ok-found.ensures.worst in
+    record {
+      accepted = (executed_in accepted.flow, ensures.accepted);
+      worst = worst;
+      bounded = λ s turns first is_run kept.
+          let walked = kept_walk (setting deck times notes) (executed_in accepted.flow) s turns
+          (is_proper deck times notes c.marks-marks.ensures.sound) ensures.accepted.admitted first is_run kept in
+          omega (arith, worst.most s.start (hops_taken turns) walked.0, walked.1);
+    }

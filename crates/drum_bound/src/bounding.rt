@@ -1,0 +1,94 @@
+//! The bound alone: the scan of an analysis, with no walk made of it.
+
+ghost use Rattle.std.specs.Prelude.{◌≡◌, ◌^◌, ◌<◌, IfOk, IfErr};
+ghost use Rattle.drum_core.specs.Loads.{loads_in, start_in};
+ghost use Rattle.drum_flow.specs.Acceptance.{IsRefusal};
+ghost use Rattle.drum_flow.specs.SettingOf.{setting};
+ghost use Rattle.drum_bound.specs.BoundOf.{IsBound};
+ghost use Rattle.drum_bound.specs.KeysOf.{AreKeys, CanHaveKeys, setting_of, setting_with};
+ghost use Rattle.drum_bound.specs.Worst.{IsWorst};
+
+use crate::keys::Keys;
+use crate::scan::Scan;
+use crate::steps::Steps;
+use drum_core::Deck;
+use drum_flow::{AcceptedFlow, Refusal};
+use drum_times::{Notes, Times};
+use std::alloc::{AllocError, Global};
+use std::marker::Brand;
+use std::sync::ledger::{Blank, Ledger};
+
+/// The bound by the keys of an accepted deck.
+fn bound_by<'a, L: Ledger>(
+    alloc: Global,
+    times: &'a Times,
+    keys: &'a Keys<'a>,
+    steps: &mut Steps<L>,
+) -> Result<u64, AllocError>
+    requires { AreKeys keys.now }
+    ensures worst { IfOk result (IsWorst (setting_with keys.now times.now)) }
+    ensures below { IfOk result (λ bound. bound < 2 ^ 50) }
+{
+    let leaps = keys.leaps(alloc, times)?;
+    let scan = Scan::of(alloc, times, keys, &leaps, steps)?;
+    Ok(scan.bound())
+}
+
+/// The bound of an accepted flow.
+fn bound_of<'a, L: Ledger>(
+    alloc: Global,
+    accepted: &'a AcceptedFlow<'a>,
+    times: &'a Times,
+    steps: &mut Steps<L>,
+) -> Result<u64, AllocError>
+    requires { CanHaveKeys accepted.now }
+    ensures worst { IfOk result (IsWorst (setting_of accepted.now times.now)) }
+    ensures below { IfOk result (λ bound. bound < 2 ^ 50) }
+{
+    // by match: the checker has no proof yet for `?` on what borrows and is dropped here
+    let keys: Result<Keys<'a>, AllocError> = Keys::of(alloc, accepted);
+    let Ok(keys) = keys else {
+        return Err(AllocError);
+    };
+    bound_by(alloc, times, &keys, steps)
+}
+
+/// As [`bound`], on a ledger of its own, as each scan wants one.
+fn bound_from<L: Ledger>(
+    alloc: Global,
+    deck: &Deck,
+    times: &Times,
+    notes: &Notes,
+    blank: Blank,
+) -> Result<u64, Refusal>
+    requires name { blank.name ≡ L.name }
+    requires parts { blank.parts ≡ L.parts }
+    requires some { 0 < L.parts }
+    ensures bound { IfOk result (IsBound (setting deck.now times.now notes.now)) }
+    ensures below { IfOk result (λ bound. bound < 2 ^ 50) }
+    ensures refused { IfErr result (IsRefusal (loads_in deck.now) notes.now (start_in deck.now)) }
+{
+    // What `marks` promises: the marks are eight at most.
+    let _marks = notes.marks();
+    let mut steps: Steps<L> = Steps::begin(blank);
+    let accepted = AcceptedFlow::of(alloc, deck, notes)?;
+    // What `executed` promises: no location is there twice.
+    let _executed = accepted.flow().executed();
+    let found = bound_of(alloc, &accepted, times, &mut steps)?;
+    Ok(found)
+}
+
+/// The bound of a deck with its timing table and notes, in word times, below 2^50: no run that
+/// keeps to the notes ever uses more, and some walk uses just as many. It is the bound of
+/// [`analyse`](crate::analyse), and wants two thirds of the memory, since no walk is made.
+///
+/// # Errors
+///
+/// As those of [`analyse`](crate::analyse).
+pub fn bound(alloc: Global, deck: &Deck, times: &Times, notes: &Notes) -> Result<u64, Refusal>
+    ensures bound { IfOk result (IsBound (setting deck.now times.now notes.now)) }
+    ensures below { IfOk result (λ bound. bound < 2 ^ 50) }
+    ensures refused { IfErr result (IsRefusal (loads_in deck.now) notes.now (start_in deck.now)) }
+{
+    bound_from::<Brand>(alloc, deck, times, notes, Blank::new(1))
+}
