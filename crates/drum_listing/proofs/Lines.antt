@@ -1,6 +1,6 @@
 -- Lines, put together of their pieces.
 use Rattle.std.proofs.Common.{◌≡◌, ℕ, List, [], ◌∷◌, ◌++◌, flat_map, map, refl, ap, sym, ◌∙◌, append_assoc, Option}
-use Rattle.std.proofs.Common.{Some, None}
+use Rattle.std.proofs.Common.{Some, None, Bool}
 use Rattle.std.proofs.lemmas.List.{append-nil}
 use Rattle.std.specs.Prelude.{codes, decimal}
 use Rattle.drum_core.specs.declared.op.Op.{Op}
@@ -10,22 +10,30 @@ use Rattle.drum_core.specs.Word.{spelling}
 use Rattle.drum_times.specs.declared.entry.Entry.{Entry}
 use Rattle.drum_machine.specs.Ending.{ended_by}
 use Rattle.drum_machine.specs.Run.{Turn, time_after}
-use Rattle.drum_machine.specs.Step.{fetched, instruction_in}
+use Rattle.drum_machine.specs.Contents.{Contents}
+use Rattle.drum_machine.specs.Step.{contents_after, fetched, instruction_in}
 use Rattle.drum_machine.specs.Ways.{Way, early, to, late}
 use Rattle.drum_flow.specs.RunHops.{hop_of}
 use Rattle.drum_bound.specs.Visited.{Visited, visited}
 use Rattle.drum_listing.specs.declared.moments.Moments.{Moments}
 use Rattle.drum_listing.specs.Moments.{moments_of}
 use Rattle.drum_listing.specs.MomentsText.{moment_text, moments_text}
-use Rattle.drum_listing.specs.Pieces.{digits_with, fetch_text, name_with, onto_digits, times_text, way_name}
-use Rattle.drum_listing.specs.TraceText.{turn_line}
+use Rattle.drum_listing.specs.Pieces.{digits_with, fetch_text, held_text, name_with, onto_digits}
+use Rattle.drum_listing.specs.Pieces.{times_text, remainder_name, remainder_sign, way_name}
+use Rattle.drum_listing.specs.HeldText.{accumulator_text, latch_text, registers_text, remainder_text}
+use Rattle.drum_listing.specs.TraceText.{turn_acted, turn_line}
 use Rattle.drum_listing.specs.WalkText.{hop_text, visit_line, way_text}
 
--- a moment is its two pieces, and so is a way
+-- a moment is its two pieces, and so are a remainder's sign and a way
 moment_pieces : (name : List ℕ) (moment : Option ℕ)
     → moment_text name moment ≡ name_with name moment ++ digits_with moment
 moment_pieces name None = refl
 moment_pieces name (Some moment) = refl
+
+remainder_pieces : (remainder : Option Bool)
+    → remainder_text remainder ≡ remainder_name remainder ++ remainder_sign remainder
+remainder_pieces None = refl
+remainder_pieces (Some minus) = refl
 
 way_pieces : (way : Way) → way_text way ≡ way_name way ++ onto_digits way
 way_pieces early = refl
@@ -43,27 +51,47 @@ hop_grouped : (hop moments behind ended last : List ℕ)
 hop_grouped hop moments behind ended last = simp append_assoc
 
 -- the end of a line
-pub times_told : (moments : Moments) (ended : ℕ) (found ready ready' operand operand' end : List ℕ)
+pub times_told : (moments : Moments) (ended : ℕ) (found ready ready' operand operand' end last : List ℕ)
     → found ≡ decimal moments.found → ready ≡ name_with (codes " ready ") moments.ready
     → ready' ≡ digits_with moments.ready
     → operand ≡ name_with (codes " data ") moments.operand → operand' ≡ digits_with moments.operand
     → end ≡ decimal ended
     → codes " found " ++ (found
-    ++ (ready ++ (ready' ++ (operand ++ (operand' ++ (codes " ended " ++ (end ++ codes "\n")))))))
-    ≡ times_text moments ended
-times_told moments ended found ready ready' operand operand' end p q r s t u =
-    rw (p, q, r, s, t, u) (
+    ++ (ready ++ (ready' ++ (operand ++ (operand' ++ (codes " ended " ++ (end ++ (last ++ []))))))))
+    ≡ times_text moments ended last
+times_told moments ended found ready ready' operand operand' end last p q r s t u =
+    rw (p, q, r, s, t, u, append-nil last) (
     times_grouped (codes " found ") (decimal moments.found) (name_with (codes " ready ") moments.ready)
     (digits_with moments.ready)
     (name_with (codes " data ") moments.operand) (digits_with moments.operand) (codes " ended ") (decimal ended)
-    (codes "\n")
+    last
     ∙ ap (λ (xs : List ℕ). (codes " found " ++ decimal moments.found ++ xs
     ++ (name_with (codes " data ") moments.operand ++ digits_with moments.operand)) ++ codes " ended "
-    ++ decimal ended ++ codes "\n")
+    ++ decimal ended ++ last)
     (sym (moment_pieces (codes " ready ") moments.ready))
     ∙ ap (λ (xs : List ℕ). (codes " found " ++ decimal moments.found ++ moment_text (codes " ready ") moments.ready
-    ++ xs) ++ codes " ended " ++ decimal ended ++ codes "\n")
+    ++ xs) ++ codes " ended " ++ decimal ended ++ last)
     (sym (moment_pieces (codes " data ") moments.operand))
+    )
+
+-- the registers
+registers_grouped : (name accumulator remainder remainder' behind distributor latch : List ℕ)
+    → name ++ (accumulator ++ (remainder ++ (remainder' ++ (behind ++ (distributor ++ (latch ++ []))))))
+    ≡ name ++ accumulator ++ (remainder ++ remainder') ++ behind ++ distributor ++ latch
+registers_grouped name accumulator remainder remainder' behind distributor latch = simp (append_assoc, append-nil)
+
+pub registers_told : (c : Contents) (accumulator remainder remainder' distributor latch : List ℕ)
+    → accumulator ≡ accumulator_text c.accumulator → remainder ≡ remainder_name c.remainder
+    → remainder' ≡ remainder_sign c.remainder → distributor ≡ spelling c.distributor → latch ≡ latch_text c.latch
+    → codes " accumulator " ++ (accumulator
+    ++ (remainder ++ (remainder' ++ (codes " distributor " ++ (distributor ++ (latch ++ []))))))
+    ≡ registers_text c
+registers_told c accumulator remainder remainder' distributor latch p q r s t =
+    rw (p, q, r, s, t) (
+    registers_grouped (codes " accumulator ") (accumulator_text c.accumulator) (remainder_name c.remainder)
+    (remainder_sign c.remainder) (codes " distributor ") (spelling c.distributor) (latch_text c.latch)
+    ∙ ap (λ (xs : List ℕ). codes " accumulator " ++ accumulator_text c.accumulator ++ xs ++ codes " distributor "
+    ++ spelling c.distributor ++ latch_text c.latch) (sym (remainder_pieces c.remainder))
     )
 
 -- texts with a gap between, grouped otherwise
@@ -71,11 +99,12 @@ three_grouped : (begin gap first second third : List ℕ)
     → begin ++ (first ++ (gap ++ (second ++ (gap ++ third)))) ≡ begin ++ first ++ gap ++ second ++ gap ++ third
 three_grouped begin gap first second third = simp append_assoc
 
--- and the end of a line behind them
-line_grouped : (begin gap first second third moments behind ended last : List ℕ)
-    → (begin ++ first ++ gap ++ second ++ gap ++ third) ++ (moments ++ behind ++ ended ++ last)
-    ≡ begin ++ first ++ gap ++ second ++ gap ++ third ++ moments ++ behind ++ ended ++ last
-line_grouped begin gap first second third moments behind ended last = simp append_assoc
+-- and the rest of a line behind them
+line_grouped : (begin gap first second third moments behind ended registers acted last : List ℕ)
+    → ((begin ++ first ++ gap ++ second ++ gap ++ third) ++ (moments ++ behind ++ ended ++ []))
+    ++ (registers ++ acted ++ last)
+    ≡ begin ++ first ++ gap ++ second ++ gap ++ third ++ moments ++ behind ++ ended ++ registers ++ acted ++ last
+line_grouped begin gap first second third moments behind ended registers acted last = simp (append_assoc, append-nil)
 
 -- what a step has fetched
 pub fetch_told : (number place : ℕ) (word : Word) (digits at spelled : List ℕ)
@@ -88,44 +117,54 @@ fetch_told number place word digits at spelled p q r =
     r
     ∙ three_grouped (codes "step ") (codes " ") (decimal number) (digits_of 4 place) (spelling word))
 
--- a hop
-pub hop_told : (visit : Visited) (place op d i way onto begun : List ℕ)
+-- a hop, and a named number behind it
+pub hop_told : (visit : Visited) (number : ℕ) (place op d i way onto name digits : List ℕ)
     → place ≡ digits_of 4 visit.place → op ≡ digits_of 2 visit.ins.op → d ≡ digits_of 4 visit.ins.d
     → i ≡ digits_of 4 visit.ins.i
-    → way ≡ way_name visit.way → onto ≡ onto_digits visit.way → begun ≡ decimal visit.begun
+    → way ≡ way_name visit.way → onto ≡ onto_digits visit.way → digits ≡ decimal number
     → place ++ (codes " " ++ (op
     ++ (codes " " ++ (d ++ (codes " "
-    ++ (i ++ (codes " " ++ (way ++ (onto ++ (codes " begun " ++ (begun ++ []))))))))))) ≡ hop_text visit
-hop_told visit place op d i way onto begun p q r s t u v =
+    ++ (i ++ (codes " " ++ (way ++ (onto ++ (name ++ (digits ++ [])))))))))))
+    ≡ hop_text visit ++ name ++ decimal number
+hop_told visit number place op d i way onto name digits p q r s t u v =
     rw (p, q, r, s, t, u, v, way_pieces visit.way) (simp (append_assoc, append-nil))
 
 -- the line of a hop
 pub visit_told : (times : Op → Entry) (angle : ℕ) (visit : Visited) (moments : Moments)
     → moments ≡ moments_of times angle visit.place visit.ins visit.way visit.begun
-    → hop_text visit ++ times_text moments visit.ended ≡ visit_line times angle visit
+    → (hop_text visit ++ codes " begun " ++ decimal visit.begun) ++ times_text moments visit.ended (codes "\n")
+    ≡ visit_line times angle visit
 visit_told times angle visit moments told =
-    ap (λ (some : Moments). hop_text visit ++ times_text some visit.ended) told
-    ∙ hop_grouped (hop_text visit) (moments_text (moments_of times angle visit.place visit.ins visit.way visit.begun))
+    ap (λ (some : Moments). (hop_text visit ++ codes " begun " ++ decimal visit.begun)
+    ++ times_text some visit.ended (codes "\n")) told
+    ∙ hop_grouped (hop_text visit ++ codes " begun " ++ decimal visit.begun) (moments_text (moments_of times angle visit.place visit.ins visit.way visit.begun))
     (codes " ended ") (decimal visit.ended) (codes "\n")
 
 -- the line of a turn
 pub turn_told : (times : Op → Entry) (number angle : ℕ) (turn : Turn) (visit : Visited) (word : Word)
-    (moments : Moments)
+    (moments : Moments) (held : Contents)
     → visit ≡ visited (hop_of turn) → word ≡ fetched turn.origin → turn.origin.start ≡ angle
     → moments ≡ moments_of times angle visit.place visit.ins visit.way visit.begun
-    → fetch_text number visit.place word ++ times_text moments visit.ended ≡ turn_line times number turn
-turn_told times number angle turn visit word moments same is start told =
+    → held ≡ contents_after turn.outcome
+    → (fetch_text number visit.place word ++ times_text moments visit.ended []) ++ held_text visit held
+    ≡ turn_line times number turn
+turn_told times number angle turn visit word moments held same is start told after =
     let s = turn.origin in
     let at_start : moments ≡ moments_of times s.start s.sought (instruction_in s) (ended_by turn.outcome) s.time =
     told ∙ ap (λ (v : Visited). moments_of times angle v.place v.ins v.way v.begun) same
     ∙ ap (λ (a : ℕ). moments_of times a s.sought (instruction_in s) (ended_by turn.outcome) s.time) (sym start) in
-    ap (λ (v : Visited). fetch_text number v.place word ++ times_text moments v.ended) same
-    ∙ ap (λ (w : Word). fetch_text number s.sought w ++ times_text moments (time_after turn.outcome)) is
-    ∙ ap (λ (some : Moments). fetch_text number s.sought (fetched s) ++ times_text some (time_after turn.outcome))
-    at_start
+    let hop : Visited = visited (hop_of turn) in
+    ap (λ (v : Visited). (fetch_text number v.place word ++ times_text moments v.ended []) ++ held_text v held) same
+    ∙ ap (λ (w : Word). (fetch_text number s.sought w ++ times_text moments hop.ended []) ++ held_text hop held) is
+    ∙ ap (λ (some : Moments). (fetch_text number s.sought (fetched s) ++ times_text some hop.ended [])
+    ++ held_text hop held) at_start
+    ∙ ap (λ (c : Contents). (fetch_text number s.sought (fetched s)
+    ++ times_text (moments_of times s.start s.sought (instruction_in s) (ended_by turn.outcome) s.time) hop.ended [])
+    ++ held_text hop c) after
     ∙ line_grouped (codes "step ") (codes " ") (decimal number) (digits_of 4 s.sought) (spelling (fetched s))
     (moments_text (moments_of times s.start s.sought (instruction_in s) (ended_by turn.outcome) s.time))
-    (codes " ended ") (decimal (time_after turn.outcome)) (codes "\n")
+    (codes " ended ") (decimal (time_after turn.outcome)) (registers_text (contents_after turn.outcome))
+    (turn_acted turn) (codes "\n")
 
 -- texts of things that are seen otherwise
 pub flat_map_map : {X Y : Type 0} (f : Y → List ℕ) (g : X → Y) (xs : List X)

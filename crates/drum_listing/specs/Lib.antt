@@ -1,3 +1,4 @@
+pub mod HeldText
 pub mod Moments
 pub mod MomentsText
 pub mod Pieces

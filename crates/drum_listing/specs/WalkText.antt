@@ -16,17 +16,17 @@ way_text early = codes "early"
 way_text (to next) = codes "to " ++ digits_of 4 next
 way_text late = codes "late"
 
--- where a hop begins, its instruction, how it ends, and when it begins
+-- where a hop begins, its instruction, and how it ends
 abbrev pub hop_text : Visited → List ℕ
 hop_text visit =
     digits_of 4 visit.place ++ codes " " ++ digits_of 2 visit.ins.op
     ++ codes " " ++ digits_of 4 visit.ins.d ++ codes " " ++ digits_of 4 visit.ins.i
-    ++ codes " " ++ way_text visit.way ++ codes " begun " ++ decimal visit.begun
+    ++ codes " " ++ way_text visit.way
 
 -- the line of a hop, on a drum with this angle at time 0
 abbrev pub visit_line : (Op → Entry) → ℕ → Visited → List ℕ
 visit_line times angle visit =
-    hop_text visit
+    hop_text visit ++ codes " begun " ++ decimal visit.begun
     ++ moments_text (moments_of times angle visit.place visit.ins visit.way visit.begun)
     ++ codes " ended " ++ decimal visit.ended ++ codes "\n"
 

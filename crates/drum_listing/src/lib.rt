@@ -1,9 +1,12 @@
-//! The lines of the worst walk of an analysis and of the steps of a replay, each with the moments
-//! of its instruction.
+//! The lines of the worst walk of an analysis and of the steps of a run, each with the moments of
+//! its instruction, and of a step with what the machine holds after it.
 #![tactic(auto)]
 
+mod acted;
+mod hop_text;
 mod moments;
 mod moments_text;
+mod registers_text;
 mod step_line;
 mod told;
 mod visit_line;

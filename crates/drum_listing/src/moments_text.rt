@@ -1,4 +1,4 @@
-//! The end of a line: the moments of an instruction, and when its step ends.
+//! The moments of an instruction, and when its step ends, in a line.
 
 ghost use Rattle.std.specs.Prelude.{◌≡◌, ◌+◌, ◌^◌, ◌≤◌, IfOk, length};
 ghost use Rattle.drum_lines.specs.Sent.{IsSent, fails_by};
@@ -31,18 +31,20 @@ fn digits_with(buffer: &mut Buffer, moment: Option<u64>) -> &[u8]
     }
 }
 
-/// Writes the moments of an instruction, and when its step ends, behind so many bytes, and tells
-/// how many have gone out then.
+/// Writes the moments of an instruction, when its step ends, and these last bytes, behind so many
+/// bytes, and tells how many have gone out then.
 pub fn send_times<O: Output>(
     writer: &mut O,
     sent: usize,
     moments: &Moments,
     ended: u64,
+    last: &[u8],
 ) -> Result<usize, WriteFault>
     requires called { O.called writer.old ≤ 2 ^ 62 + 2 ^ 61 }
     requires few { sent ≤ 2 ^ 61 }
+    requires short { length last.now ≤ 1 }
     ensures sent { IsSent (O.written writer.old) (O.written writer.new) sent result
-        (times_text moments.now ended) }
+        (times_text moments.now ended last.now) }
     ensures failures { O.failed writer.new ≡ O.failed writer.old + fails_by result }
     ensures calls { O.called writer.new ≤ O.called writer.old + 120 }
     ensures few { IfOk result (λ total. total ≤ sent + 120) }
@@ -60,7 +62,7 @@ pub fn send_times<O: Output>(
         digits_with(&mut operand, moments.operand),
         b" ended ",
         end.format(ended).as_bytes(),
-        b"\n",
+        last,
     ];
     send(writer, sent, &pieces)
 }

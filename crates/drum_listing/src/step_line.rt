@@ -1,28 +1,32 @@
 //! The line of a step.
 
-ghost use Rattle.std.specs.Prelude.{◌≡◌, ◌+◌, ◌^◌, ◌≤◌, IfOk, length};
+ghost use Rattle.std.specs.Prelude.{◌≡◌, ◌+◌, ◌^◌, ◌≤◌, ◌++◌, [], List, IfOk, length};
 ghost use Rattle.drum_core.specs.declared.op.Op.{Op};
 ghost use Rattle.drum_times.specs.declared.entry.Entry.{Entry};
 ghost use Rattle.drum_times.specs.Entries.{entry_in};
+ghost use Rattle.drum_machine.specs.declared.card.Card.{Card};
 ghost use Rattle.drum_machine.specs.Ending.{stops_by};
+ghost use Rattle.drum_machine.specs.Machine.{held_by};
 ghost use Rattle.drum_machine.specs.Monitor.{IsToldOf};
 ghost use Rattle.drum_machine.specs.Run.{Turn};
-ghost use Rattle.drum_machine.specs.Step.{fetched};
+ghost use Rattle.drum_machine.specs.Step.{contents_after, fetched};
 ghost use Rattle.drum_flow.specs.RunHops.{hop_of};
 ghost use Rattle.drum_machine.specs.WaysLeft.{seen_way};
 ghost use Rattle.drum_bound.specs.Visited.{visited};
 ghost use Rattle.drum_lines.specs.Sent.{IsSent, fails_by};
-ghost use Rattle.drum_listing.specs.Pieces.{fetch_text};
+ghost use Rattle.drum_listing.specs.Pieces.{fetch_text, held_text, times_text};
 ghost use Rattle.drum_listing.specs.Told.{seen_told};
 ghost use Rattle.drum_listing.specs.TraceText.{turn_line};
 
+use crate::acted::send_acted;
 use crate::moments::Moments;
 use crate::moments_text::send_times;
+use crate::registers_text::send_registers;
 use crate::told::Told;
 use drum_bound::Way;
 use drum_core::{Instruction, Location, Output, Word};
 use drum_lines::{WriteFault, four_digits, send, spelling_of};
-use drum_machine::{Step, Why};
+use drum_machine::{Machine, Step, Why};
 use drum_times::Times;
 use itoa::Buffer;
 
@@ -111,9 +115,52 @@ fn send_fetch<O: Output>(
     send(writer, sent, &pieces)
 }
 
+/// Writes the number of a step, what it has fetched where, its moments and when it ends.
+fn send_course<O: Output>(
+    writer: &mut O,
+    sent: usize,
+    number: u64,
+    word: Word,
+    told: &Told,
+    moments: &Moments,
+) -> Result<usize, WriteFault>
+    requires called { O.called writer.old ≤ 2 ^ 62 + 2 ^ 60 }
+    requires few { sent ≤ 2 ^ 60 }
+    ensures sent { IsSent (O.written writer.old) (O.written writer.new) sent result
+        (fetch_text number told.now.place.number word
+        ++ times_text moments.now told.now.ended []) }
+    ensures failures { O.failed writer.new ≡ O.failed writer.old + fails_by result }
+    ensures calls { O.called writer.new ≤ O.called writer.old + 200 }
+    ensures few { IfOk result (λ total. total ≤ sent + 200) }
+{
+    let sent = send_fetch(writer, sent, number, told.place, word)?;
+    send_times(writer, sent, moments, told.ended, b"")
+}
+
+/// Writes what a machine holds after a step, with what the step did to words of the drum, and ends
+/// the line.
+fn send_held<O: Output>(
+    writer: &mut O,
+    sent: usize,
+    told: &Told,
+    machine: &Machine,
+) -> Result<usize, WriteFault>
+    requires called { O.called writer.old ≤ 2 ^ 62 + 2 ^ 61 }
+    requires few { sent ≤ 2 ^ 61 }
+    ensures sent { (cards : List Card) → IsSent (O.written writer.old) (O.written writer.new) sent
+        result (held_text (seen_told told.now) (held_by machine.now cards)) }
+    ensures failures { O.failed writer.new ≡ O.failed writer.old + fails_by result }
+    ensures calls { O.called writer.new ≤ O.called writer.old + 300 }
+    ensures few { IfOk result (λ total. total ≤ sent + 300) }
+{
+    let sent = send_registers(writer, sent, machine)?;
+    let sent = send_acted(writer, sent, told, machine.drum())?;
+    send(writer, sent, &[b"\n"])
+}
+
 /// Writes the line of a step behind so many bytes, and tells how many have gone out then. The step
 /// is the one of this number, on a drum with this angle at time 0, with so many word times used
-/// before it.
+/// before it; the machine is as it is after it.
 ///
 /// # Errors
 ///
@@ -127,20 +174,22 @@ pub fn send_step<O: Output>(
     number: u64,
     before: u64,
     step: &Step,
+    machine: &Machine,
 ) -> Result<usize, WriteFault>
     requires called { O.called writer.old ≤ 2 ^ 62 + 2 ^ 60 }
     requires few { sent ≤ 2 ^ 60 }
     requires early { before ≤ 2 ^ 62 }
     ensures sent { (turn : Turn) → IsToldOf (entry_in times.now) turn step.now
         → turn.origin.start ≡ angle → turn.origin.time ≡ before
+        → (cards : List Card) → held_by machine.now cards ≡ contents_after turn.outcome
         → IsSent (O.written writer.old) (O.written writer.new) sent result
         (turn_line (entry_in times.now) number turn) }
     ensures failures { O.failed writer.new ≡ O.failed writer.old + fails_by result }
-    ensures calls { O.called writer.new ≤ O.called writer.old + 200 }
-    ensures few { IfOk result (λ total. total ≤ sent + 200) }
+    ensures calls { O.called writer.new ≤ O.called writer.old + 500 }
+    ensures few { IfOk result (λ total. total ≤ sent + 500) }
 {
     let told = told_of(step, before);
     let moments = Moments::of(&told, times, angle);
-    let sent = send_fetch(writer, sent, number, told.place, word_of(step))?;
-    send_times(writer, sent, &moments, told.ended)
+    let sent = send_course(writer, sent, number, word_of(step), &told, &moments)?;
+    send_held(writer, sent, &told, machine)
 }

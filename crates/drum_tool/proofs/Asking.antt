@@ -18,7 +18,8 @@ use Rattle.drum_tool.specs.declared.documents.Documents.{Documents}
 use Rattle.drum_tool.specs.Asked.{AreLookedAt, AreLookedAtUpTo, Asked, AsksFor, IsLookedAt, IsOfText, IsRead, Looks, MayWant}
 use Rattle.drum_tool.specs.Asked.{Named, Reading, failures_told, fault_in, most_of, part_of, reading}
 use Rattle.drum_tool.specs.Asked.{returned, sought}
-use Rattle.drum_tool.specs.Documents.{IsAnalysisFault, IsCeilingFault, IsDeckAccepted, IsLimit, IsLimitRefusal, IsRefusedFor}
+use Rattle.drum_flow.specs.Bounded.{IsDeckAccepted}
+use Rattle.drum_tool.specs.Documents.{IsAnalysisFault, IsCeilingFault, IsLimit, IsLimitRefusal, IsRefusedFor}
 use Rattle.drum_tool.specs.Documents.{setting_of}
 use Rattle.drum_tool.specs.Files.{AreTold, FilesTold, Held, behind}
 use Rattle.drum_tool.specs.Replay.{Given, IsReplayFault, IsRunFault, IsTraceFault}

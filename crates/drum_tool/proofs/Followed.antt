@@ -4,6 +4,7 @@ use Rattle.std.proofs.Common.{length-append, Option, Some, None}
 use Rattle.std.specs.Prelude.{MatchOption}
 use Rattle.drum_core.specs.declared.location.Location.{Location}
 use Rattle.drum_core.specs.declared.word.Word.{Word}
+use Rattle.drum_machine.specs.declared.card.Card.{Card}
 use Rattle.drum_machine.specs.declared.feed.Feed.{Feed}
 use Rattle.drum_machine.specs.declared.left.Left as lefts
 use Rattle.drum_machine.specs.declared.left.Left.TheVariants as left
@@ -19,14 +20,14 @@ use Rattle.drum_machine.specs.FirstState.{IsSetUp}
 use Rattle.drum_machine.specs.Feed.{cards_left, waits_left}
 use Rattle.drum_machine.specs.Keeps.{IsAsDeclared, Leaves, reads_load}
 use Rattle.drum_machine.specs.Machine.{GoesOn, Tells, Becomes, TakesStep, state_in, used_by, sought_by, op_in}
-use Rattle.drum_machine.specs.Machine.{punched_with}
+use Rattle.drum_machine.specs.Machine.{held_by, punched_with}
 use Rattle.drum_machine.specs.Monitor.{HasSeen, IsToldOf, answer_of, counts_over}
 use Rattle.drum_machine.specs.Run.{Turn, IsFirstState, time_after, used_from}
 use Rattle.drum_machine.specs.Step.{State, Stepped, on, stopped, contents_after, fetched}
 use Rattle.drum_flow.specs.Walk.{Setting}
 use Rattle.drum_lines.specs.declared.verdict.Verdict.TheVariants.{Kept, Left}
 use Rattle.drum_tool.specs.declared.following.Following.{Following}
-use Rattle.drum_tool.specs.Documents.{IsBounded}
+use Rattle.drum_flow.specs.Bounded.{IsBounded}
 use Rattle.drum_tool.specs.Following.{CanBegin, AreGiven, AreOfRun, IsFollowed, IsFollowing, state_of}
 use Rattle.drum_tool.specs.Following.{waits_of, turn_of, used_so_far}
 use Rattle.drum_tool.specs.Replay.{Given, AreFed, IsLeft, IsUnderWay, LeavesAt}
@@ -68,6 +69,12 @@ none_yet g bound f begins seen silent goes none = record {
 counts_more : (turns : List Turn) (turn : Turn) (number : ℕ) → number ≡ length turns
     → number + 1 ≡ length (turns ++ turn ∷ [])
 counts_more turns turn number counted = omega (arith, counted, length-append turns (turn ∷ []))
+
+-- what a machine holds after a step
+pub held_after : (outcome : Stepped) (origin : Location) (word : Word) (after : Machine) (cards : List Card)
+    → Becomes outcome origin word after cards → held_by after cards ≡ contents_after outcome
+held_after (on next) origin word after cards is = ap (λ (s : State). s.contents) is.1
+held_after (stopped held because moment) origin word after cards is = is.1.1.1
 
 module _ (g : Setting) where
   -- what is answered tells of the turn

@@ -12,7 +12,8 @@ use Rattle.drum_ceiling.specs.CeilingOf.{IsTooDear, base_of, prices_of, total_of
 use Rattle.drum_tool.specs.declared.documents.Documents.{Documents}
 use Rattle.drum_tool.specs.declared.replaying.Begun.{Begun}
 use Rattle.drum_tool.specs.Begun.{IsBegun, IsTraceBegun}
-use Rattle.drum_tool.specs.Documents.{IsAnalysisFault, IsBounded, IsCeiling, IsCeilingFault, IsLimit, IsLimitFault}
+use Rattle.drum_flow.specs.Bounded.{IsBounded}
+use Rattle.drum_tool.specs.Documents.{IsAnalysisFault, IsCeiling, IsCeilingFault, IsLimit, IsLimitFault}
 use Rattle.drum_tool.specs.Documents.{setting_of}
 use Rattle.drum_tool.specs.Replay.{Given, HasOwnWords}
 

@@ -8,7 +8,8 @@ use Rattle.drum_lines.specs.declared.verdict.Verdict.{Verdict}
 use Rattle.drum_lines.specs.declared.verdict.Verdict.TheVariants.{Left}
 use Rattle.drum_tool.specs.declared.replaying.Begun.{Begun}
 use Rattle.drum_tool.specs.declared.documents.Documents.{Documents}
-use Rattle.drum_tool.specs.Documents.{IsBounded, IsLimit, setting_of}
+use Rattle.drum_flow.specs.Bounded.{IsBounded}
+use Rattle.drum_tool.specs.Documents.{IsLimit, setting_of}
 use Rattle.drum_tool.specs.Following.{AreGiven, CanBegin, IsFollowing, state_of, waits_of}
 use Rattle.drum_tool.specs.Replay.{Given, HasOwnWords}
 

@@ -1,6 +1,6 @@
 -- The documents of a program, a deck, a timing table and notes: what is known of them, and which
 -- texts say them.
-use Rattle.std.specs.Prelude.{◌≡◌, ℕ, ◌^◌, ◌<◌, ◌≤◌, List}
+use Rattle.std.specs.Prelude.{◌≡◌, ℕ, ◌^◌, ◌<◌, List}
 use Rattle.drum_core.specs.declared.deck.Deck.{Deck}
 use Rattle.drum_core.specs.declared.deck.fault.DeckFault.{DeckFault}
 use Rattle.drum_core.specs.declared.deck.fault.DeckFault.TheVariants as of_deck
@@ -9,16 +9,13 @@ use Rattle.drum_core.specs.Holds.{IsDeckOf}
 use Rattle.drum_core.specs.Loads.{loads_in, start_in}
 use Rattle.drum_times.specs.declared.times.Times.{Times}
 use Rattle.drum_times.specs.Says.{SayTimes, SayNotes, AreNoTimes, AreNoNotes}
-use Rattle.drum_machine.specs.Keeps.{IsKept}
-use Rattle.drum_machine.specs.Run.{Turn, IsRun, IsFirstState, used_from}
-use Rattle.drum_machine.specs.Step.{State}
 use Rattle.drum_flow.specs.declared.refusal.Refusal.{Refusal}
 use Rattle.drum_flow.specs.Acceptance.{IsRefusal}
-use Rattle.drum_flow.specs.Accepted.{IsAccepted, IsFixed, IsTooLarge}
+use Rattle.drum_flow.specs.Accepted.{IsTooLarge}
 use Rattle.drum_flow.specs.Walk.{Setting}
 use Rattle.drum_flow.specs.SettingOf.{setting}
+use Rattle.drum_bound.specs.BoundOf as of_setting
 use Rattle.drum_bound.specs.Visited.{Visited, IsWalkOf}
-use Rattle.drum_bound.specs.Worst.{IsWorst}
 use Rattle.drum_ceiling.specs.declared.answer.Ceiling.{Ceiling}
 use Rattle.drum_ceiling.specs.CeilingOf.{IsCeilingOf, IsCeilingRefusal, IsRefusedFrom, total_of}
 use Rattle.drum_tool.specs.declared.documents.Documents.{Documents}
@@ -31,22 +28,9 @@ use Rattle.drum_lines.specs.declared.limit.Limit.TheVariants as limit
 abbrev pub setting_of : Documents → Setting
 setting_of documents = setting documents.deck documents.times documents.notes
 
--- the deck with its notes is accepted
-abbrev pub IsDeckAccepted : Setting → Type 0
-IsDeckAccepted g = (executed : List ℕ) × IsAccepted g.loads g.notes g.start executed
-
--- each run that keeps to the notes uses so many word times at most
-abbrev pub IsBounded : Setting → ℕ → Type 0
-IsBounded g bound = (s : State) (steps : List Turn)
-    → IsFirstState g.loads (IsFixed g.loads g.notes g.start) g.start s
-    → IsRun g.times s steps → IsKept g.loads g.notes s steps → used_from 0 steps ≤ bound
-
--- Their bound: the deck with its notes is accepted, some walk takes this time and none takes more,
--- and no run that keeps to the notes ever uses more.
-pub record IsBound (documents : Documents) (bound : ℕ) : Type 0 where
-  pub accepted : IsDeckAccepted (setting_of documents)
-  pub worst : IsWorst (setting_of documents) bound
-  pub bounded : IsBounded (setting_of documents) bound
+-- their bound
+abbrev pub IsBound : Documents → ℕ → Type 0
+IsBound documents bound = of_setting.IsBound (setting_of documents) bound
 
 -- a walk of this time, from this angle
 abbrev pub IsWorstWalk : Documents → ℕ → ℕ → List Visited → Type 0

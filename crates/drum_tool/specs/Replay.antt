@@ -26,7 +26,8 @@ use Rattle.drum_lines.specs.declared.verdict.Verdict.{Verdict}
 use Rattle.drum_lines.specs.declared.verdict.Verdict.TheVariants.{Kept, Left}
 use Rattle.drum_lines.specs.declared.limit.Limit.{Limit}
 use Rattle.drum_tool.specs.declared.documents.Documents.{Documents}
-use Rattle.drum_tool.specs.Documents.{IsDeckAccepted, IsLimit, IsLimitRefusal, setting_of}
+use Rattle.drum_flow.specs.Bounded.{IsDeckAccepted}
+use Rattle.drum_tool.specs.Documents.{IsLimit, IsLimitRefusal, setting_of}
 
 -- what a machine is set up with and fed with
 pub record Given : Type 0 where

@@ -28,7 +28,8 @@ use Rattle.drum_report.specs.Report.{report_text}
 use Rattle.drum_listing.specs.TraceText.{turn_lines}
 use Rattle.drum_listing.specs.WalkText.{walk_text}
 use Rattle.drum_tool.specs.Asked.{Asked, Looks, Named}
-use Rattle.drum_tool.specs.Documents.{IsAnalysisFault, IsBound, IsCeiling, IsCeilingFault, IsDeckAccepted, IsLimit, IsWorstWalk, setting_of}
+use Rattle.drum_flow.specs.Bounded.{IsDeckAccepted}
+use Rattle.drum_tool.specs.Documents.{IsAnalysisFault, IsBound, IsCeiling, IsCeilingFault, IsLimit, IsWorstWalk, setting_of}
 use Rattle.drum_tool.specs.Files.{AreHeld, AreInputsHeld, AreNoInputsHeld, AreNotHeld, Held}
 use Rattle.drum_tool.specs.Given.{given}
 use Rattle.drum_tool.specs.Joined.{Gives, GivesNone}

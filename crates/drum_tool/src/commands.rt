@@ -73,6 +73,28 @@ fn analysis<S: Source>(
     Ok((documents, analysis))
 }
 
+/// The documents in files, and their bound.
+fn bound<S: Source>(
+    alloc: Global,
+    source: &mut S,
+    files: Files<'_>,
+) -> Result<(Documents, u64), Fault>
+    requires { S.failed source.old ≤ 2 ^ 61 }
+    ensures held { IfOk result (λ done. (held : Held)
+        → AreTold (S.files source.old) held (named_in files.entry) → AreHeld held done.0) }
+    ensures bound { IfOk result (λ done. IsBound done.0 done.1) }
+    ensures fault { IfErr result (λ fault. (held : Held)
+        → AreTold (S.files source.old) held (named_in files.entry)
+        → IsFaultOfFiles held fault) }
+    ensures counted { S.failed source.new ≡ S.failed source.old + failed_by result }
+    ensures asked { AsksFor (S.asked source.old) (S.asked source.new)
+        (Looks (named_in files.entry) (fault_in result)) }
+{
+    let documents = Documents::of_files(alloc, source, files)?;
+    let bound = documents.bound(alloc)?;
+    Ok((documents, bound))
+}
+
 /// The documents in files, and their ceiling.
 fn ceiling<S: Source>(
     alloc: Global,
@@ -230,8 +252,8 @@ pub fn obey<S: Source, O: Output, E: Output>(
         (LooksAsTold (files_of command.entry) reply) }
 {
     match command {
-        Command::Bound(files) => match analysis(alloc, source, files) {
-            Ok((_, analysis)) => tell_bound(out, analysis.bound()),
+        Command::Bound(files) => match bound(alloc, source, files) {
+            Ok((_, bound)) => tell_bound(out, bound),
             Err(fault) => complain(err, fault),
         },
         Command::Report(files) => match analysis(alloc, source, files) {

@@ -11,7 +11,7 @@ ghost use Rattle.drum_tool.specs.Documents.{
   IsWorstWalk,
 };
 
-use drum_bound::{Analysis, Refusal, analyse};
+use drum_bound::{Analysis, Refusal, analyse, bound};
 use drum_ceiling::{Ceiling, ceiling};
 use drum_core::Deck;
 use drum_lines::{Fault, Limit};
@@ -54,9 +54,13 @@ impl Documents {
     /// As [`Documents::analyse`].
     pub(crate) fn bound(&self, alloc: Global) -> Result<u64, Fault>
         ensures bound { IfOk result (IsBound self.now) }
+        ensures below { IfOk result (λ bound. bound < 2 ^ 50) }
         ensures fault { IfErr result (IsAnalysisFault self.now) }
     {
-        Ok(self.analyse(alloc)?.bound())
+        match bound(alloc, &self.deck, &self.times, &self.notes) {
+            Ok(most) => Ok(most),
+            Err(refusal) => Err(Fault::Refused(refusal)),
+        }
     }
 
     /// Their ceiling.
@@ -87,8 +91,8 @@ impl Documents {
         ensures below { IfOk result (λ found. found.1 < 2 ^ 50) }
         ensures fault { IfErr result (IsLimitFault self.now) }
     {
-        match self.analyse(alloc) {
-            Ok(analysis) => Ok((Limit::Bound, analysis.bound())),
+        match self.bound(alloc) {
+            Ok(most) => Ok((Limit::Bound, most)),
             Err(Fault::Refused(Refusal::TooLarge(product))) => self.past_limit(alloc, product),
             Err(fault) => Err(fault),
         }

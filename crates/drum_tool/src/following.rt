@@ -2,12 +2,13 @@
 
 ghost use Rattle.std.specs.Prelude.{◌≡◌, ℕ, ◌+◌, ◌^◌, ◌<◌, ◌≤◌, List, MatchOption, None, [], ◌∷◌, ◌++◌};
 ghost use Rattle.drum_times.specs.Entries.{entry_in};
-ghost use Rattle.drum_machine.specs.Machine.{GoesOn};
+ghost use Rattle.drum_machine.specs.Feed.{cards_left};
+ghost use Rattle.drum_machine.specs.Machine.{GoesOn, held_by};
 ghost use Rattle.drum_machine.specs.Monitor.{IsToldOf};
 ghost use Rattle.drum_machine.specs.Run.{Turn};
-ghost use Rattle.drum_machine.specs.Step.{State};
+ghost use Rattle.drum_machine.specs.Step.{State, contents_after};
 ghost use Rattle.drum_flow.specs.SettingOf.{setting};
-ghost use Rattle.drum_tool.specs.Documents.{IsBounded};
+ghost use Rattle.drum_flow.specs.Bounded.{IsBounded};
 ghost use Rattle.drum_tool.specs.Following.{
   AreOfRun,
   CanBegin,
@@ -55,6 +56,9 @@ impl Following {
         requires few { self.old.steps ≤ bound }
         ensures told { GoesOn self.old.machine
             → IsToldOf (entry_in times.now) (turn_of (entry_in times.now) self.old) result.0 }
+        ensures held { GoesOn self.old.machine
+            → held_by self.new.machine (cards_left self.new.feed)
+            ≡ contents_after (turn_of (entry_in times.now) self.old).outcome }
         ensures advanced { (s : State) (waits : List ℕ) (turns : List Turn)
             → CanBegin (setting deck.now times.now notes.now) s
             → IsBounded (setting deck.now times.now notes.now) bound

@@ -3,12 +3,12 @@
 ghost use Rattle.std.specs.Prelude.{◌≡◌, ◌^◌, ◌<◌, IfErr, IfOk, option_map};
 ghost use Rattle.drum_flow.specs.SettingOf.{setting};
 ghost use Rattle.drum_tool.specs.Begun.{IsBegun, left_before};
-ghost use Rattle.drum_tool.specs.Documents.{IsBounded};
+ghost use Rattle.drum_flow.specs.Bounded.{IsBounded};
 ghost use Rattle.drum_tool.specs.Given.{given};
 ghost use Rattle.drum_tool.specs.Replay.{IsReplay, IsReplayFault};
 
 use crate::following::{Following, follow};
-use drum_bound::analyse;
+use drum_bound::bound;
 use drum_core::Deck;
 use drum_inputs::Inputs;
 use drum_lines::{Fault, Limit, Verdict};
@@ -92,7 +92,7 @@ pub fn begin(
 /// # Errors
 ///
 /// [`Fault::Loaded`] for the first word of the inputs that the deck loads too; else
-/// [`Fault::Refused`] where the deck with its notes isn't accepted ([`analyse`]); else
+/// [`Fault::Refused`] where the deck with its notes isn't accepted ([`bound`]); else
 /// [`Fault::Memory`] where memory for the machine is wanting.
 pub fn replay(
     alloc: Global,
@@ -109,8 +109,8 @@ pub fn replay(
     if let Some(location) = inputs.setup.loaded_by(deck) {
         return Err(Fault::Loaded(location));
     }
-    let bound = match analyse(alloc, deck, times, notes) {
-        Ok(analysis) => analysis.bound(),
+    let bound = match bound(alloc, deck, times, notes) {
+        Ok(bound) => bound,
         Err(refusal) => return Err(Fault::Refused(refusal)),
     };
     let Begun {

@@ -7,7 +7,8 @@ ghost use Rattle.drum_flow.specs.SettingOf.{setting};
 ghost use Rattle.drum_lines.specs.Sent.{IsWritten, fails_by};
 ghost use Rattle.drum_listing.specs.TraceText.{turn_lines};
 ghost use Rattle.drum_tool.specs.Begun.{IsBegun, IsReady, IsTraceBegun};
-ghost use Rattle.drum_tool.specs.Documents.{IsBounded, setting_of};
+ghost use Rattle.drum_flow.specs.Bounded.{IsBounded};
+ghost use Rattle.drum_tool.specs.Documents.{setting_of};
 ghost use Rattle.drum_tool.specs.Following.{
   AreUnderWay,
   CanBegin,
@@ -62,7 +63,8 @@ fn send_steps<O: Output>(
     loop {
         let before = following.used();
         let (step, verdict) = following.advance(deck, times, notes, most);
-        sent = send_step(out, sent, times, angle, following.steps, before, &step)?;
+        let (number, machine) = (following.steps, &following.machine);
+        sent = send_step(out, sent, times, angle, number, before, &step, machine)?;
         if let Some(verdict) = verdict {
             return Ok(verdict);
         }

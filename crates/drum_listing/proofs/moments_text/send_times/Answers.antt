@@ -9,7 +9,7 @@ returns-clause-sent g c =
     c.send.result)
     (times_told c.args.moments.now c.args.ended c.as_bytes.result.now c.name_with.result.now c.digits_with.result.now
     c.name_with-2.result.now c.digits_with-2.result.now
-    c.as_bytes-2.result.now (c.as_bytes.ensures.value ∙ c.format.ensures.text) c.name_with.ensures.name
+    c.as_bytes-2.result.now c.args.last.now (c.as_bytes.ensures.value ∙ c.format.ensures.text) c.name_with.ensures.name
     c.digits_with.ensures.digits c.name_with-2.ensures.name c.digits_with-2.ensures.digits
     (c.as_bytes-2.ensures.value ∙ c.format-2.ensures.text))
     c.send.ensures.sent

@@ -1,41 +1,44 @@
-use Rattle.std.proofs.Common.{Err, subst}
+use Rattle.std.proofs.Common.{[], ◌++◌, Err, subst}
 use Rattle.std.proofs.lemmas.Result.{err_from_is_err_and}
 use Rattle.drum_times.specs.Entries.{entry_in}
+use Rattle.drum_machine.specs.Machine.{held_by}
 use Rattle.drum_lines.specs.Sent.{IsSent}
 use Rattle.drum_lines.proofs.Sending.{IsSent-cut, IsSent-then}
-use Rattle.drum_listing.specs.Pieces.{fetch_text, times_text}
+use Rattle.drum_listing.specs.Pieces.{fetch_text, held_text, times_text}
 use Rattle.drum_listing.specs.Told.{seen_told}
 use Rattle.drum_listing.proofs.Lines.{turn_told}
 use Rattle.drum_listing.proofs.step_line.send_step.Goals as goal
 
 pub returns-in_err-sent-clause-sent : goal.returns-in_err-sent-clause-sent
-returns-in_err-sent-clause-sent g c turn tells start before =
+returns-in_err-sent-clause-sent g c turn tells start before cards held =
     let times = entry_in c.args.times.now in
     let hop = c.told_of-told.result in
     let moments = c.of-moments.result in
     let old = g.O.Output.written c.args.writer.now in
-    let new = g.O.Output.written c.send_fetch.new.writer in
+    let new = g.O.Output.written c.send_course.new.writer in
     let fault = c.in_err-sent.field-0.0 in
     let p = err_from_is_err_and c.from_residual.result c.from_residual.ensures.1 in
-    let fetch = fetch_text c.args.number hop.place.number c.word_of.result in
+    let course = fetch_text c.args.number hop.place.number c.word_of.result ++ times_text moments hop.ended [] in
+    let after = held_by c.args.machine.now cards in
     rw (p.1, p.2) (subst (IsSent old new c.args.sent (Err fault))
-    (turn_told times c.args.number c.args.angle turn (seen_told hop) c.word_of.result moments
+    (turn_told times c.args.number c.args.angle turn (seen_told hop) c.word_of.result moments after
     (c.told_of-told.ensures.told times turn tells before)
-    (c.word_of.ensures times turn tells) start c.of-moments.ensures)
-    (IsSent-cut old new c.args.sent fault fetch (times_text moments hop.ended) c.in_err-sent.ensures.sent))
+    (c.word_of.ensures times turn tells) start c.of-moments.ensures held)
+    (IsSent-cut old new c.args.sent fault course (held_text (seen_told hop) after) c.in_err-sent.ensures.sent))
 
 pub returns-clause-sent : goal.returns-clause-sent
-returns-clause-sent g c turn tells start before =
+returns-clause-sent g c turn tells start before cards held =
     let times = entry_in c.args.times.now in
     let hop = c.told_of-told.result in
     let moments = c.of-moments.result in
     let old = g.O.Output.written c.args.writer.now in
-    let between = g.O.Output.written c.send_fetch.new.writer in
-    let new = g.O.Output.written c.send_times.new.writer in
-    let fetch = fetch_text c.args.number hop.place.number c.word_of.result in
-    subst (IsSent old new c.args.sent c.send_times.result)
-    (turn_told times c.args.number c.args.angle turn (seen_told hop) c.word_of.result moments
+    let between = g.O.Output.written c.send_course.new.writer in
+    let new = g.O.Output.written c.send_held.new.writer in
+    let course = fetch_text c.args.number hop.place.number c.word_of.result ++ times_text moments hop.ended [] in
+    let after = held_by c.args.machine.now cards in
+    subst (IsSent old new c.args.sent c.send_held.result)
+    (turn_told times c.args.number c.args.angle turn (seen_told hop) c.word_of.result moments after
     (c.told_of-told.ensures.told times turn tells before)
-    (c.word_of.ensures times turn tells) start c.of-moments.ensures)
-    (IsSent-then old between new c.args.sent c.in_ok-sent.sent c.send_times.result fetch
-    (times_text moments hop.ended) c.in_ok-sent.ensures.sent c.send_times.ensures.sent)
+    (c.word_of.ensures times turn tells) start c.of-moments.ensures held)
+    (IsSent-then old between new c.args.sent c.in_ok-sent.sent c.send_held.result course
+    (held_text (seen_told hop) after) c.in_ok-sent.ensures.sent (c.send_held.ensures.sent cards))

@@ -1,4 +1,5 @@
-use Rattle.std.proofs.Common.{Err, subst}
+use Rattle.std.proofs.Common.{◌++◌, Err, subst}
+use Rattle.std.specs.Prelude.{codes, decimal}
 use Rattle.std.proofs.lemmas.Result.{err_from_is_err_and}
 use Rattle.drum_times.specs.Entries.{entry_in}
 use Rattle.drum_lines.specs.Sent.{IsSent}
@@ -22,7 +23,7 @@ returns-in_err-sent-clause-sent g c =
     rw (p.1, p.2) (subst (λ (visit : Visited). IsSent old new c.args.sent (Err fault) (visit_line times c.args.angle visit))
     c.of-told.ensures.same
     (subst (IsSent old new c.args.sent (Err fault)) (visit_told times c.args.angle hop moments c.of-moments.ensures)
-    (IsSent-cut old new c.args.sent fault (hop_text hop) (times_text moments hop.ended) c.in_err-sent.ensures.sent)))
+    (IsSent-cut old new c.args.sent fault (hop_text hop ++ codes " begun " ++ decimal hop.begun) (times_text moments hop.ended (codes "\n")) c.in_err-sent.ensures.sent)))
 
 pub returns-clause-sent : goal.returns-clause-sent
 returns-clause-sent g c =
@@ -35,5 +36,5 @@ returns-clause-sent g c =
     subst (λ (visit : Visited). IsSent old new c.args.sent c.send_times.result (visit_line times c.args.angle visit))
     c.of-told.ensures.same
     (subst (IsSent old new c.args.sent c.send_times.result) (visit_told times c.args.angle hop moments c.of-moments.ensures)
-    (IsSent-then old between new c.args.sent c.in_ok-sent.sent c.send_times.result (hop_text hop)
-    (times_text moments hop.ended) c.in_ok-sent.ensures.sent c.send_times.ensures.sent))
+    (IsSent-then old between new c.args.sent c.in_ok-sent.sent c.send_times.result (hop_text hop ++ codes " begun " ++ decimal hop.begun)
+    (times_text moments hop.ended (codes "\n")) c.in_ok-sent.ensures.sent c.send_times.ensures.sent))

@@ -1,7 +1,7 @@
 use Rattle.std.proofs.Common.{ℕ, ◌∙◌, length, sym, subst}
 use Rattle.drum_flow.specs.SettingOf.{setting}
 use Rattle.drum_bound.specs.Worst.{IsWorst}
-use Rattle.drum_tool.specs.Documents.{IsBounded}
+use Rattle.drum_flow.specs.Bounded.{IsBounded}
 use Rattle.drum_tool.specs.Given.{given}
 use Rattle.drum_tool.proofs.Beginning.{judged_before, judged_followed, replay_of}
 use Rattle.drum_tool.proofs.replaying.replay.Goals as goal

@@ -3,6 +3,7 @@ use Rattle.std.specs.Prelude.{MatchOption}
 use Rattle.std.proofs.lemmas.Result.{err_from_is_err_and}
 use Rattle.drum_core.specs.declared.op.Op.{Op}
 use Rattle.drum_times.specs.declared.entry.Entry.{Entry}
+use Rattle.drum_machine.specs.Feed.{cards_left}
 use Rattle.drum_machine.specs.Run.{Turn}
 use Rattle.drum_flow.specs.SettingOf.{setting}
 use Rattle.drum_lines.specs.declared.failed_write.WriteFault.{WriteFault}
@@ -45,7 +46,8 @@ returns-in_err-sent-clause-written g c =
     c.loop-following.sent (Err fault) turns turn c.advance-step.new.self.steps
     (omega (arith, c.advance-step.ensures.steps, so_far.counted))
     c.loop-following.invariant.gone
-    (c.in_err-sent.ensures.sent turn (c.advance-step.ensures.told so_far.goes) start (sym c.used-before.ensures)) in
+    (c.in_err-sent.ensures.sent turn (c.advance-step.ensures.told so_far.goes) start (sym c.used-before.ensures)
+    (cards_left c.advance-step.new.self.feed) (c.advance-step.ensures.held so_far.goes)) in
     rw (p.1, p.2) (
       turns ++ turn ∷ [],
       (
@@ -81,7 +83,8 @@ returns-in-Some-clause-written g c =
     c.loop-following.sent (Ok c.in_ok-sent.sent) turns turn c.advance-step.new.self.steps
     (omega (arith, c.advance-step.ensures.steps, so_far.counted))
     c.loop-following.invariant.gone
-    (c.in_ok-sent.ensures.sent turn (c.advance-step.ensures.told so_far.goes) start (sym c.used-before.ensures)) in (
+    (c.in_ok-sent.ensures.sent turn (c.advance-step.ensures.told so_far.goes) start (sym c.used-before.ensures)
+    (cards_left c.advance-step.new.self.feed) (c.advance-step.ensures.held so_far.goes)) in (
       more,
       subst (λ (o : Option Verdict). MatchOption o (IsFollowing all s waits c.args.most more c.advance-step.new.self)
           (IsFollowed all s waits c.args.most more))
@@ -114,7 +117,8 @@ loop-following-preserved g c =
           c.loop-following.sent (Ok c.in_ok-sent.sent) turns turn c.advance-step.new.self.steps
           (omega (arith, c.advance-step.ensures.steps, so_far.counted))
           c.loop-following.invariant.gone
-          (c.in_ok-sent.ensures.sent turn (c.advance-step.ensures.told so_far.goes) start (sym c.used-before.ensures));
+          (c.in_ok-sent.ensures.sent turn (c.advance-step.ensures.told so_far.goes) start (sym c.used-before.ensures)
+    (cards_left c.advance-step.new.self.feed) (c.advance-step.ensures.held so_far.goes));
       few = omega (arith, c.loop-following.invariant.few, c.in_ok-sent.ensures.few, c.advance-step.ensures.steps);
       calls = omega (arith, c.loop-following.invariant.calls, c.in_ok-sent.ensures.calls, c.advance-step.ensures.steps);
       failures = omega (arith, c.loop-following.invariant.failures, c.in_ok-sent.ensures.failures);

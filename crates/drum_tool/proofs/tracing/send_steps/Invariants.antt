@@ -15,8 +15,8 @@ invariant-loop-following g l = record {
       turns l.following;
   gone : IsSent (g.O.Output.written l.fn.out) (g.O.Output.written l.out) 0 (Ok l.sent)
       (turn_lines (entry_in l.times) 1 turns);
-  few : l.sent ≤ 200 * l.following.steps;
-  calls : g.O.Output.called l.out ≤ g.O.Output.called l.fn.out + 200 * l.following.steps;
+  few : l.sent ≤ 500 * l.following.steps;
+  calls : g.O.Output.called l.out ≤ g.O.Output.called l.fn.out + 500 * l.following.steps;
   failures : g.O.Output.failed l.out ≡ g.O.Output.failed l.fn.out;
 }
 

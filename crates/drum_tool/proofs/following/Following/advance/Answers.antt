@@ -1,11 +1,13 @@
 use Rattle.std.proofs.Common.{ℕ, ◌+◌, ◌∷◌, ◌++◌, [], sym, subst, ◌∙◌}
 use Rattle.drum_core.specs.Loads.{loads_in}
 use Rattle.drum_times.specs.Entries.{entry_in}
+use Rattle.drum_machine.specs.Feed.{cards_left}
 use Rattle.drum_machine.specs.Monitor.{HasSeen, IsToldOf}
+use Rattle.drum_machine.specs.Step.{fetched}
 use Rattle.drum_flow.specs.SettingOf.{setting}
 use Rattle.drum_lines.specs.declared.verdict.Verdict.TheVariants.{Left}
-use Rattle.drum_tool.specs.Following.{IsFollowed, turn_of}
-use Rattle.drum_tool.proofs.Followed.{goes_on, leaves_here, replayed, stops_here, told}
+use Rattle.drum_tool.specs.Following.{IsFollowed, state_of, turn_of}
+use Rattle.drum_tool.proofs.Followed.{goes_on, held_after, leaves_here, replayed, stops_here, told}
 use Rattle.drum_tool.proofs.following.Following.advance.Goals as goal
 
 pub returns-in-Some-clause-told : goal.returns-in-Some-clause-told
@@ -26,6 +28,27 @@ returns-clause-told c goes =
     told (setting c.args.deck.now c.args.times.now c.args.notes.now) c.args.self.now c.step-step.result
     c.step-step.new.self
     c.step-step.new.feed (c.step-step.ensures.goes goes)
+
+pub returns-in-Some-clause-held : goal.returns-in-Some-clause-held
+returns-in-Some-clause-held c goes =
+    let before = c.args.self.now in
+    let takes = c.step-step.ensures.goes goes in
+    held_after (turn_of (entry_in c.args.times.now) before).outcome before.machine.sought
+    (fetched (state_of before)) c.step-step.new.self (cards_left c.step-step.new.feed) takes.becomes
+
+pub returns-in-Stopped-clause-held : goal.returns-in-Stopped-clause-held
+returns-in-Stopped-clause-held c goes =
+    let before = c.args.self.now in
+    let takes = c.step-step.ensures.goes goes in
+    held_after (turn_of (entry_in c.args.times.now) before).outcome before.machine.sought
+    (fetched (state_of before)) c.step-step.new.self (cards_left c.step-step.new.feed) takes.becomes
+
+pub returns-clause-held : goal.returns-clause-held
+returns-clause-held c goes =
+    let before = c.args.self.now in
+    let takes = c.step-step.ensures.goes goes in
+    held_after (turn_of (entry_in c.args.times.now) before).outcome before.machine.sought
+    (fetched (state_of before)) c.step-step.new.self (cards_left c.step-step.new.feed) takes.becomes
 
 pub returns-in-Some-clause-of_run : goal.returns-in-Some-clause-of_run
 returns-in-Some-clause-of_run c s waits turns begins bounded following =

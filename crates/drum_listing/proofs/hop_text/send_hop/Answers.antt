@@ -3,15 +3,15 @@ use Rattle.drum_core.specs.Numeral.{digits_of}
 use Rattle.drum_lines.specs.Sent.{IsSent}
 use Rattle.drum_listing.specs.Told.{seen_told}
 use Rattle.drum_listing.proofs.Lines.{hop_told}
-use Rattle.drum_listing.proofs.visit_line.send_hop.Goals as goal
+use Rattle.drum_listing.proofs.hop_text.send_hop.Goals as goal
 
 pub returns-clause-sent : goal.returns-clause-sent
 returns-clause-sent g c =
     subst (IsSent (g.O.Output.written c.args.writer.now) (g.O.Output.written c.send.new.output) c.args.sent
     c.send.result)
-    (hop_told (seen_told c.args.told.now) c.four_digits-place.result c.two_digits-op.result c.four_digits-d.result
+    (hop_told (seen_told c.args.told.now) c.args.number c.four_digits-place.result c.two_digits-op.result c.four_digits-d.result
     c.four_digits-i.result
-    c.way_name.result.now c.onto_with.result.now c.as_bytes.result.now
+    c.way_name.result.now c.onto_with.result.now c.args.name.now c.as_bytes.result.now
     (c.four_digits-place.ensures ∙ ap (digits_of 4) c.number.ensures)
     (c.two_digits-op.ensures ∙ ap (digits_of 2) c.op.ensures)
     (c.four_digits-d.ensures ∙ ap (digits_of 4) c.d.ensures) (c.four_digits-i.ensures ∙ ap (digits_of 4) c.i.ensures)
