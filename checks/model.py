@@ -4,13 +4,15 @@ that an earlier clock is never overtaken. `checks/examples` and `checks/stored-r
 its rules of waiting `checks/results.py` does."""
 
 import functools
+import itertools
 import sys
 import tomllib
 
 HALF = 10**10
 WANTS_ANY = {10, 11, 14, 15, 16, 17, 18, 19, 60, 61, 64, 65, 66, 67, 68, 69}
 WANTS_DRUM = {20, 21, 22, 23, 24, 70, 71}
-WAITS_FOR_DATA = WANTS_ANY | {20, 21, 22, 23, 24}
+STORES = {20, 21, 22, 23, 24}
+WAITS_FOR_DATA = WANTS_ANY | STORES
 MAY_STOP_LATE = {10, 11, 14, 15, 16, 17, 18, 19, 64}
 
 
@@ -45,6 +47,14 @@ def read_word(text):
     return text[0] == "-", int(text[1:])
 
 
+def sign_text(is_minus):
+    return "-" if is_minus else "+"
+
+
+def word_text(word):
+    return "%s%010d" % (sign_text(word[0]), word[1])
+
+
 def read_deck(path):
     """The words of a deck, and its start."""
     words, start = {}, None
@@ -57,35 +67,46 @@ def read_deck(path):
     return words, start
 
 
-class Stopped(Exception):
-    """Why the machine stopped."""
-
-
 class Machine:
     """The machine, set up by a deck and by the file of a replay's inputs."""
 
     def __init__(self, deck, times, inputs):
         self.drum, self.sought = read_deck(deck)
         self.times, self.used, self.angle = times, 0, 0
-        self.accumulator, self.distributor, self.upper_is_minus = 0, (False, 0), None
+        self.switches, self.distributor, self.accumulator = (False, 0), (False, 0), 0
+        # The sign of the upper half, while a remainder's stands.
+        self.upper_is_minus = None
+        self.latch, self.stops_programmed, self.stops_on_overflow = False, True, True
+        # Each card has its load mark, and its words.
         self.cards, self.waits, self.punched = [], [], []
         for line in open(inputs).read().splitlines():
             first, *rest = line.split(" ")
-            if first == "ANGLE":
-                self.angle = int(rest[0])
-            elif first == "ACCUMULATOR":
-                self.accumulator = int(rest[0])
-            elif first == "DISTRIBUTOR":
-                self.distributor = read_word(rest[0])
-            elif first == "CARD":
-                self.cards.append([read_word(text) for text in rest])
-            elif first == "WAIT":
-                self.waits.append(int(rest[0]))
-            elif first.isdigit():
-                for place, text in enumerate(rest):
-                    self.drum[int(first) + place] = read_word(text)
-            else:
-                assert line.startswith("*"), line
+            if not line.startswith("*"):
+                self.take(first, rest)
+
+    def take(self, first, rest):
+        """Takes a line of the inputs, by its first part and the others."""
+        if first == "ANGLE":
+            self.angle = int(rest[0])
+        elif first == "SWITCHES":
+            self.switches = read_word(rest[0])
+        elif first == "DISTRIBUTOR":
+            self.distributor = read_word(rest[0])
+        elif first == "ACCUMULATOR":
+            self.accumulator = int(rest[0])
+        elif first == "LATCH":
+            self.latch = rest == ["ON"]
+        elif first == "PROGRAMMED":
+            self.stops_programmed = rest == ["STOP"]
+        elif first == "ONOVERFLOW":
+            self.stops_on_overflow = rest == ["STOP"]
+        elif first in ("CARD", "LOAD"):
+            self.cards.append((first == "LOAD", [read_word(text) for text in rest]))
+        elif first == "WAIT":
+            self.waits.append(int(rest[0]))
+        else:
+            words = enumerate(rest, int(first))
+            self.drum.update((place, read_word(text)) for place, text in words)
 
     def half(self, is_upper):
         sign = self.accumulator < 0
@@ -97,79 +118,102 @@ class Machine:
     def word(self, location):
         if location < 2000:
             return self.drum.get(location, (False, 0))
-        return [(False, 0), self.distributor, self.half(False), self.half(True)][location - 8000]
+        return [self.switches, self.distributor, self.half(False), self.half(True)][location - 8000]
 
     def run(self):
         """Steps until the machine stops, and tells why."""
-        while True:
-            try:
-                self.step()
-            except Stopped as stopped:
-                return str(stopped)
+        why = None
+        while why is None:
+            why = self.step()
+        return why
 
     def step(self):
-        """One step. The clock counts from a moment of angle 0 on."""
-        ready = found(self.sought, self.angle + self.used)
+        """One step; tells why the machine stops, where it does. It leaves the moments up to the one
+        at which the operation has its data, and of one that acts its number and its D."""
+        self.moments, self.acted, self.has_read_load = [], None, False
+        at = self.reach("found", found(self.sought, self.angle + self.used))
         number = self.word(self.sought)[1]
         op, d, i = number // 10**8, number // 10**4 % 10**4, number % 10**4
-        self.used = ready - self.angle
         if op not in self.times:
-            raise Stopped("operation")
+            return "operation"
         entry = self.times[op]
-        ready += entry["before"]
-        self.used = ready - self.angle
+        ready = self.reach("ready", at + entry["before"])
         if not suits(op, d):
-            raise Stopped("operand")
+            return "operand"
         if op == 70 and not self.cards:
-            raise Stopped("card")
-        data = found(d, ready) if op in WAITS_FOR_DATA else ready
-        units, wait, self.sought = self.work(op, d, i)
+            return "card"
+        data = self.reach("data", found(d, ready) if op in WAITS_FOR_DATA else ready)
+        self.acted = op, d
+        units, wait, onto, why = self.work(op, d, i)
         end = at_parity(entry["parity"], data) + entry["after"] + entry.get("per", 0) * units + wait
         self.used = end - self.angle
-        if op == 1:
-            raise Stopped("programmed")
+        if why is None and not is_location(onto):
+            return "next"
+        self.sought = onto
+        return why
+
+    def reach(self, name, clock):
+        """Notes a moment of a step. The clock counts from a moment of angle 0 on."""
+        self.used = clock - self.angle
+        self.moments.append("%s %d" % (name, self.used))
+        return clock
 
     def work(self, op, d, i):
-        """What an operation does: its units, its wait, and the next location. The examples come to
-        no other stop."""
-        units = wait = 0
+        """What an operation does: its units, its wait, the next location, and why it stops."""
+        units, wait, why = 0, 0, None
         if op in WANTS_ANY:
-            units = self.calculate(op, self.word(d))
-        elif op in (20, 21, 22, 23, 24):
+            units, why = self.calculate(op, self.word(d))
+        elif op in STORES:
             self.store(op, d)
-        elif op in (30, 35):
-            units = d % 10
-            self.shift(op, units)
+        elif op in (30, 31, 35):
+            units = self.shift(op, d % 10)
         elif op in (70, 71):
             wait = self.move_card(op, d // 50 * 50)
-        elif op in (44, 45, 46) or op >= 90:
-            return 0, 0, d if self.branches(op) else i
+            i = d if self.has_read_load else i
+        elif op in (44, 45, 46, 47):
+            i = d if self.branches(op) else i
+        elif op >= 90:
+            digit = self.distributor[1] // 10 ** ((op % 10 or 10) - 1) % 10
+            i = d if digit == 8 else i
+            why = None if digit in (8, 9) else "digit"
+        elif op == 1:
+            why = "programmed" if self.stops_programmed else None
         else:
-            assert op in (0, 1), op
-        return units, wait, i
+            assert op == 0, op
+        return units, wait, i, why
 
     def calculate(self, op, word):
-        """Adds, multiplies, divides or loads the distributor, and gives the units."""
-        value, units = -word[1] if word[0] else word[1], 0
-        upper, lower = divmod(abs(self.accumulator), HALF)
-        sign = -1 if (self.accumulator < 0) != (value < 0) else 1
+        """Adds, multiplies, divides or loads the distributor: the units, and why it stops."""
+        self.distributor, before = word, self.accumulator
+        if op == 69:
+            return 0, None
+        value = -word[1] if word[0] else word[1]
+        upper, lower = divmod(abs(before), HALF)
+        sign = -1 if (before < 0) != (value < 0) else 1
         if op in (14, 64):
-            assert upper < abs(value)
-            quotient, rest = divmod(abs(self.accumulator), abs(value))
-            self.upper_is_minus = self.accumulator < 0 if op == 14 else None
+            if upper >= abs(value):
+                self.latch = True
+                return 0, "quotient"
+            quotient, rest = divmod(abs(before), abs(value))
             self.accumulator = sign * (quotient + (rest * HALF if op == 14 else 0))
-            units = sum(map(int, str(quotient)))
-        elif op == 19:
-            self.accumulator, self.upper_is_minus = sign * (upper * abs(value) + lower * HALF), None
-            units = sum(map(int, str(upper)))
-        elif op != 69:
-            before = 0 if op >= 60 else self.accumulator
-            sums = {0: value * HALF, 1: -value * HALF, 5: value, 6: -value}
-            sums.update({7: abs(value), 8: -abs(value)})
-            self.accumulator, self.upper_is_minus = before + sums[op % 10], None
-        assert abs(self.accumulator) < HALF * HALF
-        self.distributor = word
-        return units
+            self.upper_is_minus = before < 0 if op == 14 else None
+            return sum(map(int, str(quotient))), None
+        if op == 19:
+            why = self.become(sign * (upper * abs(value) + lower * HALF))
+            return sum(map(int, str(upper))), why
+        amounts = {0: value * HALF, 1: -value * HALF, 5: value, 6: -value}
+        amounts.update({7: abs(value), 8: -abs(value)})
+        return 0, self.become((0 if op >= 60 else before) + amounts[op % 10])
+
+    def become(self, number):
+        """Gives the accumulator a number, and tells why that stops."""
+        size = abs(number)
+        self.accumulator = size % HALF**2 * (-1 if number < 0 else 1)
+        self.upper_is_minus = None
+        if size < HALF**2:
+            return None
+        self.latch = True
+        return "overflow" if self.stops_on_overflow else None
 
     def store(self, op, d):
         if op in (22, 23):
@@ -182,30 +226,57 @@ class Machine:
         self.drum[d] = self.distributor
 
     def shift(self, op, places):
-        sign = -1 if self.accumulator < 0 else 1
-        size = abs(self.accumulator)
-        size = size // 10**places if op == 30 else size * 10**places % HALF**2
+        """Shifts, and gives the units."""
+        places = places or (10 if op == 31 else 0)
+        size, sign = abs(self.accumulator), -1 if self.accumulator < 0 else 1
+        if op == 31:
+            size += 5 * 10 ** (places - 1)
+        size = size * 10**places % HALF**2 if op == 35 else size // 10**places
         self.accumulator, self.upper_is_minus = sign * size, None
+        return places
 
     def branches(self, op):
         """Whether a branch goes on at D."""
-        if op < 90:
-            number = self.accumulator
-            return {44: abs(number) >= HALF, 45: number != 0, 46: number < 0}[op]
-        digit = self.distributor[1] // 10 ** ((op % 10 or 10) - 1) % 10
-        assert digit in (8, 9)
-        return digit == 8
+        number, latch = self.accumulator, self.latch
+        self.latch = latch and op != 47
+        return {44: abs(number) >= HALF, 45: number != 0, 46: number < 0, 47: latch}[op]
+
+    def words(self, location):
+        """Ten words of the drum."""
+        return [self.word(location + place) for place in range(10)]
 
     def move_card(self, op, band):
         """Reads or punches a card, and gives the wait for it."""
         if op == 70:
-            for place, word in enumerate(self.cards.pop(0)):
-                self.drum[band + 1 + place] = word
+            self.has_read_load, words = self.cards.pop(0)
+            self.drum.update(enumerate(words, band + 1))
         else:
-            self.punched.append([self.word(band + 27 + place) for place in range(10)])
+            self.punched.append(self.words(band + 27))
         entry = self.times[op]
         wait = self.waits.pop(0) if self.waits else entry["wait_max"]
         return min(max(wait, entry["wait_min"]), entry["wait_max"])
+
+    def held_text(self):
+        """The registers and the latch, as the line of a step tells them."""
+        texts = ["accumulator %s%020d" % (sign_text(self.accumulator < 0), abs(self.accumulator))]
+        if self.upper_is_minus is not None:
+            texts.append("remainder " + sign_text(self.upper_is_minus))
+        texts.append("distributor " + word_text(self.distributor))
+        return " ".join(texts + ["latch " + ("on" if self.latch else "off")])
+
+    def step_lines(self, step, place, word):
+        """The lines of the step of this number, once it is taken, which began here with this."""
+        fetched = "step %d %04d %s" % (step, place, word_text(word))
+        line = [fetched, *self.moments, "ended %d" % self.used, self.held_text()]
+        op, d = self.acted or (None, None)
+        if op in STORES:
+            line.append("wrote %04d %s" % (d, word_text(self.word(d))))
+        lines = [" ".join(line)]
+        if op in (70, 71):
+            name, first = ("read", 1) if op == 70 else ("punched", 27)
+            first += d // 50 * 50
+            lines.append(" ".join([name, "%04d" % first, *map(word_text, self.words(first))]))
+        return lines
 
 
 class Walks:
@@ -306,20 +377,31 @@ class Walks:
         return max(behind(self.start, nothing, angle) for angle in range(50))
 
 
+def trace(machine, walks, limit):
+    """The lines of a run's trace. The last one is the verdict, which tells this limit of a run that
+    keeps to the notes."""
+    lines, counts = [], (0,) * len(walks.marks)
+    if not machine.stops_programmed:
+        return ["left switch step 0 used 0"]
+    for step in itertools.count(1):
+        place, before = machine.sought, machine.used
+        word = machine.word(place)
+        why = machine.step()
+        lines += machine.step_lines(step, place, word)
+        if not walks.allows(place, word):
+            left = "unlisted %04d %s" % (place, word_text(word))
+        elif machine.has_read_load:
+            left = "loadcard"
+        elif why:
+            return lines + ["kept used %d %s stop %s" % (machine.used, limit, why)]
+        else:
+            left = "toooften %04d %04d" % (place, machine.sought)
+            counts = walks.passed(counts, place, machine.sought)
+            if counts is not None:
+                continue
+        return lines + ["left %s step %d used %d" % (left, step, before)]
+
+
 def verdict(machine, walks, bound):
     """Runs the machine, and tells whether the run keeps to the notes, as a replay does."""
-    counts, step = (0,) * len(walks.marks), 0
-    while True:
-        step += 1
-        place, used = machine.sought, machine.used
-        sign, digits = word = machine.word(place)
-        if not walks.allows(place, word):
-            told = place, "-" if sign else "+", digits, step, used
-            return "left unlisted %04d %s%010d step %d used %d" % told
-        try:
-            machine.step()
-        except Stopped as stopped:
-            return "kept used %d bound %d stop %s" % (machine.used, bound, stopped)
-        counts = walks.passed(counts, place, machine.sought)
-        if counts is None:
-            return "left toooften %04d %04d step %d used %d" % (place, machine.sought, step, used)
+    return trace(machine, walks, "bound %d" % bound)[-1]
