@@ -99,8 +99,8 @@ ROUNDS = 2001
 
 
 def counting(command, **more):
-    """A replay or a trace of the ring that counts, from angle 0: 1998 steps a round, and the
-    stop."""
+    """A replay or a trace of the ring that counts, from angle 0: 1998 steps a round, and the stop.
+    None moves a card, so that a trace has one line for each."""
     notes, inputs = NOTES + marks([(1997, 0, ROUNDS - 1, 0)]), b"ACCUMULATOR +%020d\n" % ROUNDS
     used = 2050 * ROUNDS + 48 + 1
     line = b"kept used %d bound %d stop programmed\n" % (used, 49 + used)

@@ -1,7 +1,7 @@
 """A plain model of the machine and of its walks, written from docs/MACHINE.md and docs/FORMATS.md
 apart from the product: it shares no code with it, and its search for the longest walk doesn't know
-that an earlier clock is never overtaken. `checks/examples` and `checks/stored-run` use it, and of
-its rules of waiting `checks/results.py` does."""
+that an earlier clock is never overtaken. `checks/examples` and `checks/stored-run` use it;
+`checks/results.py` uses its machine and its rules of waiting."""
 
 import functools
 import itertools
@@ -55,34 +55,43 @@ def word_text(word):
     return "%s%010d" % (sign_text(word[0]), word[1])
 
 
-def read_deck(path):
+def read_text(path):
+    with open(path, encoding="latin-1", newline="\n") as file:
+        return file.read()
+
+
+def parts_of(text):
+    """The parts of each line of a deck or of inputs; a comment has none."""
+    lines = text.removesuffix("\n").split("\n") if text else []
+    return [line.split(" ") for line in lines if not line.startswith("*")]
+
+
+def deck_of(text):
     """The words of a deck, and its start."""
     words, start = {}, None
-    for line in open(path).read().splitlines():
-        first, *rest = line.split(" ")
+    for first, *rest in parts_of(text):
         if first == "START":
             start = int(rest[0])
-        elif not line.startswith("*"):
-            words.update((int(first) + place, read_word(text)) for place, text in enumerate(rest))
+        else:
+            words.update(enumerate([read_word(text) for text in rest], int(first)))
     return words, start
 
 
 class Machine:
-    """The machine, set up by a deck and by the file of a replay's inputs."""
+    """The machine, set up by the texts of a deck and of a replay's inputs."""
 
     def __init__(self, deck, times, inputs):
-        self.drum, self.sought = read_deck(deck)
+        self.drum, self.sought = deck_of(deck)
         self.times, self.used, self.angle = times, 0, 0
         self.switches, self.distributor, self.accumulator = (False, 0), (False, 0), 0
         # The sign of the upper half, while a remainder's stands.
         self.upper_is_minus = None
         self.latch, self.stops_programmed, self.stops_on_overflow = False, True, True
+        self.has_read_load = False
         # Each card has its load mark, and its words.
         self.cards, self.waits, self.punched = [], [], []
-        for line in open(inputs).read().splitlines():
-            first, *rest = line.split(" ")
-            if not line.startswith("*"):
-                self.take(first, rest)
+        for first, *rest in parts_of(inputs):
+            self.take(first, rest)
 
     def take(self, first, rest):
         """Takes a line of the inputs, by its first part and the others."""
@@ -105,8 +114,8 @@ class Machine:
         elif first == "WAIT":
             self.waits.append(int(rest[0]))
         else:
-            words = enumerate(rest, int(first))
-            self.drum.update((place, read_word(text)) for place, text in words)
+            words = [read_word(text) for text in rest]
+            self.drum.update(enumerate(words, int(first)))
 
     def half(self, is_upper):
         sign = self.accumulator < 0
@@ -279,12 +288,17 @@ class Machine:
         return lines
 
 
+def machine_of(deck, times, inputs):
+    """The machine that these files set up."""
+    return Machine(read_text(deck), times, read_text(inputs))
+
+
 class Walks:
     """The walks of a deck with its notes, under the programmed switch at STOP and with no load
     cards."""
 
     def __init__(self, deck, times, notes):
-        self.words, self.start = read_deck(deck)
+        self.words, self.start = deck_of(read_text(deck))
         self.times = times
         with open(notes, "rb") as file:
             notes = tomllib.load(file)

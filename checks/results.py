@@ -6,7 +6,7 @@ import functools
 import re
 import xml.etree.ElementTree as xml
 
-from model import WAITS_FOR_DATA, at_parity, found
+from model import WAITS_FOR_DATA, Machine, at_parity, found, word_text
 from toml_text import document_of
 
 NUMBER = "(0|[1-9][0-9]*)"
@@ -30,9 +30,6 @@ SUMS = re.compile("base {0}\nceiling {0}\n".format(NUMBER))
 VISIT = re.compile(
     "{0} ([0-9][0-9]) ([0-9]{{4}}) ([0-9]{{4}}) (?:to {0}|(late)|(early)) "
     "begun {1} found {1} ready {1}(?: data {1})? ended {1}".format(PLACE, NUMBER)
-)
-STEP = re.compile(
-    "step {2} {0} {1} found {2}(?: ready {2}(?: data {2})?)? ended {2}".format(PLACE, WORD, NUMBER)
 )
 # The operations whose units a walk reckons at their most.
 COUNTING = (14, 19, 64)
@@ -167,40 +164,30 @@ def ceiling_of(text, files):
     return total if total == int(sums.group(2)) else None
 
 
-# Moments, in walks and in traces.
+# Walks.
 
 
-def extras(op, d, entry, is_worst):
-    """What an operation may take beside what is before and after: its units, or a wait."""
+def extra(op, d, entry):
+    """The most that an operation may take beside what is before and after: its units, or a wait."""
     if op in (70, 71):
-        most = entry["wait_max"]
-        return [most] if is_worst else range(entry["wait_min"], most + 1)
+        return entry["wait_max"]
     if op in (30, 31, 35):
-        return [(d % 10 or (10 if op == 31 else 0)) * entry["per"]]
-    if op in COUNTING:
-        return [entry["per"] * units for units in ([90] if is_worst else range(91))]
-    return [0]
+        return (d % 10 or (10 if op == 31 else 0)) * entry["per"]
+    return 90 * entry["per"] if op in COUNTING else 0
 
 
-def are_moments(angle, entry, place, instruction, moments, is_worst):
+def are_moments(angle, entry, place, instruction, moments):
     """Whether an instruction is found, ready, has its data and ends when the machine says. Without
-    data it stops early, and outside of the profile where it is found."""
+    data it stops early."""
     op, d, _ = instruction
     begun, at, ready, data, ended = moments
-    if angle + at != found(place, angle + begun):
-        return False
-    if entry is None or ready is None:
-        return entry is None and ready is None and ended == at
-    if ready != at + entry["before"]:
+    if angle + at != found(place, angle + begun) or ready != at + entry["before"]:
         return False
     if data is None:
         return ended == ready
     had = found(d, angle + ready) - angle if op in WAITS_FOR_DATA else ready
     acted = at_parity(entry["parity"], angle + data) - angle + entry["after"]
-    return data == had and ended - acted in extras(op, d, entry, is_worst)
-
-
-# Walks.
+    return data == had and ended == acted + extra(op, d, entry)
 
 
 def words_of(files):
@@ -253,7 +240,7 @@ def walked_bound(text, files):
             return None
         if not is_allowed(at, lists, place, instruction):
             return None
-        if not are_moments(angle, entry, place, instruction, moments, True):
+        if not are_moments(angle, entry, place, instruction, moments):
             return None
         clock, place = moments[-1], number_of(visit.group(5))
     return clock if bound_of(last) == clock else None
@@ -278,55 +265,30 @@ def pictured_bound(text):
 # Traces.
 
 
-def angle_of(inputs):
-    stated = re.search(rb"^ANGLE ([0-9]{2})$", inputs, re.M)
-    return int(stated.group(1)) if stated else 0
-
-
-def written_by(op, d):
-    """The locations that an operation may write."""
-    if op == 70:
-        return range(d // 50 * 50, d // 50 * 50 + 50)
-    return [d] if 20 <= op <= 24 else []
-
-
-def traced_end(text, files):
-    """How many steps a trace has, when the one before the last ends, and when the last does, at
-    which location with which word, and where it may go on. The steps are numbered from 1, follow
-    one another in time, and have the deck's words where none is written."""
-    lines = text.splitlines()[:-1]
-    entries, angle = entries_of(files["times"]), angle_of(files["inputs"])
-    ends, onto, at, place, word = [0, 0], [start_of(files["deck"])], words_of(files), None, None
-    for number, line in enumerate(lines, 1):
-        step = STEP.fullmatch(line)
-        if not step or int(step.group(1)) != number or int(step.group(2)) not in onto:
-            return None
-        place, word = int(step.group(2)), step.group(3)
-        instruction = instruction_of(word)
-        moments = [ends[-1]] + [number_of(moment) for moment in step.group(4, 5, 6, 7)]
-        entry = entries.get(instruction[0])
-        if at.get(place, word) != word:
-            return None
-        if not are_moments(angle, entry, place, instruction, moments, False):
-            return None
-        ends, onto = [ends[-1], moments[-1]], instruction[1:]
-        for written in written_by(*instruction[:2]):
-            at.pop(written, None)
-    return len(lines), *ends, place, word, onto
-
-
 def traced_verdict(text, files):
-    """The line of the verdict, where the steps before it go with it: a run that is kept ends with
-    the last step, and one that leaves the notes does so with it."""
-    verdict = "".join(text.splitlines(keepends=True)[-1:])
-    traced = traced_end(text, files)
+    """The line of the verdict, where it goes with the steps before it, and these are those that the
+    plain model takes: a run that is kept stops with the last one, and one that leaves the notes
+    does so with it."""
+    *lines, verdict = text.splitlines(keepends=True) or [""]
     kept, left = kept_of(verdict), left_of(verdict)
-    if traced is None or not (kept or left):
+    if not (kept or left):
         return None
-    steps, before, ended, place, word, onto = traced
+    deck, inputs = (files[name].decode("latin-1") for name in ("deck", "inputs"))
+    machine = Machine(deck, entries_of(files["times"]), inputs)
+    told, steps, before, place, word, why = [], 0, 0, None, None, None
+    while len(told) < len(lines) and why is None:
+        steps, before, place = steps + 1, machine.used, machine.sought
+        word = machine.word(place)
+        why = machine.step()
+        told += [line + "\n" for line in machine.step_lines(steps, place, word)]
+    if told != lines:
+        return None
     if kept:
-        return verdict if ended == kept[0] and steps > 0 else None
+        goes_with_it = machine.used == kept[0] and verdict.endswith(" stop %s\n" % why)
+        return verdict if goes_with_it else None
     at, listed, source, target = LEFT.fullmatch(verdict).group(1, 2, 3, 4)
-    is_of_step = at is None or (int(at), listed) == (place, word)
-    is_of_edge = source is None or int(source) == place and int(target) in onto
-    return verdict if (steps, before) == left and is_of_step and is_of_edge else None
+    is_of_step = at is None or (int(at), listed) == (place, word_text(word))
+    is_of_edge = source is None or (int(source), int(target), None) == (place, machine.sought, why)
+    is_of_card = machine.has_read_load or not verdict.startswith("left loadcard")
+    goes_with_it = (steps, before) == left and is_of_step and is_of_edge and is_of_card
+    return verdict if goes_with_it else None
