@@ -47,6 +47,10 @@ walk_is_named : IsNamed line.walk
 unfolding clap_on_literals
 walk_is_named = record { walked = refl; passes = refl; found = refl; files = refl }
 
+waits_is_named : IsNamed line.waits
+unfolding clap_on_literals
+waits_is_named = record { walked = refl; passes = refl; found = refl; files = refl }
+
 draw_is_named : IsNamed line.draw
 unfolding clap_on_literals
 draw_is_named = record { walked = refl; passes = refl; found = refl; files = refl }
@@ -128,7 +132,8 @@ is_line verb named given words names =
 pub all_lines : All IsLine verbs
 all_lines = all_verbs IsLine (is_line line.bound bound_is_named common_given)
     (is_line line.report report_is_named common_given) (is_line line.walk walk_is_named common_given)
-    (is_line line.draw draw_is_named common_given) (is_line line.ceiling ceiling_is_named common_given)
+    (is_line line.waits waits_is_named common_given) (is_line line.draw draw_is_named common_given)
+    (is_line line.ceiling ceiling_is_named common_given)
     (is_line line.replay replay_is_named run_given) (is_line line.trace trace_is_named run_given)
 
 -- the same of words that are the line of a command

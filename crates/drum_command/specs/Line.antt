@@ -9,7 +9,7 @@ use Rattle.clap.specs.Simple.{new_shape}
 use Rattle.clap.specs.Walk.{is_empty}
 use Rattle.clap.specs.declared.builder.action.ArgAction.TheVariants.{Set}
 use Rattle.drum_command.specs.declared.command.Command.{Command}
-use Rattle.drum_command.specs.declared.command.Command.TheVariants.{Bound, Report, Walk, Draw, Ceiling, Replay, Trace}
+use Rattle.drum_command.specs.declared.command.Command.TheVariants.{Bound, Report, Walk, Waits, Draw, Ceiling, Replay, Trace}
 use Rattle.drum_command.specs.declared.command.Files.{Files}
 
 -- a command: its name, and what the files that it names are called, in their order
@@ -34,6 +34,9 @@ report = record { name = codes "report"; files = common_files }
 abbrev pub walk : Verb
 walk = record { name = codes "walk"; files = common_files }
 
+abbrev pub waits : Verb
+waits = record { name = codes "waits"; files = common_files }
+
 abbrev pub draw : Verb
 draw = record { name = codes "draw"; files = common_files }
 
@@ -48,7 +51,7 @@ trace = record { name = codes "trace"; files = run_files }
 
 -- the commands that there are
 abbrev pub verbs : List Verb
-verbs = bound ∷ report ∷ walk ∷ draw ∷ ceiling ∷ replay ∷ trace ∷ []
+verbs = bound ∷ report ∷ walk ∷ waits ∷ draw ∷ ceiling ∷ replay ∷ trace ∷ []
 
 -- ---- the same, as clap's arguments and commands
 
@@ -101,6 +104,7 @@ abbrev pub said_by : Command → Text × List (Option Text)
 said_by (Bound files) = (codes "bound", map Some (common files))
 said_by (Report files) = (codes "report", map Some (common files))
 said_by (Walk files) = (codes "walk", map Some (common files))
+said_by (Waits files) = (codes "waits", map Some (common files))
 said_by (Draw files) = (codes "draw", map Some (common files))
 said_by (Ceiling files) = (codes "ceiling", map Some (common files))
 said_by (Replay files inputs) = (codes "replay", map Some (with_inputs files inputs.now))

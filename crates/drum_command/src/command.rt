@@ -20,6 +20,8 @@ pub enum Command<'a> {
     Report(Files<'a>),
     /// The worst walk itself, visit by visit.
     Walk(Files<'a>),
+    /// Where the worst walk waits, and for what, by instruction.
+    Waits(Files<'a>),
     /// A picture of it.
     Draw(Files<'a>),
     /// A number of word times that no run which keeps to the notes passes, however much the notes

@@ -73,6 +73,12 @@ pub(crate) fn entries() -> &'static [Entry]
             files: COMMON_FILES,
         },
         Entry {
+            name: "waits",
+            about: "Prints what each instruction of the worst walk waits for, the dearest first",
+            example: "Example: drum650 waits deck.txt times.toml notes.toml",
+            files: COMMON_FILES,
+        },
+        Entry {
             name: "draw",
             about: "Prints a picture, in SVG, of the drum and of the worst walk",
             example: "Example: drum650 draw deck.txt times.toml notes.toml > picture.svg",
@@ -92,7 +98,7 @@ pub(crate) fn entries() -> &'static [Entry]
         },
         Entry {
             name: "trace",
-            about: "Lets the deck run as `replay` does, and prints each step of that run too",
+            about: "Lets the deck run as `replay` does, and prints each step, with the registers",
             example: "Example: drum650 trace deck.txt times.toml notes.toml inputs.txt",
             files: RUN_FILES,
         },

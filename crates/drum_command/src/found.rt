@@ -29,6 +29,7 @@ fn command_of<'a>(name: &str, found: &ArgMatches<'a>) -> Command<'a>
         "bound" => Command::Bound(files_in(found)),
         "report" => Command::Report(files_in(found)),
         "walk" => Command::Walk(files_in(found)),
+        "waits" => Command::Waits(files_in(found)),
         "draw" => Command::Draw(files_in(found)),
         "ceiling" => Command::Ceiling(files_in(found)),
         "replay" => Command::Replay(files_in(found), file_in(found, INPUTS)),

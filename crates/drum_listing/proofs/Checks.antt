@@ -94,11 +94,15 @@ state first = record {
 abbrev turn : Word → Turn
 turn first = record { origin = state first; wait = 0; outcome = step times (state first) 0 }
 
+-- what it holds, and no word is written
+abbrev registers : List ℕ
+registers = codes " accumulator +00000000000000000000 distributor +0000000000 latch off\n"
+
 -- a step that goes on, one that stops early, and one of an operation outside of the profile
 steps : turn_lines times 7
     (turn (word false 6901030106) ∷ turn (word true 6925000106) ∷ turn (word false 8401000106) ∷ [])
-    ≡ codes "step 7 0100 +6901030106 found 49 ready 52 data 52 ended 55\n"
-    ++ codes "step 8 0100 -6925000106 found 49 ready 52 ended 52\n"
-    ++ codes "step 9 0100 +8401000106 found 49 ended 49\n"
+    ≡ codes "step 7 0100 +6901030106 found 49 ready 52 data 52 ended 55" ++ registers
+    ++ codes "step 8 0100 -6925000106 found 49 ready 52 ended 52" ++ registers
+    ++ codes "step 9 0100 +8401000106 found 49 ended 49" ++ registers
 unfolding first digits
 steps = refl

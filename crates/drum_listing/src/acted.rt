@@ -31,13 +31,9 @@ fn acting(told: &Told) -> Option<Op>
 }
 
 /// Writes words, each behind a space, behind so many bytes, and tells how many have gone out then.
-fn send_spaced<O: Output>(
-    writer: &mut O,
-    sent: usize,
-    words: &[Word],
-) -> Result<usize, WriteFault>
-    requires called { O.called writer.old ≤ 2 ^ 62 + 2 ^ 62 }
-    requires few { sent ≤ 2 ^ 62 }
+fn send_spaced<O: Output>(writer: &mut O, sent: usize, words: &[Word]) -> Result<usize, WriteFault>
+    requires called { O.called writer.old + 200 ≤ 2 ^ 63 }
+    requires few { sent + 200 ≤ 2 ^ 63 }
     requires ten { length words.now ≤ 10 }
     ensures sent { IsSent (O.written writer.old) (O.written writer.new) sent result
         (spaced words.now) }
@@ -75,7 +71,8 @@ fn send_words<O: Output>(
 {
     let digits = four_digits(at);
     let sent = send(writer, sent, &[name, &digits])?;
-    send_spaced(writer, sent, &drum[usize::from(at)..usize::from(at + count)])
+    let first = usize::from(at);
+    send_spaced(writer, sent, &drum[first..first + usize::from(count)])
 }
 
 /// Writes what a step did to words of the drum behind so many bytes, and tells how many have gone
@@ -99,8 +96,8 @@ pub fn send_acted<O: Output>(
     let d = told.instruction.d();
     match acting(told) {
         Some(Op::Store(_)) => send_words(writer, sent, b" wrote ", drum, d, 1),
-        Some(Op::Read) => send_words(writer, sent, b"\nread ", drum, d / 50 * 50 + 1, 10),
-        Some(Op::Punch) => send_words(writer, sent, b"\npunched ", drum, d / 50 * 50 + 27, 10),
+        Some(Op::Read) => send_words(writer, sent, b"\nread ", drum, 50 * (d / 50) + 1, 10),
+        Some(Op::Punch) => send_words(writer, sent, b"\npunched ", drum, 50 * (d / 50) + 27, 10),
         _ => Ok(sent),
     }
 }
