@@ -74,7 +74,7 @@ counts_more turns turn number counted = omega (arith, counted, length-append tur
 pub held_after : (outcome : Stepped) (origin : Location) (word : Word) (after : Machine) (cards : List Card)
     → Becomes outcome origin word after cards → held_by after cards ≡ contents_after outcome
 held_after (on next) origin word after cards is = ap (λ (s : State). s.contents) is.1
-held_after (stopped held because moment) origin word after cards is = is.1.1.1
+held_after (stopped held because moment) origin word after cards is = is.3
 
 module _ (g : Setting) where
   -- what is answered tells of the turn

@@ -1,7 +1,7 @@
 use Rattle.std.proofs.Common.{inl, inr}
 use Rattle.std.proofs.lemmas.Result.{err_from_is_err_and}
 use Rattle.drum_tool.specs.Asked.{named_in}
-use Rattle.drum_tool.proofs.Asking.{bound_of_none, of_file, of_none}
+use Rattle.drum_tool.proofs.Asking.{analysis_of_none, of_file, of_none}
 use Rattle.drum_tool.proofs.commands.bound.Goals as goal
 
 pub returns-in_err-documents-clause-fault : goal.returns-in_err-documents-clause-fault
@@ -29,5 +29,5 @@ returns-in_err-bound-clause-asked g c =
     let p = err_from_is_err_and c.from_residual-in_err-bound.result c.from_residual-in_err-bound.ensures.1 in
     rw (p.1, p.2) (of_none (named_in c.args.files) (g.S.Source.asked c.args.source.now)
     (g.S.Source.asked c.of_files.new.source) c.in_err-bound.field-0.0
-    (bound_of_none c.in_ok-documents.documents c.in_err-bound.field-0.0 c.in_err-bound.ensures.fault)
+    (analysis_of_none c.in_ok-documents.documents c.in_err-bound.field-0.0 c.in_err-bound.ensures.fault)
     c.in_ok-documents.ensures.asked)

@@ -3,7 +3,6 @@ use Rattle.std.specs.Prelude.{string_bytes}
 use Rattle.drum_bound.specs.AnalysisOf.{angle_of, bound_of, visits_of}
 use Rattle.drum_lines.specs.FaultStatus.{reads_failed}
 use Rattle.drum_lines.specs.declared.status.Status.TheVariants.{Done}
-use Rattle.drum_tool.specs.Documents.{IsBound}
 use Rattle.drum_tool.specs.Output.{GetsResult, device}
 use Rattle.drum_tool.specs.Reply.{bound_reply, ceiling_reply, fault_reply, picture_reply, report_reply, verdict_reply}
 use Rattle.drum_tool.specs.Reply.{walk_reply}
@@ -15,16 +14,14 @@ use Rattle.drum_tool.proofs.commands.obey.Goals as goal
 pub returns-in-Ok-clause-told : goal.returns-in-Ok-clause-told
 returns-in-Ok-clause-told g c =
     let documents = c.in-Ok.field-0-0 in
-    let is : IsBound documents c.bound.result =
-    subst (IsBound documents) (sym c.bound.ensures.told) c.in-Ok.ensures.bound in
-    let reply = bound_reply c.bound.result in (
+    let reply = bound_reply c.in-Ok.bound in (
       reply,
       (c.tell_bound.ensures, refl),
       (λ failures count.
           counted (Replied (g.S.Source.files c.args.source.now) c.args.command reply) _ _ failures 0 c.in-Ok.ensures.counted count
-          (result_of_no_read _ _, rw c.in-Bound.is (λ held told. inl (documents, c.in-Ok.ensures.held held told, refl, (c.bound.result, is, refl))))),
+          (result_of_no_read _ _, rw c.in-Bound.is (λ held told. inl (documents, c.in-Ok.ensures.held held told, refl, (c.in-Ok.bound, c.in-Ok.ensures.bound, refl))))),
       rw c.in-Bound.is (told_well (named_in c.in-Bound.files) (g.S.Source.asked c.args.source.now)
-          (g.S.Source.asked c.analysis.new.source) reply (no_line _ _) c.in-Ok.ensures.asked),
+          (g.S.Source.asked c.bound.new.source) reply (no_line _ _) c.in-Ok.ensures.asked),
     )
 
 pub returns-in-Bound-clause-told : goal.returns-in-Bound-clause-told
@@ -37,7 +34,7 @@ returns-in-Bound-clause-told g c =
           (reads_failed fault) c.in-Err.ensures.counted count
           (fault_of_reads fault, rw c.in-Bound.is (λ held told. inr (fault, c.in-Err.ensures.fault held told, refl, refl)))),
       rw c.in-Bound.is (told_fault (named_in c.in-Bound.files) (g.S.Source.asked c.args.source.now)
-          (g.S.Source.asked c.analysis.new.source) fault c.in-Err.ensures.asked),
+          (g.S.Source.asked c.bound.new.source) fault c.in-Err.ensures.asked),
     )
 
 pub returns-in-Ok-analysis-clause-told : goal.returns-in-Ok-analysis-clause-told
@@ -66,7 +63,7 @@ returns-in-Ok-analysis-clause-told g c =
             )),
           )),
       rw c.in-Report.is (told_well (named_in c.in-Report.files) (g.S.Source.asked c.args.source.now)
-          (g.S.Source.asked c.analysis-in-Report.new.source) reply (no_line _ _) c.in-Ok-analysis.ensures.asked),
+          (g.S.Source.asked c.analysis.new.source) reply (no_line _ _) c.in-Ok-analysis.ensures.asked),
     )
 
 pub returns-in-Report-clause-told : goal.returns-in-Report-clause-told
@@ -79,7 +76,7 @@ returns-in-Report-clause-told g c =
           (reads_failed fault) c.in-Err-analysis.ensures.counted count
           (fault_of_reads fault, rw c.in-Report.is (λ held told. inr (fault, c.in-Err-analysis.ensures.fault held told, refl, refl)))),
       rw c.in-Report.is (told_fault (named_in c.in-Report.files) (g.S.Source.asked c.args.source.now)
-          (g.S.Source.asked c.analysis-in-Report.new.source) fault c.in-Err-analysis.ensures.asked),
+          (g.S.Source.asked c.analysis.new.source) fault c.in-Err-analysis.ensures.asked),
     )
 
 pub returns-in-Ok-analysis-2-clause-told : goal.returns-in-Ok-analysis-2-clause-told

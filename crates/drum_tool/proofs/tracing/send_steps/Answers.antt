@@ -118,7 +118,7 @@ loop-following-preserved g c =
           (omega (arith, c.advance-step.ensures.steps, so_far.counted))
           c.loop-following.invariant.gone
           (c.in_ok-sent.ensures.sent turn (c.advance-step.ensures.told so_far.goes) start (sym c.used-before.ensures)
-    (cards_left c.advance-step.new.self.feed) (c.advance-step.ensures.held so_far.goes));
+          (cards_left c.advance-step.new.self.feed) (c.advance-step.ensures.held so_far.goes));
       few = omega (arith, c.loop-following.invariant.few, c.in_ok-sent.ensures.few, c.advance-step.ensures.steps);
       calls = omega (arith, c.loop-following.invariant.calls, c.in_ok-sent.ensures.calls, c.advance-step.ensures.steps);
       failures = omega (arith, c.loop-following.invariant.failures, c.in_ok-sent.ensures.failures);
