@@ -33,6 +33,8 @@ Exit status:
   2  the command line is wrong
   3  a file could not be read, memory ran out, or what is printed could not be written
   4  a replay or a trace left the notes
+
+This is version 2026.11; README.md says how to cite it.
 ";
 
 /// The whole command line.

@@ -1,3 +1,10 @@
+pub mod AddingUp
 mod Checks
 pub mod Lines
+pub mod SameKinds
 pub mod Turns
+mod WaitChecks
+pub mod WaitLines
+pub mod WaitRows
+pub mod Waiting
+pub mod WaitsFound

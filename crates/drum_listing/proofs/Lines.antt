@@ -117,17 +117,17 @@ fetch_told number place word digits at spelled p q r =
     r
     ∙ three_grouped (codes "step ") (codes " ") (decimal number) (digits_of 4 place) (spelling word))
 
--- a hop
-pub hop_told : (visit : Visited) (place op d i way onto : List ℕ)
+-- a hop, and a named number behind it
+pub hop_told : (visit : Visited) (number : ℕ) (place op d i way onto name digits : List ℕ)
     → place ≡ digits_of 4 visit.place → op ≡ digits_of 2 visit.ins.op → d ≡ digits_of 4 visit.ins.d
     → i ≡ digits_of 4 visit.ins.i
-    → way ≡ way_name visit.way → onto ≡ onto_digits visit.way
+    → way ≡ way_name visit.way → onto ≡ onto_digits visit.way → digits ≡ decimal number
     → place ++ (codes " " ++ (op
     ++ (codes " " ++ (d ++ (codes " "
-    ++ (i ++ (codes " " ++ (way ++ (onto ++ [])))))))))
-    ≡ hop_text visit
-hop_told visit place op d i way onto p q r s t u =
-    rw (p, q, r, s, t, u, way_pieces visit.way) (simp append-nil)
+    ++ (i ++ (codes " " ++ (way ++ (onto ++ (name ++ (digits ++ [])))))))))))
+    ≡ hop_text visit ++ name ++ decimal number
+hop_told visit number place op d i way onto name digits p q r s t u v =
+    rw (p, q, r, s, t, u, v, way_pieces visit.way) (simp (append_assoc, append-nil))
 
 -- the line of a hop
 pub visit_told : (times : Op → Entry) (angle : ℕ) (visit : Visited) (moments : Moments)

@@ -4,4 +4,7 @@ pub mod MomentsText
 pub mod Pieces
 pub mod Told
 pub mod TraceText
+pub mod Waits
+pub mod WaitsOf
+pub mod WaitsText
 pub mod WalkText

@@ -1,6 +1,6 @@
 //! Where a hop begins, its instruction and how it ends, in a line.
 
-ghost use Rattle.std.specs.Prelude.{◌≡◌, ◌+◌, ◌^◌, ◌≤◌, IfOk, length};
+ghost use Rattle.std.specs.Prelude.{◌≡◌, ◌+◌, ◌^◌, ◌≤◌, ◌++◌, IfOk, decimal, length};
 ghost use Rattle.drum_machine.specs.WaysLeft.{seen_way};
 ghost use Rattle.drum_lines.specs.Sent.{IsSent, fails_by};
 ghost use Rattle.drum_listing.specs.Pieces.{onto_digits, way_name as name_of};
@@ -11,6 +11,7 @@ use crate::told::Told;
 use drum_bound::Way;
 use drum_core::Output;
 use drum_lines::{WriteFault, four_digits, send, two_digits};
+use itoa::Buffer;
 
 /// How a hop ends, up to the location where it goes on.
 fn way_name(way: Way) -> &'static [u8]
@@ -38,23 +39,31 @@ fn onto_with(digits: &mut [u8; 4], way: Way) -> &[u8]
     }
 }
 
-/// Writes where a hop begins, its instruction, and how it ends, behind so many bytes, and tells how
-/// many have gone out then.
-pub fn send_hop<O: Output>(writer: &mut O, sent: usize, told: &Told) -> Result<usize, WriteFault>
+/// Writes where a hop begins, its instruction, and how it ends, and behind it a named number, behind
+/// so many bytes, and tells how many have gone out then.
+pub fn send_hop<O: Output>(
+    writer: &mut O,
+    sent: usize,
+    told: &Told,
+    name: &'static [u8],
+    number: u64,
+) -> Result<usize, WriteFault>
     requires called { O.called writer.old ≤ 2 ^ 62 + 2 ^ 60 }
     requires few { sent ≤ 2 ^ 60 }
+    requires short { length name.now ≤ 10 }
     ensures sent { IsSent (O.written writer.old) (O.written writer.new) sent result
-        (hop_text (seen_told told.now)) }
+        (hop_text (seen_told told.now) ++ name.now ++ decimal number) }
     ensures failures { O.failed writer.new ≡ O.failed writer.old + fails_by result }
-    ensures calls { O.called writer.new ≤ O.called writer.old + 40 }
-    ensures few { IfOk result (λ total. total ≤ sent + 40) }
+    ensures calls { O.called writer.new ≤ O.called writer.old + 60 }
+    ensures few { IfOk result (λ total. total ≤ sent + 60) }
 {
     let place = four_digits(told.place.number());
     let op = two_digits(told.instruction.op());
     let d = four_digits(told.instruction.d());
     let i = four_digits(told.instruction.i());
     let mut onto = [0; 4];
-    let pieces: [&[u8]; 10] = [
+    let mut digits = Buffer::new();
+    let pieces: [&[u8]; 12] = [
         &place,
         b" ",
         &op,
@@ -65,6 +74,8 @@ pub fn send_hop<O: Output>(writer: &mut O, sent: usize, told: &Told) -> Result<u
         b" ",
         way_name(told.way),
         onto_with(&mut onto, told.way),
+        name,
+        digits.format(number).as_bytes(),
     ];
     send(writer, sent, &pieces)
 }

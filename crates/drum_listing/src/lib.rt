@@ -4,15 +4,18 @@
 
 mod acted;
 mod hop_text;
+pub mod laws;
 mod moments;
 mod moments_text;
 mod registers_text;
 mod step_line;
 mod told;
 mod visit_line;
+mod waits;
 mod walk;
 
 pub use moments::Moments;
 pub use step_line::send_step;
 pub use told::Told;
+pub use waits::{Waits, list_waits};
 pub use walk::list_walk;

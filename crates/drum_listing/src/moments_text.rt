@@ -10,7 +10,7 @@ use drum_lines::{WriteFault, send};
 use itoa::Buffer;
 
 /// The name of a moment; nothing where there is no moment.
-fn name_with<'a>(name: &'a [u8], moment: Option<u64>) -> &'a [u8]
+pub(crate) fn name_with<'a>(name: &'a [u8], moment: Option<u64>) -> &'a [u8]
     ensures name { result.now ≡ name_at name.now moment }
     ensures short { length result.now ≤ length name.now }
 {
@@ -21,7 +21,7 @@ fn name_with<'a>(name: &'a [u8], moment: Option<u64>) -> &'a [u8]
 }
 
 /// The digits of a moment, which the buffer holds; none where there is no moment.
-fn digits_with(buffer: &mut Buffer, moment: Option<u64>) -> &[u8]
+pub(crate) fn digits_with(buffer: &mut Buffer, moment: Option<u64>) -> &[u8]
     ensures digits { result.now ≡ digits_at moment }
     ensures short { length result.now ≤ 20 }
 {

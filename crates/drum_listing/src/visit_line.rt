@@ -1,11 +1,10 @@
 //! The line of a visit.
 
-ghost use Rattle.std.specs.Prelude.{◌≡◌, ◌+◌, ◌^◌, ◌≤◌, ◌++◌, IfOk, codes, decimal};
+ghost use Rattle.std.specs.Prelude.{◌≡◌, ◌+◌, ◌^◌, ◌≤◌, IfOk};
 ghost use Rattle.drum_times.specs.Entries.{entry_in};
 ghost use Rattle.drum_bound.specs.Visited.{seen_visit};
 ghost use Rattle.drum_lines.specs.Sent.{IsSent, fails_by};
-ghost use Rattle.drum_listing.specs.Told.{seen_told};
-ghost use Rattle.drum_listing.specs.WalkText.{hop_text, visit_line};
+ghost use Rattle.drum_listing.specs.WalkText.{visit_line};
 
 use crate::hop_text::send_hop;
 use crate::moments::Moments;
@@ -13,25 +12,8 @@ use crate::moments_text::send_times;
 use crate::told::Told;
 use drum_bound::Visit;
 use drum_core::Output;
-use drum_lines::{WriteFault, send};
+use drum_lines::WriteFault;
 use drum_times::Times;
-use itoa::Buffer;
-
-/// Writes a hop, and when it begins.
-fn send_begun<O: Output>(writer: &mut O, sent: usize, told: &Told) -> Result<usize, WriteFault>
-    requires called { O.called writer.old ≤ 2 ^ 62 + 2 ^ 60 }
-    requires few { sent ≤ 2 ^ 60 }
-    ensures sent { IsSent (O.written writer.old) (O.written writer.new) sent result
-        (hop_text (seen_told told.now) ++ codes " begun " ++ decimal told.now.begun) }
-    ensures failures { O.failed writer.new ≡ O.failed writer.old + fails_by result }
-    ensures calls { O.called writer.new ≤ O.called writer.old + 70 }
-    ensures few { IfOk result (λ total. total ≤ sent + 70) }
-{
-    let mut begun = Buffer::new();
-    let sent = send_hop(writer, sent, told)?;
-    let pieces: [&[u8]; 2] = [b" begun ", begun.format(told.begun).as_bytes()];
-    send(writer, sent, &pieces)
-}
 
 /// Writes the line of a visit behind so many bytes, and tells how many have gone out then.
 pub fn send_visit<O: Output>(
@@ -51,6 +33,6 @@ pub fn send_visit<O: Output>(
 {
     let told = Told::of(visit);
     let moments = Moments::of(&told, times, angle);
-    let sent = send_begun(writer, sent, &told)?;
+    let sent = send_hop(writer, sent, &told, b" begun ", told.begun)?;
     send_times(writer, sent, &moments, told.ended, b"\n")
 }

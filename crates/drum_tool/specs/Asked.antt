@@ -2,7 +2,7 @@
 -- choice).
 use Rattle.std.specs.Prelude.{◌≡◌, ◌≢◌, ℕ, ◌+◌, ◌≤◌, List, [], ◌∷◌, ◌++◌, Option, Some, None, Result, Ok, Err, ◌⊎◌}
 use Rattle.drum_command.specs.declared.command.Command.{Command}
-use Rattle.drum_command.specs.declared.command.Command.TheVariants.{Bound, Report, Walk, Draw, Ceiling, Replay, Trace}
+use Rattle.drum_command.specs.declared.command.Command.TheVariants.{Bound, Report, Walk, Waits, Draw, Ceiling, Replay, Trace}
 use Rattle.drum_command.specs.declared.command.Files.{Files}
 use Rattle.drum_core.specs.declared.deck.fault.DeckFault.TheVariants as of_deck
 use Rattle.drum_inputs.specs.declared.fault.InputFault.TheVariants as of_inputs
@@ -119,6 +119,7 @@ abbrev pub files_of : Command → List Named
 files_of (Bound files) = named_in files
 files_of (Report files) = named_in files
 files_of (Walk files) = named_in files
+files_of (Waits files) = named_in files
 files_of (Draw files) = named_in files
 files_of (Ceiling files) = named_in files
 files_of (Replay files inputs) = all_named_in files inputs.now

@@ -8,7 +8,7 @@ use Rattle.drum_lines.specs.declared.limit.Limit.TheVariants as limit
 use Rattle.drum_bound.specs.Visited.{Visited}
 use Rattle.drum_ceiling.specs.declared.answer.Ceiling as ceilings
 use Rattle.drum_command.specs.declared.command.Command.{Command}
-use Rattle.drum_command.specs.declared.command.Command.TheVariants.{Bound, Report, Walk, Draw, Ceiling, Replay, Trace}
+use Rattle.drum_command.specs.declared.command.Command.TheVariants.{Bound, Report, Walk, Waits, Draw, Ceiling, Replay, Trace}
 use Rattle.drum_inputs.specs.declared.inputs.Inputs.{Inputs}
 use Rattle.drum_tool.specs.declared.documents.Documents.{Documents}
 use Rattle.drum_lines.specs.declared.fault.Fault.{Fault}
@@ -26,6 +26,8 @@ use Rattle.drum_lines.specs.VerdictText.{verdict_text}
 use Rattle.drum_report.specs.CeilingText.{ceiling_text}
 use Rattle.drum_report.specs.Report.{report_text}
 use Rattle.drum_listing.specs.TraceText.{turn_lines}
+use Rattle.drum_listing.specs.Waits.{AreDearestFirst}
+use Rattle.drum_listing.specs.WaitsText.{waits_text}
 use Rattle.drum_listing.specs.WalkText.{walk_text}
 use Rattle.drum_tool.specs.Asked.{Asked, Looks, Named}
 use Rattle.drum_flow.specs.Bounded.{IsDeckAccepted}
@@ -44,7 +46,8 @@ pub data Reply : Type 0 where
 
 -- ---- what is said
 
--- a bound, a report of a walk, a walk from an angle, a picture, a ceiling, and the line of a fault
+-- a bound, a report of a walk, a walk from an angle, the kinds of its hops, a picture, a ceiling,
+-- and the line of a fault
 abbrev pub bound_reply : ℕ → Reply
 bound_reply bound = says (bound_text bound) Done
 
@@ -54,6 +57,10 @@ report_reply documents walk = says (report_text documents.deck documents.notes w
 abbrev pub walk_reply : Documents → ℕ → List Visited → ℕ → Reply
 walk_reply documents angle walk bound =
     says (walk_text (entry_in documents.times) angle walk bound) Done
+
+abbrev pub waits_reply : Documents → ℕ → List Visited → List Visited → ℕ → Reply
+waits_reply documents angle walk firsts bound =
+    says (waits_text (entry_in documents.times) angle walk firsts bound) Done
 
 abbrev pub picture_reply : List ℕ → Reply
 picture_reply picture = says picture Done
@@ -122,6 +129,14 @@ SaysWalk documents reply =
     (bound : ℕ) × IsBound documents bound
     × (angle : ℕ) × (walk : List Visited) × IsWorstWalk documents bound angle walk
     × (reply ≡ walk_reply documents angle walk bound)
+
+-- where the word times of such a walk go: a line for each kind of its hops, the dearest first
+abbrev pub SaysWaits : Documents → Reply → Type 0
+SaysWaits documents reply =
+    (bound : ℕ) × IsBound documents bound
+    × (angle : ℕ) × (walk : List Visited) × IsWorstWalk documents bound angle walk
+    × (firsts : List Visited) × AreDearestFirst walk firsts
+    × (reply ≡ waits_reply documents angle walk firsts bound)
 
 -- a picture, where the deck with its notes is accepted; which one isn't said
 abbrev pub SaysPicture : Documents → Reply → Type 0
@@ -250,6 +265,7 @@ abbrev pub AnswersCommand : Held → Command → ℕ → Reply → Type 0
 AnswersCommand held (Bound files) = AnswersOnFiles SaysBound held
 AnswersCommand held (Report files) = AnswersOnFiles SaysReport held
 AnswersCommand held (Walk files) = AnswersOnFiles SaysWalk held
+AnswersCommand held (Waits files) = AnswersOnFiles SaysWaits held
 AnswersCommand held (Draw files) = AnswersOnFiles SaysPicture held
 AnswersCommand held (Ceiling files) = AnswersCeilingOfFiles held
 AnswersCommand held (Replay files inputs) = AnswersRunOfFiles IsReplayRefused SaysVerdict held

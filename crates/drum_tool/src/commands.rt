@@ -2,7 +2,9 @@
 
 ghost use Rattle.std.specs.Prelude.{◌≡◌, ◌+◌, ◌^◌, ◌≤◌, ℕ, List, Option, IfOk, IfErr, length, string_bytes};
 ghost use Rattle.drum_bound.specs.AnalysisOf.{angle_of, bound_of, visits_of};
+ghost use Rattle.drum_times.specs.Entries.{entry_in};
 ghost use Rattle.drum_lines.specs.FaultStatus.{failed_by};
+ghost use Rattle.drum_listing.specs.WaitsOf.{AreWaits};
 ghost use Rattle.drum_tool.specs.Begun.{IsTraceBegun};
 ghost use Rattle.drum_tool.specs.Documents.{IsBound, IsCeiling, IsWorstWalk};
 ghost use Rattle.drum_tool.specs.Asked.{AsksFor, Looks, LooksFor, all_named_in, fault_in, files_of, named_in};
@@ -34,7 +36,8 @@ use crate::files::inputs_of;
 use crate::replaying::{Begun, replay};
 use crate::source::Source;
 use crate::telling::{
-    complain, tell_bound, tell_ceiling, tell_report, tell_text, tell_trace, tell_verdict, tell_walk,
+    complain, tell_bound, tell_ceiling, tell_report, tell_text, tell_trace, tell_verdict,
+    tell_waits, tell_walk,
 };
 use crate::tracing::begin_trace;
 use drum_bound::{Analysis, Refusal};
@@ -43,6 +46,7 @@ use drum_command::{Command, Files};
 use drum_core::Output;
 use drum_inputs::Inputs;
 use drum_lines::{Fault, Limit, Status, Verdict};
+use drum_listing::Waits;
 use drum_picture::picture;
 use std::alloc::Global;
 
@@ -93,6 +97,34 @@ fn bound<S: Source>(
     let documents = Documents::of_files(alloc, source, files)?;
     let bound = documents.bound(alloc)?;
     Ok((documents, bound))
+}
+
+/// The documents in files, their analysis, and where the word times of its walk go.
+fn waits<S: Source>(
+    alloc: Global,
+    source: &mut S,
+    files: Files<'_>,
+) -> Result<(Documents, Analysis, Waits), Fault>
+    requires { S.failed source.old ≤ 2 ^ 61 }
+    ensures held { IfOk result (λ done. (held : Held)
+        → AreTold (S.files source.old) held (named_in files.entry) → AreHeld held done.0) }
+    ensures bound { IfOk result (λ done. IsBound done.0 (bound_of done.1)) }
+    ensures walk { IfOk result (λ done.
+        IsWorstWalk done.0 (bound_of done.1) (angle_of done.1) (visits_of done.1)) }
+    ensures waits { IfOk result (λ done.
+        AreWaits (entry_in done.0.times) (angle_of done.1) (visits_of done.1) done.2) }
+    ensures fault { IfErr result (λ fault. (held : Held)
+        → AreTold (S.files source.old) held (named_in files.entry)
+        → IsFaultOfFiles held fault) }
+    ensures counted { S.failed source.new ≡ S.failed source.old + failed_by result }
+    ensures asked { AsksFor (S.asked source.old) (S.asked source.new)
+        (Looks (named_in files.entry) (fault_in result)) }
+{
+    let (documents, analysis) = analysis(alloc, source, files)?;
+    match Waits::of(alloc, &analysis, &documents.times) {
+        Ok(waits) => Ok((documents, analysis, waits)),
+        Err(_) => Err(Fault::Refused(Refusal::Memory)),
+    }
 }
 
 /// The documents in files, and their ceiling.
@@ -262,6 +294,10 @@ pub fn obey<S: Source, O: Output, E: Output>(
         },
         Command::Walk(files) => match analysis(alloc, source, files) {
             Ok((documents, analysis)) => tell_walk(out, &documents, &analysis),
+            Err(fault) => complain(err, fault),
+        },
+        Command::Waits(files) => match waits(alloc, source, files) {
+            Ok((documents, analysis, waits)) => tell_waits(out, &documents, &analysis, &waits),
             Err(fault) => complain(err, fault),
         },
         Command::Draw(files) => match picture_of(alloc, source, files) {

@@ -18,7 +18,7 @@ mod tracing;
 
 pub use commands::obey;
 pub use documents::Documents;
-pub use drum_bound::{Analysis, Refusal, Visit, Way, analyse};
+pub use drum_bound::{Analysis, Refusal, Visit, Way, analyse, bound};
 pub use drum_ceiling::{Ceiling, ceiling};
 pub use drum_core::{Deck, DeckFault, Reading, read_deck};
 pub use drum_inputs::{InputFault, Inputs, read_inputs};

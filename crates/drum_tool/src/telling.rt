@@ -6,6 +6,8 @@ ghost use Rattle.drum_bound.specs.AnalysisOf.{angle_of, bound_of, visits_of};
 ghost use Rattle.drum_lines.specs.BoundText.{bound_text};
 ghost use Rattle.drum_lines.specs.FaultStatus.{status_after};
 ghost use Rattle.drum_lines.specs.FaultText.{fault_text};
+ghost use Rattle.drum_listing.specs.WaitsOf.{AreWaits, firsts_of};
+ghost use Rattle.drum_listing.specs.WaitsText.{waits_text};
 ghost use Rattle.drum_listing.specs.WalkText.{walk_text};
 ghost use Rattle.drum_tool.specs.Begun.{IsReady, IsTraceBegun};
 ghost use Rattle.drum_tool.specs.Documents.{IsCeiling, setting_of};
@@ -26,7 +28,7 @@ use drum_core::Output;
 use drum_lines::{
     Fault, Limit, Status, Verdict, WriteFault, write_bound, write_fault, write_text, write_verdict,
 };
-use drum_listing::list_walk;
+use drum_listing::{Waits, list_waits, list_walk};
 use drum_report::{report, report_ceiling};
 
 /// How the program ends once a result was written.
@@ -71,6 +73,27 @@ pub fn tell_walk<O: Output>(out: &mut O, documents: &Documents, analysis: &Analy
         (bound_of analysis.now)) Status.Done result }
 {
     ended(list_walk(analysis, &documents.times, out), Status::Done)
+}
+
+/// Writes where the word times of the worst walk of an analysis go.
+pub fn tell_waits<O: Output>(
+    out: &mut O,
+    documents: &Documents,
+    analysis: &Analysis,
+    waits: &Waits,
+) -> Status
+    requires called { O.called out.old ≤ 2 ^ 62 }
+    requires right { AreWaits (entry_in documents.now.times) (angle_of analysis.now)
+        (visits_of analysis.now) waits.now }
+    ensures { GetsResult (device (O.written out.old) (O.failed out.old))
+        (device (O.written out.new) (O.failed out.new))
+        (waits_text (entry_in documents.now.times) (angle_of analysis.now) (visits_of analysis.now)
+        (firsts_of waits.now) (bound_of analysis.now)) Status.Done result }
+{
+    ended(
+        list_waits(waits, analysis, &documents.times, out),
+        Status::Done,
+    )
 }
 
 /// Writes a ceiling.

@@ -27,6 +27,14 @@ const NOWHERE: &str = "0100 +2480000106\nSTART 0100\n";
 /// The same word twice behind the other.
 const ROUND: &str = "0100 +0000000106\n0106 +0000000100\nSTART 0100\n";
 
+/// What the two words wait for: the first is found at clock 50, 49 word times on, and its D is there
+/// when it is wanted.
+const WAITS: &str = "\
+0100 69 0103 0106 to 0106 visits 1 time 55 instruction 49 data 0 work 6 data-at 3 next-at 6\n\
+0106 01 0000 0106 late visits 1 time 1 instruction 0 data 0 work 1\n\
+bound 56\n\
+";
+
 /// From angle 1, 24 is ready at clock 53, and 0106 comes at 56; 56 + 3 = 59, and 0106 comes at 106.
 /// There 69 is ready at clock 109, and 0000 comes at 150.
 const NO_STOP: &str = "\
@@ -58,6 +66,13 @@ pub(crate) const SUBJECTS: &[Subject] = &[
         files: (NOWHERE, NOTES, ""),
         status: Status::Done,
         out: "0100 24 8000 0106 early begun 0 found 49 ready 52 ended 52\nbound 52\n",
+        err: "",
+    },
+    Subject {
+        command: "waits",
+        files: (TWO_WORDS, NOTES, ""),
+        status: Status::Done,
+        out: WAITS,
         err: "",
     },
     Subject {

@@ -19,6 +19,7 @@ pub(crate) enum Answer<'a> {
     Machine(Result<Machine, Memory>),
     Flow(Result<Flow<'a>, Refusal>),
     Analysis(Result<Analysis, Refusal>),
+    Bound(Result<u64, Refusal>),
     Ceiling(Result<Ceiling, Refusal>),
     Verdict(Result<Verdict, Fault>),
     /// How the program ended, and what went out.
@@ -47,6 +48,7 @@ impl Answer<'_> {
             | Answer::Machine(Err(Memory))
             | Answer::Flow(Err(Refusal::Memory))
             | Answer::Analysis(Err(Refusal::Memory))
+            | Answer::Bound(Err(Refusal::Memory))
             | Answer::Ceiling(Err(Refusal::Memory))
             | Answer::Verdict(Err(Fault::Memory | Fault::Refused(Refusal::Memory))) => true,
             Answer::Ran(Status::Failed, out, err) => {

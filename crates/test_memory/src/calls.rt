@@ -2,7 +2,7 @@
 
 use crate::answer::Answer;
 use crate::page::Page;
-use drum_bound::{accept, analyse, flow};
+use drum_bound::{accept, analyse, bound, flow};
 use drum_ceiling::ceiling;
 use drum_core::{Reading, Word, Writing, read_deck, read_whole};
 use drum_machine::{Machine, Setup};
@@ -25,6 +25,7 @@ pub(crate) enum Call<'a> {
     Flow(&'a Documents),
     Accept(&'a Documents),
     Analyse(&'a Documents),
+    Bound(&'a Documents),
     Ceiling(&'a Documents),
     /// A replay with these inputs.
     Replay(&'a Documents, &'a str),
@@ -81,6 +82,7 @@ impl<'a> Call<'a> {
             (Call::Analyse(of), _) => {
                 Answer::Analysis(analyse(alloc, &of.deck, &of.times, &of.notes))
             }
+            (Call::Bound(of), _) => { Answer::Bound(bound(alloc, &of.deck, &of.times, &of.notes)) }
             (Call::Ceiling(of), _) => {
                 Answer::Ceiling(ceiling(alloc, &of.deck, &of.times, &of.notes))
             }

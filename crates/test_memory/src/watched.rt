@@ -106,6 +106,7 @@ fn of_documents(rt: HostRuntime) -> Result<(), Fail> {
         holds(&rt, Call::Flow(&documents))?;
         holds(&rt, Call::Accept(&documents))?;
         holds(&rt, Call::Analyse(&documents))?;
+        holds(&rt, Call::Bound(&documents))?;
         holds(&rt, Call::Ceiling(&documents))?;
         holds(&rt, Call::Replay(&documents, "ANGLE 01\n"))?;
         holds(
@@ -133,6 +134,7 @@ fn of_refusals(rt: HostRuntime) -> Result<(), Fail> {
         let documents = documents(rt.alloc(), deck, &notes)?;
         holds(&rt, Call::Accept(&documents))?;
         holds(&rt, Call::Analyse(&documents))?;
+        holds(&rt, Call::Bound(&documents))?;
         holds(&rt, Call::Ceiling(&documents))?;
     }
     Ok(())
@@ -169,7 +171,7 @@ fn of_the_program(rt: HostRuntime) -> Result<(), Fail> {
     for subject in &SUBJECTS {
         let notes = subject.notes(rt.alloc())?;
         let files = files(subject.deck, &notes, "ANGLE 01\n");
-        for command in ["bound", "report", "walk"] {
+        for command in ["bound", "report", "walk", "waits"] {
             holds(&rt, Call::Run(&[command, "deck", "times", "notes"], &files))?;
         }
         for command in ["replay", "trace"] {

@@ -17,7 +17,7 @@ returns-in_err-sent-clause-sent g c =
     let hop = seen_told c.of-told.result in
     let moments = c.of-moments.result in
     let old = g.O.Output.written c.args.writer.now in
-    let new = g.O.Output.written c.send_begun.new.writer in
+    let new = g.O.Output.written c.send_hop.new.writer in
     let fault = c.in_err-sent.field-0.0 in
     let p = err_from_is_err_and c.from_residual.result c.from_residual.ensures.1 in
     rw (p.1, p.2) (subst (λ (visit : Visited). IsSent old new c.args.sent (Err fault) (visit_line times c.args.angle visit))
@@ -31,7 +31,7 @@ returns-clause-sent g c =
     let hop = seen_told c.of-told.result in
     let moments = c.of-moments.result in
     let old = g.O.Output.written c.args.writer.now in
-    let between = g.O.Output.written c.send_begun.new.writer in
+    let between = g.O.Output.written c.send_hop.new.writer in
     let new = g.O.Output.written c.send_times.new.writer in
     subst (λ (visit : Visited). IsSent old new c.args.sent c.send_times.result (visit_line times c.args.angle visit))
     c.of-told.ensures.same

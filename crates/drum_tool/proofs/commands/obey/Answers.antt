@@ -1,11 +1,12 @@
 use Rattle.std.proofs.Common.{ℕ, List, inl, inr, refl, sym, subst}
 use Rattle.std.specs.Prelude.{string_bytes}
 use Rattle.drum_bound.specs.AnalysisOf.{angle_of, bound_of, visits_of}
+use Rattle.drum_listing.specs.WaitsOf.{firsts_of}
 use Rattle.drum_lines.specs.FaultStatus.{reads_failed}
 use Rattle.drum_lines.specs.declared.status.Status.TheVariants.{Done}
 use Rattle.drum_tool.specs.Output.{GetsResult, device}
 use Rattle.drum_tool.specs.Reply.{bound_reply, ceiling_reply, fault_reply, picture_reply, report_reply, verdict_reply}
-use Rattle.drum_tool.specs.Reply.{walk_reply}
+use Rattle.drum_tool.specs.Reply.{waits_reply, walk_reply}
 use Rattle.drum_tool.specs.Asked.{all_named_in, named_in}
 use Rattle.drum_tool.proofs.Asking.{no_line, no_line_of_trace, told_fault, told_well}
 use Rattle.drum_tool.proofs.Replies.{Replied, counted, fault_of_reads, result_of_no_read, trace_of_no_read}
@@ -119,6 +120,51 @@ returns-in-Walk-clause-told g c =
           (fault_of_reads fault, rw c.in-Walk.is (λ held told. inr (fault, c.in-Err-analysis-2.ensures.fault held told, refl, refl)))),
       rw c.in-Walk.is (told_fault (named_in c.in-Walk.files) (g.S.Source.asked c.args.source.now)
           (g.S.Source.asked c.analysis-in-Walk.new.source) fault c.in-Err-analysis-2.ensures.asked),
+    )
+
+pub returns-in-Ok-waits-clause-told : goal.returns-in-Ok-waits-clause-told
+returns-in-Ok-waits-clause-told g c =
+    let documents = c.in-Ok-waits.documents in
+    let analysis = c.in-Ok-waits.analysis in
+    let waits = c.in-Ok-waits.waits in
+    let reply = waits_reply documents (angle_of analysis) (visits_of analysis) (firsts_of waits) (bound_of analysis) in (
+      reply,
+      (c.tell_waits.ensures, refl),
+      (λ failures count.
+          counted (Replied (g.S.Source.files c.args.source.now) c.args.command reply) _ _ failures 0
+          c.in-Ok-waits.ensures.counted count (
+            result_of_no_read _ _,
+            rw c.in-Waits.is (λ held told. inl (
+              documents,
+              c.in-Ok-waits.ensures.held held told,
+              refl,
+              (
+                bound_of analysis,
+                c.in-Ok-waits.ensures.bound,
+                angle_of analysis,
+                visits_of analysis,
+                c.in-Ok-waits.ensures.walk,
+                firsts_of waits,
+                c.in-Ok-waits.ensures.waits.firsts,
+                refl,
+              ),
+            )),
+          )),
+      rw c.in-Waits.is (told_well (named_in c.in-Waits.files) (g.S.Source.asked c.args.source.now)
+          (g.S.Source.asked c.waits.new.source) reply (no_line _ _) c.in-Ok-waits.ensures.asked),
+    )
+
+pub returns-in-Waits-clause-told : goal.returns-in-Waits-clause-told
+returns-in-Waits-clause-told g c =
+    let fault = c.in-Err-waits.fault in (
+      fault_reply fault,
+      (refl, c.complain-in-Err-waits.ensures.line, c.complain-in-Err-waits.ensures.status),
+      (λ failures count.
+          counted (Replied (g.S.Source.files c.args.source.now) c.args.command (fault_reply fault)) _ _ failures
+          (reads_failed fault) c.in-Err-waits.ensures.counted count
+          (fault_of_reads fault, rw c.in-Waits.is (λ held told. inr (fault, c.in-Err-waits.ensures.fault held told, refl, refl)))),
+      rw c.in-Waits.is (told_fault (named_in c.in-Waits.files) (g.S.Source.asked c.args.source.now)
+          (g.S.Source.asked c.waits.new.source) fault c.in-Err-waits.ensures.asked),
     )
 
 pub returns-in-Ok-picture_of-clause-told : goal.returns-in-Ok-picture_of-clause-told

@@ -1,0 +1,47 @@
+use Rattle.std.proofs.Common.{map, ap, ◌∙◌, arith, ◌<◌, ◌^◌, refl, rules}
+use Rattle.std.proofs.lemmas.List.Sorted.{answers_always}
+use Rattle.std.specs.Prelude.{sum_by}
+use Rattle.drum_times.specs.Entries.{entry_in}
+use Rattle.drum_bound.specs.AnalysisOf.{angle_of, bound_of, visits_of}
+use Rattle.drum_bound.specs.Visited.{seen_visit}
+use Rattle.drum_listing.specs.Waits.{time_of}
+use Rattle.drum_listing.specs.WaitsOf.{AreRows}
+use Rattle.drum_listing.proofs.SameKinds.{reordered_same, unique_same}
+use Rattle.drum_listing.proofs.WaitsFound.{are_waits, dearest_sorted, row_short, sort_key, spends}
+use Rattle.drum_listing.proofs.waits.Waits.of.Goals as goal
+
+pub by_kind-requires-clause-short : goal.by_kind-requires-clause-short
+by_kind-requires-clause-short c =
+    omega (
+      arith,
+      ap (sum_by time_of) c.walk.ensures.told,
+      spends (visits_of c.args.analysis.now) (bound_of c.args.analysis.now) c.walk.ensures.in_time,
+      c.args.analysis.now.below,
+    )
+
+pub returns : goal.returns
+returns c =
+    let times = entry_in c.args.times.now in
+    let analysis = c.args.analysis.now in
+    let walk = c.walk.result.now in
+    let rows = c.sort_by_key.new.self in
+    let before = c.in_ok-by_kind.ensures in
+    let are : AreRows times c.angle.result walk rows = record {
+      found = λ kind.
+          reordered_same c.in_ok-by_kind.by_kind rows c.sort_by_key.ensures.reordered.2 kind ∙ before.found kind;
+      apart = unique_same rows c.sort_by_key.ensures.unique;
+      few = omega (arith, c.sort_by_key.ensures.reordered.1, before.few);
+    } in
+    let short : sum_by time_of (map seen_visit walk) < 2 ^ 50 =
+    omega (
+      arith,
+      ap (sum_by time_of) c.walk.ensures.told,
+      spends (visits_of analysis) (bound_of analysis) c.walk.ensures.in_time,
+      analysis.below,
+    ) in
+    are_waits times c.angle.result walk rows are (angle_of analysis) (visits_of analysis) c.angle.ensures
+    c.walk.ensures.told _ refl
+    (dearest_sorted rows.entries
+    (λ row has. omega (arith, row_short times c.angle.result walk rows are row has, short))
+    (c.in_ok-sort_by_key.ensures.sorted sort_key
+    (answers_always _ _ _ (λ f a r g h. search rules))))

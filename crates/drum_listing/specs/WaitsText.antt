@@ -1,0 +1,28 @@
+-- The lines of where the word times of a walk go (this project's choice). A location has four
+-- digits, an operation two, and other numbers are plain decimal.
+use Rattle.std.specs.Prelude.{ℕ, ◌-◌, List, ◌++◌, length, codes, decimal, flat_map, sum_by}
+use Rattle.drum_core.specs.declared.op.Op.{Op}
+use Rattle.drum_times.specs.declared.entry.Entry.{Entry}
+use Rattle.drum_bound.specs.Visited.{Visited}
+use Rattle.drum_lines.specs.BoundText.{bound_text}
+use Rattle.drum_listing.specs.MomentsText.{moment_text}
+use Rattle.drum_listing.specs.Waits.{alike, data_at, for_data, for_instruction, next_at, time_alike}
+use Rattle.drum_listing.specs.WalkText.{hop_text}
+
+-- the line of the hops of a kind, of which this one is the first
+abbrev pub wait_line : (Op → Entry) → ℕ → List Visited → Visited → List ℕ
+wait_line times angle walk first =
+    let hops = alike first walk in
+    let time = time_alike walk first in
+    let instruction = sum_by (for_instruction times angle) hops in
+    let operand = sum_by (for_data times angle) hops in
+    hop_text first ++ codes " visits " ++ decimal (length hops) ++ codes " time " ++ decimal time
+    ++ codes " instruction " ++ decimal instruction ++ codes " data " ++ decimal operand
+    ++ codes " work " ++ decimal (time - instruction - operand)
+    ++ moment_text (codes " data-at ") (data_at times angle first)
+    ++ moment_text (codes " next-at ") (next_at angle first) ++ codes "\n"
+
+-- the lines of all kinds, and the time of the walk
+abbrev pub waits_text : (Op → Entry) → ℕ → List Visited → List Visited → ℕ → List ℕ
+waits_text times angle walk firsts bound =
+    flat_map (wait_line times angle walk) firsts ++ bound_text bound

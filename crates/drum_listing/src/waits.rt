@@ -1,0 +1,61 @@
+//! Where the word times of the worst walk of an analysis go, by instruction and way.
+
+ghost use Rattle.std.specs.Prelude.{◌≤◌};
+ghost use Rattle.indexmap.specs.IndexMap.{index_map_len};
+
+mod kind;
+mod line;
+mod listing;
+mod spent;
+mod sums;
+mod wait;
+
+use drum_bound::Analysis;
+use drum_times::Times;
+use indexmap::IndexMap;
+use kind::Kind;
+pub use listing::list_waits;
+use std::alloc::{AllocError, Global};
+use sums::by_kind;
+use wait::Wait;
+
+/// Where the word times of a walk go: what the hops of each kind take in all, the dearest kind
+/// first. Hops are of one kind that begin at one location, with one instruction, and end in one
+/// way.
+#[derive(Debug, Drop)]
+pub struct Waits {
+    by_kind: IndexMap<Kind, Wait>,
+    /// There are no more kinds than hops.
+    ghost few: { index_map_len by_kind ≤ 4000000 },
+}
+
+impl Waits {
+    ghost use Rattle.std.specs.Prelude.{◌≡◌, IfOk, length};
+    ghost use Rattle.std.specs.Map.{values_of};
+    ghost use Rattle.drum_times.specs.Entries.{entry_in};
+    ghost use Rattle.drum_bound.specs.AnalysisOf.{angle_of, visits_of};
+    ghost use Rattle.drum_listing.specs.WaitsOf.{AreWaits};
+
+    /// Where the word times of the walk of an analysis go. The timing table is the one of the
+    /// analysis.
+    ///
+    /// # Errors
+    ///
+    /// Where memory is wanting.
+    pub fn of(alloc: Global, analysis: &Analysis, times: &Times) -> Result<Waits, AllocError>
+        ensures { IfOk result (AreWaits (entry_in times.now) (angle_of analysis.now)
+            (visits_of analysis.now)) }
+    {
+        let mut by_kind = by_kind(alloc, analysis.walk(), times, analysis.angle())?;
+        by_kind.sort_by_key(|_, wait| (u64::MAX - wait.time, wait.first.begun))?;
+        Ok(Waits { by_kind })
+    }
+
+    /// The rows, the dearest first.
+    fn rows(&self) -> &[Wait]
+        ensures rows { result.now ≡ values_of self.now.by_kind.entries }
+        ensures few { length result.now ≤ 4000000 }
+    {
+        self.by_kind.values().as_slice()
+    }
+}

@@ -1,0 +1,130 @@
+//! The line of a kind of hops.
+
+ghost use Rattle.std.specs.Prelude.{◌≡◌, ◌+◌, ◌^◌, ◌≤◌, IfOk};
+ghost use Rattle.drum_core.specs.Op.{op_of};
+ghost use Rattle.drum_times.specs.Entries.{entry_in};
+ghost use Rattle.drum_machine.specs.WaysLeft.{seen_way};
+ghost use Rattle.drum_lines.specs.Sent.{IsSent, fails_by};
+ghost use Rattle.drum_listing.specs.Waits.{data_angle, next_angle, on_drum};
+ghost use Rattle.drum_listing.specs.WaitsOf.{angles_text, row_text, sums_text};
+
+use super::wait::Wait;
+use crate::hop_text::send_hop;
+use crate::moments::Moments;
+use crate::moments_text::{digits_with, name_with};
+use crate::told::Told;
+use drum_bound::Way;
+use drum_core::{Location, Op, Output, REVOLUTION};
+use drum_lines::{WriteFault, send};
+use drum_machine::chain::waits_for_operand;
+use drum_times::Times;
+use itoa::Buffer;
+
+/// The angle at which D would come just when it is wanted, where the operation of the hop waits for
+/// it and the instruction is on the drum.
+fn data_at(told: &Told, moments: &Moments, angle: u8) -> Option<u64>
+    ensures { result ≡ on_drum told.now.place.number (data_angle angle
+        (op_of told.now.instruction.op) moments.now.ready moments.now.operand) }
+{
+    let op = Op::of(told.instruction.op())?;
+    let x = moments.ready?;
+    moments.operand?;
+    if told.place.number() < Location::DRUM && waits_for_operand(op) {
+        Some((u64::from(angle) + x % REVOLUTION) % REVOLUTION)
+    } else {
+        None
+    }
+}
+
+/// The angle at which the next instruction would come just when it is sought, where the hop goes on
+/// and its instruction is on the drum.
+fn next_at(told: &Told, angle: u8) -> Option<u64>
+    ensures { result ≡ on_drum told.now.place.number
+        (next_angle angle (seen_way told.now.way) told.now.ended) }
+{
+    match told.way {
+        Way::To(_) if told.place.number() < Location::DRUM => {
+            Some((u64::from(angle) + told.ended % REVOLUTION) % REVOLUTION)
+        }
+        _ => None,
+    }
+}
+
+/// Writes the sums of a kind of hops behind so many bytes, and tells how many have gone out then.
+fn send_sums<O: Output>(writer: &mut O, sent: usize, wait: &Wait) -> Result<usize, WriteFault>
+    requires called { O.called writer.old ≤ 2 ^ 62 + 2 ^ 61 }
+    requires few { sent ≤ 2 ^ 61 }
+    ensures sent { IsSent (O.written writer.old) (O.written writer.new) sent result
+        (sums_text wait.now) }
+    ensures failures { O.failed writer.new ≡ O.failed writer.old + fails_by result }
+    ensures calls { O.called writer.new ≤ O.called writer.old + 120 }
+    ensures few { IfOk result (λ total. total ≤ sent + 120) }
+{
+    let mut time = Buffer::new();
+    let mut instruction = Buffer::new();
+    let mut operand = Buffer::new();
+    let mut work = Buffer::new();
+    let pieces: [&[u8]; 8] = [
+        b" time ",
+        time.format(wait.time).as_bytes(),
+        b" instruction ",
+        instruction.format(wait.instruction).as_bytes(),
+        b" data ",
+        operand.format(wait.operand).as_bytes(),
+        b" work ",
+        work.format(wait.work()).as_bytes(),
+    ];
+    send(writer, sent, &pieces)
+}
+
+/// Writes the angles at which a kind of hops would wait for nothing, and the end of its line,
+/// behind so many bytes, and tells how many have gone out then.
+fn send_angles<O: Output>(
+    writer: &mut O,
+    sent: usize,
+    operand: Option<u64>,
+    next: Option<u64>,
+) -> Result<usize, WriteFault>
+    requires called { O.called writer.old ≤ 2 ^ 62 + 2 ^ 61 }
+    requires few { sent ≤ 2 ^ 61 }
+    ensures sent { IsSent (O.written writer.old) (O.written writer.new) sent result
+        (angles_text operand next) }
+    ensures failures { O.failed writer.new ≡ O.failed writer.old + fails_by result }
+    ensures calls { O.called writer.new ≤ O.called writer.old + 60 }
+    ensures few { IfOk result (λ total. total ≤ sent + 60) }
+{
+    let mut operand_digits = Buffer::new();
+    let mut next_digits = Buffer::new();
+    let pieces: [&[u8]; 5] = [
+        name_with(b" data-at ", operand),
+        digits_with(&mut operand_digits, operand),
+        name_with(b" next-at ", next),
+        digits_with(&mut next_digits, next),
+        b"\n",
+    ];
+    send(writer, sent, &pieces)
+}
+
+/// Writes the line of a kind of hops behind so many bytes, and tells how many have gone out then.
+pub fn send_wait<O: Output>(
+    writer: &mut O,
+    sent: usize,
+    wait: &Wait,
+    times: &Times,
+    angle: u8,
+) -> Result<usize, WriteFault>
+    requires called { O.called writer.old ≤ 2 ^ 62 + 2 ^ 60 }
+    requires few { sent ≤ 2 ^ 60 }
+    ensures sent { IsSent (O.written writer.old) (O.written writer.new) sent result
+        (row_text (entry_in times.now) angle wait.now) }
+    ensures failures { O.failed writer.new ≡ O.failed writer.old + fails_by result }
+    ensures calls { O.called writer.new ≤ O.called writer.old + 250 }
+    ensures few { IfOk result (λ total. total ≤ sent + 250) }
+{
+    let told = Told::of(&wait.first);
+    let moments = Moments::of(&told, times, angle);
+    let sent = send_hop(writer, sent, &told, b" visits ", wait.visits)?;
+    let sent = send_sums(writer, sent, wait)?;
+    let operand = data_at(&told, &moments, angle);
+    send_angles(writer, sent, operand, next_at(&told, angle))
+}

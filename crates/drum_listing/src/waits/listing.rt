@@ -1,0 +1,65 @@
+//! The lines of where the word times of the worst walk go.
+
+ghost use Rattle.std.specs.Prelude.{◌≡◌, ◌+◌, ◌^◌, ◌≤◌, IfOk, flat_map, length};
+ghost use Rattle.drum_times.specs.Entries.{entry_in};
+ghost use Rattle.drum_bound.specs.AnalysisOf.{angle_of, bound_of, visits_of};
+ghost use Rattle.drum_lines.specs.Sent.{IsSent, IsWritten, fails_by};
+ghost use Rattle.drum_listing.specs.WaitsOf.{AreWaits, firsts_of, row_text};
+ghost use Rattle.drum_listing.specs.WaitsText.{waits_text};
+
+use super::Waits;
+use super::line::send_wait;
+use super::wait::Wait;
+use drum_bound::Analysis;
+use drum_core::Output;
+use drum_lines::{WriteFault, send_bound};
+use drum_times::Times;
+
+/// Writes the lines of rows.
+fn send_waits<O: Output>(
+    writer: &mut O,
+    rows: &[Wait],
+    times: &Times,
+    angle: u8,
+) -> Result<usize, WriteFault>
+    requires called { O.called writer.old ≤ 2 ^ 62 }
+    requires few { length rows.now ≤ 4000000 }
+    ensures sent { IsSent (O.written writer.old) (O.written writer.new) 0 result
+        (flat_map (row_text (entry_in times.now) angle) rows.now) }
+    ensures failures { O.failed writer.new ≡ O.failed writer.old + fails_by result }
+    ensures calls { O.called writer.new ≤ O.called writer.old + 1000000000 }
+    ensures few { IfOk result (λ total. total ≤ 1000000000) }
+{
+    let mut sent = 0;
+    for wait in rows {
+        sent = send_wait(writer, sent, wait, times, angle)?;
+    }
+    Ok(sent)
+}
+
+/// Writes where the word times of the worst walk of an analysis go, a line for each kind of hops,
+/// and the bound. The waits and the timing table are those of the analysis. It takes no memory.
+///
+/// # Errors
+///
+/// Where a write fails, or takes none of some bytes: then a prefix of the text has gone out, of so
+/// many bytes as it says.
+pub fn list_waits<O: Output>(
+    waits: &Waits,
+    analysis: &Analysis,
+    times: &Times,
+    writer: &mut O,
+) -> Result<(), WriteFault>
+    requires { O.called writer.old ≤ 2 ^ 62 }
+    ensures written { AreWaits (entry_in times.now) (angle_of analysis.now)
+        (visits_of analysis.now) waits.now
+        → IsWritten (O.written writer.old) (O.written writer.new) result
+        (waits_text (entry_in times.now) (angle_of analysis.now) (visits_of analysis.now)
+        (firsts_of waits.now) (bound_of analysis.now)) }
+    ensures failures { O.failed writer.new ≡ O.failed writer.old + fails_by result }
+{
+    let bound = analysis.bound();
+    let sent = send_waits(writer, waits.rows(), times, analysis.angle())?;
+    send_bound(writer, sent, bound)?;
+    Ok(())
+}
