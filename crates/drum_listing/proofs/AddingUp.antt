@@ -130,7 +130,7 @@ kinds_all firsts apart (hop ∷ walk) all =
     )
 
 -- what follows a hop
-follow : (way : Way) (Right : ℕ → Type 0) (P : List Taken → Type 0) (hops : List Taken) → FollowHop way Right hops
+pub follow : (way : Way) (Right : ℕ → Type 0) (P : List Taken → Type 0) (hops : List Taken) → FollowHop way Right hops
     → P [] → ((next : ℕ) → Right next → P hops) → P hops
 follow early Right P hops none begin next = subst P (sym none) begin
 follow (to target) Right P hops right begin next = next target right
@@ -187,7 +187,7 @@ moments_fit true angle begun f x d e p q r ends_early ends = omega (arith, ends_
 moments_fit false angle begun f x d e p q r ends_early ends = omega (arith, ends refl)
 
 -- a hop that acts ends when it has its data, or later
-ends_behind : (entry : Entry) (op : Op) (d place units wait clock : ℕ)
+pub ends_behind : (entry : Entry) (op : Op) (d place units wait clock : ℕ)
     → reached op d (ready entry place clock) ≤ ended entry op d place units wait clock
 ends_behind entry op d place units wait clock =
     omega (

@@ -1,6 +1,8 @@
 pub mod AddingUp
 mod Checks
+pub mod DataAngles
 pub mod Lines
+pub mod OneListing
 pub mod SameKinds
 pub mod Turns
 mod WaitChecks

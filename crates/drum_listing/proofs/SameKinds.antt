@@ -1,6 +1,7 @@
 -- That `==` of kinds tells kinds apart as their definition does, which is an equivalence.
 use Rattle.std.proofs.Common.{◌≡◌, ◌==◌, Bool, true, false, ◌&&◌, refl, ap, ◌∙◌, subst, cond, Option, Some}
 use Rattle.indexmap.specs.IndexMap.{IndexMap, IsUnique, get}
+use Rattle.std.proofs.lemmas.Bool.{eqb-true}
 use Rattle.std.specs.Cmp.{IsEquivalence, nat_eq_equiv}
 use Rattle.drum_machine.specs.contracts.ways.WayPartialEq as ways
 use Rattle.drum_machine.specs.declared.ways.Way as code
@@ -153,3 +154,33 @@ module _ {X S : Type 0} where
       → (kind : Kind) → get same_kind new kind ≡ get same_kind old kind
   reordered_same old new =
       subst (λ (eq : Kind → Kind → Bool). (kind : Kind) → get eq new kind ≡ get eq old kind) eq_is_same
+
+-- ---- what hops of one kind have in common
+
+same_way : (a b : Way) → is_same_way a b ≡ true → a ≡ b
+same_way early early so = refl
+same_way early (to b) so = cc
+same_way early late so = cc
+same_way (to a) early so = cc
+same_way (to a) (to b) so = ap to (eqb-true a b so)
+same_way (to a) late so = cc
+same_way late early so = cc
+same_way late (to b) so = cc
+same_way late late so = refl
+
+pub record HaveInCommon (a b : Visited) : Type 0 where
+  pub place : a.place ≡ b.place
+  pub op : a.ins.op ≡ b.ins.op
+  pub d : a.ins.d ≡ b.ins.d
+  pub way : a.way ≡ b.way
+
+pub in_common : (a b : Visited) → is_alike a b ≡ true → HaveInCommon a b
+in_common a b so =
+    let each = five (a.place == b.place) (a.ins.op == b.ins.op) (a.ins.d == b.ins.d) (a.ins.i == b.ins.i)
+    (is_same_way a.way b.way) so in
+    record {
+      place = eqb-true a.place b.place each.first;
+      op = eqb-true a.ins.op b.ins.op each.second;
+      d = eqb-true a.ins.d b.ins.d each.third;
+      way = same_way a.way b.way each.fifth;
+    }

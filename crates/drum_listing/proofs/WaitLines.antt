@@ -98,7 +98,8 @@ module _ (times : Op → Entry) (angle : ℕ) (wait : Wait) (hop : Visited) (sam
     -- its angles are those that are told
     pub row_last : (new : Option (List ℕ)) (most : ℕ) (result : Result ℕ WriteFault)
         (moments : Moments) (operand next : Option ℕ) → moments ≡ moments_at times angle hop
-        → operand ≡ on_drum hop.place (data_angle angle (op_of hop.ins.op) moments.ready moments.operand)
+        → operand ≡ on_drum hop.ins.d
+        (on_drum hop.place (data_angle angle (op_of hop.ins.op) moments.ready moments.operand))
         → next ≡ on_drum hop.place (next_angle angle hop.way hop.ended)
         → IsSent first second more (Ok most) (sums_text wait)
         → IsSent second new most result (angles_text operand next)
@@ -106,7 +107,8 @@ module _ (times : Op → Entry) (angle : ℕ) (wait : Wait) (hop : Visited) (sam
     row_last new most result moments operand next at p q sums angles =
         let told = first_of wait in
         let had : operand ≡ data_at times angle told =
-        p ∙ ap (λ (m : Moments). on_drum hop.place (data_angle angle (op_of hop.ins.op) m.ready m.operand)) at
+        p ∙ ap (λ (m : Moments). on_drum hop.ins.d
+        (on_drum hop.place (data_angle angle (op_of hop.ins.op) m.ready m.operand))) at
         ∙ ap (data_at times angle) same in
         let going : next ≡ next_at angle told = q ∙ ap (next_at angle) same in
         IsSent-then old second new sent most result (begin_text told wait ++ sums_text wait)

@@ -52,8 +52,12 @@ alike one walk = filter (is_alike one) walk
 abbrev pub time_alike : List Visited → Visited → ℕ
 time_alike walk one = sum_by time_of (alike one walk)
 
--- ---- the angles of the drum at which nothing would be waited for; of an instruction on the drum,
--- which is found at one angle, they are the same for all hops of a kind
+-- ---- the angles of the drum at which nothing would be waited for, where the instruction stands on
+-- the drum, and so does what is waited for
+
+-- an angle, where the location is on the drum
+abbrev pub on_drum : ℕ → Option ℕ → Option ℕ
+on_drum place angle = if nat_lt place 2000 then angle else None
 
 -- that of D, where the operation waits for what is there
 abbrev pub data_angle : ℕ → Option Op → Option ℕ → Option ℕ → Option ℕ
@@ -63,16 +67,14 @@ data_angle angle _ _ _ = None
 
 -- that of the next instruction
 abbrev pub next_angle : ℕ → Way → ℕ → Option ℕ
-next_angle angle (to next) ended = Some ((angle + ended) % 50)
+next_angle angle (to next) ended = on_drum next (Some ((angle + ended) % 50))
 next_angle angle _ ended = None
-
-abbrev pub on_drum : ℕ → Option ℕ → Option ℕ
-on_drum place angle = if nat_lt place 2000 then angle else None
 
 abbrev pub data_at : (Op → Entry) → ℕ → Visited → Option ℕ
 data_at times angle hop =
     let moments = moments_at times angle hop in
-    on_drum hop.place (data_angle angle (op_of hop.ins.op) moments.ready moments.operand)
+    on_drum hop.ins.d
+    (on_drum hop.place (data_angle angle (op_of hop.ins.op) moments.ready moments.operand))
 
 abbrev pub next_at : ℕ → Visited → Option ℕ
 next_at angle hop = on_drum hop.place (next_angle angle hop.way hop.ended)

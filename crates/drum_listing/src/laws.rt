@@ -1,9 +1,11 @@
 //! Laws of the definitions, each the contract of a function that does nothing.
 
-ghost use Rattle.std.specs.Prelude.{◌≡◌, ℕ, ◌+◌, ◌≤◌, List, sum_by};
+ghost use Rattle.std.specs.Prelude.{◌≡◌, ℕ, ◌+◌, ◌≤◌, true, List, sum_by};
+ghost use Rattle.drum_core.specs.declared.op.Op.{Op};
+ghost use Rattle.drum_times.specs.declared.entry.Entry.{Entry};
 ghost use Rattle.drum_flow.specs.Walk.{Setting};
 ghost use Rattle.drum_bound.specs.Visited.{IsWalkOf, Visited};
-ghost use Rattle.drum_listing.specs.Waits.{AreDearestFirst, alike, for_data, for_instruction, time_alike};
+ghost use Rattle.drum_listing.specs.Waits.{AreDearestFirst, alike, data_at, for_data, for_instruction, is_alike, time_alike};
 
 /// The times of all kinds of a walk add up to the time of the walk, and what the hops of a kind
 /// wait is part of their time: so the columns of a line add up.
@@ -15,4 +17,18 @@ pub fn waits_add_up()
         → IsWalkOf g angle used walk
         → sum_by (for_instruction g.times angle) (alike one walk)
         + sum_by (for_data g.times angle) (alike one walk) ≤ time_alike walk one }
+{}
+
+/// A walk has one list of its kinds, the dearest first: what is listed of it is settled.
+pub fn waits_are_one()
+    ensures { (g : Setting) (angle used : ℕ) (walk firsts others : List Visited)
+        → IsWalkOf g angle used walk → AreDearestFirst walk firsts
+        → AreDearestFirst walk others → firsts ≡ others }
+{}
+
+/// The angle at which D would come just when it is wanted is the same for all hops of a kind: the
+/// line of the kind tells it of the first.
+pub fn data_angles_are_one()
+    ensures { (times : Op → Entry) (angle : ℕ) (a b : Visited)
+        → is_alike a b ≡ true → data_at times angle a ≡ data_at times angle b }
 {}

@@ -21,29 +21,31 @@ use drum_times::Times;
 use itoa::Buffer;
 
 /// The angle at which D would come just when it is wanted, where the operation of the hop waits for
-/// it and the instruction is on the drum.
+/// it, and both the instruction and D are on the drum.
 fn data_at(told: &Told, moments: &Moments, angle: u8) -> Option<u64>
-    ensures { result ≡ on_drum told.now.place.number (data_angle angle
-        (op_of told.now.instruction.op) moments.now.ready moments.now.operand) }
+    ensures { let ins = told.now.instruction in
+        result ≡ on_drum ins.d (on_drum told.now.place.number
+        (data_angle angle (op_of ins.op) moments.now.ready moments.now.operand)) }
 {
     let op = Op::of(told.instruction.op())?;
     let x = moments.ready?;
     moments.operand?;
-    if told.place.number() < Location::DRUM && waits_for_operand(op) {
+    let d = told.instruction.d();
+    if told.place.number() < Location::DRUM && d < Location::DRUM && waits_for_operand(op) {
         Some((u64::from(angle) + x % REVOLUTION) % REVOLUTION)
     } else {
         None
     }
 }
 
-/// The angle at which the next instruction would come just when it is sought, where the hop goes on
-/// and its instruction is on the drum.
+/// The angle at which the next instruction would come just when it is sought, where the hop goes
+/// on, and both its instruction and the next are on the drum.
 fn next_at(told: &Told, angle: u8) -> Option<u64>
     ensures { result ≡ on_drum told.now.place.number
         (next_angle angle (seen_way told.now.way) told.now.ended) }
 {
     match told.way {
-        Way::To(_) if told.place.number() < Location::DRUM => {
+        Way::To(next) if told.place.number() < Location::DRUM && next.number() < Location::DRUM => {
             Some((u64::from(angle) + told.ended % REVOLUTION) % REVOLUTION)
         }
         _ => None,

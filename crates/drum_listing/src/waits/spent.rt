@@ -25,7 +25,8 @@ impl Spent {
         ensures time { result.time ≡ time_of (seen_visit visit.now) }
         ensures instruction { result.instruction
             ≡ for_instruction (entry_in times.now) angle (seen_visit visit.now) }
-        ensures operand { result.operand ≡ for_data (entry_in times.now) angle (seen_visit visit.now) }
+        ensures operand { result.operand
+            ≡ for_data (entry_in times.now) angle (seen_visit visit.now) }
     {
         let told = Told::of(visit);
         let moments = Moments::of(&told, times, angle);
