@@ -1,40 +1,27 @@
-"""The reports of a deck's longest walks, by the plain model (checks/model.py). Of the longest walks
-those are taken that arrive as late as any walk does wherever they come; where these don't all have
-the same report, there is none."""
+"""What a deck's longest walk spends its word times on, by the plain model (checks/model.py): its
+report, and where its word times go by instruction and way. Of the longest walks those are taken that
+arrive as late as any does wherever they come; where these don't all come to the same, there is
+none."""
 
-from model import found
+from collections import namedtuple
+
+from model import WAITS_FOR_DATA, found
 
 MANY = "more than one"
 
-
-class Tally:
-    """What a report counts of a walk: at each card visits and time, and for each mark its
-    passes."""
-
-    def __init__(self, cards, marks):
-        self.visits, self.times, self.passes = [0] * cards, [0] * cards, [0] * marks
-
-    def after(self, card, time, mark):
-        """The tally with one more hop."""
-        tally = Tally(0, 0)
-        tally.visits, tally.times, tally.passes = self.visits[:], self.times[:], self.passes[:]
-        tally.visits[card] += 1
-        tally.times[card] += time
-        if mark is not None:
-            tally.passes[mark] += 1
-        return tally
-
-    def __eq__(self, other):
-        return other is not MANY and vars(self) == vars(other)
+# A hop of a walk with its moments, counted from a moment of angle 0 on; one that stops early has no
+# data.
+Hop = namedtuple("Hop", "place op d i way begun found ready data ended")
+# What the hops of one kind take in all, the moment at which the first of them begins, and the angles
+# at which that one would wait for nothing.
+Row = namedtuple("Row", "visits time instruction data begun data_at next_at")
 
 
-class Latest:
-    """The latest arrivals at each location with counts of the marks, each with the tally of the
-    walks that make it."""
+class Cards:
+    """The cards of a deck and the marks of its notes, which a report counts by."""
 
     def __init__(self, walks, deck):
-        self.walks, self.arrivals, self.ended = walks, {}, (0, MANY)
-        self.lines, self.card_of = [], {}
+        self.marks, self.lines, self.card_of = walks.marks, [], {}
         for number, line in enumerate(open(deck).read().splitlines(), 1):
             first, *words = line.split(" ")
             if first.isdigit():
@@ -42,18 +29,110 @@ class Latest:
                 self.card_of.update(dict.fromkeys(places, len(self.lines)))
                 self.lines.append(number)
 
-    def mark_of(self, place, onto):
-        edges = [(mark["from"], mark["to"]) for mark in self.walks.marks]
-        return edges.index((place, onto)) if (place, onto) in edges else None
+    def mark_of(self, hop):
+        edges = [(mark["from"], mark["to"]) for mark in self.marks]
+        return edges.index((hop.place, hop.way)) if (hop.place, hop.way) in edges else None
 
-    def later(self, one, end, tally):
-        """The later of an arrival and another; MANY tallies where both are as late, and not
-        alike."""
-        if one is None or one[0] < end:
-            return end, tally
-        if one[0] == end and one[1] != tally:
-            return end, MANY
-        return one
+    def nothing(self):
+        """The tally of a walk that hasn't begun."""
+        cards = len(self.lines) + 1
+        return Tally(self, [0] * cards, [0] * cards, [0] * len(self.marks))
+
+
+class Tally:
+    """What a report counts of a walk: at each card visits and time, and for each mark its
+    passes."""
+
+    def __init__(self, cards, visits, times, passes):
+        self.cards, self.visits, self.times, self.passes = cards, visits, times, passes
+
+    def after(self, hop):
+        """The tally with one more hop."""
+        tally = Tally(self.cards, self.visits[:], self.times[:], self.passes[:])
+        card = self.cards.card_of.get(hop.place, len(self.cards.lines))
+        tally.visits[card] += 1
+        tally.times[card] += hop.ended - hop.begun
+        mark = self.cards.mark_of(hop)
+        if mark is not None:
+            tally.passes[mark] += 1
+        return tally
+
+    def __eq__(self, other):
+        return other is not MANY and vars(self) == vars(other)
+
+    def text(self):
+        cards = zip(self.cards.lines, self.visits, self.times)
+        lines = ["card %04d visits %d time %d" % one for one in cards]
+        lines.append("other visits %d time %d" % (self.visits[-1], self.times[-1]))
+        for mark, passes in zip(self.cards.marks, self.passes):
+            told = mark["from"], mark["to"], passes, mark["most"]
+            lines.append("mark %04d %04d passed %d of %d" % told)
+        return lines
+
+
+class Kinds:
+    """What the hops of a walk take in all, by where they begin, their instruction and how they
+    end."""
+
+    def __init__(self, rows):
+        self.rows = rows
+
+    def after(self, hop):
+        """The kinds with one more hop."""
+        kind = hop.place, hop.op, hop.d, hop.i, hop.way
+        row = self.rows.get(kind) or Row(0, 0, 0, 0, hop.begun, *angles_of(hop))
+        data = 0 if hop.data is None else hop.data - hop.ready
+        spent = 1, hop.ended - hop.begun, hop.found - hop.begun, data
+        sums = [one + more for one, more in zip(row, spent)]
+        return Kinds({**self.rows, kind: Row(*sums, *row[len(sums) :])})
+
+    def __eq__(self, other):
+        return other is not MANY and self.rows == other.rows
+
+    def text(self):
+        rows = sorted(self.rows.items(), key=lambda one: (-one[1].time, one[1].begun))
+        return [row_line(kind, row) for kind, row in rows]
+
+
+def angles_of(hop):
+    """The angles at which a hop would wait neither for its data nor for the next instruction; None
+    where it waits for none, and beside the drum."""
+    is_on_drum, goes_on = hop.place < 2000, hop.way not in ("early", "late")
+    waits_for_data = hop.op in WAITS_FOR_DATA and hop.data is not None
+    data_at = hop.ready % 50 if is_on_drum and waits_for_data else None
+    return data_at, hop.ended % 50 if is_on_drum and goes_on else None
+
+
+def row_line(kind, row):
+    """The line of the hops of a kind."""
+    place, op, d, i, way = kind
+    onto = way if way in ("early", "late") else "to %04d" % way
+    work = row.time - row.instruction - row.data
+    sums = row.visits, row.time, row.instruction, row.data, work
+    line = "%04d %02d %04d %04d %s" % (place, op, d, i, onto)
+    line += " visits %d time %d instruction %d data %d work %d" % sums
+    for name, angle in [("data-at", row.data_at), ("next-at", row.next_at)]:
+        line += "" if angle is None else " %s %d" % (name, angle)
+    return line
+
+
+class Latest:
+    """The latest arrivals at each location with counts of the marks, each with the tally of the
+    walks that make it; nothing is the tally of none of their hops."""
+
+    def __init__(self, walks, nothing):
+        self.walks, self.nothing = walks, nothing
+        self.arrivals, self.ended = {}, (0, MANY)
+
+    def later(self, one, hop, tally):
+        """The later of an arrival and the end of a hop behind this tally; MANY tallies where both
+        are as late, and not alike."""
+        if one is not None and one[0] > hop.ended:
+            return one
+        then = MANY if tally is MANY else tally.after(hop)
+        if one is None or one[0] < hop.ended or one[1] == then:
+            return hop.ended, then
+        return hop.ended, MANY
 
     def hops(self, key):
         """The hops of a location with counts: the instruction, the way, and the location with
@@ -64,12 +143,12 @@ class Latest:
                 goes_on = way not in ("early", "late")
                 after = self.walks.passed(counts, place, way) if goes_on else counts
                 if after is not None:
-                    yield op, d, way, (way, after) if goes_on else None
+                    yield op, d, i, way, (way, after) if goes_on else None
 
     def order(self, key, seen, behind):
         """Each location with counts that a walk comes to, after all that lead from it to others."""
         seen.add(key)
-        for _, _, _, onto in self.hops(key):
+        for *_, onto in self.hops(key):
             if onto is not None and onto not in seen:
                 self.order(onto, seen, behind)
         behind.append(key)
@@ -79,32 +158,35 @@ class Latest:
         """Follows each hop of a location with counts from its latest arrival."""
         place, _ = key
         begun, tally = self.arrivals[key]
-        for op, d, way, onto in self.hops(key):
-            ready = found(place, begun) + self.walks.times[op]["before"]
-            end = ready if way == "early" else max(self.walks.ends(op, d, ready))
-            then = tally
-            if tally is not MANY:
-                mark = None if onto is None else self.mark_of(place, way)
-                then = tally.after(self.card_of.get(place, len(self.lines)), end - begun, mark)
+        at = found(place, begun)
+        for op, d, i, way, onto in self.hops(key):
+            ready = at + self.walks.times[op]["before"]
+            data, end = None, ready
+            if way != "early":
+                data = found(d, ready) if op in WAITS_FOR_DATA else ready
+                end = max(self.walks.ends(op, d, ready))
+            hop = Hop(place, op, d, i, way, begun, at, ready, data, end)
             # A walk may end with any hop.
-            self.ended = self.later(self.ended, end, then)
+            self.ended = self.later(self.ended, hop, tally)
             if onto is not None:
-                self.arrivals[onto] = self.later(self.arrivals.get(onto), end, then)
+                self.arrivals[onto] = self.later(self.arrivals.get(onto), hop, tally)
 
-    def report(self):
-        """The lines of the report; None where the walks have more than one."""
+    def lines(self):
+        """The lines of the tally, and the bound; None where the walks have more than one tally."""
         start = self.walks.start, (0,) * len(self.walks.marks)
         angle = (self.walks.start + 1) % 50
-        self.arrivals[start] = angle, Tally(len(self.lines) + 1, len(self.walks.marks))
+        self.arrivals[start] = angle, self.nothing
         for key in reversed(self.order(start, set(), [])):
             self.take(key)
         end, tally = self.ended
-        if tally is MANY:
-            return None
-        cards = zip(self.lines, tally.visits, tally.times)
-        lines = ["card %04d visits %d time %d" % one for one in cards]
-        lines.append("other visits %d time %d" % (tally.visits[-1], tally.times[-1]))
-        for mark, passes in zip(self.walks.marks, tally.passes):
-            told = mark["from"], mark["to"], passes, mark["most"]
-            lines.append("mark %04d %04d passed %d of %d" % told)
-        return lines + ["bound %d" % (end - angle)]
+        return None if tally is MANY else tally.text() + ["bound %d" % (end - angle)]
+
+
+def report(walks, deck):
+    """The lines of the report; None where the longest walks have more than one."""
+    return Latest(walks, Cards(walks, deck).nothing()).lines()
+
+
+def waits(walks):
+    """The lines of where the word times go; None where the longest walks have more than one."""
+    return Latest(walks, Kinds({})).lines()
