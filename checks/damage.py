@@ -7,11 +7,11 @@ import re
 TOP = os.path.dirname(os.path.dirname(os.path.abspath(__file__)))
 FILES = ["deck", "times", "notes", "inputs"]
 # Two of a replay and of a trace, since they look at a file more than the others.
-LINES = [[]] + [[command] + FILES[:3] for command in ("bound", "report", "walk", "draw", "ceiling")]
+OF_THREE = ["bound", "report", "walk", "waits", "draw", "ceiling"]
+LINES = [[]] + [[command] + FILES[:3] for command in OF_THREE]
 LINES += 2 * [[command] + FILES for command in ("replay", "trace")]
 # Words that are put among those of a line.
-WORDS = ["bound", "report", "walk", "draw", "ceiling", "replay", "trace", "--help", "-h", "-", ""]
-WORDS += ["none", "--fast"] + FILES
+WORDS = OF_THREE + ["replay", "trace", "--help", "-h", "-", "", "none", "--fast"] + FILES
 
 # Bytes that mean something in one of the formats, and some that mean nothing in any.
 BYTES = b"\n\r\t *+-=.,#%[]{}\"'\\_0123456789STARTxe\x00\x7f\xc3\xff"

@@ -183,6 +183,7 @@ def of_results():
     last = ring(1999).line
     yield ring(1999, "report", holds=has_lines(2000 + 3, last))
     yield ring(1999, "walk", holds=has_lines(KEYS, last))
+    yield ring(1999, "waits", holds=has_lines(2000 + 1, last))
     yield ring(1999, "draw", holds=is_picture(49 + KEYS - 1))
     deck, notes = ring_deck(), ring_notes(1999)
     left = b"left toooften 1999 0000 step 4000000 used 3999999\n"
@@ -218,7 +219,7 @@ def of_ceilings():
 def of_outputs():
     """Outputs that can't be written, where a result is one line and where it is long."""
     for out in ["/dev/full", "closed", "broken"]:
-        for command in ["bound", "report", "walk", "draw", "ceiling", "replay", "trace"]:
+        for command in COMMANDS:
             line = KEPT if command in ("replay", "trace") else BOUND
             yield Case("%s, %s" % (command, OUTPUTS[out]), line, command, status=3, out=out)
         name = "bound of a joined form, %s" % OUTPUTS[out]
@@ -228,6 +229,7 @@ def of_outputs():
             yield case
 
 
+COMMANDS = ["bound", "report", "walk", "waits", "draw", "ceiling", "replay", "trace"]
 OUTPUTS = {
     "/dev/full": "to /dev/full",
     "closed": "to a closed output",

@@ -14,6 +14,8 @@ from results import (
     report_of_walk,
     reported_bound,
     traced_verdict,
+    waited_bound,
+    waits_of_walk,
     walked_bound,
 )
 
@@ -22,6 +24,9 @@ Ran = namedtuple("Ran", "status out err")
 # What is told: its kind, a bound or what stands for it, the word times used, a fault, and of a run
 # whether `bound` or `ceiling` limits it.
 Told = namedtuple("Told", "kind bound used fault by", defaults=[None, None, None, None])
+
+# The commands that tell of the worst walk, line by line.
+WALKED = ["walk", "report", "waits"]
 
 # From so many word times on no trace goes by a ceiling.
 LONGEST = 2**50
@@ -61,6 +66,7 @@ def result_of(asked, status, text):
     kinds = {
         "report": ("report", lambda: reported_bound(text, files)),
         "walk": ("walk", lambda: walked_bound(text, files)),
+        "waits": ("waits", lambda: waited_bound(text)),
         "draw": ("picture", lambda: pictured_bound(text)),
         "ceiling": ("ceiling", lambda: ceiling_of(text, files)),
     }
@@ -102,9 +108,13 @@ def is_said_of_joined(files, bound, run):
     return files_of_joined(text, files["inputs"]) != files or run([], files, text) == bound
 
 
-def is_counted(walk, report, files):
-    """Whether a report is what its walk counts up to."""
-    return walk.status != DONE or report_of_walk(walk.out.decode(), files) == report.out.decode()
+def are_counted(walk, report, waits, files):
+    """Whether a report and the waits are what their walk counts up to."""
+    if walk.status != DONE:
+        return True
+    lines = walk.out.decode()
+    is_report = report_of_walk(lines, files) == report.out.decode()
+    return is_report and waits_of_walk(lines, files) == waits.out.decode()
 
 
 def is_within(told, bound, files):
@@ -158,10 +168,10 @@ def agrees(asked, ran, told, run):
         return ran == bound
     if command == "bound":
         return ends_alike(other("report"), ran) and is_said_of_joined(files, ran, run)
-    if command in ("report", "walk"):
-        walk, report = (other("walk"), ran) if command == "report" else (ran, other("report"))
-        is_one = ends_alike(walk, bound) and ends_alike(report, bound)
-        return is_one and is_counted(walk, report, files)
+    if command in WALKED:
+        walked = [ran if name == command else other(name) for name in WALKED]
+        is_one = all(ends_alike(one, bound) for one in walked)
+        return is_one and are_counted(*walked, files)
     if command == "ceiling":
         return is_no_lower(told, bound, files)
     if command == "draw":

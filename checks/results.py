@@ -1,6 +1,7 @@
-"""Whether a result has its form and its lines go together: a bound, a report, a walk, a picture, a
-ceiling, a verdict or a trace, of a deck, a timing table, notes and inputs that are accepted. Each
-function gives what the result tells, or None where it isn't as docs/FORMATS.md says."""
+"""Whether a result has its form and its lines go together: a bound, a report, a walk, its waits, a
+picture, a ceiling, a verdict or a trace, of a deck, a timing table, notes and inputs that are
+accepted. Each function gives what the result tells, or None where it isn't as docs/FORMATS.md
+says."""
 
 import functools
 import re
@@ -27,9 +28,14 @@ OTHER = re.compile("other " + SPENT)
 MARK = re.compile("mark {0} {0} passed {1} of {1}".format(PLACE, NUMBER))
 PRICED = re.compile("mark {0} {0} passes {1} price {1}".format(PLACE, NUMBER))
 SUMS = re.compile("base {0}\nceiling {0}\n".format(NUMBER))
+HOP = "%s ([0-9][0-9]) ([0-9]{4}) ([0-9]{4}) (?:to %s|(late)|(early))" % (PLACE, PLACE)
 VISIT = re.compile(
-    "{0} ([0-9][0-9]) ([0-9]{{4}}) ([0-9]{{4}}) (?:to {0}|(late)|(early)) "
-    "begun {1} found {1} ready {1}(?: data {1})? ended {1}".format(PLACE, NUMBER)
+    HOP + " begun {0} found {0} ready {0}(?: data {0})? ended {0}".format(NUMBER)
+)
+ANGLE = "([0-9]|[1-4][0-9])"
+WAIT = re.compile(
+    HOP + " visits {0} time {0} instruction {0} data {0} work {0}".format(NUMBER)
+    + "(?: data-at {0})?(?: next-at {0})?".format(ANGLE)
 )
 # The operations whose units a walk reckons at their most.
 COUNTING = (14, 19, 64)
@@ -244,6 +250,58 @@ def walked_bound(text, files):
             return None
         clock, place = moments[-1], number_of(visit.group(5))
     return clock if bound_of(last) == clock else None
+
+
+# Waits.
+
+
+def waited_bound(text):
+    """The bound that ends the waits, to which their times add up: each time is its three parts, the
+    dearest come first, and no kind comes twice."""
+    *lines, last = text.splitlines(keepends=True) or [""]
+    waits = [WAIT.fullmatch(line[:-1]) for line in lines]
+    if not all(waits):
+        return None
+    spent = [tuple(map(int, wait.group(8, 9, 10, 11, 12))) for wait in waits]
+    times = [time for _, time, *_ in spent]
+    are_parts = all(time == sum(parts) for _, time, *parts in spent)
+    are_apart = len({wait.group(*range(1, 8)) for wait in waits}) == len(waits)
+    in_order = are_apart and times == sorted(times, reverse=True)
+    bound = bound_of(last)
+    is_all = in_order and sum(times) == bound and all(is_spent(*one[:2]) for one in spent)
+    return bound if are_parts and is_all else None
+
+
+def angles_of(visit, angle):
+    """What the line of a kind of hops tells of angles, by the first of its visits: those at which
+    it would wait neither for its data nor for the next instruction."""
+    place, op, ready, data, ended = [number_of(visit.group(part)) for part in (1, 2, 10, 11, 12)]
+    text, is_on_drum = "", place < 2000
+    if is_on_drum and op in WAITS_FOR_DATA and data is not None:
+        text += " data-at %d" % ((angle + ready) % 50)
+    if is_on_drum and visit.group(5) is not None:
+        text += " next-at %d" % ((angle + ended) % 50)
+    return text
+
+
+def waits_of_walk(walk, files):
+    """The waits that are counted from the lines of a walk."""
+    *lines, last = walk.splitlines()
+    angle, kinds = start_of(files["deck"]) + 1, {}
+    for line in lines:
+        visit = VISIT.fullmatch(line)
+        begun, at, ready, data, ended = [number_of(visit.group(part)) for part in range(8, 13)]
+        kind = line.partition(" begun ")[0]
+        sums, angles = kinds.setdefault(kind, ([0, 0, 0, 0], angles_of(visit, angle)))
+        waited = 0 if data is None else data - ready
+        for part, spent in enumerate([1, ended - begun, at - begun, waited]):
+            sums[part] += spent
+    text = []
+    for kind, (sums, angles) in sorted(kinds.items(), key=lambda one: -one[1][0][1]):
+        visits, time, instruction, waited = sums
+        told = kind, visits, time, instruction, waited, time - instruction - waited, angles
+        text.append("%s visits %d time %d instruction %d data %d work %d%s" % told)
+    return "\n".join(text + [last]) + "\n"
 
 
 # Pictures.
