@@ -1,7 +1,7 @@
 """What a deck's longest walk spends its word times on, by the plain model (checks/model.py): its
-report, and where its word times go by instruction and way. Of the longest walks those are taken that
-arrive as late as any does wherever they come; where these don't all come to the same, there is
-none."""
+report, and where its word times go by instruction and way. Of the longest walks those are taken
+that arrive as late as any does wherever they come; where these don't all come to the same, there
+is none."""
 
 from collections import namedtuple
 
@@ -12,8 +12,8 @@ MANY = "more than one"
 # A hop of a walk with its moments, counted from a moment of angle 0 on; one that stops early has no
 # data.
 Hop = namedtuple("Hop", "place op d i way begun found ready data ended")
-# What the hops of one kind take in all, the moment at which the first of them begins, and the angles
-# at which that one would wait for nothing.
+# What the hops of one kind take in all, the moment at which the first of them begins, and the
+# angles at which that one would wait for nothing.
 Row = namedtuple("Row", "visits time instruction data begun data_at next_at")
 
 
