@@ -96,11 +96,11 @@ class Kinds:
 
 def angles_of(hop):
     """The angles at which a hop would wait neither for its data nor for the next instruction; None
-    where it waits for none, and beside the drum."""
+    where it waits for none, and where it or what it waits for is beside the drum."""
     is_on_drum, goes_on = hop.place < 2000, hop.way not in ("early", "late")
-    waits_for_data = hop.op in WAITS_FOR_DATA and hop.data is not None
+    waits_for_data = hop.op in WAITS_FOR_DATA and hop.data is not None and hop.d < 2000
     data_at = hop.ready % 50 if is_on_drum and waits_for_data else None
-    return data_at, hop.ended % 50 if is_on_drum and goes_on else None
+    return data_at, hop.ended % 50 if is_on_drum and goes_on and hop.way < 2000 else None
 
 
 def row_line(kind, row):

@@ -275,11 +275,12 @@ def waited_bound(text):
 def angles_of(visit, angle):
     """What the line of a kind of hops tells of angles, by the first of its visits: those at which
     it would wait neither for its data nor for the next instruction."""
-    place, op, ready, data, ended = [number_of(visit.group(part)) for part in (1, 2, 10, 11, 12)]
+    parts = (1, 2, 3, 5, 10, 11, 12)
+    place, op, d, onto, ready, data, ended = [number_of(visit.group(part)) for part in parts]
     text, is_on_drum = "", place < 2000
-    if is_on_drum and op in WAITS_FOR_DATA and data is not None:
+    if is_on_drum and op in WAITS_FOR_DATA and data is not None and d < 2000:
         text += " data-at %d" % ((angle + ready) % 50)
-    if is_on_drum and visit.group(5) is not None:
+    if is_on_drum and onto is not None and onto < 2000:
         text += " next-at %d" % ((angle + ended) % 50)
     return text
 

@@ -1,5 +1,5 @@
 -- The lines of waits evaluated, with answers that were worked out apart from the definitions.
-use Rattle.std.proofs.Common.{◌≡◌, false, List, [], ◌∷◌, ◌++◌, refl, lit≤}
+use Rattle.std.proofs.Common.{◌≡◌, false, [], ◌∷◌, ◌++◌, refl, lit≤}
 use Rattle.std.specs.Prelude.{codes}
 use Rattle.std.specs.Fmt.{digits}
 use Rattle.drum_core.specs.declared.op.Op.{Op}
