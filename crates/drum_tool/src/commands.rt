@@ -120,7 +120,7 @@ fn waits<S: Source>(
     ensures asked { AsksFor (S.asked source.old) (S.asked source.new)
         (Looks (named_in files.entry) (fault_in result)) }
 {
-    let (documents, analysis) = analysis(alloc, source, files)?;
+    let (documents, analysis): (Documents, Analysis) = analysis(alloc, source, files)?;
     match Waits::of(alloc, &analysis, &documents.times) {
         Ok(waits) => Ok((documents, analysis, waits)),
         Err(_) => Err(Fault::Refused(Refusal::Memory)),
