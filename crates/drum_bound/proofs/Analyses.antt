@@ -31,7 +31,7 @@ use Rattle.drum_bound.proofs.ShortWalks.{short_walk}
 use Rattle.drum_bound.specs.ScanOf.{AreCells, IsDone, setting_in}
 use Rattle.drum_bound.specs.Scanned.{Scanned, turns_below}
 use Rattle.drum_bound.specs.Table.{start_angle, Row, IsTable}
-use Rattle.drum_bound.specs.Visited.{Visited, IsWalkOf}
+use Rattle.drum_bound.specs.Visited.{AreLongest, Visited, IsWalkOf}
 use Rattle.drum_bound.specs.Worst.{IsWorst}
 use Rattle.drum_bound.specs.Held.{kept_in}
 use Rattle.drum_bound.proofs.Worsts.{is_worst}
@@ -47,16 +47,19 @@ pub record IsFound (keys : Keys) (times : Times) (cells : Cells) (visits : List 
       (keys_of (setting_of keys.accepted.now times).notes.marks (in_order keys.accepted.now))
   pub walk : IsWalkOf (setting_of keys.accepted.now times) (start_angle (setting_of keys.accepted.now times).start)
       (cells.last.clock - start_angle (setting_of keys.accepted.now times).start) visits
+  pub longest : AreLongest (setting_of keys.accepted.now times) (start_angle (setting_of keys.accepted.now times).start)
+      visits
 
 -- They are of the keys and the timing table that the scan was given.
 pub is_found : (keys : Keys) (times : Times) (scan : Scan) (visits : List Visited) → scan.keys.now ≡ keys
     → scan.times.now ≡ times → IsDone scan
     → IsWalkOf (setting_in scan) (start_angle (setting_in scan).start)
     (scan.cells.last.clock - start_angle (setting_in scan).start) visits
+    → AreLongest (setting_in scan) (start_angle (setting_in scan).start) visits
     → IsFound keys times scan.cells visits
-is_found keys times scan visits same_keys same_times done walk =
+is_found keys times scan visits same_keys same_times done walk longest =
     let own : IsFound scan.keys.now scan.times.now scan.cells visits =
-    record { are = done.cells; scanned = done.scanned; turns = done.turns; walk = walk } in
+    record { are = done.cells; scanned = done.scanned; turns = done.turns; walk = walk; longest = longest } in
     subst (λ (one : Times). IsFound keys one scan.cells visits) same_times
     (subst (λ (one : Keys). IsFound one scan.times.now scan.cells visits) same_keys own)
 
@@ -80,9 +83,10 @@ pub is_analysis : (g : Setting) (order : List ℕ) (analysis : Analysis) → IsO
     analysis.cells.last
     → analysis.cells.made ≡ turns_below g order (kept_in analysis.cells) (keys_of g.notes.marks order)
     → IsWalkOf g (start_angle g.start) (analysis.cells.last.clock - start_angle g.start) (visits_of analysis)
+    → AreLongest g (start_angle g.start) (visits_of analysis)
     → ArePasses g.notes.marks (visits_of analysis) (passed_of analysis)
     → IsAnalysis g analysis
-is_analysis g order analysis ordered starts are s made walk passed =
+is_analysis g order analysis ordered starts are s made walk longest passed =
     let cells : Cells = analysis.cells in
     let last : Latest = cells.last in
     let size : ℕ = keys_of g.notes.marks order in
@@ -108,6 +112,7 @@ is_analysis g order analysis ordered starts are s made walk passed =
       worst = subst (IsWorst g) (sym bound) (is_worst g order (kept_in cells) last ordered starts s);
       walk = subst (λ (angle : ℕ). IsWalkOf g angle (bound_of analysis) (visits_of analysis)) (sym are.angle)
           (subst (λ (n : ℕ). IsWalkOf g (start_angle g.start) n (visits_of analysis)) (sym bound) walk);
+      longest = subst (λ (angle : ℕ). AreLongest g angle (visits_of analysis)) (sym are.angle) longest;
       table = table;
       few = few;
       fifty = fifty (words_of analysis) (counts_in_all analysis) (length rows) few;

@@ -16,9 +16,10 @@ use Rattle.drum_flow.proofs.LongestLaws.{longest_later}
 use Rattle.drum_bound.specs.Scanned.{cell_at, IsKeyHop, IsEndOf, IsBackedBy, IsLastBy, Scanned}
 use Rattle.drum_bound.specs.Table.{start_angle}
 use Rattle.drum_bound.specs.AnalysisOf.{ArePasses}
-use Rattle.drum_bound.specs.Visited.{Visited, visited, passes_in, seen_visit, IsWalkOf}
+use Rattle.drum_bound.specs.Visited.{AreLongest, IsLongest, Visited, visited, passes_in, seen_visit, IsWalkOf}
+use Rattle.drum_flow.specs.Longest.{longest}
 use Rattle.drum_bound.specs.TakenOf.{taken_of}
-use Rattle.drum_bound.proofs.Walked.{hop_before, hop_last}
+use Rattle.drum_bound.proofs.Walked.{hop_before, hop_last, not_before}
 
 -- These hops are a walk from what is kept at a key on, up to the latest of all.
 pub record IsFollowed (g : Setting) (order : List ℕ) (cells : List (Option Latest)) (last end : Latest)
@@ -34,6 +35,7 @@ pub record IsTraced (g : Setting) (order : List ℕ) (cells : List (Option Lates
     (visits : List Visit) : Type 0 where
   pub hops : List Taken
   pub same : map visited hops ≡ map seen_visit (reverse visits)
+  pub longest : AreLongest g (start_angle g.start) (map visited hops)
   pub from : ((end ≡ last) × (hops ≡ [])) ⊎ IsFollowed g order cells last end hops
 
 -- one more than the key that an end comes from, if there is one
@@ -160,6 +162,29 @@ module _ (g : Setting) (order : List ℕ) (cells : List (Option Latest)) (last :
         },
       )
 
+  -- It takes as long as it can.
+  longest_more : (end begin : Latest) (visits : List Visit) (origin : KeyHop) (hop : Hop)
+      → IsTraced g order cells last end visits → end.origin ≡ Some origin → cell_at cells origin.key ≡ Some begin
+      → IsKeyHop g order origin hop
+      → IsLongest g (start_angle g.start) (visited (taken_of g order origin.key hop (begin.clock - start_angle g.start)
+      (end.clock - start_angle g.start)))
+  longest_more end begin visits origin hop t from there is =
+      let angle : ℕ = start_angle g.start in
+      let place : ℕ = place_at order origin.key in
+      let e = origin_kept end visits origin t from in
+      let after : angle ≤ begin.clock = not_before g order cells last ordered starts s origin.key begin there in
+      let later : begin.clock ≤ end.clock = begins_before end visits origin begin t from there in
+      let back : angle + (end.clock - angle) ≡ end.clock = omega (arith, after, later) in
+      let begun : angle + (begin.clock - angle) ≡ begin.clock = omega (arith, after) in
+      back ∙ e.end
+      ∙ ap (λ (one : Hop). longest g.times place one.ins one.way e.kept.clock) (same_hop e.hop hop (sym e.is ∙ is))
+      ∙ ap (λ (kept : Latest). longest g.times place hop.ins hop.way kept.clock)
+      (same_kept origin.key e.kept begin e.there there)
+      ∙ ap (longest g.times place hop.ins hop.way) (sym begun)
+    where
+      same_hop : (a b : Hop) → Some a ≡ Some b → a ≡ b
+      same_hop a b same = cc
+
   -- One more hop is followed back.
   pub trace_more : (end begin : Latest) (visits : List Visit) (origin : KeyHop) (visit : Visit)
       → IsTraced g order cells last end visits
@@ -175,6 +200,7 @@ module _ (g : Setting) (order : List ℕ) (cells : List (Option Latest)) (last :
       record {
         hops = hop ∷ t.hops;
         same = visits_more hop t.hops visits visit t.same (is more.0 more.1);
+        longest = (longest_more end begin visits origin more.0 t from there more.1, t.longest);
         from = inr more.2;
       }
 
@@ -222,6 +248,11 @@ module _ (g : Setting) (order : List ℕ) (cells : List (Option Latest)) (last :
         },
         ap (λ (time : ℕ). time_from time hops) (sym nothing) ∙ is.time,
       )
+
+  -- So do all hops that were followed back.
+  pub trace_longest : (end : Latest) (visits : List Visit) → IsTraced g order cells last end visits
+      → AreLongest g (start_angle g.start) (map seen_visit (reverse visits))
+  trace_longest end visits t = subst (AreLongest g (start_angle g.start)) t.same t.longest
 
   -- Followed back to the start, it is a walk.
   pub trace_whole : (end : Latest) (visits : List Visit) → IsTraced g order cells last end visits → end.origin ≡ None

@@ -23,7 +23,7 @@ use Rattle.drum_bound.specs.Ends.{HopEnd, AreEnds, AreRaised}
 use Rattle.drum_bound.specs.RowOf.{row_in}
 use Rattle.drum_bound.specs.Table.{Row, IsTable}
 use Rattle.drum_bound.specs.Under.{ArriveUnder}
-use Rattle.drum_bound.specs.Visited.{Visited, AreInTime, IsWalkOf, passes_in, seen_visit}
+use Rattle.drum_bound.specs.Visited.{Visited, AreInTime, AreLongest, IsWalkOf, passes_in, seen_visit}
 use Rattle.drum_bound.specs.Worst.{IsWorst}
 
 -- the bound, in word times
@@ -77,6 +77,8 @@ pub record IsAnalysis (g : Setting) (analysis : Analysis) : Type 0 where
   -- the bound is the time of some walk, and none passes it; the walk that is handed out has it
   pub worst : IsWorst g (bound_of analysis)
   pub walk : IsWalkOf g (angle_of analysis) (bound_of analysis) (visits_of analysis)
+  -- each of its hops for as long as it can take
+  pub longest : AreLongest g (angle_of analysis) (visits_of analysis)
   -- the table has an entry for each location and counts that some walk arrives at, and these are
   -- few; so is each walk short
   pub table : IsTable g (rows_of analysis)

@@ -4,6 +4,7 @@ use Rattle.drum_core.specs.declared.instruction.Instruction.{Instruction}
 use Rattle.drum_times.specs.declared.notes.mark.Mark.{Mark}
 use Rattle.drum_machine.specs.Ways.{Way}
 use Rattle.drum_machine.specs.WaysLeft.{seen_way}
+use Rattle.drum_flow.specs.Longest.{longest}
 use Rattle.drum_flow.specs.Walk.{Setting, Taken, IsWalk, time_of, passes_by}
 use Rattle.drum_bound.specs.declared.visit.Visit.{Visit}
 
@@ -42,6 +43,16 @@ abbrev pub AreInTime : ℕ → List Visited → ℕ → Type 0
 AreInTime time [] used = time ≡ used
 AreInTime time (visit ∷ visits) used =
     (visit.begun ≡ time) × (time ≤ visit.ended) × AreInTime visit.ended visits used
+
+-- A hop takes as long as it can: with the most units, and the longest wait.
+abbrev pub IsLongest : Setting → ℕ → Visited → Type 0
+IsLongest g angle hop =
+    angle + hop.ended ≡ longest g.times hop.place hop.ins hop.way (angle + hop.begun)
+
+-- so does each
+abbrev pub AreLongest : Setting → ℕ → List Visited → Type 0
+AreLongest g angle [] = Unit {0}
+AreLongest g angle (visit ∷ visits) = IsLongest g angle visit × AreLongest g angle visits
 
 -- how often hops pass a mark, whatever it stands inside of
 abbrev pub passes_in : Mark → List Visited → ℕ

@@ -80,7 +80,7 @@ fn bound_from<L: Ledger>(
 
 /// The bound of a deck with its timing table and notes, in word times, below 2^50: no run that
 /// keeps to the notes ever uses more, and some walk uses just as many. It is the bound of
-/// [`analyse`](crate::analyse), and wants two thirds of the memory, since no walk is made.
+/// [`analyse`](crate::analyse), and no walk is made.
 ///
 /// # Errors
 ///

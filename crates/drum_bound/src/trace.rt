@@ -10,7 +10,7 @@ ghost use Rattle.drum_bound.specs.KeysOf.{marks_in};
 ghost use Rattle.drum_bound.specs.ScanOf.{IsDone, order_of, setting_in, size_in};
 ghost use Rattle.drum_bound.specs.Scanned.{cell_at, IsEndOf, IsKeyHop};
 ghost use Rattle.drum_bound.specs.Table.{start_angle};
-ghost use Rattle.drum_bound.specs.Visited.{IsWalkOf, seen_visit, visited};
+ghost use Rattle.drum_bound.specs.Visited.{AreLongest, IsWalkOf, seen_visit, visited};
 ghost use Rattle.drum_bound.specs.TakenOf.{taken_of};
 
 use crate::key_hop::KeyHop;
@@ -79,6 +79,8 @@ impl Scan<'_> {
         ensures walk { let angle = start_angle (setting_in self.now).start in
             IfOk result (λ trace. IsWalkOf (setting_in self.now) angle
             (self.now.cells.last.clock - angle) (map seen_visit trace.visits.items)) }
+        ensures longest { IfOk result (λ trace. AreLongest (setting_in self.now)
+            (start_angle (setting_in self.now).start) (map seen_visit trace.visits.items)) }
         ensures passed { IfOk result (λ trace. ArePasses (marks_in self.now.keys.now)
             (map seen_visit trace.visits.items) trace.passed) }
     {

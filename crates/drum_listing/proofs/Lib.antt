@@ -2,6 +2,7 @@ pub mod AddingUp
 mod Checks
 pub mod DataAngles
 pub mod Lines
+pub mod NextAngles
 pub mod OneListing
 pub mod SameKinds
 pub mod Turns

@@ -39,7 +39,7 @@ acting way None d = None
 acting way (Some op) d =
     if is_early way || not (is_operand (operand_of op) d) then None else Some op
 
--- so many words of the drum, from a location on
+-- a location, and so many words of the drum from there on
 abbrev pub words_text : List Word → ℕ → ℕ → List ℕ
 words_text drum at count = digits_of 4 at ++ spaced (slice_range drum at (at + count))
 

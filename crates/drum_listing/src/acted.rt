@@ -49,7 +49,7 @@ fn send_spaced<O: Output>(writer: &mut O, sent: usize, words: &[Word]) -> Result
     Ok(total)
 }
 
-/// Writes a name, and so many words of the drum from a location on.
+/// Writes a name, a location, and so many words of the drum from there on.
 fn send_words<O: Output>(
     writer: &mut O,
     sent: usize,

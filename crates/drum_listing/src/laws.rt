@@ -1,11 +1,12 @@
 //! Laws of the definitions, each the contract of a function that does nothing.
 
-ghost use Rattle.std.specs.Prelude.{◌≡◌, ℕ, ◌+◌, ◌≤◌, true, List, sum_by};
+ghost use Rattle.std.specs.Prelude.{◌≡◌, ℕ, ◌+◌, ◌≤◌, true, List, Some, sum_by};
 ghost use Rattle.drum_core.specs.declared.op.Op.{Op};
+ghost use Rattle.drum_core.specs.Op.{op_of};
 ghost use Rattle.drum_times.specs.declared.entry.Entry.{Entry};
 ghost use Rattle.drum_flow.specs.Walk.{Setting};
-ghost use Rattle.drum_bound.specs.Visited.{IsWalkOf, Visited};
-ghost use Rattle.drum_listing.specs.Waits.{AreDearestFirst, alike, data_at, for_data, for_instruction, is_alike, time_alike};
+ghost use Rattle.drum_bound.specs.Visited.{IsLongest, IsWalkOf, Visited};
+ghost use Rattle.drum_listing.specs.Waits.{AreDearestFirst, alike, data_at, for_data, for_instruction, is_alike, next_at, time_alike};
 
 /// The times of all kinds of a walk add up to the time of the walk, and what the hops of a kind
 /// wait is part of their time: so the columns of a line add up.
@@ -31,4 +32,12 @@ pub fn waits_are_one()
 pub fn data_angles_are_one()
     ensures { (times : Op → Entry) (angle : ℕ) (a b : Visited)
         → is_alike a b ≡ true → data_at times angle a ≡ data_at times angle b }
+{}
+
+/// The angle at which the next instruction would come just when it is sought is the same for all
+/// hops of a kind, where each takes as long as it can, as those of an analysis's walk do.
+pub fn next_angles_are_one()
+    ensures { (g : Setting) (angle : ℕ) (a b : Visited) (op : Op)
+        → IsLongest g angle a → IsLongest g angle b → is_alike a b ≡ true
+        → op_of a.ins.op ≡ Some op → next_at angle a ≡ next_at angle b }
 {}

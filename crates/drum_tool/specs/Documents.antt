@@ -15,7 +15,7 @@ use Rattle.drum_flow.specs.Accepted.{IsTooLarge}
 use Rattle.drum_flow.specs.Walk.{Setting}
 use Rattle.drum_flow.specs.SettingOf.{setting}
 use Rattle.drum_bound.specs.BoundOf as of_setting
-use Rattle.drum_bound.specs.Visited.{Visited, IsWalkOf}
+use Rattle.drum_bound.specs.Visited.{AreLongest, Visited, IsWalkOf}
 use Rattle.drum_ceiling.specs.declared.answer.Ceiling.{Ceiling}
 use Rattle.drum_ceiling.specs.CeilingOf.{IsCeilingOf, IsCeilingRefusal, IsRefusedFrom, total_of}
 use Rattle.drum_tool.specs.declared.documents.Documents.{Documents}
@@ -32,9 +32,10 @@ setting_of documents = setting documents.deck documents.times documents.notes
 abbrev pub IsBound : Documents → ℕ → Type 0
 IsBound documents bound = of_setting.IsBound (setting_of documents) bound
 
--- a walk of this time, from this angle
+-- a walk of this time, from this angle, each of whose hops takes as long as it can
 abbrev pub IsWorstWalk : Documents → ℕ → ℕ → List Visited → Type 0
-IsWorstWalk documents bound angle walk = IsWalkOf (setting_of documents) angle bound walk
+IsWorstWalk documents bound angle walk =
+    IsWalkOf (setting_of documents) angle bound walk × AreLongest (setting_of documents) angle walk
 
 -- a ceiling of theirs, each number of which is right: no walk takes more than its total, and no run
 -- that keeps to the notes ever uses more

@@ -99,6 +99,18 @@ fn bound<S: Source>(
     Ok((documents, bound))
 }
 
+/// Where the word times of the walk of an analysis go.
+fn rows(alloc: Global, documents: &Documents, analysis: &Analysis) -> Result<Waits, Fault>
+    ensures waits { IfOk result (AreWaits (entry_in documents.now.times) (angle_of analysis.now)
+        (visits_of analysis.now)) }
+    ensures wanting { IfErr result (λ fault. fault ≡ Fault.Refused Refusal.Memory) }
+{
+    match Waits::of(alloc, analysis, &documents.times) {
+        Ok(waits) => Ok(waits),
+        Err(_) => Err(Fault::Refused(Refusal::Memory)),
+    }
+}
+
 /// The documents in files, their analysis, and where the word times of its walk go.
 fn waits<S: Source>(
     alloc: Global,
@@ -121,10 +133,8 @@ fn waits<S: Source>(
         (Looks (named_in files.entry) (fault_in result)) }
 {
     let (documents, analysis): (Documents, Analysis) = analysis(alloc, source, files)?;
-    match Waits::of(alloc, &analysis, &documents.times) {
-        Ok(waits) => Ok((documents, analysis, waits)),
-        Err(_) => Err(Fault::Refused(Refusal::Memory)),
-    }
+    let waits = rows(alloc, &documents, &analysis)?;
+    Ok((documents, analysis, waits))
 }
 
 /// The documents in files, and their ceiling.

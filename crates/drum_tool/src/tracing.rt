@@ -101,8 +101,7 @@ pub fn begin_trace(alloc: Global, documents: &Documents, inputs: Inputs) -> Resu
 ///
 /// # Errors
 ///
-/// Where a write fails: then a prefix of the lines has gone out, and the run is followed no
-/// further.
+/// Where a write fails: then a prefix of the lines has gone out.
 pub fn trace<O: Output>(
     documents: &Documents,
     begun: Begun,

@@ -20,8 +20,8 @@ use drum_machine::chain::waits_for_operand;
 use drum_times::Times;
 use itoa::Buffer;
 
-/// The angle at which D would come just when it is wanted, where the operation of the hop waits for
-/// it, and both the instruction and D are on the drum.
+/// The angle at which D would come just when it is wanted, where the hop waits for it and has it,
+/// and both its instruction and D are on the drum.
 fn data_at(told: &Told, moments: &Moments, angle: u8) -> Option<u64>
     ensures { let ins = told.now.instruction in
         result ≡ on_drum ins.d (on_drum told.now.place.number

@@ -14,7 +14,7 @@ use Rattle.drum_bound.specs.KeysOf.{marks_in, setting_of}
 use Rattle.drum_bound.specs.ScanOf.{AreCells}
 use Rattle.drum_bound.specs.Scanned.{turns_below, Scanned}
 use Rattle.drum_bound.specs.Table.{start_angle}
-use Rattle.drum_bound.specs.Visited.{AreInTime, IsWalkOf, Visited, seen_visit, visited}
+use Rattle.drum_bound.specs.Visited.{AreInTime, AreLongest, IsWalkOf, Visited, seen_visit, visited}
 use Rattle.drum_bound.proofs.Analyses.{IsFound, is_found, is_analysis, last_after}
 use Rattle.drum_bound.proofs.InTime.{walk_in_time}
 use Rattle.drum_bound.proofs.ShortWalks.{short_walk}
@@ -33,7 +33,7 @@ of-requires-2 v c =
     let visits = map seen_visit c.in_ok-trace.trace.visits.items in
     let is : IsFound keys times cells visits =
     is_found keys times c.in_ok-scan.scan visits c.in_ok-scan.ensures.keys c.in_ok-scan.ensures.times
-    c.in_ok-scan.ensures.done c.in_ok-trace.ensures.walk in
+    c.in_ok-scan.ensures.done c.in_ok-trace.ensures.walk c.in_ok-trace.ensures.longest in
     let g = setting_of keys.accepted.now times in
     record {
       in_time = subst (AreInTime 0 visits) (sym (bound keys times cells visits is))
@@ -60,7 +60,7 @@ returns-clause-is v c =
     let order = in_order keys.accepted.now in
     let is : IsFound keys times cells visits =
     is_found keys times c.in_ok-scan.scan visits c.in_ok-scan.ensures.keys c.in_ok-scan.ensures.times
-    c.in_ok-scan.ensures.done c.in_ok-trace.ensures.walk in
+    c.in_ok-scan.ensures.done c.in_ok-trace.ensures.walk c.in_ok-trace.ensures.longest in
     let analysis : Analysis = c.of-2.result in
     let own : ArePasses g.notes.marks visits c.in_ok-trace.trace.passed =
     subst (λ (one : Keys). ArePasses (marks_in one) visits c.in_ok-trace.trace.passed) c.in_ok-scan.ensures.keys
@@ -79,6 +79,7 @@ returns-clause-is v c =
     IsWalkOf g (start_angle g.start) (all.last.clock - start_angle g.start)
     (map seen_visit c.of-2.result.walk.items)) (sym same)
     (subst (IsWalkOf g (start_angle g.start) (cells.last.clock - start_angle g.start)) (sym walked) is.walk))
+    (subst (AreLongest g (start_angle g.start)) (sym walked) is.longest)
     (subst (λ (all : List Visited). ArePasses g.notes.marks all c.of-2.result.passed) (sym walked)
     (subst (λ (all : List ℕ). ArePasses g.notes.marks visits all) (sym c.of-2.ensures.passed) own))
 
@@ -87,7 +88,7 @@ returns-clause-words v c =
     let is : IsFound c.args.keys.now c.args.times.now c.in_ok-scan.scan.cells
     (map seen_visit c.in_ok-trace.trace.visits.items) =
     is_found c.args.keys.now c.args.times.now c.in_ok-scan.scan (map seen_visit c.in_ok-trace.trace.visits.items)
-    c.in_ok-scan.ensures.keys c.in_ok-scan.ensures.times c.in_ok-scan.ensures.done c.in_ok-trace.ensures.walk in
+    c.in_ok-scan.ensures.keys c.in_ok-scan.ensures.times c.in_ok-scan.ensures.done c.in_ok-trace.ensures.walk c.in_ok-trace.ensures.longest in
     ap (λ (cells : Cells). cells.words) c.of-2.ensures.cells ∙ is.are.words
 
 pub returns-clause-counted : goal.returns-clause-counted

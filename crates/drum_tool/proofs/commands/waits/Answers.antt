@@ -1,5 +1,8 @@
-use Rattle.std.proofs.Common.{inr}
+use Rattle.std.proofs.Common.{inr, subst, sym}
 use Rattle.std.proofs.lemmas.Result.{err_from_is_err_and}
+use Rattle.drum_tool.specs.Asked.{named_in}
+use Rattle.drum_tool.specs.Documents.{IsAnalysisFault}
+use Rattle.drum_tool.proofs.Asking.{analysis_of_none, of_none}
 use Rattle.drum_tool.proofs.commands.waits.Goals as goal
 
 pub returns-in_err-documents-clause-fault : goal.returns-in_err-documents-clause-fault
@@ -7,11 +10,25 @@ returns-in_err-documents-clause-fault g c =
     let p = err_from_is_err_and c.from_residual.result c.from_residual.ensures.1 in
     rw (p.1, p.2) (λ held told. c.in_err-documents.ensures.fault held told)
 
+pub returns-in_err-waits-clause-fault : goal.returns-in_err-waits-clause-fault
+returns-in_err-waits-clause-fault g c =
+    let p = err_from_is_err_and c.from_residual-in_err-waits.result c.from_residual-in_err-waits.ensures.1 in
+    rw (p.1, p.2) (λ held told. inr (
+      c.in_ok-documents.documents,
+      c.in_ok-documents.ensures.held held told,
+      subst (IsAnalysisFault c.in_ok-documents.documents) (sym c.in_err-waits.ensures.wanting) tt,
+    ))
+
 pub returns-in_err-documents-clause-asked : goal.returns-in_err-documents-clause-asked
 returns-in_err-documents-clause-asked g c =
     let p = err_from_is_err_and c.from_residual.result c.from_residual.ensures.1 in
     rw (p.1, p.2) c.in_err-documents.ensures.asked
 
-pub returns-in-Err-clause-fault : goal.returns-in-Err-clause-fault
-returns-in-Err-clause-fault g c held told =
-    inr (c.in_ok-documents.documents, c.in_ok-documents.ensures.held held told, tt)
+pub returns-in_err-waits-clause-asked : goal.returns-in_err-waits-clause-asked
+returns-in_err-waits-clause-asked g c =
+    let p = err_from_is_err_and c.from_residual-in_err-waits.result c.from_residual-in_err-waits.ensures.1 in
+    rw (p.1, p.2) (of_none (named_in c.args.files) (g.S.Source.asked c.args.source.now)
+    (g.S.Source.asked c.analysis.new.source) c.in_err-waits.field-0.0
+    (analysis_of_none c.in_ok-documents.documents c.in_err-waits.field-0.0
+    (subst (IsAnalysisFault c.in_ok-documents.documents) (sym c.in_err-waits.ensures.wanting) tt))
+    c.in_ok-documents.ensures.asked)
