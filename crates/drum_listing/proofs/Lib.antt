@@ -1,6 +1,7 @@
 pub mod AddingUp
 mod Checks
 pub mod DataAngles
+pub mod Gathers
 pub mod Lines
 pub mod NextAngles
 pub mod OneListing

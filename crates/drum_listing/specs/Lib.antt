@@ -1,6 +1,7 @@
 pub mod HeldText
 pub mod Moments
 pub mod MomentsText
+pub mod Page
 pub mod Pieces
 pub mod Told
 pub mod TraceText

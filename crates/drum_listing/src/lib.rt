@@ -7,6 +7,7 @@ mod hop_text;
 pub mod laws;
 mod moments;
 mod moments_text;
+mod page;
 mod registers_text;
 mod step_line;
 mod told;

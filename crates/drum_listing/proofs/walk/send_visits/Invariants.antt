@@ -1,18 +1,22 @@
-use Rattle.std.proofs.Common.{◌≡◌, ◌+◌, ◌*◌, ◌≤◌, flat_map, take, Ok}
+use Rattle.std.proofs.Common.{◌≡◌, ◌+◌, ◌*◌, ◌≤◌, List, ℕ, ◌++◌, flat_map, length, take, Ok}
 use Rattle.drum_times.specs.Entries.{entry_in}
 use Rattle.drum_bound.specs.declared.visit.Visit.{Visit}
 use Rattle.drum_bound.specs.Visited.{seen_visit}
 use Rattle.drum_lines.specs.Sent.{IsSent}
+use Rattle.drum_listing.specs.Page.{text_of}
 use Rattle.drum_listing.specs.WalkText.{visit_line}
 use Rattle.drum_listing.proofs.walk.send_visits.Given as goal
 
--- the lines so far have gone out
+-- the lines so far have gone out, but for those that are gathered
 abbrev pub invariant-loop-visit : goal.invariant-loop-visit
 invariant-loop-visit g l = record {
-  so_far : IsSent (g.O.Output.written l.fn.writer) (g.O.Output.written l.writer) 0 (Ok l.sent)
-      (flat_map (λ (visit : Visit). visit_line (entry_in l.times) l.angle (seen_visit visit))
-      (take l.visit-index l.walk));
-  few : l.sent ≤ 200 * l.visit-index;
-  calls : g.O.Output.called l.writer ≤ g.O.Output.called l.fn.writer + 200 * l.visit-index;
+  gone : List ℕ;
+  so_far : IsSent (g.O.Output.written l.fn.writer) (g.O.Output.written l.writer) 0 (Ok l.sent) gone;
+  lines : gone ++ text_of l.page
+      ≡ flat_map (λ (visit : Visit). visit_line (entry_in l.times) l.angle (seen_visit visit)) (take l.visit-index l.walk);
+  few : l.sent + length (text_of l.page) ≤ 200 * l.visit-index;
+  calls : g.O.Output.called l.writer + length (text_of l.page)
+      ≤ g.O.Output.called l.fn.writer + 200 * l.visit-index;
+  gathered : l.page.calls ≤ 200 * l.visit-index;
   failures : g.O.Output.failed l.writer ≡ g.O.Output.failed l.fn.writer;
 }
