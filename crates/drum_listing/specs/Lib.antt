@@ -3,6 +3,7 @@ pub mod Moments
 pub mod MomentsText
 pub mod Page
 pub mod Pieces
+pub mod StepOf
 pub mod Told
 pub mod TraceText
 pub mod Waits

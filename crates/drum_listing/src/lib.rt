@@ -10,13 +10,15 @@ mod moments_text;
 mod page;
 mod registers_text;
 mod step_line;
+mod step_page;
 mod told;
 mod visit_line;
 mod waits;
 mod walk;
 
 pub use moments::Moments;
-pub use step_line::send_step;
+pub use page::Page;
+pub use step_page::pass_step;
 pub use told::Told;
 pub use waits::{Waits, list_waits};
 pub use walk::list_walk;

@@ -25,13 +25,13 @@ use crate::following::Following;
 use crate::replaying::{Begun, begin};
 use drum_core::{Deck, Output};
 use drum_inputs::Inputs;
-use drum_lines::{Fault, Verdict, WriteFault};
-use drum_listing::send_step;
+use drum_lines::{Fault, Verdict, WriteFault, send};
+use drum_listing::{Page, pass_step};
 use drum_times::{Notes, Times};
 use std::alloc::Global;
 
-/// Follows a run and writes a line for each of its steps, up to the one with which it leaves the
-/// notes or stops, and tells the verdict.
+/// Follows a run and writes a line for each of its steps, many at a time, up to the one with which
+/// it leaves the notes or stops, and tells the verdict.
 fn send_steps<O: Output>(
     deck: &Deck,
     times: &Times,
@@ -60,12 +60,16 @@ fn send_steps<O: Output>(
     ensures calls { O.called out.new ≤ O.called out.old + 2 ^ 60 }
 {
     let mut sent = 0;
+    let mut page = Page::new();
     loop {
         let before = following.used();
         let (step, verdict) = following.advance(deck, times, notes, most);
         let (number, machine) = (following.steps, &following.machine);
-        sent = send_step(out, sent, times, angle, number, before, &step, machine)?;
+        sent = pass_step(
+            out, sent, &mut page, times, angle, number, before, &step, machine,
+        )?;
         if let Some(verdict) = verdict {
+            send(out, sent, &[page.bytes()])?;
             return Ok(verdict);
         }
     }

@@ -1,26 +1,10 @@
-use Rattle.std.proofs.Common.{◌≡◌, ℕ, List, [], ◌++◌, Option, Result, Ok, Err, ap, ◌∙◌, subst}
-use Rattle.std.proofs.lemmas.List.{append-nil}
-use Rattle.std.specs.Prelude.{OnOk}
+use Rattle.std.proofs.Common.{List, ℕ, ◌++◌, ap, subst}
 use Rattle.drum_times.specs.Entries.{entry_in}
 use Rattle.drum_bound.specs.Visited.{seen_visit}
-use Rattle.drum_lines.specs.declared.failed_write.WriteFault.{WriteFault}
-use Rattle.drum_lines.specs.Sent.{IsSent}
-use Rattle.drum_lines.proofs.Sending.{IsSent-then}
 use Rattle.drum_listing.specs.Page.{HasPassed, text_of}
 use Rattle.drum_listing.specs.WalkText.{visit_line}
+use Rattle.drum_listing.proofs.Gathers.{passed}
 use Rattle.drum_listing.proofs.walk.pass_visit.Goals as goal
-
--- what was held has gone out, and the line behind it
-passed : (begun between new : Option (List ℕ)) (sent : ℕ) (result : Result ℕ WriteFault) (gone more held : List ℕ)
-    → IsSent begun between 0 (Ok sent) gone → IsSent between new sent result more → OnOk result (held ≡ [])
-    → HasPassed begun new result (gone ++ more) held
-passed begun between new sent (Ok total) gone more held p q none = (
-  gone ++ more,
-  IsSent-then begun between new 0 sent (Ok total) gone more p q,
-  ap (λ (xs : List ℕ). (gone ++ more) ++ xs) none ∙ append-nil (gone ++ more),
-)
-passed begun between new sent (Err fault) gone more held p q none =
-    IsSent-then begun between new 0 sent (Err fault) gone more p q
 
 pub returns-then-gather_visit-clause-sent : goal.returns-then-gather_visit-clause-sent
 returns-then-gather_visit-clause-sent g c begun gone so_far =

@@ -1,0 +1,128 @@
+//! The lines of steps, of which many go out at once.
+
+ghost use Rattle.std.specs.Prelude.{◌≡◌, ◌+◌, ◌^◌, ◌≤◌, ◌++◌, [], ℕ, true, false, List, Option, Ok, IfOk, OnOk, length};
+ghost use Rattle.drum_times.specs.Entries.{entry_in};
+ghost use Rattle.drum_machine.specs.Run.{Turn};
+ghost use Rattle.drum_lines.specs.Sent.{IsSent, fails_by};
+ghost use Rattle.drum_listing.specs.Page.{HasPassed, text_of};
+ghost use Rattle.drum_listing.specs.StepOf.{IsStepOf};
+ghost use Rattle.drum_listing.specs.TraceText.{turn_line};
+
+use crate::page::Page;
+use crate::step_line::send_step;
+use drum_core::Output;
+use drum_lines::{WriteFault, send};
+use drum_machine::{Machine, Step};
+use drum_times::Times;
+
+/// Gathers the line of a step, and tells whether there was room for it: else the page is as it was.
+fn gather_step(
+    page: &mut Page,
+    times: &Times,
+    angle: u8,
+    number: u64,
+    before: u64,
+    step: &Step,
+    machine: &Machine,
+) -> bool
+    requires called { ⟦<Page as Output>⟧.called page.old ≤ 2 ^ 62 }
+    requires early { before ≤ 2 ^ 62 }
+    requires told { (turn : Turn)
+        × IsStepOf (entry_in times.now) angle before step.now machine.now turn }
+    ensures line { (turn : Turn)
+        → IsStepOf (entry_in times.now) angle before step.now machine.now turn → result ≡ true
+        → text_of page.new ≡ text_of page.old ++ turn_line (entry_in times.now) number turn }
+    ensures short { result ≡ true → length (text_of page.new) ≤ length (text_of page.old) + 500 }
+    ensures none { result ≡ false → text_of page.new ≡ text_of page.old }
+    ensures calls { ⟦<Page as Output>⟧.called page.new
+        ≤ ⟦<Page as Output>⟧.called page.old + 500 }
+{
+    let held = page.len();
+    match send_step(page, 0, times, angle, number, before, step, machine) {
+        Ok(_) => true,
+        Err(_) => {
+            page.keep(held);
+            false
+        }
+    }
+}
+
+/// Writes what was gathered, and then the line of a step. The page is empty then.
+fn send_behind<O: Output>(
+    writer: &mut O,
+    sent: usize,
+    page: &mut Page,
+    times: &Times,
+    angle: u8,
+    number: u64,
+    before: u64,
+    step: &Step,
+    machine: &Machine,
+) -> Result<usize, WriteFault>
+    requires called { O.called writer.old + length (text_of page.old) ≤ 2 ^ 62 + 2 ^ 60 }
+    requires few { sent + length (text_of page.old) ≤ 2 ^ 60 }
+    requires early { before ≤ 2 ^ 62 }
+    ensures sent { (turn : Turn)
+        → IsStepOf (entry_in times.now) angle before step.now machine.now turn
+        → IsSent (O.written writer.old) (O.written writer.new) sent result
+        (text_of page.old ++ turn_line (entry_in times.now) number turn) }
+    ensures failures { O.failed writer.new ≡ O.failed writer.old + fails_by result }
+    ensures empty { OnOk result (text_of page.new ≡ []) }
+    ensures gathered { ⟦<Page as Output>⟧.called page.new ≡ ⟦<Page as Output>⟧.called page.old }
+    ensures calls { O.called writer.new
+        ≤ O.called writer.old + length (text_of page.old) + 500 }
+    ensures few { IfOk result (λ total. total ≤ sent + length (text_of page.old) + 500) }
+{
+    let sent = send(writer, sent, &[page.bytes()])?;
+    page.keep(0);
+    send_step(writer, sent, times, angle, number, before, step, machine)
+}
+
+/// Gathers the line of a step; where there is no room for it, writes what was gathered, and then
+/// the line. The step is the one of this number, on a drum with this angle at time 0, with so many
+/// word times used before it; the machine is as it is after it. So many bytes have gone out before,
+/// and it tells how many have gone out then. What is left on the page is for the caller to write.
+///
+/// # Errors
+///
+/// Where a write fails, or takes none of some bytes: then a prefix of what was gathered, with the
+/// line behind it, has gone out, which ends where it says.
+pub fn pass_step<O: Output>(
+    writer: &mut O,
+    sent: usize,
+    page: &mut Page,
+    times: &Times,
+    angle: u8,
+    number: u64,
+    before: u64,
+    step: &Step,
+    machine: &Machine,
+) -> Result<usize, WriteFault>
+    requires called { O.called writer.old + length (text_of page.old) ≤ 2 ^ 62 + 2 ^ 60 }
+    requires few { sent + length (text_of page.old) ≤ 2 ^ 60 }
+    requires gathered { ⟦<Page as Output>⟧.called page.old ≤ 2 ^ 62 }
+    requires early { before ≤ 2 ^ 62 }
+    requires told { (turn : Turn)
+        × IsStepOf (entry_in times.now) angle before step.now machine.now turn }
+    ensures sent { (turn : Turn)
+        → IsStepOf (entry_in times.now) angle before step.now machine.now turn
+        → (begun : Option (List ℕ)) (gone : List ℕ)
+        → IsSent begun (O.written writer.old) 0 (Ok sent) gone
+        → HasPassed begun (O.written writer.new) result (gone ++ (text_of page.old
+        ++ turn_line (entry_in times.now) number turn)) (text_of page.new) }
+    ensures failures { O.failed writer.new ≡ O.failed writer.old + fails_by result }
+    ensures gathered { ⟦<Page as Output>⟧.called page.new
+        ≤ ⟦<Page as Output>⟧.called page.old + 500 }
+    ensures calls { OnOk result (O.called writer.new + length (text_of page.new)
+        ≤ O.called writer.old + length (text_of page.old) + 500) }
+    ensures most { O.called writer.new ≤ O.called writer.old + length (text_of page.old) + 500 }
+    ensures few { IfOk result (λ total. total + length (text_of page.new)
+        ≤ sent + length (text_of page.old) + 500) }
+{
+    if gather_step(page, times, angle, number, before, step, machine) {
+        return Ok(sent);
+    }
+    send_behind(
+        writer, sent, page, times, angle, number, before, step, machine,
+    )
+}
