@@ -7,31 +7,24 @@ use Rattle.drum_core.specs.declared.word.Word.{Word}
 use Rattle.drum_core.specs.Loads.{loads_in, start_in}
 use Rattle.drum_times.specs.Allowed.{Notes, AreSound}
 use Rattle.drum_flow.specs.declared.accepted_flow.AcceptedFlow.{AcceptedFlow}
-use Rattle.drum_flow.specs.Accepted.{counts_of, IsGood, IsAccepted}
-use Rattle.drum_flow.specs.Flow.{deck_of, notes_of, executed_in, AreExecuted}
+use Rattle.drum_flow.specs.Accepted.{counts_of, IsAccepted}
+use Rattle.drum_flow.specs.Flow.{deck_of, notes_of, executed_in, AreFound}
 use Rattle.drum_flow.specs.AcceptedFlow.{in_order}
 use Rattle.drum_flow.specs.Free.{IsFreeOrder}
 use Rattle.drum_flow.specs.Graph.{AreDifferent}
 use Rattle.drum_flow.proofs.Acceptances.{moved}
-use Rattle.drum_flow.proofs.Lists.{contains_from_get}
 use Rattle.drum_flow.proofs.Members.{no_more}
-use Rattle.drum_flow.proofs.Orders.{only_executed, all_executed, lead_push}
+use Rattle.drum_flow.proofs.Orders.{all_found, lead_push}
 use Rattle.drum_bound.specs.Keys.{keys_of, IsOrdered}
 use Rattle.drum_bound.specs.KeysOf.{CanHaveKeys}
 
 module _ (loads : ℕ → Option Word) (notes : Notes) (start : ℕ) (executed : List ℕ)
     (accepted : IsAccepted loads notes start executed) where
   -- The executed locations of an accepted deck are just the members of the order of discovery.
-  pub are_executed : AreExecuted loads notes start executed
-  are_executed = all_executed loads notes start accepted.admitted.order.count executed accepted.admitted.order.after accepted.admitted.order.all
-      good
-    where
-      good : (k place : ℕ) → k < accepted.admitted.order.count → slice_get executed k ≡ Some place → IsGood loads notes place
-      good k place below at =
-          let there : Contains executed place = contains_from_get executed k place at in
-          let is = only_executed loads notes start accepted.admitted.order.count place
-          (subst (λ (places : List ℕ). Contains places place) (sym accepted.admitted.order.after) there) in
-          (accepted.admitted.there place is, accepted.admitted.profile place is)
+  pub are_executed : AreFound loads notes start executed
+  are_executed =
+      all_found loads notes start accepted.admitted.order.count executed accepted.admitted.order.after
+      accepted.admitted.order.all
 
   module _ (order : List ℕ) (free : IsFreeOrder loads notes executed order) (different : AreDifferent executed) where
     -- The order has as many locations as are executed.

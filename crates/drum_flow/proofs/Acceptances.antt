@@ -77,22 +77,22 @@ module _ (loads : ℕ → Option Word) (notes : Notes) where
     pub flags_fixed : (executed : List ℕ) (fixed : Fixed) → AreExecuted loads notes start executed
         → AreFlagged executed notes fixed.flags.items → FlagsFixed loads notes start fixed
     flags_fixed executed fixed e flags = record {
-      only = λ place flagged. (e.only place (flags.fixed place flagged).0, (flags.fixed place flagged).1);
-      all = λ place is_fixed. flags.flagged place (e.all place is_fixed.0) is_fixed.1;
+      only = λ place flagged. (e.found.only place (flags.fixed place flagged).0, (flags.fixed place flagged).1);
+      all = λ place is_fixed. flags.flagged place (e.found.all place is_fixed.0) is_fixed.1;
     }
 
     module _ (executed : List ℕ) (e : AreExecuted loads notes start executed) where
       module _ (none : (place : ℕ) → Contains executed place → AltersNone loads notes start place) where
         sound : IsSound loads notes start
         sound = record {
-          good = λ place is_executed. e.good place (e.all place is_executed);
-          unaltered = λ place ins is_executed allowed. none place (e.all place is_executed) ins allowed;
+          good = λ place is_executed. e.good place (e.found.all place is_executed);
+          unaltered = λ place ins is_executed allowed. none place (e.found.all place is_executed) ins allowed;
         }
 
         pub too_much : (refusal : Refusal) → IsTooMuch (product_of executed notes.marks) refusal
             → IsRefusal loads notes start refusal
         too_much (TooLarge product) wrong =
-            (sound, subst (λ (n : ℕ). 4000000 < n) (sym wrong.0) wrong.1, (executed, e.order, wrong.0))
+            (sound, subst (λ (n : ℕ). 4000000 < n) (sym wrong.0) wrong.1, (executed, e.found.order, wrong.0))
         too_much Memory wrong = absurd wrong
         too_much (NotLoaded location) wrong = absurd wrong
         too_much (NotInProfile location op) wrong = absurd wrong
@@ -103,7 +103,7 @@ module _ (loads : ℕ → Option Word) (notes : Notes) where
         round : (cycle : List ℕ) → IsFreeCycle loads notes executed cycle → IsFreeRound loads notes start cycle
         round cycle wrong = record {
           sound = sound;
-          executed = λ place there. e.only place (wrong.within place there);
+          executed = λ place there. e.found.only place (wrong.within place there);
           closed = wrong.closed;
           different = wrong.different;
           smallest = wrong.smallest;
@@ -121,15 +121,15 @@ module _ (loads : ℕ → Option Word) (notes : Notes) where
         pub is_admitted : (order : List ℕ) → IsFreeOrder loads notes executed order
             → IsAdmitted loads notes start executed
         is_admitted order free = record {
-          order = e.order;
-          there = λ place is_executed. (e.good place (e.all place is_executed)).0;
-          profile = λ place is_executed. (e.good place (e.all place is_executed)).1;
+          order = e.found.order;
+          there = λ place is_executed. (e.good place (e.found.all place is_executed)).0;
+          profile = λ place is_executed. (e.good place (e.found.all place is_executed)).1;
           unaltered =
-              λ place ins at is_executed allowed written is_fixed. none place (e.all place is_executed) ins allowed
+              λ place ins at is_executed allowed written is_fixed. none place (e.found.all place is_executed) ins allowed
               (at, written, is_fixed);
           bounded =
               λ first others is_executed. no_round order first others free.different free.onward
-              (free.all first (e.all first is_executed));
+              (free.all first (e.found.all first is_executed));
         }
 
         module _ (small : product_of executed notes.marks ≤ 4000000) where
@@ -138,7 +138,7 @@ module _ (loads : ℕ → Option Word) (notes : Notes) where
           unbounded (Unbounded cycle) wrong = record {
             small =
                 λ other order. subst (λ (places : List ℕ). length places * counts_of notes.marks ≤ 4000000)
-                (one_order executed other e.order order) small;
+                (one_order executed other e.found.order order) small;
             round = round _ wrong;
           }
           unbounded Memory wrong = tt

@@ -21,7 +21,7 @@ use Rattle.drum_flow.proofs.Matched.{matching_at, matching_from}
 use Rattle.drum_flow.proofs.Orders.{with_new_has}
 
 -- lists that are added in turn
-with_new_append : (places xs ys : List ℕ) → with_new places (xs ++ ys) ≡ with_new (with_new places xs) ys
+pub with_new_append : (places xs ys : List ℕ) → with_new places (xs ++ ys) ≡ with_new (with_new places xs) ys
 with_new_append places [] ys = refl
 with_new_append places (x ∷ xs) ys =
     go (list_any (λ place. eqb place x) places) (with_new_append places xs ys)
@@ -82,53 +82,44 @@ past_alike list_of places same next a (suc n) from there alike =
     shift : (a n next : ℕ) → a + 1 + n - next ≡ a + suc n - next
     shift a n next = omega arith
 
--- where the instruction of a pattern at a data address goes on
-abbrev targets_at : Notes → Pattern → ℕ → List ℕ
-targets_at notes pattern d = targets_of (ways notes (matching_at pattern d))
+-- what each instruction adds, in place of where it goes on
+module _ (adds : Instruction → List ℕ) where
+  -- from a data address on a pattern adds what its instruction there does, and then what it adds from
+  -- another one on, up to which all add the same
+  pub added_alike : (pattern : Pattern) (places : List ℕ) (d next : ℕ) → d ≤ pattern.d_to → d < next
+      → ((k : ℕ) → d ≤ k → k < next → adds (matching_at pattern k) ≡ adds (matching_at pattern d))
+      → with_new places (flat_map adds (matching_from pattern d))
+      ≡ with_new (with_new places (adds (matching_at pattern d))) (flat_map adds (matching_from pattern next))
+  added_alike pattern places d next to further alike =
+      let here : List ℕ = with_new places (at d) in
+      ap (with_new places) (from d)
+      ∙ ap (λ (n : ℕ). with_new places (flat_map at (range_with_len d n))) (first pattern.d_to d to)
+      ∙ with_new_append places (at d) (flat_map at (range_with_len (d + 1) (pattern.d_to - d)))
+      ∙ past_alike at here (at d) next (d + 1) (pattern.d_to - d) (omega (arith, further))
+      (again_none_new places (at d)) (λ k low high. alike k (omega (arith, low)) high)
+      ∙ ap (λ (n : ℕ). with_new here (flat_map at (range_with_len next n))) (rest pattern.d_to d next to)
+      ∙ ap (with_new here) (sym (from next))
+    where
+      at : ℕ → List ℕ
+      at d = adds (matching_at pattern d)
 
--- from a data address on a pattern adds what its instruction there does, and then what it adds from
--- another one on, up to which all have the same ways
-pub added_alike : (notes : Notes) (pattern : Pattern) (places : List ℕ) (d next : ℕ) → d ≤ pattern.d_to → d < next
-    → ((k : ℕ) → d ≤ k → k < next → ways notes (matching_at pattern k) ≡ ways notes (matching_at pattern d))
-    → with_new places (targets_by notes (matching_from pattern d))
-    ≡ with_new (with_new places (targets_of (ways notes (matching_at pattern d))))
-    (targets_by notes (matching_from pattern next))
-added_alike notes pattern places d next to further alike =
-    let here : List ℕ = with_new places (targets_at notes pattern d) in
-    ap (with_new places) (from d)
-    ∙ ap (λ (n : ℕ). with_new places (flat_map (targets_at notes pattern) (range_with_len d n)))
-    (first pattern.d_to d to)
-    ∙ with_new_append places (targets_at notes pattern d)
-    (flat_map (targets_at notes pattern) (range_with_len (d + 1) (pattern.d_to - d)))
-    ∙ past_alike (targets_at notes pattern) here (targets_at notes pattern d) next (d + 1) (pattern.d_to - d)
-    (omega (arith, further)) (again_none_new places (targets_at notes pattern d))
-    (λ k low high. ap targets_of (alike k (omega (arith, low)) high))
-    ∙ ap (λ (n : ℕ). with_new here (flat_map (targets_at notes pattern) (range_with_len next n)))
-    (rest pattern.d_to d next to)
-    ∙ ap (with_new here) (sym (from next))
-  where
-    from : (k : ℕ) → targets_by notes (matching_from pattern k)
-        ≡ flat_map (targets_at notes pattern) (range_with_len k (suc pattern.d_to - k))
-    from k =
-        flat_map-map (λ (ins : Instruction). targets_of (ways notes ins)) (matching_at pattern)
-        (range_with_len k (suc pattern.d_to - k))
+      from : (k : ℕ) → flat_map adds (matching_from pattern k) ≡ flat_map at (range_with_len k (suc pattern.d_to - k))
+      from k = flat_map-map adds (matching_at pattern) (range_with_len k (suc pattern.d_to - k))
 
-    first : (last d : ℕ) → d ≤ last → suc last - d ≡ suc (last - d)
-    first last d to = omega arith
+      first : (last d : ℕ) → d ≤ last → suc last - d ≡ suc (last - d)
+      first last d to = omega arith
 
-    rest : (last d next : ℕ) → d ≤ last → d + 1 + (last - d) - next ≡ suc last - next
-    rest last d next to = omega arith
+      rest : (last d next : ℕ) → d ≤ last → d + 1 + (last - d) - next ≡ suc last - next
+      rest last d next to = omega arith
 
--- one more pattern
-pub added_more : (notes : Notes) (places : List ℕ) (pattern : Pattern) (left rest : List Pattern)
-    → left ≡ pattern ∷ rest
-    → with_new places (targets_by notes (flat_map matching left))
-    ≡ with_new (with_new places (targets_by notes (matching pattern))) (targets_by notes (flat_map matching rest))
-added_more notes places pattern left rest first =
-    ap (λ (ps : List Pattern). with_new places (targets_by notes (flat_map matching ps))) first
-    ∙ ap (with_new places) (flat_map-append (λ (ins : Instruction). targets_of (ways notes ins)) (matching pattern)
-    (flat_map matching rest))
-    ∙ with_new_append places (targets_by notes (matching pattern)) (targets_by notes (flat_map matching rest))
+  -- one more pattern
+  pub added_more : (places : List ℕ) (pattern : Pattern) (left rest : List Pattern) → left ≡ pattern ∷ rest
+      → with_new places (flat_map adds (flat_map matching left))
+      ≡ with_new (with_new places (flat_map adds (matching pattern))) (flat_map adds (flat_map matching rest))
+  added_more places pattern left rest first =
+      ap (λ (ps : List Pattern). with_new places (flat_map adds (flat_map matching ps))) first
+      ∙ ap (with_new places) (flat_map-append adds (matching pattern) (flat_map matching rest))
+      ∙ with_new_append places (flat_map adds (matching pattern)) (flat_map adds (flat_map matching rest))
 
 -- the successors of a location are where its instructions go on
 pub successors_by : (loads : ℕ → Option Word) (notes : Notes) (place : ℕ)

@@ -87,8 +87,8 @@ pub altered_first : (loads : ℕ → Option Word) (notes : Notes) (start : ℕ) 
     → IsAltered loads notes start writer word
 altered_first loads notes start places k writer word executed here before altered = record {
   executed = places;
-  order = executed.order;
-  good = λ place is_executed. executed.good place (executed.all place is_executed);
+  order = executed.found.order;
+  good = λ place is_executed. executed.good place (executed.found.all place is_executed);
   before = take k places;
   behind = drop (k + 1) places;
   split = split_at places k writer here;

@@ -16,7 +16,7 @@ use Rattle.drum_flow.specs.declared.refusal.Refusal.TheVariants.{TooLarge}
 use Rattle.drum_flow.specs.Accepted.{IsGood, IsMet, IsNotLoaded, IsNotInProfile}
 use Rattle.drum_flow.specs.Refused.{IsWrong, IsFlowRefusal}
 use Rattle.drum_flow.specs.Executed.{target_of, successors, with_new, added_by, found_after}
-use Rattle.drum_flow.specs.Flow.{AreExecuted}
+use Rattle.drum_flow.specs.Flow.{AreFound}
 use Rattle.drum_flow.specs.Hops.{Hop, hops, IsEdge, Lead, IsExecuted}
 use Rattle.drum_flow.proofs.Lists.{contains_here, contains_there, contains_cases, contains_none, contains_at}
 use Rattle.drum_flow.proofs.Lists.{contains_from_get, distinct_push}
@@ -294,47 +294,41 @@ module _ (loads : ℕ → Option Word) (notes : Notes) (start : ℕ) where
     has_only place there = only_executed turns place (subst (λ (xs : List ℕ). Contains xs place) (sym after) there)
 
     -- the members are the executed locations
-    pub all_executed : ((k place : ℕ) → k < turns → slice_get places k ≡ Some place → IsGood loads notes place)
-        → AreExecuted loads notes start places
-    all_executed good = record {
+    pub all_found : AreFound loads notes start places
+    all_found = record {
       order = record { count = turns; after = after; all = all };
       all = has_executed;
       only = has_only;
-      good = λ place there.
-          let at : (k : ℕ) × (slice_get places k ≡ Some place) = contains_at places place there in
-          good at.0 place (omega (arith, slice_get_within places at.0 place at.1, all)) at.1;
     }
 
--- what is good stays so where more is added
-pub good_more : (loads : ℕ → Option Word) (notes : Notes) (places xs : List ℕ) (turn place : ℕ)
-    → ((k other : ℕ) → k < turn → slice_get places k ≡ Some other → IsGood loads notes other)
-    → slice_get places turn ≡ Some place → IsGood loads notes place
-    → (k other : ℕ) → k < turn + 1 → slice_get (with_new places xs) k ≡ Some other → IsGood loads notes other
-good_more loads notes places xs turn place before here good k other lt at =
-    let inside : k < length places = omega (arith, lt, slice_get_within places turn place here) in
-    let was : slice_get places k ≡ Some other = with_new_before places xs k other inside at in
-    elim (cases_lt k turn) [
-      | inl earlier ↦ before k other earlier was
-      | inr last ↦ (let same : k ≡ turn = omega (arith, lt, last) in
-          let equal : ◌≡◌ {A = Option ℕ} (Some place) (Some other) =
-          sym here ∙ sym (ap (slice_get places) same) ∙ was in
-          let one : place ≡ other = cc in
-          subst (IsGood loads notes) one good)
-    ]
-
--- what is wrong with the location that a turn meets refuses the flow
+-- what is wrong with a location, where those found before it are good, refuses the flow
 pub wrong_met : (loads : ℕ → Option Word) (notes : Notes) (start turn place : ℕ) (places : List ℕ) (refusal : Refusal)
-    → found_after loads notes start turn ≡ places
+    → AreFound loads notes start places
     → ((k other : ℕ) → k < turn → slice_get places k ≡ Some other → IsGood loads notes other)
     → slice_get places turn ≡ Some place → IsWrong loads notes place refusal
     → IsFlowRefusal loads notes start refusal
-wrong_met loads notes start turn place places refusal after good here wrong = go refusal wrong
+wrong_met loads notes start turn place places refusal found good here wrong = go refusal wrong
   where
+    early : (k other : ℕ) → slice_get places k ≡ Some other → k < found.order.count
+    early k other at = omega (arith, slice_get_within places k other at, found.order.all)
+
+    was : (k other : ℕ) → slice_get places k ≡ Some other
+        → slice_get (found_after loads notes start k) k ≡ Some other
+    was k other at =
+        member_at loads notes start found.order.count k other (early k other at)
+        (ap (λ (xs : List ℕ). slice_get xs k) found.order.after ∙ at)
+
+    stays : (k other : ℕ) → k < turn → slice_get (found_after loads notes start turn) k ≡ Some other
+        → slice_get places k ≡ Some other
+    stays k other lt at =
+        sym (ap (λ (xs : List ℕ). slice_get xs k) found.order.after)
+        ∙ found_later loads notes start turn found.order.count k other (omega (arith, early turn place here)) at
+
     met : IsMet loads notes start place
     met = record {
       count = turn;
-      member = ap (λ (xs : List ℕ). slice_get xs turn) after ∙ here;
-      before = λ k other lt at. good k other lt (sym (ap (λ (xs : List ℕ). slice_get xs k) after) ∙ at);
+      member = was turn place here;
+      before = λ k other lt at. good k other lt (stays k other lt at);
     }
 
     go : (one : Refusal) → IsWrong loads notes place one → IsFlowRefusal loads notes start one

@@ -8,7 +8,7 @@ use Rattle.drum_core.specs.declared.location.Location.{Location}
 use Rattle.drum_core.specs.declared.word.Word.{Word}
 use Rattle.drum_times.specs.Allowed.{Notes}
 use Rattle.drum_flow.specs.Accepted.{IsFree}
-use Rattle.drum_flow.specs.Flow.{AreExecuted}
+use Rattle.drum_flow.specs.Flow.{AreFound}
 use Rattle.drum_flow.specs.Free.{AreFreeRows, IsFreeOrder, IsFreeCycle}
 use Rattle.drum_flow.specs.Turned.{IsTurned}
 use Rattle.drum_flow.proofs.Founds.{numbers}
@@ -127,7 +127,7 @@ module _ (loads : ℕ → Option Word) (notes : Notes) (executed : List ℕ) (ro
 
 -- edges lead from executed locations to executed ones
 pub executed_closed : (loads : ℕ → Option Word) (notes : Notes) (start : ℕ) (executed : List ℕ)
-    → AreExecuted loads notes start executed
+    → AreFound loads notes start executed
     → (place next : ℕ) → Contains executed place → IsFree loads notes place next → Contains executed next
 executed_closed loads notes start executed e place next there free =
     let lead = e.only place there in

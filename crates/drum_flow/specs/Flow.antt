@@ -26,11 +26,16 @@ of_flow says flow = says (loads_in flow.deck.now) flow.notes.now (start_in flow.
 abbrev pub executed_in : Flow → List ℕ
 executed_in flow = places_of flow.executed
 
--- These are the executed locations in the order of discovery, all of them loaded or listed, with
--- operations in the profile alone.
-pub record AreExecuted (loads : ℕ → Option Word) (notes : Notes) (start : ℕ)
+-- These are the executed locations in the order of discovery.
+pub record AreFound (loads : ℕ → Option Word) (notes : Notes) (start : ℕ)
     (places : List ℕ) : Type 0 where
   pub order : IsOrder loads notes start places
   pub all : (place : ℕ) → IsExecuted loads notes start place → Contains places place
   pub only : (place : ℕ) → Contains places place → IsExecuted loads notes start place
+
+-- These are the executed locations in the order of discovery, all of them loaded or listed, with
+-- operations in the profile alone.
+pub record AreExecuted (loads : ℕ → Option Word) (notes : Notes) (start : ℕ)
+    (places : List ℕ) : Type 0 where
+  pub found : AreFound loads notes start places
   pub good : (place : ℕ) → Contains places place → IsGood loads notes place

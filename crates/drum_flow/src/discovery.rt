@@ -1,6 +1,10 @@
-ghost use Rattle.std.specs.Prelude.{◌≡◌, IfOk, IfErr};
+//! The executed locations of a deck under its notes, found and looked at.
+
+ghost use Rattle.std.specs.Prelude.{◌≡◌, ℕ, Contains, IfOk, IfErr, OnOk};
 ghost use Rattle.drum_core.specs.Loads.{loads_in, start_in};
-ghost use Rattle.drum_flow.specs.Flow.{deck_of, notes_of, executed_in, AreExecuted};
+ghost use Rattle.drum_flow.specs.Accepted.{IsGood};
+ghost use Rattle.drum_flow.specs.Flow.{deck_of, notes_of, executed_in, of_flow};
+ghost use Rattle.drum_flow.specs.Flow.{AreFound, AreExecuted};
 ghost use Rattle.drum_flow.specs.Refused.{IsFlowRefusal};
 
 use crate::executed::Executed;
@@ -9,7 +13,7 @@ use crate::place::check_place;
 use crate::refusal::Refusal;
 use drum_core::Deck;
 use drum_times::Notes;
-use std::alloc::Global;
+use std::alloc::{AllocError, Global};
 
 /// The flow graph of a deck under its notes.
 ///
@@ -26,10 +30,30 @@ pub fn flow<'a>(alloc: Global, deck: &'a Deck, notes: &'a Notes) -> Result<Flow<
     ensures refused { IfErr result (IsFlowRefusal (loads_in deck.now) notes.now
         (start_in deck.now)) }
 {
+    let flow = discover(alloc, deck, notes)?;
+    check_places(&flow)?;
+    Ok(flow)
+}
+
+/// The flow graph of a deck under its notes, whatever stands at its locations: one that is neither
+/// loaded nor listed has no hops, nor has an operation outside the profile.
+///
+/// # Errors
+///
+/// [`AllocError`] where there is no memory for it.
+pub fn discover<'a>(
+    alloc: Global,
+    deck: &'a Deck,
+    notes: &'a Notes,
+) -> Result<Flow<'a>, AllocError>
+    ensures deck { IfOk result (λ flow. deck_of flow ≡ deck.now) }
+    ensures notes { IfOk result (λ flow. notes_of flow ≡ notes.now) }
+    ensures found { IfOk result (λ flow. AreFound (loads_in deck.now) notes.now
+        (start_in deck.now) (executed_in flow)) }
+{
     let mut executed = Executed::new(alloc, deck.start())?;
     let mut turn = 0;
     while let Some(location) = executed.get(turn) {
-        check_place(deck, notes, location)?;
         executed.add_successors(deck, notes, location)?;
         turn += 1;
     }
@@ -38,4 +62,17 @@ pub fn flow<'a>(alloc: Global, deck: &'a Deck, notes: &'a Notes) -> Result<Flow<
         notes,
         executed,
     })
+}
+
+/// That each executed location is loaded or listed, with operations in the profile alone.
+fn check_places(flow: &Flow<'_>) -> Result<(), Refusal>
+    requires { of_flow AreFound flow.now (executed_in flow.now) }
+    ensures good { OnOk result ((place : ℕ) → Contains (executed_in flow.now) place
+        → IsGood (loads_in flow.now.deck.now) flow.now.notes.now place) }
+    ensures refused { IfErr result (of_flow IsFlowRefusal flow.now) }
+{
+    for location in flow.executed() {
+        check_place(flow.deck, flow.notes, *location)?;
+    }
+    Ok(())
 }

@@ -32,7 +32,7 @@ pub fn check_place(deck: &Deck, notes: &Notes, location: Location) -> Result<(),
 }
 
 /// Whether the location is loaded or listed.
-fn is_there(deck: &Deck, notes: &Notes, location: Location) -> bool
+pub fn is_there(deck: &Deck, notes: &Notes, location: Location) -> bool
     ensures { let there = IsThere (loads_in deck.now) notes.now location.number in
         MatchBool result there (¬ there) }
 {

@@ -21,8 +21,8 @@ loop-d-preserved c =
     let grown : places_of c.add_ways.new.self ≡ with_new before (targets_of (ways notes (matching_at pattern d))) =
     c.in_ok-add_ways.ensures ∙ ap (λ (all : List Way). with_new before (targets_of all)) (c.of.ensures ∙ here) in
     ap (λ (places : List ℕ). with_new places (targets_by notes (matching_from pattern next))) grown
-    ∙ sym (added_alike notes pattern before d next c.loop-d-test.true
+    ∙ sym (added_alike (λ one. targets_of (ways notes one)) pattern before d next c.loop-d-test.true
     (omega (arith, at, c.same_ways_end-d.ensures.past))
-    (λ k low high. sym (ap (ways notes) (matching_with_d pattern ins d k made))
-    ∙ c.same_ways_end-d.ensures.same k (omega (arith, at, low)) high ∙ here))
+    (λ k low high. ap targets_of (sym (ap (ways notes) (matching_with_d pattern ins d k made))
+    ∙ c.same_ways_end-d.ensures.same k (omega (arith, at, low)) high ∙ here)))
     ∙ c.loop-d.invariant

@@ -5,7 +5,8 @@ use Rattle.drum_core.specs.Loads.{loads_in}
 use Rattle.drum_times.specs.Allowed.{allowed, matching}
 use Rattle.drum_flow.specs.declared.patterns.Patterns.{Patterns}
 use Rattle.drum_flow.specs.Executed.{with_new}
-use Rattle.drum_flow.specs.Found.{places_of, targets_by}
+use Rattle.drum_machine.specs.Ways.{ways}
+use Rattle.drum_flow.specs.Found.{places_of, targets_of, targets_by}
 use Rattle.drum_flow.specs.Patterns.{patterns_left}
 use Rattle.drum_flow.proofs.Additions.{added_more, successors_by}
 use Rattle.drum_flow.proofs.executed.Executed.add_successors.Goals as goal
@@ -27,5 +28,5 @@ loop-pattern-preserved c =
     let notes = c.args.notes.now in
     let rest = patterns_left c.next.new.self in
     ap (λ (places : List ℕ). with_new places (targets_by notes (flat_map matching rest))) c.in_ok-add_pattern.ensures
-    ∙ sym (added_more notes (places_of c.loop-pattern.self) c.in-Some.pattern
+    ∙ sym (added_more (λ one. targets_of (ways notes one)) (places_of c.loop-pattern.self) c.in-Some.pattern
     (patterns_left c.loop-pattern.pattern-iterator) rest c.in-Some.ensures.steps) ∙ c.loop-pattern.invariant
