@@ -10,7 +10,7 @@ pub mod counts;
 mod cycle;
 mod discovery;
 pub mod executed;
-mod fixed;
+pub mod fixed;
 mod flow_graph;
 pub mod free;
 mod free_order;
