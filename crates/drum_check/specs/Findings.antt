@@ -1,0 +1,78 @@
+-- All that keeps a deck from having a bound under its notes. `loads` says which word the deck loads
+-- into a location.
+use Rattle.std.specs.Prelude.{◌≡◌, ℕ, nat_lt, ◌==◌, if◌then◌else◌, ◌||◌, ◌&&◌, not, Bool, List, [], ◌∷◌, ◌++◌, map, filter, flat_map, Option, is_some}
+use Rattle.std.specs.List.{list_any}
+use Rattle.drum_core.specs.declared.instruction.Instruction.{Instruction}
+use Rattle.drum_core.specs.declared.word.Word.{Word}
+use Rattle.drum_core.specs.Op.{op_of}
+use Rattle.drum_times.specs.Allowed.{Notes, is_listed, allowed}
+use Rattle.drum_machine.specs.Writes.{writes}
+use Rattle.drum_flow.specs.Accepted.{product_of}
+use Rattle.drum_flow.specs.Executed.{with_new}
+use Rattle.drum_flow.specs.Flow.{AreFound}
+use Rattle.drum_loops.specs.Loops.{AreClosing}
+
+-- something that was found, by the numbers of its locations, its operation or its product
+pub data Finding : Type 0 where
+  not_loaded : ℕ → Finding
+  not_in_profile : ℕ → ℕ → Finding
+  alters : ℕ → ℕ → Finding
+  too_large : ℕ → Finding
+  closes : ℕ × ℕ → Finding
+
+-- whether a location is loaded or listed
+abbrev pub is_there : (ℕ → Option Word) → Notes → ℕ → Bool
+is_there loads notes place = is_some (loads place) || is_listed notes place
+
+-- that it is neither, if it is so
+abbrev pub not_there : (ℕ → Option Word) → Notes → ℕ → List Finding
+not_there loads notes place = if is_there loads notes place then [] else not_loaded place ∷ []
+
+-- an operation, unless it is in the profile
+abbrev pub outside : ℕ → List ℕ
+outside op = if is_some (op_of op) then [] else op ∷ []
+
+-- the operations outside the profile that are allowed at a location, each once
+abbrev pub operations_outside : (ℕ → Option Word) → Notes → ℕ → List ℕ
+operations_outside loads notes place =
+    with_new [] (flat_map (λ ins. outside ins.op) (allowed loads notes place))
+
+-- what is wrong with a location by itself
+abbrev pub unfit : (ℕ → Option Word) → Notes → ℕ → List Finding
+unfit loads notes place =
+    not_there loads notes place
+    ++ map (not_in_profile place) (operations_outside loads notes place)
+
+-- whether a location is one of the executed ones without a list
+abbrev pub is_fixed : Notes → List ℕ → ℕ → Bool
+is_fixed notes executed place =
+    list_any (λ one. one == place) executed && not (is_listed notes place)
+
+-- the words that an instruction alters: those of these that it writes
+abbrev pub altered_by : Notes → List ℕ → Instruction → List ℕ
+altered_by notes executed ins = filter (is_fixed notes executed) (writes ins)
+
+-- the words that the instructions of a location alter, each once
+abbrev pub altered : (ℕ → Option Word) → Notes → List ℕ → ℕ → List ℕ
+altered loads notes executed place =
+    with_new [] (flat_map (altered_by notes executed) (allowed loads notes place))
+
+-- that they do
+abbrev pub altering : (ℕ → Option Word) → Notes → List ℕ → ℕ → List Finding
+altering loads notes executed place = map (alters place) (altered loads notes executed place)
+
+-- that executed words times counts are past 4,000,000, if they are
+abbrev pub too_many : ℕ → List Finding
+too_many product = if nat_lt 4000000 product then too_large product ∷ [] else []
+
+-- These are all the findings: of each executed location, in the order of discovery, what is wrong
+-- with it, then what each alters, then the size, and last the edges that close loops.
+pub record AreFindings (loads : ℕ → Option Word) (notes : Notes) (start : ℕ)
+    (findings : List Finding) : Type 0 where
+  pub executed : List ℕ
+  pub found : AreFound loads notes start executed
+  pub edges : List (ℕ × ℕ)
+  pub closing : AreClosing loads notes start edges
+  pub all : findings ≡ flat_map (unfit loads notes) executed
+      ++ flat_map (altering loads notes executed) executed
+      ++ too_many (product_of executed notes.marks) ++ map closes edges

@@ -1,0 +1,27 @@
+-- What was found, as it is held.
+use Rattle.std.specs.Prelude.{ℕ, List, map}
+use Rattle.drum_flow.specs.declared.fixed.Fixed.{Fixed}
+use Rattle.drum_flow.specs.declared.flow_graph.Flow.{Flow}
+use Rattle.drum_flow.specs.Fixed.{AreFlagged}
+use Rattle.drum_flow.specs.Flow.{executed_in, notes_of}
+use Rattle.drum_loops.specs.Loops.{edge_of}
+use Rattle.drum_check.specs.declared.finding.Finding as held
+use Rattle.drum_check.specs.declared.finding.Finding.TheVariants as finding
+use Rattle.drum_check.specs.declared.findings.Findings.{Findings}
+use Rattle.drum_check.specs.Findings.{Finding, not_loaded, not_in_profile, alters, too_large, closes}
+
+-- a finding by its numbers
+abbrev pub seen : held.Finding → Finding
+seen (finding.NotLoaded location) = not_loaded location.number
+seen (finding.NotInProfile location op) = not_in_profile location.number op
+seen (finding.Alters writer word) = alters writer.number word.number
+seen (finding.TooLarge product) = too_large product
+seen (finding.Loop edge) = closes (edge_of edge)
+
+-- all of them, in order
+abbrev pub found_in : Findings → List Finding
+found_in findings = map seen findings.all.items
+
+-- the flags are those of the flow graph's executed locations without a list
+abbrev pub AreFixed : Flow → Fixed → Type 0
+AreFixed flow fixed = AreFlagged (executed_in flow) (notes_of flow) fixed.flags.items

@@ -1,0 +1,18 @@
+-- The lines of what was found. A location has four digits, an operation two, and other numbers are
+-- plain decimal.
+use Rattle.std.specs.Prelude.{ℕ, List, ◌++◌, codes, decimal, flat_map}
+use Rattle.drum_core.specs.Numeral.{digits_of}
+use Rattle.drum_check.specs.Findings.{Finding, not_loaded, not_in_profile, alters, too_large, closes}
+
+abbrev pub finding_text : Finding → List ℕ
+finding_text (not_loaded place) = codes "notloaded " ++ digits_of 4 place ++ codes "\n"
+finding_text (not_in_profile place op) =
+    codes "notinprofile " ++ digits_of 4 place ++ codes " " ++ digits_of 2 op ++ codes "\n"
+finding_text (alters writer word) =
+    codes "alters " ++ digits_of 4 writer ++ codes " " ++ digits_of 4 word ++ codes "\n"
+finding_text (too_large product) = codes "toolarge " ++ decimal product ++ codes "\n"
+finding_text (closes edge) =
+    codes "loop " ++ digits_of 4 edge.0 ++ codes " " ++ digits_of 4 edge.1 ++ codes "\n"
+
+abbrev pub findings_text : List Finding → List ℕ
+findings_text findings = flat_map finding_text findings

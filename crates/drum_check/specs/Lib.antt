@@ -1,0 +1,3 @@
+pub mod Findings
+pub mod FindingsOf
+pub mod FindingsText

@@ -1,0 +1,220 @@
+ghost use Rattle.std.specs.Prelude.{◌≤◌, vec_len};
+
+use crate::altered::altered_at;
+use crate::finding::Finding;
+use crate::operations::operations_outside;
+use drum_core::{Deck, Location};
+use drum_flow::counts::counts_of;
+use drum_flow::fixed::Fixed;
+use drum_flow::place::is_there;
+use drum_flow::{Flow, discover};
+use drum_loops::{Edge, closing_edges};
+use drum_times::Notes;
+use std::alloc::{AllocError, Global};
+
+/// How many findings there can be at most, far beyond what any memory holds.
+const LIMIT: usize = 1 << 40;
+
+/// The most that executed words times counts may be (this project's choice).
+const PRODUCT_LIMIT: u128 = 4_000_000;
+
+/// All that keeps a deck from having a bound under its notes.
+#[derive(Debug, Drop)]
+pub struct Findings {
+    pub(crate) all: Vec<Finding>,
+    ghost few: { vec_len all ≤ 1099511627776 },
+}
+
+impl Findings {
+    ghost use Rattle.std.specs.Prelude.{◌≡◌, ◌++◌, [], ◌∷◌, ◌↔◌, map, flat_map, IsTrue, IfOk, OnOk};
+    ghost use Rattle.drum_core.specs.Loads.{loads_in, start_in};
+    ghost use Rattle.drum_flow.specs.Accepted.{product_of};
+    ghost use Rattle.drum_flow.specs.Flow.{executed_in, of_flow, AreFound};
+    ghost use Rattle.drum_loops.specs.Loops.{edge_of};
+    ghost use Rattle.drum_check.specs.Findings.{not_there, unfit, altering, too_many};
+    ghost use Rattle.drum_check.specs.Findings.{not_in_profile, alters, closes, AreFindings};
+    ghost use Rattle.drum_check.specs.FindingsOf.{AreFixed, seen, found_in};
+
+    /// None yet.
+    fn none(alloc: Global) -> Findings
+        ensures { found_in result ≡ [] }
+    {
+        Findings {
+            all: Vec::new(alloc),
+        }
+    }
+
+    /// Adds one.
+    fn add(&mut self, finding: Finding) -> Result<(), AllocError>
+        ensures { OnOk result (found_in self.new ≡ found_in self.old ++ seen finding ∷ []) }
+    {
+        if self.all.len() == LIMIT {
+            return Err(AllocError);
+        }
+        self.all.push(finding)?;
+        Ok(())
+    }
+
+    /// Adds that a location is neither loaded nor listed, if it is so.
+    fn add_not_loaded(
+        &mut self,
+        deck: &Deck,
+        notes: &Notes,
+        location: Location,
+    ) -> Result<(), AllocError>
+        ensures { OnOk result (found_in self.new ≡ found_in self.old
+            ++ not_there (loads_in deck.now) notes.now location.number) }
+    {
+        if is_there(deck, notes, location) {
+            return Ok(());
+        }
+        self.add(Finding::NotLoaded(location))
+    }
+
+    /// Adds operations of a location that are outside the profile.
+    fn add_operations(&mut self, location: Location, operations: &[u8]) -> Result<(), AllocError>
+        ensures { OnOk result (found_in self.new ≡ found_in self.old
+            ++ map (not_in_profile location.number) operations.now) }
+    {
+        for op in operations {
+            self.add(Finding::NotInProfile(location, *op))?;
+        }
+        Ok(())
+    }
+
+    /// Adds words that an instruction of a location alters.
+    fn add_words(&mut self, writer: Location, words: &[Location]) -> Result<(), AllocError>
+        ensures { OnOk result (found_in self.new ≡ found_in self.old
+            ++ map (λ word. alters writer.number word.number) words.now) }
+    {
+        for word in words {
+            self.add(Finding::Alters {
+                writer,
+                word: *word,
+            })?;
+        }
+        Ok(())
+    }
+
+    /// Adds edges that close loops.
+    fn add_edges(&mut self, edges: &[Edge]) -> Result<(), AllocError>
+        ensures { OnOk result (found_in self.new ≡ found_in self.old
+            ++ map (λ edge. closes (edge_of edge)) edges.now) }
+    {
+        for edge in edges {
+            self.add(Finding::Loop(*edge))?;
+        }
+        Ok(())
+    }
+
+    /// Adds what is wrong with a location by itself.
+    fn add_unfit(
+        &mut self,
+        alloc: Global,
+        flow: &Flow<'_>,
+        location: Location,
+    ) -> Result<(), AllocError>
+        ensures { OnOk result (found_in self.new ≡ found_in self.old
+            ++ unfit (loads_in flow.now.deck.now) flow.now.notes.now location.number) }
+    {
+        self.add_not_loaded(flow.deck(), flow.notes(), location)?;
+        let operations = operations_outside(alloc, flow.deck(), flow.notes(), location)?;
+        self.add_operations(location, &operations)
+    }
+
+    /// Adds the words that the instructions of a location alter.
+    fn add_altering(
+        &mut self,
+        alloc: Global,
+        flow: &Flow<'_>,
+        fixed: &Fixed,
+        location: Location,
+    ) -> Result<(), AllocError>
+        requires { AreFixed flow.now fixed.now }
+        ensures { OnOk result (found_in self.new ≡ found_in self.old
+            ++ altering (loads_in flow.now.deck.now) flow.now.notes.now (executed_in flow.now)
+            location.number) }
+    {
+        let altered = altered_at(alloc, flow, fixed, location)?;
+        self.add_words(location, altered.locations())
+    }
+
+    /// Adds what is wrong with each executed location by itself.
+    fn add_all_unfit(&mut self, alloc: Global, flow: &Flow<'_>) -> Result<(), AllocError>
+        ensures { OnOk result (found_in self.new ≡ found_in self.old
+            ++ flat_map (unfit (loads_in flow.now.deck.now) flow.now.notes.now)
+            (executed_in flow.now)) }
+    {
+        for location in flow.executed() {
+            self.add_unfit(alloc, flow, *location)?;
+        }
+        Ok(())
+    }
+
+    /// Adds the words that the instructions of each executed location alter.
+    fn add_all_altering(
+        &mut self,
+        alloc: Global,
+        flow: &Flow<'_>,
+        fixed: &Fixed,
+    ) -> Result<(), AllocError>
+        requires { AreFixed flow.now fixed.now }
+        ensures { OnOk result (found_in self.new ≡ found_in self.old
+            ++ flat_map (altering (loads_in flow.now.deck.now) flow.now.notes.now
+            (executed_in flow.now)) (executed_in flow.now)) }
+    {
+        for location in flow.executed() {
+            self.add_altering(alloc, flow, fixed, *location)?;
+        }
+        Ok(())
+    }
+
+    /// Adds that the analysis is too large, if it is.
+    fn add_size(&mut self, flow: &Flow<'_>) -> Result<(), AllocError>
+        ensures { OnOk result (found_in self.new ≡ found_in self.old
+            ++ too_many (product_of (executed_in flow.now) flow.now.notes.now.marks)) }
+    {
+        let words = flow.executed().len();
+        let product = words as u128 * counts_of(flow.notes().marks());
+        if product <= PRODUCT_LIMIT {
+            return Ok(());
+        }
+        self.add(Finding::TooLarge(product))
+    }
+
+    /// All that keeps the deck from having a bound under these notes: first what is wrong with
+    /// each executed location by itself, in the order of discovery, then what the instructions of
+    /// each alter, then the size, and last the edges that close loops.
+    ///
+    /// # Errors
+    ///
+    /// Where memory is wanting.
+    pub fn of(alloc: Global, deck: &Deck, notes: &Notes) -> Result<Findings, AllocError>
+        ensures { IfOk result (λ findings. AreFindings (loads_in deck.now) notes.now
+            (start_in deck.now) (found_in findings)) }
+    {
+        let flow = discover(alloc, deck, notes)?;
+        let fixed = Fixed::of(alloc, flow.executed(), notes)?;
+        let edges = closing_edges(alloc, &flow)?;
+        let mut findings = Findings::none(alloc);
+        findings.add_all_unfit(alloc, &flow)?;
+        findings.add_all_altering(alloc, &flow, &fixed)?;
+        findings.add_size(&flow)?;
+        findings.add_edges(&edges)?;
+        Ok(findings)
+    }
+
+    /// Whether nothing was found.
+    pub fn is_empty(&self) -> bool
+        ensures { IsTrue result ↔ (found_in self.now ≡ []) }
+    {
+        self.all.is_empty()
+    }
+
+    /// What was found, in order.
+    pub fn as_slice(&self) -> &[Finding]
+        ensures { map seen result.now ≡ found_in self.now }
+    {
+        &self.all
+    }
+}

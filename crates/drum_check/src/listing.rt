@@ -1,0 +1,128 @@
+//! The lines of what was found.
+
+ghost use Rattle.std.specs.Prelude.{◌≡◌, ◌+◌, ◌^◌, ◌≤◌, ◌++◌, codes, decimal, IfOk, length};
+ghost use Rattle.drum_core.specs.Numeral.{digits_of};
+ghost use Rattle.drum_lines.specs.Sent.{IsSent, IsWritten, fails_by};
+ghost use Rattle.drum_check.specs.FindingsOf.{seen, found_in};
+ghost use Rattle.drum_check.specs.FindingsText.{finding_text, findings_text};
+
+use crate::finding::Finding;
+use crate::findings::Findings;
+use drum_core::{Location, Output};
+use drum_lines::{WriteFault, four_digits, send, two_digits};
+use itoa::Buffer;
+
+/// Writes a line of a name and a location.
+fn send_location<O: Output>(
+    writer: &mut O,
+    sent: usize,
+    name: &[u8],
+    location: Location,
+) -> Result<usize, WriteFault>
+    requires called { O.called writer.old ≤ 2 ^ 62 + 2 ^ 60 }
+    requires few { sent ≤ 2 ^ 60 }
+    requires short { length name.now ≤ 20 }
+    ensures sent { IsSent (O.written writer.old) (O.written writer.new) sent result
+        (name.now ++ digits_of 4 location.number ++ codes "\n") }
+    ensures failures { O.failed writer.new ≡ O.failed writer.old + fails_by result }
+    ensures calls { O.called writer.new ≤ O.called writer.old + 80 }
+    ensures few { IfOk result (λ total. total ≤ sent + 80) }
+{
+    let digits = four_digits(location.number());
+    let pieces: [&[u8]; 3] = [name, &digits, b"\n"];
+    send(writer, sent, &pieces)
+}
+
+/// Writes a line of a name, a location and the number behind it, of some digits.
+fn send_behind<O: Output>(
+    writer: &mut O,
+    sent: usize,
+    name: &[u8],
+    location: Location,
+    behind: &[u8],
+) -> Result<usize, WriteFault>
+    requires called { O.called writer.old ≤ 2 ^ 62 + 2 ^ 60 }
+    requires few { sent ≤ 2 ^ 60 }
+    requires short { length name.now ≤ 20 }
+    requires digits { length behind.now ≤ 20 }
+    ensures sent { IsSent (O.written writer.old) (O.written writer.new) sent result
+        (name.now ++ digits_of 4 location.number ++ codes " " ++ behind.now ++ codes "\n") }
+    ensures failures { O.failed writer.new ≡ O.failed writer.old + fails_by result }
+    ensures calls { O.called writer.new ≤ O.called writer.old + 80 }
+    ensures few { IfOk result (λ total. total ≤ sent + 80) }
+{
+    let digits = four_digits(location.number());
+    let pieces: [&[u8]; 5] = [name, &digits, b" ", behind, b"\n"];
+    send(writer, sent, &pieces)
+}
+
+/// Writes a line of a name and a number.
+fn send_number<O: Output>(
+    writer: &mut O,
+    sent: usize,
+    name: &[u8],
+    number: u128,
+) -> Result<usize, WriteFault>
+    requires called { O.called writer.old ≤ 2 ^ 62 + 2 ^ 60 }
+    requires few { sent ≤ 2 ^ 60 }
+    requires short { length name.now ≤ 20 }
+    ensures sent { IsSent (O.written writer.old) (O.written writer.new) sent result
+        (name.now ++ decimal number ++ codes "\n") }
+    ensures failures { O.failed writer.new ≡ O.failed writer.old + fails_by result }
+    ensures calls { O.called writer.new ≤ O.called writer.old + 80 }
+    ensures few { IfOk result (λ total. total ≤ sent + 80) }
+{
+    let mut buffer = Buffer::new();
+    let pieces: [&[u8]; 3] = [name, buffer.format(number).as_bytes(), b"\n"];
+    send(writer, sent, &pieces)
+}
+
+/// Writes the line of a finding behind so many bytes, and tells how many have gone out then.
+fn send_finding<O: Output>(
+    writer: &mut O,
+    sent: usize,
+    finding: &Finding,
+) -> Result<usize, WriteFault>
+    requires called { O.called writer.old ≤ 2 ^ 62 + 2 ^ 60 }
+    requires few { sent ≤ 2 ^ 60 }
+    ensures sent { IsSent (O.written writer.old) (O.written writer.new) sent result
+        (finding_text (seen finding.now)) }
+    ensures failures { O.failed writer.new ≡ O.failed writer.old + fails_by result }
+    ensures calls { O.called writer.new ≤ O.called writer.old + 80 }
+    ensures few { IfOk result (λ total. total ≤ sent + 80) }
+{
+    match *finding {
+        Finding::NotLoaded(location) => send_location(writer, sent, b"notloaded ", location),
+        Finding::NotInProfile(location, op) => {
+            send_behind(writer, sent, b"notinprofile ", location, &two_digits(op))
+        }
+        Finding::Alters { writer: from, word } => {
+            let digits = four_digits(word.number());
+            send_behind(writer, sent, b"alters ", from, &digits)
+        }
+        Finding::TooLarge(product) => send_number(writer, sent, b"toolarge ", product),
+        Finding::Loop(edge) => {
+            let digits = four_digits(edge.onto.number());
+            send_behind(writer, sent, b"loop ", edge.from, &digits)
+        }
+    }
+}
+
+/// Writes what was found, a line each. It takes no memory.
+///
+/// # Errors
+///
+/// Where a write fails, or takes none of some bytes: then a prefix of the text has gone out, of so
+/// many bytes as it says.
+pub fn list_findings<O: Output>(findings: &Findings, writer: &mut O) -> Result<(), WriteFault>
+    requires { O.called writer.old ≤ 2 ^ 62 }
+    ensures written { IsWritten (O.written writer.old) (O.written writer.new) result
+        (findings_text (found_in findings.now)) }
+    ensures failures { O.failed writer.new ≡ O.failed writer.old + fails_by result }
+{
+    let mut sent = 0;
+    for finding in &findings.all {
+        sent = send_finding(writer, sent, finding)?;
+    }
+    Ok(())
+}
