@@ -42,7 +42,7 @@ leaf verb = record (new_shape verb.name) {
 }
 
 abbrev pub leaves : List Shape
-leaves = leaf line.bound ∷ leaf line.report ∷ leaf line.walk ∷ leaf line.waits ∷ leaf line.draw
+leaves = leaf line.bound ∷ leaf line.check ∷ leaf line.report ∷ leaf line.walk ∷ leaf line.waits ∷ leaf line.draw
     ∷ leaf line.ceiling ∷ leaf line.replay ∷ leaf line.trace ∷ []
 
 -- ---- one command
@@ -130,14 +130,17 @@ unfolding AllRead
 all_read = (
   leaf_has_files line.bound,
   (
-    leaf_has_files line.report,
+    leaf_has_files line.check,
     (
-      leaf_has_files line.walk,
+      leaf_has_files line.report,
       (
-        leaf_has_files line.waits,
+        leaf_has_files line.walk,
         (
-          leaf_has_files line.draw,
-          (leaf_has_files line.ceiling, (leaf_has_files line.replay, (leaf_has_files line.trace, tt))),
+          leaf_has_files line.waits,
+          (
+            leaf_has_files line.draw,
+            (leaf_has_files line.ceiling, (leaf_has_files line.replay, (leaf_has_files line.trace, tt))),
+          ),
         ),
       ),
     ),

@@ -39,6 +39,10 @@ bound_is_named : IsNamed line.bound
 unfolding clap_on_literals
 bound_is_named = record { walked = refl; passes = refl; found = refl; files = refl }
 
+check_is_named : IsNamed line.check
+unfolding clap_on_literals
+check_is_named = record { walked = refl; passes = refl; found = refl; files = refl }
+
 report_is_named : IsNamed line.report
 unfolding clap_on_literals
 report_is_named = record { walked = refl; passes = refl; found = refl; files = refl }
@@ -131,6 +135,7 @@ is_line verb named given words names =
 
 pub all_lines : All IsLine verbs
 all_lines = all_verbs IsLine (is_line line.bound bound_is_named common_given)
+    (is_line line.check check_is_named common_given)
     (is_line line.report report_is_named common_given) (is_line line.walk walk_is_named common_given)
     (is_line line.waits waits_is_named common_given) (is_line line.draw draw_is_named common_given)
     (is_line line.ceiling ceiling_is_named common_given)

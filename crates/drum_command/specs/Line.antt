@@ -9,7 +9,7 @@ use Rattle.clap.specs.Simple.{new_shape}
 use Rattle.clap.specs.Walk.{is_empty}
 use Rattle.clap.specs.declared.builder.action.ArgAction.TheVariants.{Set}
 use Rattle.drum_command.specs.declared.command.Command.{Command}
-use Rattle.drum_command.specs.declared.command.Command.TheVariants.{Bound, Report, Walk, Waits, Draw, Ceiling, Replay, Trace}
+use Rattle.drum_command.specs.declared.command.Command.TheVariants.{Bound, Check, Report, Walk, Waits, Draw, Ceiling, Replay, Trace}
 use Rattle.drum_command.specs.declared.command.Files.{Files}
 
 -- a command: its name, and what the files that it names are called, in their order
@@ -27,6 +27,9 @@ run_files = codes "DECK" ∷ codes "TIMES" ∷ codes "NOTES" ∷ codes "INPUTS" 
 
 abbrev pub bound : Verb
 bound = record { name = codes "bound"; files = common_files }
+
+abbrev pub check : Verb
+check = record { name = codes "check"; files = common_files }
 
 abbrev pub report : Verb
 report = record { name = codes "report"; files = common_files }
@@ -51,7 +54,7 @@ trace = record { name = codes "trace"; files = run_files }
 
 -- the commands that there are
 abbrev pub verbs : List Verb
-verbs = bound ∷ report ∷ walk ∷ waits ∷ draw ∷ ceiling ∷ replay ∷ trace ∷ []
+verbs = bound ∷ check ∷ report ∷ walk ∷ waits ∷ draw ∷ ceiling ∷ replay ∷ trace ∷ []
 
 -- ---- the same, as clap's arguments and commands
 
@@ -102,6 +105,7 @@ with_inputs files inputs = files.deck.now ∷ files.times.now ∷ files.notes.no
 -- what a command says: its name, and its files in their order
 abbrev pub said_by : Command → Text × List (Option Text)
 said_by (Bound files) = (codes "bound", map Some (common files))
+said_by (Check files) = (codes "check", map Some (common files))
 said_by (Report files) = (codes "report", map Some (common files))
 said_by (Walk files) = (codes "walk", map Some (common files))
 said_by (Waits files) = (codes "waits", map Some (common files))

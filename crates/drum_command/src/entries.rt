@@ -61,6 +61,12 @@ pub(crate) fn entries() -> &'static [Entry]
             files: COMMON_FILES,
         },
         Entry {
+            name: "check",
+            about: "Prints all that keeps the deck from a bound: what to load, list and mark",
+            example: "Example: drum650 check deck.txt times.toml notes.toml",
+            files: COMMON_FILES,
+        },
+        Entry {
             name: "report",
             about: "Prints where the worst walk spends its word times, card by card",
             example: "Example: drum650 report deck.txt times.toml notes.toml",

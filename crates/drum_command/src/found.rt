@@ -27,6 +27,7 @@ fn command_of<'a>(name: &str, found: &ArgMatches<'a>) -> Command<'a>
 {
     match name {
         "bound" => Command::Bound(files_in(found)),
+        "check" => Command::Check(files_in(found)),
         "report" => Command::Report(files_in(found)),
         "walk" => Command::Walk(files_in(found)),
         "waits" => Command::Waits(files_in(found)),

@@ -3,7 +3,7 @@ use Rattle.std.proofs.Common.{◌≡◌, ℕ, true, List, [], ◌∷◌, Option,
 use Rattle.std.specs.Prelude.{codes}
 use Rattle.clap.specs.Words.{Text, takes}
 use Rattle.drum_command.specs.declared.command.Command.{Command}
-use Rattle.drum_command.specs.declared.command.Command.TheVariants.{Bound, Report, Walk, Waits, Draw, Ceiling, Replay, Trace}
+use Rattle.drum_command.specs.declared.command.Command.TheVariants.{Bound, Check, Report, Walk, Waits, Draw, Ceiling, Replay, Trace}
 use Rattle.drum_command.specs.declared.refused.Refused.{Refused}
 use Rattle.drum_command.specs.Line.{drum650, said_by}
 use Rattle.drum_tool.specs.declared.documents.Documents.{Documents}
@@ -91,6 +91,8 @@ of_files told_of held deck times notes (Bound files) failures reply told said an
       )
       | inr line ↦ inr line
     ]
+of_files told_of held deck times notes (Check files) failures reply told said answers =
+    absurd (let bad : 99 ≡ 98 = same_first _ _ said in omega (arith, bad))
 of_files told_of held deck times notes (Report files) failures reply told said answers =
     absurd (let bad : 114 ≡ 98 = same_first _ _ said in omega (arith, bad))
 of_files told_of held deck times notes (Walk files) failures reply told said answers =

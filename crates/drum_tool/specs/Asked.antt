@@ -2,7 +2,7 @@
 -- choice).
 use Rattle.std.specs.Prelude.{◌≡◌, ◌≢◌, ℕ, ◌+◌, ◌≤◌, List, [], ◌∷◌, ◌++◌, Option, Some, None, Result, Ok, Err, ◌⊎◌}
 use Rattle.drum_command.specs.declared.command.Command.{Command}
-use Rattle.drum_command.specs.declared.command.Command.TheVariants.{Bound, Report, Walk, Waits, Draw, Ceiling, Replay, Trace}
+use Rattle.drum_command.specs.declared.command.Command.TheVariants.{Bound, Check, Report, Walk, Waits, Draw, Ceiling, Replay, Trace}
 use Rattle.drum_command.specs.declared.command.Files.{Files}
 use Rattle.drum_core.specs.declared.deck.fault.DeckFault.TheVariants as of_deck
 use Rattle.drum_inputs.specs.declared.fault.InputFault.TheVariants as of_inputs
@@ -117,6 +117,7 @@ all_named_in files inputs = named_in files ++ in_file part.Inputs inputs ∷ []
 
 abbrev pub files_of : Command → List Named
 files_of (Bound files) = named_in files
+files_of (Check files) = named_in files
 files_of (Report files) = named_in files
 files_of (Walk files) = named_in files
 files_of (Waits files) = named_in files

@@ -1,14 +1,18 @@
 -- What the program has to say, and when it says it (this project's choice).
-use Rattle.std.specs.Prelude.{◌≡◌, ◌≢◌, ℕ, ◌+◌, List, ◌++◌, Option, Some, None, ◌⊎◌}
+use Rattle.std.specs.Prelude.{◌≡◌, ◌≢◌, ℕ, ◌+◌, List, [], ◌∷◌, ◌++◌, Option, Some, None, ◌⊎◌}
+use Rattle.drum_core.specs.Loads.{loads_in, start_in}
 use Rattle.drum_times.specs.Entries.{entry_in}
 use Rattle.drum_machine.specs.Run.{Turn}
+use Rattle.drum_flow.specs.declared.refusal.Refusal.TheVariants as refusal
 use Rattle.drum_flow.specs.Walk.{Setting}
 use Rattle.drum_lines.specs.declared.limit.Limit as limits
 use Rattle.drum_lines.specs.declared.limit.Limit.TheVariants as limit
 use Rattle.drum_bound.specs.Visited.{Visited}
 use Rattle.drum_ceiling.specs.declared.answer.Ceiling as ceilings
+use Rattle.drum_check.specs.Findings.{AreFindings, Finding}
+use Rattle.drum_check.specs.FindingsText.{findings_text}
 use Rattle.drum_command.specs.declared.command.Command.{Command}
-use Rattle.drum_command.specs.declared.command.Command.TheVariants.{Bound, Report, Walk, Waits, Draw, Ceiling, Replay, Trace}
+use Rattle.drum_command.specs.declared.command.Command.TheVariants.{Bound, Check, Report, Walk, Waits, Draw, Ceiling, Replay, Trace}
 use Rattle.drum_inputs.specs.declared.inputs.Inputs.{Inputs}
 use Rattle.drum_tool.specs.declared.documents.Documents.{Documents}
 use Rattle.drum_lines.specs.declared.fault.Fault.{Fault}
@@ -16,7 +20,7 @@ use Rattle.drum_lines.specs.declared.fault.Fault.TheVariants as fault
 use Rattle.drum_lines.specs.declared.part.Part.TheVariants as part
 use Rattle.drum_lines.specs.declared.part.PartFault.TheVariants as what
 use Rattle.drum_lines.specs.declared.status.Status.{Status}
-use Rattle.drum_lines.specs.declared.status.Status.TheVariants.{Done}
+use Rattle.drum_lines.specs.declared.status.Status.TheVariants.{Done, Refused}
 use Rattle.drum_lines.specs.declared.verdict.Verdict.{Verdict}
 use Rattle.drum_lines.specs.BoundText.{bound_text}
 use Rattle.drum_lines.specs.FaultStatus.{reads_failed, status_after}
@@ -67,6 +71,14 @@ picture_reply picture = says picture Done
 
 abbrev pub ceiling_reply : Documents → ceilings.Ceiling → Reply
 ceiling_reply documents ceiling = says (ceiling_text documents.notes ceiling) Done
+
+-- what was found, and how the program ends after it: as with a refusal, unless nothing was found
+abbrev pub status_after_check : List Finding → Status
+status_after_check [] = Done
+status_after_check (finding ∷ findings) = Refused
+
+abbrev pub findings_reply : List Finding → Reply
+findings_reply findings = says (findings_text findings) (status_after_check findings)
 
 abbrev pub fault_reply : Fault → Reply
 fault_reply fault = complains (fault_text fault) (status_after fault)
@@ -148,6 +160,13 @@ abbrev pub SaysCeiling : Documents → Reply → Type 0
 SaysCeiling documents reply =
     (ceiling : ceilings.Ceiling) × IsCeiling documents ceiling
     × (reply ≡ ceiling_reply documents ceiling)
+
+-- all that keeps the deck from having a bound under its notes
+abbrev pub SaysFindings : Documents → Reply → Type 0
+SaysFindings documents reply =
+    (findings : List Finding)
+    × AreFindings (loads_in documents.deck) documents.notes (start_in documents.deck) findings
+    × (reply ≡ findings_reply findings)
 
 -- ---- what is said of a run
 
@@ -239,6 +258,13 @@ abbrev pub AnswersCeilingOfFiles : Held → ℕ → Reply → Type 0
 AnswersCeilingOfFiles held =
     AnswersBy IsCeilingFault SaysCeiling (AreHeld held) (AreNotHeld held)
 
+-- the same, where want of memory alone keeps anything from being said of them
+abbrev pub IsWanting : Documents → Fault → Type 0
+IsWanting documents told = told ≡ fault.Refused refusal.Memory
+
+abbrev pub AnswersCheckOfFiles : Held → ℕ → Reply → Type 0
+AnswersCheckOfFiles held = AnswersBy IsWanting SaysFindings (AreHeld held) (AreNotHeld held)
+
 abbrev pub AnswersRunOfFiles : (Documents → Given → Fault → Type 0)
     → (Documents → Given → Reply → Type 0) → Held → ℕ → Reply → Type 0
 AnswersRunOfFiles Refuses Says held =
@@ -252,6 +278,9 @@ IsFaultOfFiles held = IsFault (AreHeld held) (AreNotHeld held)
 abbrev pub IsCeilingFaultOfFiles : Held → Fault → Type 0
 IsCeilingFaultOfFiles held = IsFaultBy IsCeilingFault (AreHeld held) (AreNotHeld held)
 
+abbrev pub IsCheckFaultOfFiles : Held → Fault → Type 0
+IsCheckFaultOfFiles held = IsFaultBy IsWanting (AreHeld held) (AreNotHeld held)
+
 abbrev pub IsFaultBeforeOfFiles : Held → Fault → Type 0
 IsFaultBeforeOfFiles held = IsFaultBefore (AreHeld held) (AreNotHeld held) (AreNoInputsHeld held)
 
@@ -263,6 +292,7 @@ IsRunFaultOfFiles Refuses held =
 -- the reply to a command, where the files of its parts hold this and so many reads failed
 abbrev pub AnswersCommand : Held → Command → ℕ → Reply → Type 0
 AnswersCommand held (Bound files) = AnswersOnFiles SaysBound held
+AnswersCommand held (Check files) = AnswersCheckOfFiles held
 AnswersCommand held (Report files) = AnswersOnFiles SaysReport held
 AnswersCommand held (Walk files) = AnswersOnFiles SaysWalk held
 AnswersCommand held (Waits files) = AnswersOnFiles SaysWaits held

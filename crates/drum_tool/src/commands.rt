@@ -3,6 +3,7 @@
 ghost use Rattle.std.specs.Prelude.{◌≡◌, ◌+◌, ◌^◌, ◌≤◌, ℕ, List, Option, IfOk, IfErr, length, string_bytes};
 ghost use Rattle.drum_bound.specs.AnalysisOf.{angle_of, bound_of, visits_of};
 ghost use Rattle.drum_times.specs.Entries.{entry_in};
+ghost use Rattle.drum_check.specs.FindingsOf.{found_in};
 ghost use Rattle.drum_lines.specs.FaultStatus.{failed_by};
 ghost use Rattle.drum_listing.specs.WaitsOf.{AreWaits};
 ghost use Rattle.drum_tool.specs.Begun.{IsTraceBegun};
@@ -12,10 +13,12 @@ ghost use Rattle.drum_tool.specs.Files.{AreHeld, AreInputsHeld, AreTold, Held};
 ghost use Rattle.drum_tool.specs.Output.{Tells, device};
 ghost use Rattle.drum_tool.specs.Replay.{Given, IsTraceFault};
 ghost use Rattle.drum_tool.specs.Reply.{
+  AnswersCheckOfFiles,
   AnswersCommand,
   AnswersOnFiles,
   AnswersRunOfFiles,
   IsCeilingFaultOfFiles,
+  IsCheckFaultOfFiles,
   IsFaultBeforeOfFiles,
   IsFaultOfFiles,
   IsReplayRefused,
@@ -27,6 +30,7 @@ ghost use Rattle.drum_tool.specs.Reply.{
   SaysVerdict,
   TellsOfReads,
   fault_reply,
+  findings_reply,
   picture_reply,
   verdict_reply,
 };
@@ -36,12 +40,13 @@ use crate::files::inputs_of;
 use crate::replaying::{Begun, replay};
 use crate::source::Source;
 use crate::telling::{
-    complain, tell_bound, tell_ceiling, tell_report, tell_text, tell_trace, tell_verdict,
-    tell_waits, tell_walk,
+    complain, tell_bound, tell_ceiling, tell_findings, tell_report, tell_text, tell_trace,
+    tell_verdict, tell_waits, tell_walk,
 };
 use crate::tracing::begin_trace;
 use drum_bound::{Analysis, Refusal};
 use drum_ceiling::Ceiling;
+use drum_check::Findings;
 use drum_command::{Command, Files};
 use drum_core::Output;
 use drum_inputs::Inputs;
@@ -157,6 +162,23 @@ fn ceiling<S: Source>(
     let documents = Documents::of_files(alloc, source, files)?;
     let ceiling = documents.ceiling(alloc)?;
     Ok((documents, ceiling))
+}
+
+/// All that keeps documents in files from having a bound.
+fn findings<S: Source>(alloc: Global, source: &mut S, files: Files<'_>) -> Result<Findings, Fault>
+    requires { S.failed source.old ≤ 2 ^ 61 }
+    ensures findings { IfOk result (λ findings. (held : Held)
+        → AreTold (S.files source.old) held (named_in files.entry)
+        → AnswersCheckOfFiles held 0 (findings_reply (found_in findings))) }
+    ensures fault { IfErr result (λ fault. (held : Held)
+        → AreTold (S.files source.old) held (named_in files.entry)
+        → IsCheckFaultOfFiles held fault) }
+    ensures counted { S.failed source.new ≡ S.failed source.old + failed_by result }
+    ensures asked { AsksFor (S.asked source.old) (S.asked source.new)
+        (Looks (named_in files.entry) (fault_in result)) }
+{
+    let documents = Documents::of_files(alloc, source, files)?;
+    documents.findings(alloc)
 }
 
 /// A picture of the worst walk of an analysis.
@@ -296,6 +318,10 @@ pub fn obey<S: Source, O: Output, E: Output>(
     match command {
         Command::Bound(files) => match bound(alloc, source, files) {
             Ok((_, bound)) => tell_bound(out, bound),
+            Err(fault) => complain(err, fault),
+        },
+        Command::Check(files) => match findings(alloc, source, files) {
+            Ok(findings) => tell_findings(out, &findings),
             Err(fault) => complain(err, fault),
         },
         Command::Report(files) => match analysis(alloc, source, files) {

@@ -1,5 +1,8 @@
-ghost use Rattle.std.specs.Prelude.{◌^◌, ◌<◌, IfOk, IfErr};
+ghost use Rattle.std.specs.Prelude.{◌≡◌, ◌^◌, ◌<◌, IfOk, IfErr};
+ghost use Rattle.drum_core.specs.Loads.{loads_in, start_in};
 ghost use Rattle.drum_bound.specs.AnalysisOf.{angle_of, bound_of, visits_of};
+ghost use Rattle.drum_check.specs.Findings.{AreFindings};
+ghost use Rattle.drum_check.specs.FindingsOf.{found_in};
 ghost use Rattle.drum_tool.specs.Documents.{
   IsAnalysisFault,
   IsBound,
@@ -13,6 +16,7 @@ ghost use Rattle.drum_tool.specs.Documents.{
 
 use drum_bound::{Analysis, Refusal, analyse, bound};
 use drum_ceiling::{Ceiling, ceiling};
+use drum_check::Findings;
 use drum_core::Deck;
 use drum_lines::{Fault, Limit};
 use drum_times::{Notes, Times};
@@ -76,6 +80,22 @@ impl Documents {
         match ceiling(alloc, &self.deck, &self.times, &self.notes) {
             Ok(found) => Ok(found),
             Err(refusal) => Err(Fault::Refused(refusal)),
+        }
+    }
+
+    /// All that keeps them from having a bound.
+    ///
+    /// # Errors
+    ///
+    /// [`Fault::Refused`] where memory is wanting.
+    pub(crate) fn findings(&self, alloc: Global) -> Result<Findings, Fault>
+        ensures findings { IfOk result (λ findings. AreFindings (loads_in self.now.deck)
+            self.now.notes (start_in self.now.deck) (found_in findings)) }
+        ensures wanting { IfErr result (λ fault. fault ≡ Fault.Refused Refusal.Memory) }
+    {
+        match Findings::of(alloc, &self.deck, &self.notes) {
+            Ok(findings) => Ok(findings),
+            Err(_) => Err(Fault::Refused(Refusal::Memory)),
         }
     }
 

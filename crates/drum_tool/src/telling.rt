@@ -3,6 +3,8 @@
 ghost use Rattle.std.specs.Prelude.{◌≡◌, ◌+◌, ◌^◌, ◌≤◌, length};
 ghost use Rattle.drum_times.specs.Entries.{entry_in};
 ghost use Rattle.drum_bound.specs.AnalysisOf.{angle_of, bound_of, visits_of};
+ghost use Rattle.drum_check.specs.FindingsOf.{found_in};
+ghost use Rattle.drum_check.specs.FindingsText.{findings_text};
 ghost use Rattle.drum_lines.specs.BoundText.{bound_text};
 ghost use Rattle.drum_lines.specs.FaultStatus.{status_after};
 ghost use Rattle.drum_lines.specs.FaultText.{fault_text};
@@ -13,7 +15,7 @@ ghost use Rattle.drum_tool.specs.Begun.{IsReady, IsTraceBegun};
 ghost use Rattle.drum_tool.specs.Documents.{IsCeiling, setting_of};
 ghost use Rattle.drum_tool.specs.Output.{Device, GetsComplaint, GetsResult, Tells, device, ended_with};
 ghost use Rattle.drum_tool.specs.Replay.{Given};
-ghost use Rattle.drum_tool.specs.Reply.{Reply, SaysTrace};
+ghost use Rattle.drum_tool.specs.Reply.{Reply, SaysTrace, status_after_check};
 ghost use Rattle.drum_lines.specs.Status.{status_of};
 ghost use Rattle.drum_report.specs.CeilingText.{ceiling_text};
 ghost use Rattle.drum_report.specs.Report.{report_text};
@@ -24,6 +26,7 @@ use crate::replaying::Begun;
 use crate::tracing::trace;
 use drum_bound::Analysis;
 use drum_ceiling::Ceiling;
+use drum_check::{Findings, list_findings};
 use drum_core::Output;
 use drum_lines::{
     Fault, Limit, Status, Verdict, WriteFault, write_bound, write_fault, write_text, write_verdict,
@@ -105,6 +108,27 @@ pub fn tell_ceiling<O: Output>(out: &mut O, documents: &Documents, ceiling: &Cei
         (ceiling_text documents.now.notes ceiling.now) Status.Done result }
 {
     ended(report_ceiling(ceiling, &documents.notes, out), Status::Done)
+}
+
+/// How the program ends after what was found.
+fn status_of(findings: &Findings) -> Status
+    ensures { result ≡ status_after_check (found_in findings.now) }
+{
+    if findings.is_empty() {
+        Status::Done
+    } else {
+        Status::Refused
+    }
+}
+
+/// Writes all that keeps a deck from having a bound.
+pub fn tell_findings<O: Output>(out: &mut O, findings: &Findings) -> Status
+    requires { O.called out.old ≤ 2 ^ 62 }
+    ensures { GetsResult (device (O.written out.old) (O.failed out.old))
+        (device (O.written out.new) (O.failed out.new)) (findings_text (found_in findings.now))
+        (status_after_check (found_in findings.now)) result }
+{
+    ended(list_findings(findings, out), status_of(findings))
 }
 
 /// Writes a verdict on a run whose word times are limited so.

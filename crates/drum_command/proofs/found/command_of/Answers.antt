@@ -25,5 +25,6 @@ unreachable-requires c =
     (others (codes "draw") name _ none.not-draw
     (others (codes "waits") name _ none.not-waits
     (others (codes "walk") name _ none.not-walk
-    (others (codes "report") name _ none.not-report (others (codes "bound") name _ none.not-bound named))))))) in
+    (others (codes "report") name _ none.not-report
+    (others (codes "check") name _ none.not-check (others (codes "bound") name _ none.not-bound named)))))))) in
     cc

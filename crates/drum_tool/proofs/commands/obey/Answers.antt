@@ -1,12 +1,13 @@
 use Rattle.std.proofs.Common.{ℕ, List, inl, inr, refl, sym, subst}
 use Rattle.std.specs.Prelude.{string_bytes}
 use Rattle.drum_bound.specs.AnalysisOf.{angle_of, bound_of, visits_of}
+use Rattle.drum_check.specs.FindingsOf.{found_in}
 use Rattle.drum_listing.specs.WaitsOf.{firsts_of}
 use Rattle.drum_lines.specs.FaultStatus.{reads_failed}
 use Rattle.drum_lines.specs.declared.status.Status.TheVariants.{Done}
 use Rattle.drum_tool.specs.Output.{GetsResult, device}
-use Rattle.drum_tool.specs.Reply.{bound_reply, ceiling_reply, fault_reply, picture_reply, report_reply, verdict_reply}
-use Rattle.drum_tool.specs.Reply.{waits_reply, walk_reply}
+use Rattle.drum_tool.specs.Reply.{bound_reply, ceiling_reply, fault_reply, findings_reply, picture_reply, report_reply}
+use Rattle.drum_tool.specs.Reply.{verdict_reply, waits_reply, walk_reply}
 use Rattle.drum_tool.specs.Asked.{all_named_in, named_in}
 use Rattle.drum_tool.proofs.Asking.{no_line, no_line_of_trace, told_fault, told_well}
 use Rattle.drum_tool.proofs.Replies.{Replied, counted, fault_of_reads, result_of_no_read, trace_of_no_read}
@@ -36,6 +37,32 @@ returns-in-Bound-clause-told g c =
           (fault_of_reads fault, rw c.in-Bound.is (λ held told. inr (fault, c.in-Err.ensures.fault held told, refl, refl)))),
       rw c.in-Bound.is (told_fault (named_in c.in-Bound.files) (g.S.Source.asked c.args.source.now)
           (g.S.Source.asked c.bound.new.source) fault c.in-Err.ensures.asked),
+    )
+
+pub returns-in-Ok-findings-clause-told : goal.returns-in-Ok-findings-clause-told
+returns-in-Ok-findings-clause-told g c =
+    let reply = findings_reply (found_in c.in-Ok-findings.findings) in (
+      reply,
+      (c.tell_findings.ensures, refl),
+      (λ failures count.
+          counted (Replied (g.S.Source.files c.args.source.now) c.args.command reply) _ _ failures 0
+          c.in-Ok-findings.ensures.counted count
+          (result_of_no_read _ _, rw c.in-Check.is (λ held told. c.in-Ok-findings.ensures.findings held told))),
+      rw c.in-Check.is (told_well (named_in c.in-Check.files) (g.S.Source.asked c.args.source.now)
+          (g.S.Source.asked c.findings.new.source) reply (no_line _ _) c.in-Ok-findings.ensures.asked),
+    )
+
+pub returns-in-Check-clause-told : goal.returns-in-Check-clause-told
+returns-in-Check-clause-told g c =
+    let fault = c.in-Err-findings.fault in (
+      fault_reply fault,
+      (refl, c.complain-in-Err-findings.ensures.line, c.complain-in-Err-findings.ensures.status),
+      (λ failures count.
+          counted (Replied (g.S.Source.files c.args.source.now) c.args.command (fault_reply fault)) _ _ failures
+          (reads_failed fault) c.in-Err-findings.ensures.counted count
+          (fault_of_reads fault, rw c.in-Check.is (λ held told. inr (fault, c.in-Err-findings.ensures.fault held told, refl, refl)))),
+      rw c.in-Check.is (told_fault (named_in c.in-Check.files) (g.S.Source.asked c.args.source.now)
+          (g.S.Source.asked c.findings.new.source) fault c.in-Err-findings.ensures.asked),
     )
 
 pub returns-in-Ok-analysis-clause-told : goal.returns-in-Ok-analysis-clause-told
