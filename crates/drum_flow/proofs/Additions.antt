@@ -18,7 +18,7 @@ use Rattle.drum_flow.specs.Found.{targets_of, targets_by}
 use Rattle.drum_flow.specs.Hops.{Hop, hops_of}
 use Rattle.drum_flow.proofs.Lists.{contains_here, contains_there, contains_cases, contains_none}
 use Rattle.drum_flow.proofs.Matched.{matching_at, matching_from}
-use Rattle.drum_flow.proofs.Orders.{with_new_has}
+use Rattle.drum_flow.proofs.Orders.{contains_any, with_new_has}
 
 -- lists that are added in turn
 pub with_new_append : (places xs ys : List ℕ) → with_new places (xs ++ ys) ≡ with_new (with_new places xs) ys
@@ -34,23 +34,12 @@ with_new_append places (x ∷ xs) ys =
     go true there new = there
     go false there new = new
 
-found_there : (places : List ℕ) (x : ℕ) → Contains places x → list_any (λ place. eqb place x) places ≡ true
-found_there [] x there = absurd (contains_none x there)
-found_there (y ∷ places) x there = elim (contains_cases y x places there) [
-  | inl same ↦ ap (λ (b : Bool). b || list_any (λ place. eqb place x) places) (eq-eqb y x same)
-  | inr behind ↦ or_true (eqb y x) (list_any (λ place. eqb place x) places) (found_there places x behind)
-]
-  where
-    or_true : (a b : Bool) → b ≡ true → (a || b) ≡ true
-    or_true true b e = refl
-    or_true false b e = e
-
 -- a list whose members are all there adds nothing
 none_new : (places xs : List ℕ) → ((x : ℕ) → Contains xs x → Contains places x) → with_new places xs ≡ places
 none_new places [] all = refl
 none_new places (x ∷ xs) all =
     ap (λ (b : Bool). if b then with_new places xs else with_new (places ++ x ∷ []) xs)
-    (found_there places x (all x (contains_here x xs)))
+    (contains_any places x (all x (contains_here x xs)))
     ∙ none_new places xs (λ y there. all y (contains_there x y xs there))
 
 -- a list that is added again adds nothing

@@ -27,7 +27,8 @@ get_push [] y k x e = cc
 get_push (a ∷ xs) y zero x e = e
 get_push (a ∷ xs) y (suc k) x e = get_push xs y k x e
 
-any_contains : (xs : List ℕ) (y : ℕ) → list_any (λ x. eqb x y) xs ≡ true → Contains xs y
+-- a member, as a test of the list finds it
+pub any_contains : (xs : List ℕ) (y : ℕ) → list_any (λ x. eqb x y) xs ≡ true → Contains xs y
 any_contains [] y e = cc
 any_contains (x ∷ xs) y e = go (eqb x y) refl e (any_contains xs y)
   where
@@ -36,7 +37,7 @@ any_contains (x ∷ xs) y e = go (eqb x y) refl e (any_contains xs y)
     go true same h others = subst (λ (z : ℕ). Contains (x ∷ xs) z) (eqb-true x y same) (contains_here x xs)
     go false ne h others = contains_there x y xs (others h)
 
-contains_any : (xs : List ℕ) (y : ℕ) → Contains xs y → list_any (λ x. eqb x y) xs ≡ true
+pub contains_any : (xs : List ℕ) (y : ℕ) → Contains xs y → list_any (λ x. eqb x y) xs ≡ true
 contains_any [] y there = absurd (contains_none y there)
 contains_any (x ∷ xs) y there = go (contains_cases x y xs there) (contains_any xs y)
   where

@@ -1,0 +1,4 @@
+pub mod Adding
+pub mod Fixeds
+pub mod Outsides
+pub mod Whole
