@@ -1,4 +1,7 @@
+pub mod Accepting
 pub mod Adding
 pub mod Fixeds
+pub mod Nothing
 pub mod Outsides
+pub mod Silent
 pub mod Whole

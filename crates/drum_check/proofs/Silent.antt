@@ -1,0 +1,109 @@
+-- Where nothing is found, the deck with its notes is accepted.
+use Rattle.std.proofs.Common.{◌≡◌, ℕ, ◌<◌, ◌≤◌, Bool, true, false, List, [], ◌∷◌, ◌++◌, map, refl, ap, sym, ◌∙◌, subst}
+use Rattle.std.proofs.Common.{inl, inr, ◌⊎◌, Option, is_some}
+use Rattle.std.specs.Prelude.{Contains, IsSome, IsTrue, cond, flat_map, ◌||◌}
+use Rattle.std.proofs.lemmas.Bool.{cases_lt, lt-ltb}
+use Rattle.drum_core.specs.declared.instruction.Instruction.{Instruction}
+use Rattle.drum_core.specs.declared.word.Word.{Word}
+use Rattle.drum_core.specs.Op.{op_of}
+use Rattle.drum_times.specs.Allowed.{Notes, allowed, is_listed}
+use Rattle.drum_machine.specs.Writes.{writes}
+use Rattle.drum_flow.specs.Accepted.{IsAccepted, IsFixed, IsFree, IsInProfile, IsThere, product_of}
+use Rattle.drum_flow.specs.Graph.{IsClosed, LeadRound}
+use Rattle.drum_flow.specs.Hops.{IsExecuted}
+use Rattle.drum_flow.proofs.Lists.{contains_here, contains_none}
+use Rattle.drum_loops.specs.Loops.{IsLeft}
+use Rattle.drum_check.specs.Findings.{AreFindings, Finding, not_loaded, not_in_profile, alters, too_large, closes}
+use Rattle.drum_check.specs.Findings.{altered, altered_by, altering, is_fixed, is_there, not_there, operations_outside}
+use Rattle.drum_check.specs.Findings.{outside, too_many, unfit}
+use Rattle.drum_check.proofs.Fixeds.{fixed_so}
+use Rattle.drum_check.proofs.Nothing.{both_nothing, each_nothing, in_filter, in_flat_map, none_added, of_nothing}
+use Rattle.drum_check.proofs.Outsides.{outside_of}
+
+-- edges that are left where there are none that close loops
+round_left : (loads : ℕ → Option Word) (notes : Notes) (edges : List (ℕ × ℕ)) (first node : ℕ) (xs : List ℕ)
+    → edges ≡ [] → LeadRound (IsFree loads notes) first node xs → LeadRound (IsLeft loads notes edges) first node xs
+round_left loads notes edges first node [] none round =
+    (round, λ there. contains_none _ (subst (λ (all : List (ℕ × ℕ)). Contains all (node, first)) none there))
+round_left loads notes edges first node (x ∷ xs) none round = (
+  (round.0, λ there. contains_none _ (subst (λ (all : List (ℕ × ℕ)). Contains all (node, x)) none there)),
+  round_left loads notes edges first x xs none round.1,
+)
+
+-- a location that isn't told is there
+told_there : (loads : ℕ → Option Word) (notes : Notes) (place : ℕ) → not_there loads notes place ≡ []
+    → IsThere loads notes place
+told_there loads notes place none = go (is_some (loads place)) (is_listed notes place) refl refl none
+  where
+    go : (a b : Bool) → is_some (loads place) ≡ a → is_listed notes place ≡ b
+        → cond (a || b) [] (not_loaded place ∷ []) ≡ [] → IsSome (loads place) ⊎ IsTrue (is_listed notes place)
+    go true b e f h = inl e
+    go false true e f h = inr f
+    go false false e f h = cc
+
+-- an operation that isn't told is in the profile
+told_inside : (loads : ℕ → Option Word) (notes : Notes) (place : ℕ) → operations_outside loads notes place ≡ []
+    → IsInProfile loads notes place
+told_inside loads notes place none ins there = go (is_some (op_of ins.op)) refl
+  where
+    go : (b : Bool) → is_some (op_of ins.op) ≡ b → is_some (op_of ins.op) ≡ true
+    go true e = e
+    go false e =
+        let alone : outside ins.op ≡ ins.op ∷ [] = ap (λ (b : Bool). cond b [] (ins.op ∷ [])) e in
+        absurd (none_added (flat_map outside_of (allowed loads notes place)) ins.op none
+        (in_flat_map outside_of (allowed loads notes place) ins ins.op there
+        (subst (λ (all : List ℕ). Contains all ins.op) (sym alone) (contains_here ins.op []))))
+
+-- a size that isn't told is small
+told_small : (product : ℕ) → too_many product ≡ [] → product ≤ 4000000
+told_small product none = elim (cases_lt 4000000 product) [
+  | inl large ↦ (let told : too_many product ≡ too_large product ∷ [] =
+      ap (λ (b : Bool). cond b (too_large product ∷ []) []) (lt-ltb 4000000 product large) in
+      let clash : ◌≡◌ {A = List Finding} (too_large product ∷ []) [] = sym told ∙ none in
+      cc)
+  | inr small ↦ small
+]
+
+module _ (loads : ℕ → Option Word) (notes : Notes) (start : ℕ) (a : AreFindings loads notes start []) where
+  -- an instruction that isn't told alters nothing
+  told_unaltered : (place : ℕ) (ins : Instruction) (at : ℕ) → altered loads notes a.executed place ≡ []
+      → Contains (allowed loads notes place) ins → Contains (writes ins) at → ¬ IsFixed loads notes start at
+  told_unaltered place ins at none there written fixed =
+      none_added (flat_map (altered_by notes a.executed) (allowed loads notes place)) at none
+      (in_flat_map (altered_by notes a.executed) (allowed loads notes place) ins at there
+      (in_filter (is_fixed notes a.executed) (writes ins) at
+      (fixed_so notes a.executed at (a.found.all at fixed.0) fixed.1) written))
+
+  pub silent_accepted : IsAccepted loads notes start a.executed
+  silent_accepted =
+      let parts = both_nothing (flat_map (unfit loads notes) a.executed
+      ++ flat_map (altering loads notes a.executed) a.executed ++ too_many (product_of a.executed notes.marks))
+      (map closes a.edges) a.all in
+      let three = both_nothing (flat_map (unfit loads notes) a.executed
+      ++ flat_map (altering loads notes a.executed) a.executed) (too_many (product_of a.executed notes.marks))
+      (sym parts.0) in
+      let two = both_nothing (flat_map (unfit loads notes) a.executed)
+      (flat_map (altering loads notes a.executed) a.executed) (sym three.0) in
+      let no_edges : a.edges ≡ [] = of_nothing closes a.edges parts.1 in
+      let fit : (place : ℕ) → IsExecuted loads notes start place
+      → (not_there loads notes place ≡ []) × (operations_outside loads notes place ≡ []) = λ place executed.
+      let both = both_nothing (not_there loads notes place)
+      (map (not_in_profile place) (operations_outside loads notes place))
+      (sym (each_nothing (unfit loads notes) a.executed place two.0 (a.found.all place executed))) in
+      (both.0, of_nothing (not_in_profile place) (operations_outside loads notes place) both.1) in
+      let unaltered : (place : ℕ) → IsExecuted loads notes start place → altered loads notes a.executed place ≡ [] =
+      λ place executed. of_nothing (alters place) (altered loads notes a.executed place)
+      (each_nothing (altering loads notes a.executed) a.executed place two.1 (a.found.all place executed)) in
+      record {
+        admitted = record {
+          order = a.found.order;
+          there = λ place executed. told_there loads notes place (fit place executed).0;
+          profile = λ place executed. told_inside loads notes place (fit place executed).1;
+          unaltered =
+              λ place ins at executed there written. told_unaltered place ins at (unaltered place executed) there written;
+          bounded =
+              λ first others executed closed. a.closing.enough first others executed
+              (round_left loads notes a.edges first first others no_edges closed);
+        };
+        small = told_small (product_of a.executed notes.marks) three.1;
+      }
