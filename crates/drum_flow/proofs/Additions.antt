@@ -2,9 +2,9 @@
 -- ways add nothing after the first.
 use Rattle.std.proofs.Common.{◌≡◌, ℕ, zero, suc, ◌+◌, ◌-◌, ◌<◌, ◌≤◌, Bool, true, false, eqb, List, [], ◌∷◌, ◌++◌, map}
 use Rattle.std.proofs.Common.{Option, Contains, refl, ap, sym, ◌∙◌, inl, inr, arith}
-use Rattle.std.specs.Prelude.{flat_map, filter_map, if◌then◌else◌, ◌||◌}
+use Rattle.std.specs.Prelude.{flat_map, filter_map, if◌then◌else◌}
 use Rattle.std.specs.List.{range_with_len, list_any, cons_option}
-use Rattle.std.proofs.lemmas.Bool.{cases_lt, eq-eqb}
+use Rattle.std.proofs.lemmas.Bool.{cases_lt}
 use Rattle.std.proofs.lemmas.List.Elements.{filter_map-append}
 use Rattle.std.proofs.lemmas.List.Folds.{flat_map-map}
 use Rattle.std.proofs.lemmas.Grind.{flat_map-append}
@@ -16,7 +16,7 @@ use Rattle.drum_machine.specs.Ways.{Way, ways}
 use Rattle.drum_flow.specs.Executed.{target_of, successors, with_new}
 use Rattle.drum_flow.specs.Found.{targets_of, targets_by}
 use Rattle.drum_flow.specs.Hops.{Hop, hops_of}
-use Rattle.drum_flow.proofs.Lists.{contains_here, contains_there, contains_cases, contains_none}
+use Rattle.drum_flow.proofs.Lists.{contains_here, contains_there}
 use Rattle.drum_flow.proofs.Matched.{matching_at, matching_from}
 use Rattle.drum_flow.proofs.Orders.{contains_any, with_new_has}
 

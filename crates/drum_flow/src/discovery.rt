@@ -41,11 +41,7 @@ pub fn flow<'a>(alloc: Global, deck: &'a Deck, notes: &'a Notes) -> Result<Flow<
 /// # Errors
 ///
 /// [`AllocError`] where there is no memory for it.
-pub fn discover<'a>(
-    alloc: Global,
-    deck: &'a Deck,
-    notes: &'a Notes,
-) -> Result<Flow<'a>, AllocError>
+pub fn discover<'a>(alloc: Global, deck: &'a Deck, notes: &'a Notes) -> Result<Flow<'a>, AllocError>
     ensures deck { IfOk result (λ flow. deck_of flow ≡ deck.now) }
     ensures notes { IfOk result (λ flow. notes_of flow ≡ notes.now) }
     ensures found { IfOk result (λ flow. AreFound (loads_in deck.now) notes.now

@@ -22,8 +22,8 @@ returns-in_err-check_place-clause-refused c =
     let here : slice_get (executed_in flow) k ≡ Some location.number =
     number_at c.executed-location-items.result.now (executed_in flow) k location c.executed-location-items.ensures.all
     c.loop-location-test.true c.location-item.is in
-    handed c.from_residual-in_err-check_place.result _ c.in_err-check_place.field-0.0
-    c.from_residual-in_err-check_place.ensures.1
+    handed c.from_residual.result _ c.in_err-check_place.field-0.0
+    c.from_residual.ensures.1
     (wrong_met (loads_in flow.deck.now) flow.notes.now (start_in flow.deck.now) k location.number (executed_in flow)
     c.in_err-check_place.field-0.0 c.requires c.loop-location.invariant here c.in_err-check_place.ensures.wrong)
 
