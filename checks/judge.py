@@ -5,6 +5,7 @@ from collections import namedtuple
 
 from damage import FILES, files_of_joined, joined
 from faults import fault_of, has_its_form, is_accepted, names_what_is_there
+from findings import is_check, is_first_of
 from results import (
     bound_of,
     ceiling_of,
@@ -57,6 +58,9 @@ def verdict_of(line, status):
 def result_of(asked, status, text):
     """What a result tells that was asked for; None where it is none."""
     command, files = asked
+    if command == "check":
+        is_told = status == (REFUSED if text else DONE) and is_check(text, files)
+        return Told("check") if is_told else None
     if command == "replay":
         told = verdict_of(text, status)
         return told if told and told.by != "ceiling" else None
@@ -82,7 +86,8 @@ def told_of(asked, ran):
         out, err = ran.out.decode(), ran.err.decode()
     except UnicodeDecodeError:
         return None
-    if ran.status in (DONE, LEFT):
+    is_checked = asked and asked[0] == "check" and ran.status == REFUSED and out
+    if ran.status in (DONE, LEFT) or is_checked:
         if asked:
             return result_of(asked, ran.status, out)
         return Told("help") if ran.status == DONE else None
@@ -143,6 +148,18 @@ def is_no_lower(told, bound, files):
     return told.fault == other.fault and (told.fault is not None or other.bound <= told.bound)
 
 
+def is_said_first(ran, told, bound, files):
+    """Whether a check goes with what `bound` gives: it is silent where there is a bound, else its
+    first line is that of the analysis's fault; a fault of a text is the same."""
+    other = told_of(("bound", files), bound)
+    if other is None or told.fault:
+        return other is not None and told.fault == other.fault
+    if not ran.out:
+        return other.fault is None
+    is_refused = other.fault is not None and other.fault.about == "analysis"
+    return is_refused and is_first_of(bound.err.decode(), ran.out.decode())
+
+
 def is_within_ceiling(told, bound, ceiling, files):
     """Whether a trace past the limit of a bound goes with what `ceiling` gives: it tells that, no
     time in it is above it, and without one it has the same fault, or one of the inputs; a ceiling
@@ -172,6 +189,8 @@ def agrees(asked, ran, told, run):
         walked = [ran if name == command else other(name) for name in WALKED]
         is_one = all(ends_alike(one, bound) for one in walked)
         return is_one and are_counted(*walked, files)
+    if command == "check":
+        return is_said_first(ran, told, bound, files)
     if command == "ceiling":
         return is_no_lower(told, bound, files)
     if command == "draw":
@@ -190,8 +209,11 @@ def agrees(asked, ran, told, run):
 # The properties.
 
 
-def writes_where_its_status_says(ran):
-    """Whether a run wrote to the one output that goes with its status, and nothing to the other."""
+def writes_where_its_status_says(ran, asked):
+    """Whether a run wrote to the one output that goes with its status, and nothing to the other. A
+    check that finds nothing writes nothing, and what it finds ends with the status of a fault."""
+    if asked and asked[0] == "check" and ran.err == b"":
+        return ran.status == (REFUSED if ran.out else DONE)
     is_line = {DONE: ran.out, LEFT: ran.out, REFUSED: ran.err, FAILED: ran.err}
     written = is_line.get(ran.status, b"")
     if ran.status == USAGE:
@@ -213,13 +235,13 @@ def tells_why_it_does_nothing(case, told):
 def judged(case, ran, run):
     """What a run told, where it keeps to every property. `run` takes words, the files' texts and
     the standard input."""
-    hold("writes where its status says", writes_where_its_status_says(ran))
+    asked = case.asked()
+    hold("writes where its status says", writes_where_its_status_says(ran, asked))
     hold("says the same once more", run(case.words, case.files, case.text) == ran)
     # An escape in a document may spell a key with a line feed.
     has_escape = any(b"\\" in text for text in [case.text, *case.files.values()])
-    is_fault = ran.status in (REFUSED, FAILED)
+    is_fault = ran.status in (REFUSED, FAILED) and ran.out == b""
     hold("tells a fault in one line", not is_fault or has_escape or ran.err.count(b"\n") == 1)
-    asked = case.asked()
     told = told_of(asked, ran)
     hold("says what may be said", told is not None)
     hold("wants for nothing", not told.fault or told.fault.ending != "fail")

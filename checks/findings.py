@@ -1,0 +1,141 @@
+"""All that keeps a deck from a bound, worked out from its text and its notes, and whether what
+`check` prints is that. Which edges it tells for the loops is held to what is asked of them: that
+they are enough, and that none can be spared."""
+
+from math import prod
+
+from model import is_location, suits
+from results import cards_of, entries_of, start_of
+from toml_text import document_of
+
+# The most words times counts.
+KEYS = 4_000_000
+
+
+class Flow:
+    """The flow graph of a deck under its notes, whatever stands at its locations."""
+
+    def __init__(self, files):
+        self.words = {
+            place: parts_of(word)
+            for _, first, words in cards_of(files["deck"])
+            for place, word in enumerate(words, first)
+        }
+        self.notes = document_of(files["notes"])
+        self.profile = set(entries_of(files["times"]))
+        self.lists = {one["location"]: one["pattern"] for one in self.notes.get("list", [])}
+        self.marks = self.notes.get("mark", [])
+        self.targets, self.order = {}, [start_of(files["deck"])]
+        for place in self.order:
+            self.targets[place] = list(dict.fromkeys(self.nexts_at(place)))
+            self.order += [onto for onto in self.targets[place] if onto not in self.order]
+
+    def instructions(self, place):
+        if place in self.words:
+            yield self.words[place]
+        for pattern in self.lists.get(place, []):
+            for d in range(pattern["d_from"], pattern["d_to"] + 1):
+                yield pattern["op"], d, pattern["i"]
+
+    def nexts_at(self, place):
+        for op, d, i in self.instructions(place):
+            if op in self.profile and suits(op, d):
+                yield from filter(is_location, self.nexts(op, d, i))
+
+    def nexts(self, op, d, i):
+        """Where an instruction may go on, D before I."""
+        if op == 1 and self.notes["programmed"] == "stop":
+            return []
+        is_branch = op in (44, 45, 46, 47) or op >= 90
+        is_load = op == 70 and self.notes["load_cards"] == "any"
+        return [d, i] if is_branch or is_load else [i]
+
+    def unfit(self, place):
+        """What is wrong with a location by itself."""
+        if place not in self.words and place not in self.lists:
+            yield "notloaded %04d" % place
+        for op in dict.fromkeys(op for op, _, _ in self.instructions(place)):
+            if op not in self.profile:
+                yield "notinprofile %04d %02d" % (place, op)
+
+    def altering(self, place):
+        """The executed words without a list that the instructions of a location write."""
+        fixed = set(self.order) - set(self.lists)
+        written = (word for op, d, _ in self.instructions(place) for word in writes(op, d))
+        for word in dict.fromkeys(written):
+            if word in fixed:
+                yield "alters %04d %04d" % (place, word)
+
+    def too_large(self):
+        product = len(self.order) * prod(mark["most"] + 1 for mark in self.marks)
+        return ["toolarge %d" % product] if product > KEYS else []
+
+    def lines(self):
+        """All but the loops."""
+        unfit = [line for place in self.order for line in self.unfit(place)]
+        altering = [line for place in self.order for line in self.altering(place)]
+        return unfit + altering + self.too_large()
+
+    def free_edges(self):
+        """The edges without a mark, in order."""
+        marked = {(mark["from"], mark["to"]) for mark in self.marks}
+        edges = [(place, onto) for place in self.order for onto in self.targets[place]]
+        return [edge for edge in edges if edge not in marked]
+
+
+def parts_of(word):
+    """Operation, data address and next address of a word."""
+    number = int(word[1:])
+    return number // 10**8, number // 10**4 % 10**4, number % 10**4
+
+
+def writes(op, d):
+    """The drum words that an instruction writes."""
+    if d >= 2000:
+        return []
+    band = d // 50 * 50
+    return [d] if 20 <= op <= 24 else range(band + 1, band + 11) if op == 70 else []
+
+
+def reached(edges, place):
+    """The locations that edges lead to from one."""
+    onward = {}
+    for source, target in edges:
+        onward.setdefault(source, []).append(target)
+    found, order = {place}, [place]
+    for one in order:
+        new = [onto for onto in dict.fromkeys(onward.get(one, [])) if onto not in found]
+        found.update(new)
+        order += new
+    return found
+
+
+def are_closing(told, free):
+    """Whether these are edges in order, without which nothing is closed, and each of which is
+    needed for that."""
+    left = [edge for edge in free if edge not in set(told)]
+    is_in_order = told == [edge for edge in free if edge in set(told)]
+    are_needed = all(source in reached(left, target) for source, target in told)
+    return is_in_order and are_needed and not any(
+        source in reached(left, target) for source, target in left
+    )
+
+
+def is_check(text, files):
+    """Whether a text is what a check of a deck with its notes tells."""
+    flow = Flow(files)
+    lines, wanted = text.splitlines(), flow.lines()
+    loops = [line.split(" ") for line in lines[len(wanted) :]]
+    if lines[: len(wanted)] != wanted or any(one[0] != "loop" for one in loops):
+        return False
+    told = [(int(source), int(target)) for _, source, target in loops]
+    are_lines = text == "".join(line + "\n" for line in lines)
+    return are_lines and are_closing(told, flow.free_edges())
+
+
+def is_first_of(line, told):
+    """Whether what a fault line of the analysis tells is the first that a check tells; of a round
+    that no mark bounds a check tells an edge of its own choice."""
+    words = line.rstrip("\n").split(" ", 2)[2]
+    first = told.splitlines()[0]
+    return first.startswith("loop ") if words.startswith("unbounded ") else first == words
