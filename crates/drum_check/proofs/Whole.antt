@@ -1,11 +1,11 @@
 -- All the findings, put together.
-use Rattle.std.proofs.Common.{◌≡◌, List, [], ◌++◌, ap, sym, ◌∙◌, append_assoc}
+use Rattle.std.proofs.Common.{◌≡◌, List, [], ◌++◌, ap, ◌∙◌}
 use Rattle.drum_check.specs.Findings.{Finding}
 
 -- four lists that were added in turn to none
-pub in_turn : (none first second third fourth as bs cs ds : List Finding) → none ≡ [] → first ≡ none ++ as
-    → second ≡ first ++ bs → third ≡ second ++ cs → fourth ≡ third ++ ds → fourth ≡ as ++ bs ++ cs ++ ds
-in_turn none first second third fourth as bs cs ds empty a b c d =
-    d ∙ ap (λ (xs : List Finding). xs ++ ds)
-    (c ∙ ap (λ (xs : List Finding). xs ++ cs)
-    (b ∙ ap (λ (xs : List Finding). xs ++ bs) (a ∙ ap (λ (xs : List Finding). xs ++ as) empty)))
+pub in_turn : (none first second third fourth ws xs ys zs : List Finding) → none ≡ [] → first ≡ none ++ ws
+    → second ≡ first ++ xs → third ≡ second ++ ys → fourth ≡ third ++ zs → fourth ≡ ws ++ xs ++ ys ++ zs
+in_turn none first second third fourth ws xs ys zs empty w x y z =
+    z ∙ ap (λ (all : List Finding). all ++ zs)
+    (y ∙ ap (λ (all : List Finding). all ++ ys)
+    (x ∙ ap (λ (all : List Finding). all ++ xs) (w ∙ ap (λ (all : List Finding). all ++ ws) empty)))

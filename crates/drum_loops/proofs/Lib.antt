@@ -1,0 +1,7 @@
+pub mod Arrangements
+pub mod Backs
+pub mod Befores
+pub mod Closings
+pub mod Flags
+pub mod Paths
+pub mod Rankings

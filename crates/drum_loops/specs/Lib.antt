@@ -1,0 +1,6 @@
+pub mod Arranged
+pub mod Arranging
+pub mod Closing
+pub mod Flags
+pub mod Loops
+pub mod Ranks

@@ -1,6 +1,17 @@
 //! The edges that close the loops of a flow graph: those that want a mark before a deck has a
 //! bound.
 //!
-//! `arrangement` is a depth-first search that puts a graph's nodes into an order, `arrange` runs it
-//! over all of them, and `closing` tells the edges free of marks that don't go on in that order.
+//! `arrangement` is a depth-first search that puts a graph's nodes into an order, and `arranging`
+//! runs it over all of them. `ranking` tells where each node stands there, `behind` which of a
+//! node's edges don't go on, and `closing` lists those as edges of the flow graph.
 #![tactic(auto)]
+
+mod arrangement;
+mod arranging;
+mod behind;
+mod closing;
+mod edge;
+mod ranking;
+
+pub use closing::closing_edges;
+pub use edge::Edge;

@@ -11,5 +11,5 @@ use Rattle.drum_check.proofs.altered.add_altered_by.Given as goal
 abbrev pub invariant-loop-number : goal.invariant-loop-number
 invariant-loop-number l =
     with_new (places_of l.altered) (filter (is_fixed l.flow.notes.now (executed_in l.flow))
-    (range_with_len l.number (l.words.end - l.number)))
+    (range_with_len l.number (l.number-end - l.number)))
     ≡ with_new (places_of l.fn.altered) (altered_by l.flow.notes.now (executed_in l.flow) l.fn.instruction)
