@@ -1,23 +1,22 @@
 -- Where the deck with its notes is accepted, nothing is found.
-use Rattle.std.proofs.Common.{◌≡◌, ℕ, ◌<◌, ◌≤◌, Bool, true, false, List, [], ◌∷◌, ◌++◌, map, refl, ap, sym, ◌∙◌, subst}
-use Rattle.std.proofs.Common.{inl, inr, ◌⊎◌, Option, is_some}
-use Rattle.std.specs.Prelude.{Contains, IsSome, IsTrue, cond, filter, flat_map, ◌||◌}
+use Rattle.std.proofs.Common.{◌≡◌, ℕ, ◌≤◌, Bool, true, false, List, [], ◌∷◌, ◌++◌, map, refl, ap, sym, ◌∙◌, subst}
+use Rattle.std.proofs.Common.{inl, inr, Option, is_some}
+use Rattle.std.specs.Prelude.{Contains, cond, flat_map, ◌||◌}
 use Rattle.std.proofs.lemmas.Bool.{le-ltb}
 use Rattle.drum_core.specs.declared.instruction.Instruction.{Instruction}
 use Rattle.drum_core.specs.declared.word.Word.{Word}
-use Rattle.drum_core.specs.Op.{op_of}
 use Rattle.drum_times.specs.Allowed.{Notes, allowed, is_listed}
 use Rattle.drum_machine.specs.Writes.{writes}
 use Rattle.drum_flow.specs.Accepted.{IsAccepted, IsFree, IsThere, product_of}
 use Rattle.drum_flow.specs.Executed.{with_new}
-use Rattle.drum_flow.specs.Graph.{IsClosed, LeadRound}
+use Rattle.drum_flow.specs.Graph.{LeadRound}
 use Rattle.drum_flow.specs.Hops.{IsExecuted}
 use Rattle.drum_flow.proofs.Acceptances.{one_order}
 use Rattle.drum_flow.proofs.Lists.{contains_here}
 use Rattle.drum_flow.proofs.Orders.{lead_push}
 use Rattle.drum_loops.specs.Loops.{IsLeft, LeadBy}
 use Rattle.drum_check.specs.Findings.{AreFindings, Finding, not_loaded, not_in_profile, alters, too_large, closes}
-use Rattle.drum_check.specs.Findings.{altered, altered_by, altering, is_fixed, not_there, outside, too_many, unfit}
+use Rattle.drum_check.specs.Findings.{altered_by, altering, is_fixed, not_there, too_many, unfit}
 use Rattle.drum_check.proofs.Fixeds.{fixed_only}
 use Rattle.drum_check.proofs.Nothing.{all_nothing, none_passes}
 use Rattle.drum_check.proofs.Outsides.{outside_of}

@@ -1,15 +1,17 @@
 -- Findings that are added one after the other.
 use Rattle.std.proofs.Common.{◌≡◌, ℕ, suc, ◌+◌, ◌-◌, ◌<◌, Bool, true, false, List, [], ◌∷◌, ◌++◌, map, length, get_or}
 use Rattle.std.proofs.Common.{take}
-use Rattle.std.proofs.Common.{Option, Some, ap, sym, ◌∙◌, arith, append_assoc}
+use Rattle.std.proofs.Common.{Some, ap, sym, ◌∙◌, arith, append_assoc}
 use Rattle.std.specs.Prelude.{filter, flat_map, if◌then◌else◌, slice_get}
 use Rattle.std.specs.List.{range_with_len}
 use Rattle.std.proofs.lemmas.Grind.{flat_map-append}
 use Rattle.std.proofs.lemmas.List.{append-nil, map_more, take_more}
+use Rattle.std.proofs.lemmas.Simd.{map-map}
 use Rattle.std.proofs.lemmas.Option.{get_or_from_slice_get, slice_get_within}
+use Rattle.drum_core.specs.declared.location.Location.{Location}
 use Rattle.drum_flow.specs.Executed.{with_new}
 use Rattle.drum_flow.proofs.Additions.{with_new_append}
-use Rattle.drum_check.specs.Findings.{Finding}
+use Rattle.drum_check.specs.Findings.{Finding, alters}
 
 -- one more of those that were added one by one
 pub added_one : {X : Type 0} (f : X → Finding) (before found added : List Finding) (xs : List X) (k : ℕ) (x : X)
@@ -67,3 +69,18 @@ module _ (p : ℕ → Bool) (places : List ℕ) (number end : ℕ) (below : numb
       ∙ sym (ap (λ (xs : List ℕ). with_new places (filter p xs)) (range_first number end below)
       ∙ ap (with_new places) (filter_first p number (range_with_len (number + 1) (end - (number + 1))) true is)
       ∙ with_new_append places (number ∷ []) rest)
+
+-- the words that a location alters, by their numbers
+pub words_altered : (place : ℕ) (before after : List Finding) (words : List Location) (numbers : List ℕ)
+    → map (λ (word : Location). word.number) words ≡ numbers
+    → after ≡ before ++ map (λ (word : Location). alters place word.number) words
+    → after ≡ before ++ map (alters place) numbers
+words_altered place before after words numbers same added =
+    added ∙ ap (λ (all : List Finding). before ++ all)
+    (sym (map-map (alters place) (λ (word : Location). word.number) words) ∙ ap (map (alters place)) same)
+
+-- two lists that were added in turn
+pub added_both : (before between after xs ys : List Finding) → between ≡ before ++ xs → after ≡ between ++ ys
+    → after ≡ before ++ (xs ++ ys)
+added_both before between after xs ys first second =
+    second ∙ ap (λ (all : List Finding). all ++ ys) first ∙ append_assoc before xs ys

@@ -1,8 +1,10 @@
 -- The operations outside the profile of a pattern's instructions are those of its one operation.
-use Rattle.std.proofs.Common.{◌≡◌, ℕ, suc, ◌-◌, ◌<◌, ◌≤◌, List, map, refl, ap, ◌∙◌, arith}
-use Rattle.std.specs.Prelude.{flat_map}
-use Rattle.std.specs.List.{range_with_len}
+use Rattle.std.proofs.Common.{◌≡◌, ℕ, suc, ◌-◌, ◌<◌, ◌≤◌, Bool, true, false, eqb, List, [], ◌∷◌, ◌++◌, map, refl, ap, sym}
+use Rattle.std.proofs.Common.{◌∙◌, arith}
+use Rattle.std.specs.Prelude.{cond, flat_map, is_some}
+use Rattle.std.specs.List.{list_any, range_with_len}
 use Rattle.drum_core.specs.declared.instruction.Instruction.{Instruction}
+use Rattle.drum_core.specs.Op.{op_of}
 use Rattle.drum_times.specs.declared.notes.pattern.Pattern.{Pattern}
 use Rattle.drum_times.specs.Allowed.{matching}
 use Rattle.drum_flow.specs.Executed.{with_new}
@@ -27,3 +29,20 @@ one_operation operations pattern =
 
     none : (to : ℕ) → suc to - suc to ≡ 0
     none to = omega arith
+
+-- an operation in the profile adds nothing
+pub inside_none : (op : ℕ) → is_some (op_of op) ≡ true → outside op ≡ []
+inside_none op inside = ap (λ (b : Bool). cond b [] (op ∷ [])) inside
+
+-- any other adds itself, unless it is there
+pub outside_there : (operations : List ℕ) (op : ℕ) → is_some (op_of op) ≡ false
+    → list_any (λ one. eqb one op) operations ≡ true → operations ≡ with_new operations (outside op)
+outside_there operations op out there =
+    sym (ap (with_new operations) (ap (λ (b : Bool). cond b [] (op ∷ [])) out)
+    ∙ ap (λ (b : Bool). cond b operations (operations ++ op ∷ [])) there)
+
+pub outside_new : (operations : List ℕ) (op : ℕ) → is_some (op_of op) ≡ false
+    → list_any (λ one. eqb one op) operations ≡ false → operations ++ op ∷ [] ≡ with_new operations (outside op)
+outside_new operations op out new =
+    sym (ap (with_new operations) (ap (λ (b : Bool). cond b [] (op ∷ [])) out)
+    ∙ ap (λ (b : Bool). cond b operations (operations ++ op ∷ [])) new)

@@ -1,7 +1,7 @@
 //! The words that the instructions of a location alter: those of the executed locations without a
 //! list that they write.
 
-ghost use Rattle.std.specs.Prelude.{◌≡◌, [], IfOk, OnOk, flat_map};
+ghost use Rattle.std.specs.Prelude.{◌≡◌, ◌<◌, [], ◌∷◌, IfOk, OnOk, flat_map};
 ghost use Rattle.drum_core.specs.Loads.{loads_in};
 ghost use Rattle.drum_times.specs.Allowed.{matching};
 ghost use Rattle.drum_flow.specs.Executed.{with_new};
@@ -22,6 +22,18 @@ use drum_machine::writes;
 use drum_times::Pattern;
 use std::alloc::{AllocError, Global};
 
+/// Adds the drum word of this number, unless it is there.
+fn add_word(altered: &mut Executed, number: u16) -> Result<(), AllocError>
+    requires { number < 2000 }
+    ensures { OnOk result (places_of altered.new
+        ≡ with_new (places_of altered.old) (number ∷ [])) }
+{
+    let Some(word) = Location::new(number) else {
+        unreachable!()
+    };
+    altered.add(word)
+}
+
 /// Adds the words that an instruction alters, unless they are there.
 fn add_altered_by(
     altered: &mut Executed,
@@ -38,9 +50,7 @@ fn add_altered_by(
         if !fixed.has(number) {
             continue;
         }
-        if let Some(word) = Location::new(number) {
-            altered.add(word)?;
-        }
+        add_word(altered, number)?;
     }
     Ok(())
 }

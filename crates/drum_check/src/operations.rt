@@ -15,7 +15,10 @@ use std::alloc::{AllocError, Global};
 fn add_operation(operations: &mut Vec<u8>, op: u8) -> Result<(), AllocError>
     ensures { OnOk result (operations.new.items ≡ with_new operations.old.items (outside op)) }
 {
-    if Op::of(op).is_some() || operations.contains(&op) {
+    if Op::of(op).is_some() {
+        return Ok(());
+    }
+    if operations.contains(&op) {
         return Ok(());
     }
     operations.push(op)?;

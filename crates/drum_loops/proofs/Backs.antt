@@ -12,7 +12,7 @@ use Rattle.drum_flow.specs.Graph.{AreDifferent}
 use Rattle.drum_flow.proofs.Founds.{numbers}
 use Rattle.drum_flow.proofs.FreeRows.{one_place}
 use Rattle.drum_flow.proofs.Lists.{contains_here, contains_there, contains_cases, contains_none, distinct_push}
-use Rattle.drum_loops.specs.Closing.{AreBehind, IsBack, AreBack}
+use Rattle.drum_loops.specs.Closing.{AreBehind, IsBack, AreBack, edges_onto}
 use Rattle.drum_loops.specs.declared.edge.Edge.{Edge}
 use Rattle.drum_loops.specs.Loops.{edge_of, AreApart}
 
@@ -68,10 +68,6 @@ none_behind ranks node = record {
   all = λ other there back. there;
   different = tt;
 }
-
--- the edges from a location to those at some places
-abbrev pub edges_onto : List ℕ → ℕ → List ℕ → List (ℕ × ℕ)
-edges_onto places from targets = map (λ (next : ℕ). (from, slice_index places next)) targets
 
 -- the edges to one more place
 pub edges_more : (edges : List Edge) (old : List (ℕ × ℕ)) (from onto : Location) (locations : List Location)

@@ -8,8 +8,8 @@ use Rattle.drum_loops.specs.declared.arrangement.Arrangement.{Arrangement}
 use Rattle.drum_loops.specs.Arranged.{IsPlaced}
 use Rattle.drum_loops.specs.Flags.{AreFlags}
 
--- What is so of a search: the nodes of the order are met, and so are `passed` nodes of each row; the
--- edges of finished nodes are placed.
+-- What is so of a search: the nodes of the order are met, and so are `passed` nodes of each row;
+-- the edges of finished nodes are placed.
 pub record IsArranging (row : ℕ → List ℕ) (size : ℕ) (met : List Bool)
     (passed path finished order : List ℕ) : Type 0 where
   pub met_long : length met ≡ size
@@ -26,12 +26,12 @@ abbrev pub Arranges : (ℕ → List ℕ) → ℕ → Arrangement → Type 0
 Arranges row size search = IsArranging row size search.met.items search.passed.items
     search.path.items search.finished.items (search.path.items ++ reverse search.finished.items)
 
--- the steps that a search still takes for a node, if that isn't on the path
+-- a node that isn't met is still to be entered and left
 abbrev pub steps_left : Bool → ℕ
 steps_left true = 0
 steps_left false = 2
 
--- the steps that a search still takes
+-- the steps that a search still takes: it leaves each node of the path, too
 abbrev pub work_left : Arrangement → ℕ
 work_left search = sum_by steps_left search.met.items + length search.path.items
 

@@ -1,5 +1,5 @@
 -- The edges of rows that don't go on in an order, by the nodes' ranks in it.
-use Rattle.std.specs.Prelude.{◌≡◌, ℕ, ◌<◌, ◌≤◌, List, slice_get, slice_index, Some, Contains}
+use Rattle.std.specs.Prelude.{◌≡◌, ℕ, ◌<◌, ◌≤◌, List, map, slice_get, slice_index, Some, Contains}
 use Rattle.drum_flow.specs.Graph.{AreDifferent}
 use Rattle.drum_loops.specs.Loops.{AreApart}
 
@@ -28,3 +28,7 @@ pub record AreBack (row : ℕ → List ℕ) (ranks places : List ℕ) (count : �
       → IsBack row ranks places count from onto
   pub all : (from onto : ℕ) → IsBack row ranks places count from onto → Contains edges (from, onto)
   pub apart : AreApart edges
+
+-- the edges from a location to those of some nodes
+abbrev pub edges_onto : List ℕ → ℕ → List ℕ → List (ℕ × ℕ)
+edges_onto places from targets = map (λ next. (from, slice_index places next)) targets

@@ -1,7 +1,7 @@
-ghost use Rattle.std.specs.Prelude.{◌≡◌, ℕ, ◌<◌, ◌++◌, length, map, slice_index, IfOk, OnOk, Contains};
+ghost use Rattle.std.specs.Prelude.{◌≡◌, ℕ, ◌<◌, ◌++◌, length, map, IfOk, OnOk, Contains};
 ghost use Rattle.drum_flow.specs.Flow.{executed_in, of_flow, AreFound};
 ghost use Rattle.drum_flow.specs.Graph.{row, size, AreDifferent};
-ghost use Rattle.drum_loops.specs.Closing.{AreBack};
+ghost use Rattle.drum_loops.specs.Closing.{AreBack, edges_onto};
 ghost use Rattle.drum_loops.specs.Loops.{edge_of, AreClosing};
 
 use crate::arranging::arrange;
@@ -23,10 +23,7 @@ fn add_edges(
 ) -> Result<(), AllocError>
     requires { (next : ℕ) → Contains targets.now next → next < length executed.now }
     ensures { OnOk result (map edge_of edges.new.items ≡ map edge_of edges.old.items
-        ++ map (λ next. (
-          from.number,
-          slice_index (map (λ location. location.number) executed.now) next,
-        )) targets.now) }
+        ++ edges_onto (map (λ location. location.number) executed.now) from.number targets.now) }
 {
     for next in targets {
         edges.push(Edge {

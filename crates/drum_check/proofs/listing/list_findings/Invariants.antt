@@ -1,4 +1,4 @@
-use Rattle.std.proofs.Common.{◌≡◌, ◌+◌, ◌*◌, ◌≤◌, flat_map, map, take, Ok}
+use Rattle.std.proofs.Common.{◌≡◌, ◌+◌, ◌*◌, ◌≤◌, flat_map, take, Ok}
 use Rattle.drum_lines.specs.Sent.{IsSent}
 use Rattle.drum_check.specs.declared.finding.Finding.{Finding}
 use Rattle.drum_check.specs.FindingsOf.{seen}

@@ -4,8 +4,9 @@ use Rattle.std.proofs.lemmas.List.{take_all}
 use Rattle.std.proofs.lemmas.List.Elements.{Contains-get_or}
 use Rattle.drum_flow.proofs.Alterations.{number_at}
 use Rattle.drum_flow.proofs.Founds.{numbers}
+use Rattle.drum_loops.specs.Closing.{edges_onto}
 use Rattle.drum_loops.specs.Loops.{edge_of}
-use Rattle.drum_loops.proofs.Backs.{edges_onto, edges_more}
+use Rattle.drum_loops.proofs.Backs.{edges_more}
 use Rattle.drum_loops.proofs.closing.add_edges.Goals as goal
 
 pub bounds-executed-next : goal.bounds-executed-next

@@ -6,9 +6,9 @@ use Rattle.drum_flow.specs.Flow.{executed_in}
 use Rattle.drum_flow.specs.Graph.{row, size}
 use Rattle.drum_flow.proofs.Alterations.{number_at}
 use Rattle.drum_flow.proofs.Founds.{numbers}
-use Rattle.drum_loops.specs.Closing.{AreBehind, AreBack}
+use Rattle.drum_loops.specs.Closing.{AreBehind, AreBack, edges_onto}
 use Rattle.drum_loops.specs.Loops.{edge_of}
-use Rattle.drum_loops.proofs.Backs.{edges_onto, back_more}
+use Rattle.drum_loops.proofs.Backs.{back_more}
 use Rattle.drum_loops.proofs.closing.edges_back.Goals as goal
 
 same_length : (locations : List Location) (places : List ℕ) → numbers locations ≡ places
