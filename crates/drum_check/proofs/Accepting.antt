@@ -16,7 +16,7 @@ use Rattle.drum_flow.proofs.Lists.{contains_here}
 use Rattle.drum_flow.proofs.Orders.{lead_push}
 use Rattle.drum_loops.specs.Loops.{IsLeft, LeadBy}
 use Rattle.drum_check.specs.Findings.{AreFindings, Finding, not_loaded, not_in_profile, alters, too_large, closes}
-use Rattle.drum_check.specs.Findings.{altered_by, altering, is_fixed, not_there, too_many, unfit}
+use Rattle.drum_check.specs.Findings.{altered_by, altering, is_fixed, not_there, too_many, unfit, unused}
 use Rattle.drum_check.proofs.Fixeds.{fixed_only}
 use Rattle.drum_check.proofs.Nothing.{all_nothing, none_passes}
 use Rattle.drum_check.proofs.Outsides.{outside_of}
@@ -82,17 +82,20 @@ module _ (loads : ℕ → Option Word) (notes : Notes) (start : ℕ) (executed :
       (from.0 ++ edge.1 ∷ [], lead_push loads notes start start edge.0 edge.1 from.0 from.1 free.0)
       (round_back loads notes a.edges edge.1 edge.1 edge.0 back.0 back.1 free))
 
-  pub accepted_silent : findings ≡ []
+  pub accepted_silent : findings ≡ unused loads notes executed
   accepted_silent =
-      let same : a.executed ≡ executed = one_order loads notes start a.executed executed a.found.order accepted.admitted.order in
+      let same : a.executed ≡ executed =
+      one_order loads notes start a.executed executed a.found.order accepted.admitted.order in
       let small : product_of a.executed notes.marks ≤ 4000000 =
       subst (λ (all : List ℕ). product_of all notes.marks ≤ 4000000) (sym same) accepted.small in
+      let rest : List Finding = unused loads notes a.executed in
       a.all
       ∙ ap (λ (xs : List Finding). xs ++ flat_map (altering loads notes a.executed) a.executed
-      ++ too_many (product_of a.executed notes.marks) ++ map closes a.edges)
+      ++ too_many (product_of a.executed notes.marks) ++ map closes a.edges ++ rest)
       (all_nothing (unfit loads notes) a.executed nothing_unfit)
-      ∙ ap (λ (xs : List Finding). xs ++ too_many (product_of a.executed notes.marks) ++ map closes a.edges)
+      ∙ ap (λ (xs : List Finding). xs ++ too_many (product_of a.executed notes.marks) ++ map closes a.edges ++ rest)
       (all_nothing (altering loads notes a.executed) a.executed nothing_altered)
-      ∙ ap (λ (b : Bool). cond b (too_large (product_of a.executed notes.marks) ∷ []) [] ++ map closes a.edges)
+      ∙ ap (λ (b : Bool). cond b (too_large (product_of a.executed notes.marks) ∷ []) [] ++ map closes a.edges ++ rest)
       (le-ltb 4000000 (product_of a.executed notes.marks) small)
-      ∙ no_edge a.edges refl
+      ∙ ap (λ (xs : List Finding). xs ++ rest) (no_edge a.edges refl)
+      ∙ ap (unused loads notes) same

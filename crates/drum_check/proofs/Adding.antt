@@ -1,5 +1,5 @@
 -- Findings that are added one after the other.
-use Rattle.std.proofs.Common.{◌≡◌, ℕ, suc, ◌+◌, ◌-◌, ◌<◌, Bool, true, false, List, [], ◌∷◌, ◌++◌, map, length, get_or}
+use Rattle.std.proofs.Common.{◌≡◌, ℕ, suc, ◌+◌, ◌-◌, ◌<◌, ◌≤◌, Bool, true, false, List, [], ◌∷◌, ◌++◌, map, length, get_or}
 use Rattle.std.proofs.Common.{take}
 use Rattle.std.proofs.Common.{Some, ap, sym, ◌∙◌, arith, append_assoc}
 use Rattle.std.specs.Prelude.{filter, flat_map, if◌then◌else◌, slice_get}
@@ -84,3 +84,22 @@ pub added_both : (before between after xs ys : List Finding) → between ≡ bef
     → after ≡ before ++ (xs ++ ys)
 added_both before between after xs ys first second =
     second ∙ ap (λ (all : List Finding). all ++ ys) first ∙ append_assoc before xs ys
+
+-- what one more number of a range adds
+pub added_next : (f : ℕ → List Finding) (before after : List Finding) (number below : ℕ) → number < below
+    → after ≡ before ++ f number
+    → after ++ flat_map f (range_with_len (number + 1) (below - (number + 1)))
+    ≡ before ++ flat_map f (range_with_len number (below - number))
+added_next f before after number below lt added =
+    let rest : List Finding = flat_map f (range_with_len (number + 1) (below - (number + 1))) in
+    ap (λ (all : List Finding). all ++ rest) added ∙ append_assoc before (f number) rest
+    ∙ sym (ap (λ (xs : List ℕ). before ++ flat_map f xs) (range_first number below lt))
+
+-- no number is left of a range
+pub added_all : (f : ℕ → List Finding) (found : List Finding) (number below : ℕ) → below ≤ number
+    → found ++ flat_map f (range_with_len number (below - number)) ≡ found
+added_all f found number below past =
+    ap (λ (n : ℕ). found ++ flat_map f (range_with_len number n)) (none number below past) ∙ append-nil found
+  where
+    none : (number below : ℕ) → below ≤ number → below - number ≡ 0
+    none number below past = omega (arith, past)

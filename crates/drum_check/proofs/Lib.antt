@@ -1,5 +1,6 @@
 pub mod Accepting
 pub mod Adding
+pub mod Among
 pub mod Fixeds
 pub mod Nothing
 pub mod Outsides

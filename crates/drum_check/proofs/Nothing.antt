@@ -1,5 +1,6 @@
 -- Lists in which nothing is, by what they were made of.
-use Rattle.std.proofs.Common.{◌≡◌, ℕ, Bool, true, false, List, [], ◌∷◌, ◌++◌, map, refl, ap, sym, ◌∙◌, subst, inl, inr, ◌⊎◌}
+use Rattle.std.proofs.Common.{◌≡◌, ℕ, Bool, true, false, List, [], ◌∷◌, ◌++◌, map, length, refl, ap, sym, ◌∙◌, subst}
+use Rattle.std.proofs.Common.{inl, inr, ◌⊎◌, arith, length-append}
 use Rattle.std.specs.Prelude.{Contains, cond, filter, flat_map}
 use Rattle.std.proofs.lemmas.List.Elements.{Contains-append_left, Contains-append_right}
 use Rattle.drum_flow.specs.Executed.{with_new}
@@ -35,6 +36,12 @@ none_added xs x none there =
 pub both_nothing : {X : Type 0} (xs ys : List X) → [] ≡ xs ++ ys → (xs ≡ []) × (ys ≡ [])
 both_nothing [] ys e = (refl, sym e)
 both_nothing (x ∷ xs) ys e = cc
+
+-- what stands before a list that is no longer with it is nothing
+pub before_nothing : {X : Type 0} (xs ys : List X) → ys ≡ xs ++ ys → xs ≡ []
+before_nothing [] ys e = refl
+before_nothing (x ∷ xs) ys e =
+    absurd (omega (arith, ap (λ (zs : List _). length zs) e, length-append (x ∷ xs) ys))
 
 pub of_nothing : {X Y : Type 0} (f : X → Y) (xs : List X) → map f xs ≡ [] → xs ≡ []
 of_nothing f [] e = refl

@@ -9,15 +9,17 @@ use Rattle.drum_core.specs.Op.{op_of}
 use Rattle.drum_times.specs.Allowed.{Notes, allowed, is_listed}
 use Rattle.drum_machine.specs.Writes.{writes}
 use Rattle.drum_flow.specs.Accepted.{IsAccepted, IsFixed, IsFree, IsInProfile, IsThere, product_of}
+use Rattle.drum_flow.specs.Flow.{AreFound}
 use Rattle.drum_flow.specs.Graph.{LeadRound}
 use Rattle.drum_flow.specs.Hops.{IsExecuted}
+use Rattle.drum_flow.proofs.Acceptances.{one_order}
 use Rattle.drum_flow.proofs.Lists.{contains_here, contains_none}
 use Rattle.drum_loops.specs.Loops.{IsLeft}
 use Rattle.drum_check.specs.Findings.{AreFindings, Finding, not_loaded, not_in_profile, alters, too_large, closes}
 use Rattle.drum_check.specs.Findings.{altered, altered_by, altering, is_fixed, not_there, operations_outside}
-use Rattle.drum_check.specs.Findings.{outside, too_many, unfit}
+use Rattle.drum_check.specs.Findings.{outside, too_many, unfit, unused}
 use Rattle.drum_check.proofs.Fixeds.{fixed_so}
-use Rattle.drum_check.proofs.Nothing.{both_nothing, each_nothing, in_filter, in_flat_map, none_added, of_nothing}
+use Rattle.drum_check.proofs.Nothing.{before_nothing, both_nothing, each_nothing, in_filter, in_flat_map, none_added, of_nothing}
 use Rattle.drum_check.proofs.Outsides.{outside_of}
 
 -- edges that are left where there are none that close loops
@@ -64,7 +66,8 @@ told_small product none = elim (cases_lt 4000000 product) [
   | inr small ↦ small
 ]
 
-module _ (loads : ℕ → Option Word) (notes : Notes) (start : ℕ) (a : AreFindings loads notes start []) where
+module _ (loads : ℕ → Option Word) (notes : Notes) (start : ℕ) (executed : List ℕ)
+    (found : AreFound loads notes start executed) (a : AreFindings loads notes start (unused loads notes executed)) where
   -- an instruction that isn't told alters nothing
   told_unaltered : (place : ℕ) (ins : Instruction) (at : ℕ) → altered loads notes a.executed place ≡ []
       → Contains (allowed loads notes place) ins → Contains (writes ins) at → ¬ IsFixed loads notes start at
@@ -74,11 +77,24 @@ module _ (loads : ℕ → Option Word) (notes : Notes) (start : ℕ) (a : AreFin
       (in_filter (is_fixed notes a.executed) (writes ins) at
       (fixed_so notes a.executed at (a.found.all at fixed.0) fixed.1) written))
 
-  pub silent_accepted : IsAccepted loads notes start a.executed
+  same_executed : executed ≡ a.executed
+  same_executed = one_order loads notes start executed a.executed found.order a.found.order
+
+  -- what keeps the deck from a bound
+  abbrev in_the_way : List Finding
+  in_the_way = flat_map (unfit loads notes) a.executed ++ flat_map (altering loads notes a.executed) a.executed
+      ++ too_many (product_of a.executed notes.marks) ++ map closes a.edges
+
+  none_in_the_way : in_the_way ≡ []
+  none_in_the_way =
+      before_nothing in_the_way (unused loads notes a.executed)
+      (sym (ap (unused loads notes) same_executed) ∙ a.all)
+
+  pub silent_accepted : IsAccepted loads notes start executed
   silent_accepted =
       let parts = both_nothing (flat_map (unfit loads notes) a.executed
       ++ flat_map (altering loads notes a.executed) a.executed ++ too_many (product_of a.executed notes.marks))
-      (map closes a.edges) a.all in
+      (map closes a.edges) (sym none_in_the_way) in
       let three = both_nothing (flat_map (unfit loads notes) a.executed
       ++ flat_map (altering loads notes a.executed) a.executed) (too_many (product_of a.executed notes.marks))
       (sym parts.0) in
@@ -94,7 +110,7 @@ module _ (loads : ℕ → Option Word) (notes : Notes) (start : ℕ) (a : AreFin
       let unaltered : (place : ℕ) → IsExecuted loads notes start place → altered loads notes a.executed place ≡ [] =
       λ place executed. of_nothing (alters place) (altered loads notes a.executed place)
       (each_nothing (altering loads notes a.executed) a.executed place two.1 (a.found.all place executed)) in
-      record {
+      subst (IsAccepted loads notes start) (sym same_executed) (record {
         admitted = record {
           order = a.found.order;
           there = λ place executed. told_there loads notes place (fit place executed).0;
@@ -106,4 +122,4 @@ module _ (loads : ℕ → Option Word) (notes : Notes) (start : ℕ) (a : AreFin
               (round_left loads notes a.edges first first others no_edges closed);
         };
         small = told_small (product_of a.executed notes.marks) three.1;
-      }
+      })

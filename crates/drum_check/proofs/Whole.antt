@@ -1,11 +1,19 @@
 -- All the findings, put together.
-use Rattle.std.proofs.Common.{◌≡◌, List, [], ◌++◌, ap, ◌∙◌}
-use Rattle.drum_check.specs.Findings.{Finding}
+use Rattle.std.proofs.Common.{◌≡◌, List, [], ◌++◌, refl, ap, ◌∙◌}
+use Rattle.std.specs.List.{range_with_len}
+use Rattle.drum_check.specs.Findings.{Finding, all_locations}
 
--- four lists that were added in turn to none
-pub in_turn : (none first second third fourth ws xs ys zs : List Finding) → none ≡ [] → first ≡ none ++ ws
-    → second ≡ first ++ xs → third ≡ second ++ ys → fourth ≡ third ++ zs → fourth ≡ ws ++ xs ++ ys ++ zs
-in_turn none first second third fourth ws xs ys zs empty w x y z =
+-- five lists that were added in turn to none
+pub in_turn : (none first second third fourth fifth vs ws xs ys zs : List Finding) → none ≡ [] → first ≡ none ++ vs
+    → second ≡ first ++ ws → third ≡ second ++ xs → fourth ≡ third ++ ys → fifth ≡ fourth ++ zs
+    → fifth ≡ vs ++ ws ++ xs ++ ys ++ zs
+in_turn none first second third fourth fifth vs ws xs ys zs empty v w x y z =
     z ∙ ap (λ (all : List Finding). all ++ zs)
     (y ∙ ap (λ (all : List Finding). all ++ ys)
-    (x ∙ ap (λ (all : List Finding). all ++ xs) (w ∙ ap (λ (all : List Finding). all ++ ws) empty)))
+    (x ∙ ap (λ (all : List Finding). all ++ xs)
+    (w ∙ ap (λ (all : List Finding). all ++ ws) (v ∙ ap (λ (all : List Finding). all ++ vs) empty))))
+
+-- All locations, in their two parts.
+pub two_parts : all_locations ≡ range_with_len 0 2000 ++ range_with_len 8000 4
+unfolding all_locations
+two_parts = refl

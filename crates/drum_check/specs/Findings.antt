@@ -1,14 +1,15 @@
 -- All that keeps a deck from having a bound under its notes. `loads` says which word the deck loads
 -- into a location.
 use Rattle.std.specs.Prelude.{◌≡◌, ℕ, nat_lt, ◌==◌, if◌then◌else◌, ◌||◌, ◌&&◌, not, Bool, List, [], ◌∷◌, ◌++◌, map, filter, flat_map, Option, is_some}
-use Rattle.std.specs.List.{list_any}
+use Rattle.std.specs.List.{list_any, range_with_len}
 use Rattle.drum_core.specs.declared.instruction.Instruction.{Instruction}
 use Rattle.drum_core.specs.declared.word.Word.{Word}
 use Rattle.drum_core.specs.Op.{op_of}
+use Rattle.drum_times.specs.declared.notes.mark.Mark.{Mark}
 use Rattle.drum_times.specs.Allowed.{Notes, is_listed, allowed}
 use Rattle.drum_machine.specs.Writes.{writes}
 use Rattle.drum_flow.specs.Accepted.{product_of}
-use Rattle.drum_flow.specs.Executed.{with_new}
+use Rattle.drum_flow.specs.Executed.{successors, with_new}
 use Rattle.drum_flow.specs.Flow.{AreFound}
 use Rattle.drum_loops.specs.Loops.{AreClosing}
 
@@ -19,6 +20,8 @@ pub data Finding : Type 0 where
   alters : ℕ → ℕ → Finding
   too_large : ℕ → Finding
   closes : ℕ × ℕ → Finding
+  unused_mark : ℕ × ℕ → Finding
+  unused_list : ℕ → Finding
 
 -- whether a location is loaded or listed
 abbrev pub is_there : (ℕ → Option Word) → Notes → ℕ → Bool
@@ -43,10 +46,13 @@ unfit loads notes place =
     not_there loads notes place
     ++ map (not_in_profile place) (operations_outside loads notes place)
 
+-- whether a location is one of these
+abbrev pub is_among : List ℕ → ℕ → Bool
+is_among executed place = list_any (λ one. one == place) executed
+
 -- whether a location is one of the executed ones without a list
 abbrev pub is_fixed : Notes → List ℕ → ℕ → Bool
-is_fixed notes executed place =
-    list_any (λ one. one == place) executed && not (is_listed notes place)
+is_fixed notes executed place = is_among executed place && not (is_listed notes place)
 
 -- the words that an instruction alters: those of these that it writes
 abbrev pub altered_by : Notes → List ℕ → Instruction → List ℕ
@@ -65,8 +71,36 @@ altering loads notes executed place = map (alters place) (altered loads notes ex
 abbrev pub too_many : ℕ → List Finding
 too_many product = if nat_lt 4000000 product then too_large product ∷ [] else []
 
+-- whether some instruction of an executed location goes on from the one to the other
+abbrev pub has_edge : (ℕ → Option Word) → Notes → List ℕ → ℕ → ℕ → Bool
+has_edge loads notes executed from onto =
+    is_among executed from && is_among (successors loads notes from) onto
+
+-- a mark on an edge that isn't there
+abbrev pub astray : (ℕ → Option Word) → Notes → List ℕ → Mark → List Finding
+astray loads notes executed mark =
+    if has_edge loads notes executed mark.from.number mark.onto.number then []
+    else unused_mark (mark.from.number, mark.onto.number) ∷ []
+
+-- a list for a location that isn't executed
+abbrev pub idle : Notes → List ℕ → ℕ → List Finding
+idle notes executed place =
+    if is_listed notes place && not (is_among executed place) then unused_list place ∷ [] else []
+
+-- All locations: those on the drum, and those beside it.
+unfoldable pub all_locations : List ℕ
+all_locations = range_with_len 0 2000 ++ range_with_len 8000 4
+
+-- what the notes say that nothing comes to: each such mark, in order, and each such list, by its
+-- location
+abbrev pub unused : (ℕ → Option Word) → Notes → List ℕ → List Finding
+unused loads notes executed =
+    flat_map (astray loads notes executed) notes.marks
+    ++ flat_map (idle notes executed) all_locations
+
 -- These are all the findings: of each executed location, in the order of discovery, what is wrong
--- with it, then what each alters, then the size, and last the edges that close loops.
+-- with it, then what each alters, then the size, the edges that close loops, and last what is
+-- unused of the notes.
 pub record AreFindings (loads : ℕ → Option Word) (notes : Notes) (start : ℕ)
     (findings : List Finding) : Type 0 where
   pub executed : List ℕ
@@ -76,3 +110,4 @@ pub record AreFindings (loads : ℕ → Option Word) (notes : Notes) (start : �
   pub all : findings ≡ flat_map (unfit loads notes) executed
       ++ flat_map (altering loads notes executed) executed
       ++ too_many (product_of executed notes.marks) ++ map closes edges
+      ++ unused loads notes executed

@@ -9,6 +9,7 @@ use Rattle.drum_check.specs.declared.finding.Finding as held
 use Rattle.drum_check.specs.declared.finding.Finding.TheVariants as finding
 use Rattle.drum_check.specs.declared.findings.Findings.{Findings}
 use Rattle.drum_check.specs.Findings.{Finding, not_loaded, not_in_profile, alters, too_large, closes}
+use Rattle.drum_check.specs.Findings.{unused_mark, unused_list}
 
 -- a finding by its numbers
 abbrev pub seen : held.Finding → Finding
@@ -17,6 +18,8 @@ seen (finding.NotInProfile location op) = not_in_profile location.number op
 seen (finding.Alters writer word) = alters writer.number word.number
 seen (finding.TooLarge product) = too_large product
 seen (finding.Loop edge) = closes (edge_of edge)
+seen (finding.UnusedMark edge) = unused_mark (edge_of edge)
+seen (finding.UnusedList location) = unused_list location.number
 
 -- all of them, in order
 abbrev pub found_in : Findings → List Finding

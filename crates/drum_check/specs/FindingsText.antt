@@ -3,6 +3,7 @@
 use Rattle.std.specs.Prelude.{ℕ, List, ◌++◌, codes, decimal, flat_map}
 use Rattle.drum_core.specs.Numeral.{digits_of}
 use Rattle.drum_check.specs.Findings.{Finding, not_loaded, not_in_profile, alters, too_large, closes}
+use Rattle.drum_check.specs.Findings.{unused_mark, unused_list}
 
 abbrev pub finding_text : Finding → List ℕ
 finding_text (not_loaded place) = codes "notloaded " ++ digits_of 4 place ++ codes "\n"
@@ -13,6 +14,9 @@ finding_text (alters writer word) =
 finding_text (too_large product) = codes "toolarge " ++ decimal product ++ codes "\n"
 finding_text (closes edge) =
     codes "loop " ++ digits_of 4 edge.0 ++ codes " " ++ digits_of 4 edge.1 ++ codes "\n"
+finding_text (unused_mark edge) =
+    codes "unused mark " ++ digits_of 4 edge.0 ++ codes " " ++ digits_of 4 edge.1 ++ codes "\n"
+finding_text (unused_list place) = codes "unused list " ++ digits_of 4 place ++ codes "\n"
 
 abbrev pub findings_text : List Finding → List ℕ
 findings_text findings = flat_map finding_text findings

@@ -1,7 +1,7 @@
 use drum_core::Location;
 use drum_loops::Edge;
 
-/// Something that keeps a deck from having a bound under its notes.
+/// Something that keeps a deck from having a bound under its notes, or that is surely not meant.
 #[derive(Clone, Copy, Debug, PartialEq, Eq)]
 pub enum Finding {
     /// An executed location is neither loaded nor listed.
@@ -15,4 +15,8 @@ pub enum Finding {
     TooLarge(u128),
     /// An edge free of marks closes a loop of edges that are free of marks.
     Loop(Edge),
+    /// A mark stands on an edge that the flow graph doesn't have.
+    UnusedMark(Edge),
+    /// A location that isn't executed has a list.
+    UnusedList(Location),
 }

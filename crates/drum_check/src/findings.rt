@@ -1,15 +1,16 @@
 ghost use Rattle.std.specs.Prelude.{◌≤◌, vec_len};
 
 use crate::altered::altered_at;
+use crate::edges::{has_edge, is_executed};
 use crate::finding::Finding;
 use crate::operations::operations_outside;
 use drum_core::{Deck, Location};
 use drum_flow::counts::counts_of;
 use drum_flow::fixed::Fixed;
-use drum_flow::place::is_there;
+use drum_flow::place::{is_listed, is_there};
 use drum_flow::{Flow, discover};
 use drum_loops::{Edge, closing_edges};
-use drum_times::Notes;
+use drum_times::{Mark, Notes};
 use std::alloc::{AllocError, Global};
 
 /// How many findings there can be at most, far beyond what any memory holds.
@@ -26,12 +27,16 @@ pub struct Findings {
 }
 
 impl Findings {
-    ghost use Rattle.std.specs.Prelude.{◌≡◌, ◌++◌, [], ◌∷◌, ◌↔◌, map, flat_map, IsTrue, IfOk, OnOk};
+    ghost use Rattle.std.specs.Prelude.{◌≡◌, ◌++◌, [], ◌∷◌, ◌↔◌, ℕ, ◌-◌, ◌<◌, map, flat_map};
+    ghost use Rattle.std.specs.Prelude.{IsTrue, IfOk, OnOk};
+    ghost use Rattle.std.specs.List.{range_with_len};
+    ghost use Rattle.drum_core.specs.Location.{IsLocation};
     ghost use Rattle.drum_core.specs.Loads.{loads_in, start_in};
     ghost use Rattle.drum_flow.specs.Accepted.{product_of};
     ghost use Rattle.drum_flow.specs.Flow.{executed_in, of_flow, AreFound};
     ghost use Rattle.drum_loops.specs.Loops.{edge_of};
     ghost use Rattle.drum_check.specs.Findings.{not_there, unfit, altering, too_many};
+    ghost use Rattle.drum_check.specs.Findings.{astray, idle, unused};
     ghost use Rattle.drum_check.specs.Findings.{not_in_profile, alters, closes, AreFindings};
     ghost use Rattle.drum_check.specs.FindingsOf.{AreFixed, seen, found_in};
 
@@ -182,9 +187,78 @@ impl Findings {
         self.add(Finding::TooLarge(product))
     }
 
+    /// Adds that a mark stands on an edge that the flow graph doesn't have, if it does.
+    fn add_astray(&mut self, alloc: Global, flow: &Flow<'_>, mark: &Mark) -> Result<(), AllocError>
+        ensures { OnOk result (found_in self.new ≡ found_in self.old
+            ++ astray (loads_in flow.now.deck.now) flow.now.notes.now (executed_in flow.now)
+            mark.now) }
+    {
+        if has_edge(alloc, flow, mark.from, mark.onto)? {
+            return Ok(());
+        }
+        self.add(Finding::UnusedMark(Edge {
+            from: mark.from,
+            onto: mark.onto,
+        }))
+    }
+
+    /// Adds each mark on an edge that the flow graph doesn't have.
+    fn add_all_astray(&mut self, alloc: Global, flow: &Flow<'_>) -> Result<(), AllocError>
+        ensures { OnOk result (found_in self.new ≡ found_in self.old
+            ++ flat_map (astray (loads_in flow.now.deck.now) flow.now.notes.now
+            (executed_in flow.now)) flow.now.notes.now.marks) }
+    {
+        for mark in flow.notes().marks() {
+            self.add_astray(alloc, flow, mark)?;
+        }
+        Ok(())
+    }
+
+    /// Adds that a location which isn't executed has a list, if it is so.
+    fn add_idle(&mut self, flow: &Flow<'_>, location: Location) -> Result<(), AllocError>
+        ensures { OnOk result (found_in self.new ≡ found_in self.old
+            ++ idle flow.now.notes.now (executed_in flow.now) location.number) }
+    {
+        if !is_listed(flow.notes(), location) {
+            return Ok(());
+        }
+        if is_executed(flow, location) {
+            return Ok(());
+        }
+        self.add(Finding::UnusedList(location))
+    }
+
+    /// Adds each of these locations, from a number on and below another one, that has a list and
+    /// isn't executed.
+    fn add_all_idle(&mut self, flow: &Flow<'_>, from: u16, below: u16) -> Result<(), AllocError>
+        requires locations { (n : ℕ) → from ≤ n → n < below → IsLocation n }
+        ensures { OnOk result (found_in self.new ≡ found_in self.old
+            ++ flat_map (idle flow.now.notes.now (executed_in flow.now))
+            (range_with_len from (below - from))) }
+    {
+        for number in from..below {
+            let Some(location) = Location::new(number) else {
+                unreachable!()
+            };
+            self.add_idle(flow, location)?;
+        }
+        Ok(())
+    }
+
+    /// Adds what the notes say that nothing comes to.
+    fn add_unused(&mut self, alloc: Global, flow: &Flow<'_>) -> Result<(), AllocError>
+        ensures { OnOk result (found_in self.new ≡ found_in self.old
+            ++ unused (loads_in flow.now.deck.now) flow.now.notes.now (executed_in flow.now)) }
+    {
+        self.add_all_astray(alloc, flow)?;
+        self.add_all_idle(flow, 0, Location::DRUM)?;
+        self.add_all_idle(flow, 8000, 8004)
+    }
+
     /// All that keeps the deck from having a bound under these notes: first what is wrong with
     /// each executed location by itself, in the order of discovery, then what the instructions of
-    /// each alter, then the size, and last the edges that close loops.
+    /// each alter, then the size, and then the edges that close loops; and last what the notes say
+    /// that nothing comes to, each mark in order and each list by its location.
     ///
     /// # Errors
     ///
@@ -201,6 +275,7 @@ impl Findings {
         findings.add_all_altering(alloc, &flow, &fixed)?;
         findings.add_size(&flow)?;
         findings.add_edges(&edges)?;
+        findings.add_unused(alloc, &flow)?;
         Ok(findings)
     }
 

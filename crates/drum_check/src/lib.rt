@@ -1,12 +1,13 @@
 //! All that keeps a deck from having a bound under its notes, at once, where an analysis tells the
-//! first of it alone.
+//! first of it alone; and what the notes say that nothing comes to.
 //!
 //! A `finding` is one of these things. `operations` are those of a location that are outside the
-//! profile, `altered` the words that its instructions alter, `findings` gathers what is found at
-//! all locations, and `listing` writes a line for each.
+//! profile, `altered` the words that its instructions alter, `edges` tells whether a mark's edge is
+//! there, `findings` gathers what is found at all locations, and `listing` writes a line for each.
 #![tactic(auto)]
 
 mod altered;
+mod edges;
 mod finding;
 mod findings;
 pub mod laws;

@@ -105,6 +105,11 @@ fn send_finding<O: Output>(
             let digits = four_digits(edge.onto.number());
             send_behind(writer, sent, b"loop ", edge.from, &digits)
         }
+        Finding::UnusedMark(edge) => {
+            let digits = four_digits(edge.onto.number());
+            send_behind(writer, sent, b"unused mark ", edge.from, &digits)
+        }
+        Finding::UnusedList(location) => send_location(writer, sent, b"unused list ", location),
     }
 }
 

@@ -20,9 +20,9 @@ use Rattle.drum_lines.specs.declared.part.PartFault.TheVariants as what
 use Rattle.drum_tool.specs.Asked.{Named}
 use Rattle.drum_tool.specs.Documents.{SaysDeck, IsNoDeck}
 
--- What a source tells of its files, by how many are sought before and by the name: nothing; that the
--- file can't be opened; or its bytes. (A name may give other bytes when it is sought again, as a
--- pipe's does.)
+-- What a source tells of its files, by how many are sought before and by the name: nothing; that
+-- the file can't be opened; or its bytes. (A name may give other bytes when it is sought again, as
+-- a pipe's does.)
 abbrev pub FilesTold : Type 0
 FilesTold = ℕ → List ℕ → Option (Option (List ℕ))
 

@@ -24,3 +24,14 @@ returns-in-Loop-clause-sent g c =
     (g.O.Output.written c.send_behind-in-Loop.new.writer) c.args.sent c.send_behind-in-Loop.result
     (codes "loop " ++ digits_of 4 c.in-Loop.edge.from.number ++ codes " " ++ digits ++ codes "\n")) (c.four_digits-digits-in-Loop.ensures ∙ ap (digits_of 4) c.number-in-Loop.ensures)
     c.send_behind-in-Loop.ensures.sent)
+
+pub returns-in-UnusedMark-clause-sent : goal.returns-in-UnusedMark-clause-sent
+returns-in-UnusedMark-clause-sent g c =
+    rw c.in-UnusedMark.is (subst (λ (digits : List ℕ). IsSent (g.O.Output.written c.args.writer.now)
+    (g.O.Output.written c.send_behind-in-UnusedMark.new.writer) c.args.sent c.send_behind-in-UnusedMark.result
+    (codes "unused mark " ++ digits_of 4 c.in-UnusedMark.edge.from.number ++ codes " " ++ digits ++ codes "\n"))
+    (c.four_digits-digits-in-UnusedMark.ensures ∙ ap (digits_of 4) c.number-in-UnusedMark.ensures)
+    c.send_behind-in-UnusedMark.ensures.sent)
+
+pub returns-in-UnusedList-clause-sent : goal.returns-in-UnusedList-clause-sent
+returns-in-UnusedList-clause-sent g c = rw c.in-UnusedList.is c.send_location-in-UnusedList.ensures.sent

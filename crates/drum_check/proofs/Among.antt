@@ -1,0 +1,31 @@
+-- Whether a number is among others, as the code asks for it.
+use Rattle.std.proofs.Common.{◌≡◌, ℕ, Bool, true, false, List, [], Option, Some, None, refl, sym, inl, inr}
+use Rattle.std.specs.Prelude.{Contains, IfNone, IfSome, is_some, slice_get}
+use Rattle.drum_flow.specs.Executed.{with_new}
+use Rattle.drum_flow.proofs.Lists.{contains_from_get, contains_none}
+use Rattle.drum_flow.proofs.Orders.{any_contains, contains_any, with_new_has, with_new_only}
+use Rattle.drum_check.specs.Findings.{is_among}
+
+-- answers that go together are one
+one_answer : (a b : Bool) → (a ≡ true → b ≡ true) → (b ≡ true → a ≡ true) → a ≡ b
+one_answer true true there back = refl
+one_answer true false there back = sym (there refl)
+one_answer false true there back = back refl
+one_answer false false there back = refl
+
+-- a place was found, or the number isn't among them
+pub among_found : (xs : List ℕ) (x : ℕ) (found : Option ℕ) → IfSome found (λ index. slice_get xs index ≡ Some x)
+    → IfNone found (¬ Contains xs x) → is_some found ≡ is_among xs x
+among_found xs x (Some index) at none = sym (contains_any xs x (contains_from_get xs index x at))
+among_found xs x None at none =
+    one_answer false (is_among xs x) (λ e. cc) (λ e. absurd (none (any_contains xs x e)))
+
+-- the same among those that were added to none
+pub among_new : (xs : List ℕ) (x : ℕ) → is_among (with_new [] xs) x ≡ is_among xs x
+among_new xs x =
+    one_answer (is_among (with_new [] xs) x) (is_among xs x)
+    (λ e. contains_any xs x (elim (with_new_only [] xs x (any_contains (with_new [] xs) x e)) [
+      | inl none ↦ absurd (contains_none x none)
+      | inr there ↦ there
+    ]))
+    (λ e. contains_any (with_new [] xs) x (with_new_has [] xs x (any_contains xs x e)))
