@@ -70,8 +70,16 @@ class Flow:
         product = len(self.order) * prod(mark["most"] + 1 for mark in self.marks)
         return ["toolarge %d" % product] if product > KEYS else []
 
+    def unused(self):
+        """Marks on edges that aren't there, and lists of locations that aren't executed."""
+        for mark in self.marks:
+            if mark["to"] not in self.targets.get(mark["from"], []):
+                yield "unused mark %04d %04d" % (mark["from"], mark["to"])
+        for place in sorted(set(self.lists) - set(self.order)):
+            yield "unused list %04d" % place
+
     def lines(self):
-        """All but the loops."""
+        """All that comes before the loops."""
         unfit = [line for place in self.order for line in self.unfit(place)]
         altering = [line for place in self.order for line in self.altering(place)]
         return unfit + altering + self.too_large()
@@ -124,13 +132,19 @@ def are_closing(told, free):
 def is_check(text, files):
     """Whether a text is what a check of a deck with its notes tells."""
     flow = Flow(files)
-    lines, wanted = text.splitlines(), flow.lines()
-    loops = [line.split(" ") for line in lines[len(wanted) :]]
-    if lines[: len(wanted)] != wanted or any(one[0] != "loop" for one in loops):
+    lines, wanted, unused = text.splitlines(), flow.lines(), list(flow.unused())
+    end = len(lines) - len(unused)
+    loops = [line.split(" ") for line in lines[len(wanted) : end]]
+    is_one = end >= len(wanted) and lines[: len(wanted)] == wanted and lines[end:] == unused
+    if not is_one or any(one[0] != "loop" for one in loops):
         return False
     told = [(int(source), int(target)) for _, source, target in loops]
     are_lines = text == "".join(line + "\n" for line in lines)
     return are_lines and are_closing(told, flow.free_edges())
+
+
+def is_unused(line):
+    return line.startswith("unused ")
 
 
 def is_first_of(line, told):

@@ -5,7 +5,7 @@ from collections import namedtuple
 
 from damage import FILES, files_of_joined, joined
 from faults import fault_of, has_its_form, is_accepted, names_what_is_there
-from findings import is_check, is_first_of
+from findings import is_check, is_first_of, is_unused
 from results import (
     bound_of,
     ceiling_of,
@@ -149,12 +149,12 @@ def is_no_lower(told, bound, files):
 
 
 def is_said_first(ran, told, bound, files):
-    """Whether a check goes with what `bound` gives: it is silent where there is a bound, else its
-    first line is that of the analysis's fault; a fault of a text is the same."""
+    """Whether a check goes with what `bound` gives: it tells of unused notes at most where there is
+    a bound, else its first line is that of the analysis's fault; a fault of a text is the same."""
     other = told_of(("bound", files), bound)
     if other is None or told.fault:
         return other is not None and told.fault == other.fault
-    if not ran.out:
+    if all(map(is_unused, ran.out.decode().splitlines())):
         return other.fault is None
     is_refused = other.fault is not None and other.fault.about == "analysis"
     return is_refused and is_first_of(bound.err.decode(), ran.out.decode())
