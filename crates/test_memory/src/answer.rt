@@ -6,7 +6,8 @@ use drum_ceiling::Ceiling;
 use drum_core::{Deck, DeckFault, WholeError};
 use drum_machine::{Machine, Memory};
 use drum_times::{NoteFault, Notes, Times};
-use drum_tool::{Fault, InputFault, Inputs, Status, Verdict};
+use drum_tool::{Fault, Findings, InputFault, Inputs, Status, Verdict};
+use std::alloc::AllocError;
 
 /// An answer. Two that are equal have the same `Debug`.
 #[derive(Debug, Drop)]
@@ -21,6 +22,7 @@ pub(crate) enum Answer<'a> {
     Analysis(Result<Analysis, Refusal>),
     Bound(Result<u64, Refusal>),
     Ceiling(Result<Ceiling, Refusal>),
+    Findings(Result<Findings, AllocError>),
     Verdict(Result<Verdict, Fault>),
     /// How the program ended, and what went out.
     Ran(Status, Page, Page),
@@ -50,6 +52,7 @@ impl Answer<'_> {
             | Answer::Analysis(Err(Refusal::Memory))
             | Answer::Bound(Err(Refusal::Memory))
             | Answer::Ceiling(Err(Refusal::Memory))
+            | Answer::Findings(Err(_))
             | Answer::Verdict(Err(Fault::Memory | Fault::Refused(Refusal::Memory))) => true,
             Answer::Ran(Status::Failed, out, err) => {
                 out.text().is_empty() && WANTS.iter().any(|want| err.is(want))

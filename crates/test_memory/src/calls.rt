@@ -7,7 +7,7 @@ use drum_ceiling::ceiling;
 use drum_core::{Reading, Word, Writing, read_deck, read_whole};
 use drum_machine::{Machine, Setup};
 use drum_times::{read_notes, read_times};
-use drum_tool::{Documents, Inputs, read_inputs, replay, run, run_joined};
+use drum_tool::{Documents, Findings, Inputs, read_inputs, replay, run, run_joined};
 use std::alloc::Global;
 use std::test::Fail;
 use test_devices::devices::Tap;
@@ -27,6 +27,7 @@ pub(crate) enum Call<'a> {
     Analyse(&'a Documents),
     Bound(&'a Documents),
     Ceiling(&'a Documents),
+    Findings(&'a Documents),
     /// A replay with these inputs.
     Replay(&'a Documents, &'a str),
     /// Words, and the files that they name.
@@ -85,6 +86,9 @@ impl<'a> Call<'a> {
             (Call::Bound(of), _) => { Answer::Bound(bound(alloc, &of.deck, &of.times, &of.notes)) }
             (Call::Ceiling(of), _) => {
                 Answer::Ceiling(ceiling(alloc, &of.deck, &of.times, &of.notes))
+            }
+            (Call::Findings(of), _) => {
+                Answer::Findings(Findings::of(alloc, &of.deck, &of.notes))
             }
             (Call::Replay(of, _), Spent::Inputs(inputs)) => {
                 Answer::Verdict(replay(alloc, &of.deck, &of.times, &of.notes, inputs))

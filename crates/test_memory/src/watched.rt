@@ -108,6 +108,7 @@ fn of_documents(rt: HostRuntime) -> Result<(), Fail> {
         holds(&rt, Call::Analyse(&documents))?;
         holds(&rt, Call::Bound(&documents))?;
         holds(&rt, Call::Ceiling(&documents))?;
+        holds(&rt, Call::Findings(&documents))?;
         holds(&rt, Call::Replay(&documents, "ANGLE 01\n"))?;
         holds(
             &rt,
@@ -136,6 +137,7 @@ fn of_refusals(rt: HostRuntime) -> Result<(), Fail> {
         holds(&rt, Call::Analyse(&documents))?;
         holds(&rt, Call::Bound(&documents))?;
         holds(&rt, Call::Ceiling(&documents))?;
+        holds(&rt, Call::Findings(&documents))?;
     }
     Ok(())
 }
@@ -171,7 +173,7 @@ fn of_the_program(rt: HostRuntime) -> Result<(), Fail> {
     for subject in &SUBJECTS {
         let notes = subject.notes(rt.alloc())?;
         let files = files(subject.deck, &notes, "ANGLE 01\n");
-        for command in ["bound", "report", "walk", "waits"] {
+        for command in ["bound", "check", "report", "walk", "waits"] {
             holds(&rt, Call::Run(&[command, "deck", "times", "notes"], &files))?;
         }
         for command in ["replay", "trace"] {
