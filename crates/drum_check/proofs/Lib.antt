@@ -6,3 +6,4 @@ pub mod Nothing
 pub mod Outsides
 pub mod Silent
 pub mod Whole
+pub mod Words

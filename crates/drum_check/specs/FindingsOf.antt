@@ -8,8 +8,8 @@ use Rattle.drum_loops.specs.Loops.{edge_of}
 use Rattle.drum_check.specs.declared.finding.Finding as held
 use Rattle.drum_check.specs.declared.finding.Finding.TheVariants as finding
 use Rattle.drum_check.specs.declared.findings.Findings.{Findings}
-use Rattle.drum_check.specs.Findings.{Finding, not_loaded, not_in_profile, alters, too_large, closes}
-use Rattle.drum_check.specs.Findings.{unused_mark, unused_list}
+use Rattle.drum_check.specs.Findings.{Finding, not_loaded, not_in_profile, alters, too_large}
+use Rattle.drum_check.specs.Findings.{closes, unused_mark, unused_list}
 
 -- a finding by its numbers
 abbrev pub seen : held.Finding → Finding

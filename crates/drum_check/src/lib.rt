@@ -3,17 +3,21 @@
 //!
 //! A `finding` is one of these things. `operations` are those of a location that are outside the
 //! profile, `altered` the words that its instructions alter, `edges` tells whether a mark's edge is
-//! there, `findings` gathers what is found at all locations, and `listing` writes a line for each.
+//! there, and `findings` gathers what is found at all locations. `listing` writes a line for each,
+//! and `pasting` the notes that are `lacking` behind them.
 #![tactic(auto)]
 
 mod altered;
 mod edges;
 mod finding;
 mod findings;
+mod lacking;
 pub mod laws;
 mod listing;
 mod operations;
+mod pasting;
 
 pub use finding::Finding;
 pub use findings::Findings;
-pub use listing::list_findings;
+pub use lacking::Lacking;
+pub use pasting::list_findings;

@@ -2,7 +2,7 @@
 
 ghost use Rattle.std.specs.Prelude.{◌≡◌, ◌+◌, ◌^◌, ◌≤◌, ◌++◌, codes, decimal, IfOk, length};
 ghost use Rattle.drum_core.specs.Numeral.{digits_of};
-ghost use Rattle.drum_lines.specs.Sent.{IsSent, IsWritten, fails_by};
+ghost use Rattle.drum_lines.specs.Sent.{IsSent, fails_by};
 ghost use Rattle.drum_check.specs.FindingsOf.{seen, found_in};
 ghost use Rattle.drum_check.specs.FindingsText.{finding_text, findings_text};
 
@@ -113,21 +113,18 @@ fn send_finding<O: Output>(
     }
 }
 
-/// Writes what was found, a line each. It takes no memory.
-///
-/// # Errors
-///
-/// Where a write fails, or takes none of some bytes: then a prefix of the text has gone out, of so
-/// many bytes as it says.
-pub fn list_findings<O: Output>(findings: &Findings, writer: &mut O) -> Result<(), WriteFault>
+/// Writes the lines of what was found, and tells how many bytes have gone out then.
+pub fn send_findings<O: Output>(writer: &mut O, findings: &Findings) -> Result<usize, WriteFault>
     requires { O.called writer.old ≤ 2 ^ 62 }
-    ensures written { IsWritten (O.written writer.old) (O.written writer.new) result
+    ensures sent { IsSent (O.written writer.old) (O.written writer.new) 0 result
         (findings_text (found_in findings.now)) }
     ensures failures { O.failed writer.new ≡ O.failed writer.old + fails_by result }
+    ensures calls { O.called writer.new ≤ O.called writer.old + 2 ^ 50 }
+    ensures few { IfOk result (λ total. total ≤ 2 ^ 50) }
 {
     let mut sent = 0;
     for finding in &findings.all {
         sent = send_finding(writer, sent, finding)?;
     }
-    Ok(())
+    Ok(sent)
 }

@@ -10,7 +10,7 @@ use Rattle.drum_lines.specs.declared.limit.Limit.TheVariants as limit
 use Rattle.drum_bound.specs.Visited.{Visited}
 use Rattle.drum_ceiling.specs.declared.answer.Ceiling as ceilings
 use Rattle.drum_check.specs.Findings.{AreFindings, Finding}
-use Rattle.drum_check.specs.FindingsText.{findings_text}
+use Rattle.drum_check.specs.Lacking.{check_text}
 use Rattle.drum_command.specs.declared.command.Command.{Command}
 use Rattle.drum_command.specs.declared.command.Command.TheVariants.{Bound, Check, Report, Walk, Waits, Draw, Ceiling, Replay, Trace}
 use Rattle.drum_inputs.specs.declared.inputs.Inputs.{Inputs}
@@ -78,7 +78,7 @@ status_after_check [] = Done
 status_after_check (finding ∷ findings) = Refused
 
 abbrev pub findings_reply : List Finding → Reply
-findings_reply findings = says (findings_text findings) (status_after_check findings)
+findings_reply findings = says (check_text findings) (status_after_check findings)
 
 abbrev pub fault_reply : Fault → Reply
 fault_reply fault = complains (fault_text fault) (status_after fault)

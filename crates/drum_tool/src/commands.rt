@@ -4,6 +4,8 @@ ghost use Rattle.std.specs.Prelude.{◌≡◌, ◌+◌, ◌^◌, ◌≤◌, ℕ,
 ghost use Rattle.drum_bound.specs.AnalysisOf.{angle_of, bound_of, visits_of};
 ghost use Rattle.drum_times.specs.Entries.{entry_in};
 ghost use Rattle.drum_check.specs.FindingsOf.{found_in};
+ghost use Rattle.drum_check.specs.Lacking.{words_altered};
+ghost use Rattle.drum_check.specs.LackingOf.{words_in};
 ghost use Rattle.drum_lines.specs.FaultStatus.{failed_by};
 ghost use Rattle.drum_listing.specs.WaitsOf.{AreWaits};
 ghost use Rattle.drum_tool.specs.Begun.{IsTraceBegun};
@@ -46,7 +48,7 @@ use crate::telling::{
 use crate::tracing::begin_trace;
 use drum_bound::{Analysis, Refusal};
 use drum_ceiling::Ceiling;
-use drum_check::Findings;
+use drum_check::{Findings, Lacking};
 use drum_command::{Command, Files};
 use drum_core::Output;
 use drum_inputs::Inputs;
@@ -164,12 +166,18 @@ fn ceiling<S: Source>(
     Ok((documents, ceiling))
 }
 
-/// All that keeps documents in files from having a bound.
-fn findings<S: Source>(alloc: Global, source: &mut S, files: Files<'_>) -> Result<Findings, Fault>
+/// All that keeps documents in files from having a bound, and what is lacking.
+fn findings<S: Source>(
+    alloc: Global,
+    source: &mut S,
+    files: Files<'_>,
+) -> Result<(Findings, Lacking), Fault>
     requires { S.failed source.old ≤ 2 ^ 61 }
-    ensures findings { IfOk result (λ findings. (held : Held)
+    ensures findings { IfOk result (λ checked. (held : Held)
         → AreTold (S.files source.old) held (named_in files.entry)
-        → AnswersCheckOfFiles held 0 (findings_reply (found_in findings))) }
+        → AnswersCheckOfFiles held 0 (findings_reply (found_in checked.0))) }
+    ensures lacking { IfOk result (λ checked.
+        words_in checked.1 ≡ words_altered (found_in checked.0)) }
     ensures fault { IfErr result (λ fault. (held : Held)
         → AreTold (S.files source.old) held (named_in files.entry)
         → IsCheckFaultOfFiles held fault) }
@@ -321,7 +329,7 @@ pub fn obey<S: Source, O: Output, E: Output>(
             Err(fault) => complain(err, fault),
         },
         Command::Check(files) => match findings(alloc, source, files) {
-            Ok(findings) => tell_findings(out, &findings),
+            Ok((findings, lacking)) => tell_findings(out, &findings, &lacking),
             Err(fault) => complain(err, fault),
         },
         Command::Report(files) => match analysis(alloc, source, files) {

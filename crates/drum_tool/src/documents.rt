@@ -3,6 +3,8 @@ ghost use Rattle.drum_core.specs.Loads.{loads_in, start_in};
 ghost use Rattle.drum_bound.specs.AnalysisOf.{angle_of, bound_of, visits_of};
 ghost use Rattle.drum_check.specs.Findings.{AreFindings};
 ghost use Rattle.drum_check.specs.FindingsOf.{found_in};
+ghost use Rattle.drum_check.specs.Lacking.{words_altered};
+ghost use Rattle.drum_check.specs.LackingOf.{words_in};
 ghost use Rattle.drum_tool.specs.Documents.{
   IsAnalysisFault,
   IsBound,
@@ -16,7 +18,7 @@ ghost use Rattle.drum_tool.specs.Documents.{
 
 use drum_bound::{Analysis, Refusal, analyse, bound};
 use drum_ceiling::{Ceiling, ceiling};
-use drum_check::Findings;
+use drum_check::{Findings, Lacking};
 use drum_core::Deck;
 use drum_lines::{Fault, Limit};
 use drum_times::{Notes, Times};
@@ -83,20 +85,25 @@ impl Documents {
         }
     }
 
-    /// All that keeps them from having a bound.
+    /// All that keeps them from having a bound, and what is lacking.
     ///
     /// # Errors
     ///
     /// [`Fault::Refused`] where memory is wanting.
-    pub(crate) fn findings(&self, alloc: Global) -> Result<Findings, Fault>
-        ensures findings { IfOk result (λ findings. AreFindings (loads_in self.now.deck)
-            self.now.notes (start_in self.now.deck) (found_in findings)) }
+    pub(crate) fn findings(&self, alloc: Global) -> Result<(Findings, Lacking), Fault>
+        ensures findings { IfOk result (λ checked. AreFindings (loads_in self.now.deck)
+            self.now.notes (start_in self.now.deck) (found_in checked.0)) }
+        ensures lacking { IfOk result (λ checked.
+            words_in checked.1 ≡ words_altered (found_in checked.0)) }
         ensures wanting { IfErr result (λ fault. fault ≡ Fault.Refused Refusal.Memory) }
     {
-        match Findings::of(alloc, &self.deck, &self.notes) {
-            Ok(findings) => Ok(findings),
-            Err(_) => Err(Fault::Refused(Refusal::Memory)),
-        }
+        let Ok(findings) = Findings::of(alloc, &self.deck, &self.notes) else {
+            return Err(Fault::Refused(Refusal::Memory));
+        };
+        let Ok(lacking) = Lacking::of(alloc, &findings) else {
+            return Err(Fault::Refused(Refusal::Memory));
+        };
+        Ok((findings, lacking))
     }
 
     /// What a run of theirs that keeps to the notes uses at most, in word times, and how that is

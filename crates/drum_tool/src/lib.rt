@@ -20,7 +20,7 @@ pub use commands::obey;
 pub use documents::Documents;
 pub use drum_bound::{Analysis, Refusal, Visit, Way, analyse, bound};
 pub use drum_ceiling::{Ceiling, ceiling};
-pub use drum_check::{Finding, Findings, list_findings};
+pub use drum_check::{Finding, Findings, Lacking, list_findings};
 pub use drum_core::{Deck, DeckFault, Reading, read_deck};
 pub use drum_inputs::{InputFault, Inputs, read_inputs};
 pub use drum_lines::{Fault, Part, PartFault, Status, Verdict, WriteFault};

@@ -4,7 +4,8 @@ ghost use Rattle.std.specs.Prelude.{◌≡◌, ◌+◌, ◌^◌, ◌≤◌, leng
 ghost use Rattle.drum_times.specs.Entries.{entry_in};
 ghost use Rattle.drum_bound.specs.AnalysisOf.{angle_of, bound_of, visits_of};
 ghost use Rattle.drum_check.specs.FindingsOf.{found_in};
-ghost use Rattle.drum_check.specs.FindingsText.{findings_text};
+ghost use Rattle.drum_check.specs.Lacking.{check_text, words_altered};
+ghost use Rattle.drum_check.specs.LackingOf.{words_in};
 ghost use Rattle.drum_lines.specs.BoundText.{bound_text};
 ghost use Rattle.drum_lines.specs.FaultStatus.{status_after};
 ghost use Rattle.drum_lines.specs.FaultText.{fault_text};
@@ -26,7 +27,7 @@ use crate::replaying::Begun;
 use crate::tracing::trace;
 use drum_bound::Analysis;
 use drum_ceiling::Ceiling;
-use drum_check::{Findings, list_findings};
+use drum_check::{Findings, Lacking, list_findings};
 use drum_core::Output;
 use drum_lines::{
     Fault, Limit, Status, Verdict, WriteFault, write_bound, write_fault, write_text, write_verdict,
@@ -121,14 +122,15 @@ fn status_of(findings: &Findings) -> Status
     }
 }
 
-/// Writes all that keeps a deck from having a bound.
-pub fn tell_findings<O: Output>(out: &mut O, findings: &Findings) -> Status
-    requires { O.called out.old ≤ 2 ^ 62 }
+/// Writes all that keeps a deck from having a bound, and what is lacking.
+pub fn tell_findings<O: Output>(out: &mut O, findings: &Findings, lacking: &Lacking) -> Status
+    requires called { O.called out.old ≤ 2 ^ 62 }
+    requires right { words_in lacking.now ≡ words_altered (found_in findings.now) }
     ensures { GetsResult (device (O.written out.old) (O.failed out.old))
-        (device (O.written out.new) (O.failed out.new)) (findings_text (found_in findings.now))
+        (device (O.written out.new) (O.failed out.new)) (check_text (found_in findings.now))
         (status_after_check (found_in findings.now)) result }
 {
-    ended(list_findings(findings, out), status_of(findings))
+    ended(list_findings(findings, lacking, out), status_of(findings))
 }
 
 /// Writes a verdict on a run whose word times are limited so.

@@ -6,7 +6,7 @@ use drum_ceiling::Ceiling;
 use drum_core::{Deck, DeckFault, WholeError};
 use drum_machine::{Machine, Memory};
 use drum_times::{NoteFault, Notes, Times};
-use drum_tool::{Fault, Findings, InputFault, Inputs, Status, Verdict};
+use drum_tool::{Fault, Findings, InputFault, Inputs, Lacking, Status, Verdict};
 use std::alloc::AllocError;
 
 /// An answer. Two that are equal have the same `Debug`.
@@ -22,7 +22,7 @@ pub(crate) enum Answer<'a> {
     Analysis(Result<Analysis, Refusal>),
     Bound(Result<u64, Refusal>),
     Ceiling(Result<Ceiling, Refusal>),
-    Findings(Result<Findings, AllocError>),
+    Findings(Result<(Findings, Lacking), AllocError>),
     Verdict(Result<Verdict, Fault>),
     /// How the program ended, and what went out.
     Ran(Status, Page, Page),

@@ -7,8 +7,8 @@ use drum_ceiling::ceiling;
 use drum_core::{Reading, Word, Writing, read_deck, read_whole};
 use drum_machine::{Machine, Setup};
 use drum_times::{read_notes, read_times};
-use drum_tool::{Documents, Findings, Inputs, read_inputs, replay, run, run_joined};
-use std::alloc::Global;
+use drum_tool::{Documents, Findings, Inputs, Lacking, read_inputs, replay, run, run_joined};
+use std::alloc::{AllocError, Global};
 use std::test::Fail;
 use test_devices::devices::Tap;
 use test_devices::shelf::Shelf;
@@ -87,9 +87,7 @@ impl<'a> Call<'a> {
             (Call::Ceiling(of), _) => {
                 Answer::Ceiling(ceiling(alloc, &of.deck, &of.times, &of.notes))
             }
-            (Call::Findings(of), _) => {
-                Answer::Findings(Findings::of(alloc, &of.deck, &of.notes))
-            }
+            (Call::Findings(of), _) => { Answer::Findings(findings(alloc, of)) }
             (Call::Replay(of, _), Spent::Inputs(inputs)) => {
                 Answer::Verdict(replay(alloc, &of.deck, &of.times, &of.notes, inputs))
             }
@@ -99,6 +97,13 @@ impl<'a> Call<'a> {
         };
         Some(answer)
     }
+}
+
+/// All that keeps a deck from a bound, and what is lacking.
+fn findings(alloc: Global, of: &Documents) -> Result<(Findings, Lacking), AllocError> {
+    let findings = Findings::of(alloc, &of.deck, &of.notes)?;
+    let lacking = Lacking::of(alloc, &findings)?;
+    Ok((findings, lacking))
 }
 
 /// Runs the program over words and files.

@@ -14,12 +14,12 @@ returns-in_err-documents-clause-fault g c =
 
 pub returns-clause-findings : goal.returns-clause-findings
 returns-clause-findings g c =
-    ok_map _ _ c.findings.result c.findings.ensures.findings (λ findings are held told.
+    ok_map _ _ c.findings.result c.findings.ensures.findings (λ checked are held told.
     inl (
       c.in_ok-documents.documents,
       c.in_ok-documents.ensures.held held told,
       refl,
-      (found_in findings, are, refl),
+      (found_in checked.0, are, refl),
     ))
 
 pub returns-clause-fault : goal.returns-clause-fault

@@ -1,20 +1,20 @@
-use Rattle.std.proofs.Common.{◌≡◌, ℕ, ◌<◌, ◌≤◌, List, length, flat_map, get_or, take, Err, ap, sym, ◌∙◌, subst, arith}
-use Rattle.std.specs.Io.KnownBytes.{Appends}
+use Rattle.std.proofs.Common.{◌≡◌, ℕ, ◌<◌, ◌≤◌, List, length, flat_map, get_or, Ok, Err, ap, sym, ◌∙◌, subst}
+use Rattle.std.proofs.Common.{arith}
 use Rattle.std.proofs.lemmas.List.{take_all}
 use Rattle.std.proofs.lemmas.List.Folds.{flat_map-map}
 use Rattle.std.proofs.lemmas.Result.{err_from_is_err_and}
 use Rattle.drum_lines.specs.Sent.{IsSent}
-use Rattle.drum_lines.proofs.Sending.{sent_cut, written_cut, written_whole}
+use Rattle.drum_lines.proofs.Sending.{sent_cut}
 use Rattle.drum_check.specs.declared.finding.Finding.{Finding}
 use Rattle.drum_check.specs.FindingsOf.{found_in, seen}
 use Rattle.drum_check.specs.FindingsText.{finding_text, findings_text}
-use Rattle.drum_check.proofs.listing.list_findings.Goals as goal
+use Rattle.drum_check.proofs.listing.send_findings.Goals as goal
 
 abbrev line : Finding → List ℕ
 line finding = finding_text (seen finding)
 
-pub returns-in_err-sent-clause-written : goal.returns-in_err-sent-clause-written
-returns-in_err-sent-clause-written g c =
+pub returns-in_err-sent-clause-sent : goal.returns-in_err-sent-clause-sent
+returns-in_err-sent-clause-sent g c =
     let items = c.args.findings.now.all.items in
     let index = c.loop-finding.finding-index in
     let old = g.O.Output.written c.args.writer.now in
@@ -30,21 +30,18 @@ returns-in_err-sent-clause-written g c =
     let here : IsSent between new c.loop-finding.sent (Err fault) (line (get_or items index finding)) =
     subst (IsSent between new c.loop-finding.sent (Err fault))
     (ap line (c.finding-item.is ∙ ap (λ (xs : List Finding). get_or xs index finding) same)) c.in_err-sent.ensures.sent in
-    let cut : IsSent old new 0 (Err fault) (flat_map line items) =
-    sent_cut line items index finding within old between new 0 c.loop-finding.sent fault c.loop-finding.invariant.so_far
-    here in
-    rw (p.1, p.2) (written_cut old new fault (findings_text (found_in c.args.findings.now))
-    (subst (IsSent old new 0 (Err fault)) text cut))
+    rw (p.1, p.2) (subst (IsSent old new 0 (Err fault)) text
+    (sent_cut line items index finding within old between new 0 c.loop-finding.sent fault c.loop-finding.invariant.so_far
+    here))
 
-pub returns-clause-written : goal.returns-clause-written
-returns-clause-written g c =
+pub returns-clause-sent : goal.returns-clause-sent
+returns-clause-sent g c =
     let items = c.args.findings.now.all.items in
     let old = g.O.Output.written c.args.writer.now in
     let new = g.O.Output.written c.loop-finding.writer in
     let index = c.loop-finding.finding-index in
     let past : length items ≤ index = omega
     (arith, c.loop-finding-test.false, ap (λ (xs : List Finding). length xs) c.deref-finding-items.ensures.value) in
-    let whole : Appends old new (flat_map line items) =
-    subst (λ (xs : List Finding). Appends old new (flat_map line xs)) (take_all index items past)
-    (written_whole old new c.loop-finding.sent (flat_map line (take index items)) c.loop-finding.invariant.so_far) in
-    subst (Appends old new) (sym (flat_map-map finding_text seen items)) whole
+    subst (IsSent old new 0 (Ok c.loop-finding.sent)) (sym (flat_map-map finding_text seen items))
+    (subst (λ (xs : List Finding). IsSent old new 0 (Ok c.loop-finding.sent) (flat_map line xs))
+    (take_all index items past) c.loop-finding.invariant.so_far)

@@ -3,7 +3,7 @@ use Rattle.drum_lines.specs.Sent.{IsSent}
 use Rattle.drum_check.specs.declared.finding.Finding.{Finding}
 use Rattle.drum_check.specs.FindingsOf.{seen}
 use Rattle.drum_check.specs.FindingsText.{finding_text}
-use Rattle.drum_check.proofs.listing.list_findings.Given as goal
+use Rattle.drum_check.proofs.listing.send_findings.Given as goal
 
 -- the lines so far have gone out
 abbrev pub invariant-loop-finding : goal.invariant-loop-finding

@@ -1,0 +1,55 @@
+use Rattle.std.proofs.Common.{List, ℕ, flat_map, Ok, Err, subst}
+use Rattle.std.proofs.lemmas.Result.{err_from_is_err_and}
+use Rattle.drum_lines.proofs.Sending.{all_three, cut_middle, written_cut, written_whole}
+use Rattle.drum_lines.specs.Sent.{IsSent}
+use Rattle.drum_check.specs.FindingsOf.{found_in}
+use Rattle.drum_check.specs.FindingsText.{findings_text}
+use Rattle.drum_check.specs.Lacking.{check_text, list_text, mark_for, words_altered}
+use Rattle.drum_check.proofs.pasting.list_findings.Goals as goal
+
+pub returns-in_err-sent-2-clause-written : goal.returns-in_err-sent-2-clause-written
+returns-in_err-sent-2-clause-written g c =
+    let found = found_in c.args.findings.now in
+    let old = g.O.Output.written c.args.writer.now in
+    let first = g.O.Output.written c.send_findings.new.writer in
+    let new = g.O.Output.written c.send_marks.new.writer in
+    let fault = c.in_err-sent-2.field-0.0 in
+    let p = err_from_is_err_and c.from_residual-in_err-sent-2.result c.from_residual-in_err-sent-2.ensures.1 in
+    rw (p.1, p.2) (cut_middle old new first c.in_ok-sent.sent fault (findings_text found) (flat_map mark_for found)
+    (flat_map list_text (words_altered found)) c.in_ok-sent.ensures.sent c.in_err-sent-2.ensures.sent)
+
+pub returns-in_err-send_lists-clause-written : goal.returns-in_err-send_lists-clause-written
+returns-in_err-send_lists-clause-written g c =
+    let found = found_in c.args.findings.now in
+    let old = g.O.Output.written c.args.writer.now in
+    let first = g.O.Output.written c.send_findings.new.writer in
+    let second = g.O.Output.written c.send_marks.new.writer in
+    let new = g.O.Output.written c.send_lists.new.writer in
+    let more = c.in_ok-sent-2.sent in
+    let fault = c.in_err-send_lists.field-0.0 in
+    let p = err_from_is_err_and c.from_residual-in_err-send_lists.result
+    c.from_residual-in_err-send_lists.ensures.1 in
+    let last : IsSent second new more (Err fault) (flat_map list_text (words_altered found)) =
+    subst (λ (words : List ℕ). IsSent second new more (Err fault) (flat_map list_text words)) c.requires.right
+    c.in_err-send_lists.ensures.sent in
+    rw (p.1, p.2) (written_cut old new fault (check_text found)
+    (all_three old new first second c.in_ok-sent.sent more (Err fault) (findings_text found)
+    (flat_map mark_for found) (flat_map list_text (words_altered found)) c.in_ok-sent.ensures.sent
+    c.in_ok-sent-2.ensures.sent last))
+
+pub returns-clause-written : goal.returns-clause-written
+returns-clause-written g c =
+    let found = found_in c.args.findings.now in
+    let old = g.O.Output.written c.args.writer.now in
+    let first = g.O.Output.written c.send_findings.new.writer in
+    let second = g.O.Output.written c.send_marks.new.writer in
+    let new = g.O.Output.written c.send_lists.new.writer in
+    let more = c.in_ok-sent-2.sent in
+    let total = c.in_ok-send_lists.field-0 in
+    let last : IsSent second new more (Ok total) (flat_map list_text (words_altered found)) =
+    subst (λ (words : List ℕ). IsSent second new more (Ok total) (flat_map list_text words)) c.requires.right
+    c.in_ok-send_lists.ensures.sent in
+    written_whole old new total (check_text found)
+    (all_three old new first second c.in_ok-sent.sent more (Ok total) (findings_text found)
+    (flat_map mark_for found) (flat_map list_text (words_altered found)) c.in_ok-sent.ensures.sent
+    c.in_ok-sent-2.ensures.sent last)

@@ -1,0 +1,148 @@
+//! What was found, written out: a line each, and then the notes that are lacking, to be pasted.
+
+ghost use Rattle.std.specs.Prelude.{◌≡◌, ◌+◌, ◌^◌, ◌≤◌, IfOk, flat_map};
+ghost use Rattle.drum_lines.specs.Sent.{IsSent, IsWritten, fails_by};
+ghost use Rattle.drum_loops.specs.Loops.{edge_of};
+ghost use Rattle.drum_check.specs.FindingsOf.{seen, found_in};
+ghost use Rattle.drum_check.specs.Lacking.{check_text, list_text, mark_for, mark_text};
+ghost use Rattle.drum_check.specs.Lacking.{words_altered};
+ghost use Rattle.drum_check.specs.LackingOf.{words_in};
+
+use crate::finding::Finding;
+use crate::findings::Findings;
+use crate::lacking::Lacking;
+use crate::listing::send_findings;
+use drum_core::{Location, Output};
+use drum_lines::{WriteFault, send};
+use drum_loops::Edge;
+use itoa::Buffer;
+
+/// Writes the mark of an edge, behind so many bytes, and tells how many have gone out then.
+fn send_mark<O: Output>(writer: &mut O, sent: usize, edge: &Edge) -> Result<usize, WriteFault>
+    requires called { O.called writer.old ≤ 2 ^ 62 + 2 ^ 60 }
+    requires few { sent ≤ 2 ^ 60 }
+    ensures sent { IsSent (O.written writer.old) (O.written writer.new) sent result
+        (mark_text (edge_of edge.now)) }
+    ensures failures { O.failed writer.new ≡ O.failed writer.old + fails_by result }
+    ensures calls { O.called writer.new ≤ O.called writer.old + 100 }
+    ensures few { IfOk result (λ total. total ≤ sent + 100) }
+{
+    let mut from = Buffer::new();
+    let mut onto = Buffer::new();
+    let pieces: [&[u8]; 5] = [
+        b"[[mark]]\nmost =\nfrom = ",
+        from.format(edge.from.number()).as_bytes(),
+        b"\nto = ",
+        onto.format(edge.onto.number()).as_bytes(),
+        b"\n",
+    ];
+    send(writer, sent, &pieces)
+}
+
+/// Writes the mark that a finding asks for, if it does.
+fn send_mark_for<O: Output>(
+    writer: &mut O,
+    sent: usize,
+    finding: &Finding,
+) -> Result<usize, WriteFault>
+    requires called { O.called writer.old ≤ 2 ^ 62 + 2 ^ 60 }
+    requires few { sent ≤ 2 ^ 60 }
+    ensures sent { IsSent (O.written writer.old) (O.written writer.new) sent result
+        (mark_for (seen finding.now)) }
+    ensures failures { O.failed writer.new ≡ O.failed writer.old + fails_by result }
+    ensures calls { O.called writer.new ≤ O.called writer.old + 100 }
+    ensures few { IfOk result (λ total. total ≤ sent + 100) }
+{
+    match finding {
+        Finding::Loop(edge) => send_mark(writer, sent, edge),
+        _ => Ok(sent),
+    }
+}
+
+/// Writes the marks that are lacking.
+fn send_marks<O: Output>(
+    writer: &mut O,
+    begun: usize,
+    findings: &Findings,
+) -> Result<usize, WriteFault>
+    requires called { O.called writer.old ≤ 2 ^ 62 + 2 ^ 51 }
+    requires few { begun ≤ 2 ^ 51 }
+    ensures sent { IsSent (O.written writer.old) (O.written writer.new) begun result
+        (flat_map mark_for (found_in findings.now)) }
+    ensures failures { O.failed writer.new ≡ O.failed writer.old + fails_by result }
+    ensures calls { O.called writer.new ≤ O.called writer.old + 2 ^ 50 }
+    ensures few { IfOk result (λ total. total ≤ begun + 2 ^ 50) }
+{
+    let mut sent = begun;
+    for finding in &findings.all {
+        sent = send_mark_for(writer, sent, finding)?;
+    }
+    Ok(sent)
+}
+
+/// Writes the list of a location, for its patterns to be filled in.
+fn send_list<O: Output>(
+    writer: &mut O,
+    sent: usize,
+    location: Location,
+) -> Result<usize, WriteFault>
+    requires called { O.called writer.old ≤ 2 ^ 62 + 2 ^ 60 }
+    requires few { sent ≤ 2 ^ 60 }
+    ensures sent { IsSent (O.written writer.old) (O.written writer.new) sent result
+        (list_text location.number) }
+    ensures failures { O.failed writer.new ≡ O.failed writer.old + fails_by result }
+    ensures calls { O.called writer.new ≤ O.called writer.old + 120 }
+    ensures few { IfOk result (λ total. total ≤ sent + 120) }
+{
+    let mut number = Buffer::new();
+    let pieces: [&[u8]; 3] = [
+        b"[[list]]\nlocation = ",
+        number.format(location.number()).as_bytes(),
+        b"\npattern = [{ op = , d_from = , d_to = , i = }]\n",
+    ];
+    send(writer, sent, &pieces)
+}
+
+/// Writes the lists that are lacking.
+fn send_lists<O: Output>(
+    writer: &mut O,
+    begun: usize,
+    lacking: &Lacking,
+) -> Result<usize, WriteFault>
+    requires called { O.called writer.old ≤ 2 ^ 62 + 2 ^ 52 }
+    requires few { begun ≤ 2 ^ 52 }
+    ensures sent { IsSent (O.written writer.old) (O.written writer.new) begun result
+        (flat_map list_text (words_in lacking.now)) }
+    ensures failures { O.failed writer.new ≡ O.failed writer.old + fails_by result }
+{
+    let mut sent = begun;
+    for location in lacking.words.locations() {
+        sent = send_list(writer, sent, *location)?;
+    }
+    Ok(sent)
+}
+
+/// Writes what was found, a line each, and then the notes that are lacking, as TOML: a mark for
+/// each edge that closes a loop, and a list for each word that is altered. What is lacking is that
+/// of what was found. It takes no memory.
+///
+/// # Errors
+///
+/// Where a write fails, or takes none of some bytes: then a prefix of the text has gone out, of so
+/// many bytes as it says.
+pub fn list_findings<O: Output>(
+    findings: &Findings,
+    lacking: &Lacking,
+    writer: &mut O,
+) -> Result<(), WriteFault>
+    requires called { O.called writer.old ≤ 2 ^ 62 }
+    requires right { words_in lacking.now ≡ words_altered (found_in findings.now) }
+    ensures written { IsWritten (O.written writer.old) (O.written writer.new) result
+        (check_text (found_in findings.now)) }
+    ensures failures { O.failed writer.new ≡ O.failed writer.old + fails_by result }
+{
+    let sent = send_findings(writer, findings)?;
+    let sent = send_marks(writer, sent, findings)?;
+    send_lists(writer, sent, lacking)?;
+    Ok(())
+}
