@@ -2,6 +2,7 @@
 `check` prints is that. Which edges it tells for the loops is held to what is asked of them: that
 they are enough, and that none can be spared."""
 
+import re
 from math import prod
 
 from model import is_location, suits
@@ -84,6 +85,15 @@ class Flow:
         altering = [line for place in self.order for line in self.altering(place)]
         return unfit + altering + self.too_large()
 
+    def lacking(self, told):
+        """The notes that are lacking, as TOML, where these edges were told for the loops."""
+        for edge in told:
+            yield from ["[[mark]]", "most =", "from = %d" % edge[0], "to = %d" % edge[1]]
+        altered = [line.split(" ")[2] for place in self.order for line in self.altering(place)]
+        for word in dict.fromkeys(altered):
+            yield from ["[[list]]", "location = %d" % int(word)]
+            yield "pattern = [{ op = , d_from = , d_to = , i = }]"
+
     def free_edges(self):
         """The edges without a mark, in order."""
         marked = {(mark["from"], mark["to"]) for mark in self.marks}
@@ -132,15 +142,11 @@ def are_closing(told, free):
 def is_check(text, files):
     """Whether a text is what a check of a deck with its notes tells."""
     flow = Flow(files)
-    lines, wanted, unused = text.splitlines(), flow.lines(), list(flow.unused())
-    end = len(lines) - len(unused)
-    loops = [line.split(" ") for line in lines[len(wanted) : end]]
-    is_one = end >= len(wanted) and lines[: len(wanted)] == wanted and lines[end:] == unused
-    if not is_one or any(one[0] != "loop" for one in loops):
-        return False
-    told = [(int(source), int(target)) for _, source, target in loops]
-    are_lines = text == "".join(line + "\n" for line in lines)
-    return are_lines and are_closing(told, flow.free_edges())
+    told = [tuple(map(int, edge)) for edge in re.findall("^loop ([0-9]{4}) ([0-9]{4})$", text, re.M)]
+    lines = flow.lines() + ["loop %04d %04d" % edge for edge in told]
+    lines += [*flow.unused(), *flow.lacking(told)]
+    is_one = text == "".join(line + "\n" for line in lines)
+    return is_one and are_closing(told, flow.free_edges())
 
 
 def is_unused(line):
