@@ -46,8 +46,10 @@ class Case:
         self.name = name
         self.line = line
         self.command = command
-        is_result = line.startswith((b"bound", b"ceiling", b"kept", b"left"))
+        is_check = command == "check"
+        is_result = is_check or line.startswith((b"bound", b"ceiling", b"kept", b"left"))
         usual = 4 if line.startswith(b"left") else 0 if is_result else 1
+        usual = 1 if is_check and line else usual
         self.status = more.pop("status", usual)
         # The joined form, or where it comes from.
         self.joined, self.stdin = more.pop("joined", None), more.pop("stdin", None)

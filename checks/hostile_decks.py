@@ -216,6 +216,32 @@ def of_ceilings():
     yield Case("%s by its ceiling" % traced.name, line, "trace", holds=holds, **parts)
 
 
+def of_checks():
+    """Every word goes on at every word, and half of the words alter the other half."""
+    every = b"".join(
+        b"[[list]]\nlocation=%d\npattern=[{op=45,d_from=0,d_to=1999,i=0}]\n" % here
+        for here in range(2000)
+    )
+    # Each edge that doesn't go on to a greater number goes back: a line, and four lines of a mark.
+    last = b"to = 1999\n"
+    holds = has_lines(5 * 2000 * 2001 // 2, last)
+    parts = {"deck": b"START 0000\n", "notes": NOTES + every, "holds": holds}
+    yield Case("check of 2,001,000 loops", last, "check", **parts)
+    halves = b"".join(
+        b"[[list]]\nlocation=%d\npattern=[{op=20,d_from=0,d_to=1999,i=%d}]\n" % (here, here + 1)
+        for here in range(1000)
+    )
+    deck = b"START 0000\n" + b"".join(card(here, 0, 0, here + 1) for here in range(1000, 1999))
+    deck += card(1999, 1, 0, 1999)
+    last = b"pattern = [{ op = , d_from = , d_to = , i = }]\n"
+    holds = has_lines(1000 * 1000 + 3 * 1000, last)
+    parts = {"deck": deck, "notes": NOTES + halves, "holds": holds}
+    yield Case("check of 1,000,000 words that are altered", last, "check", **parts)
+    stored = storing_drum(64)
+    name = "check of %s" % stored.name.removeprefix("bound of ")
+    yield Case(name, b"", "check", **stored.parts)
+
+
 def of_outputs():
     """Outputs that can't be written, where a result is one line and where it is long."""
     for out in ["/dev/full", "closed", "broken"]:
@@ -308,6 +334,7 @@ def cases():
     yield from of_decks()
     yield from of_results()
     yield from of_ceilings()
+    yield from of_checks()
     yield from of_outputs()
     yield from of_joined()
     yield from of_devices()
