@@ -1,9 +1,13 @@
 pub mod Accepting
 pub mod Adding
 pub mod Among
+pub mod Begins
+pub mod Firsts
+pub mod Fits
 pub mod Fixeds
 pub mod Nothing
 pub mod Outsides
 pub mod Silent
 pub mod Whole
 pub mod Words
+pub mod WriteRanges

@@ -23,7 +23,7 @@ use Rattle.drum_check.proofs.Nothing.{before_nothing, both_nothing, each_nothing
 use Rattle.drum_check.proofs.Outsides.{outside_of}
 
 -- edges that are left where there are none that close loops
-round_left : (loads : ℕ → Option Word) (notes : Notes) (edges : List (ℕ × ℕ)) (first node : ℕ) (xs : List ℕ)
+pub round_left : (loads : ℕ → Option Word) (notes : Notes) (edges : List (ℕ × ℕ)) (first node : ℕ) (xs : List ℕ)
     → edges ≡ [] → LeadRound (IsFree loads notes) first node xs → LeadRound (IsLeft loads notes edges) first node xs
 round_left loads notes edges first node [] none round =
     (round, λ there. contains_none _ (subst (λ (all : List (ℕ × ℕ)). Contains all (node, first)) none there))

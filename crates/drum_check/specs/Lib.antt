@@ -1,5 +1,6 @@
 pub mod Findings
 pub mod FindingsOf
 pub mod FindingsText
+pub mod First
 pub mod Lacking
 pub mod LackingOf

@@ -3,9 +3,12 @@
 ghost use Rattle.std.specs.Prelude.{◌≡◌, ℕ, List, Option};
 ghost use Rattle.drum_core.specs.declared.word.Word.{Word};
 ghost use Rattle.drum_times.specs.Allowed.{Notes};
+ghost use Rattle.drum_flow.specs.declared.refusal.Refusal.{Refusal};
+ghost use Rattle.drum_flow.specs.Acceptance.{IsRefusal};
 ghost use Rattle.drum_flow.specs.Accepted.{IsAccepted};
 ghost use Rattle.drum_flow.specs.Flow.{AreFound};
 ghost use Rattle.drum_check.specs.Findings.{AreFindings, Finding, unused};
+ghost use Rattle.drum_check.specs.First.{IsFoundFirst};
 
 /// Nothing is found, but what is unused of the notes, exactly where the deck with its notes is
 /// accepted: then, and only then, it has a bound.
@@ -17,4 +20,12 @@ pub fn none_found_where_accepted()
     ensures none { (loads : ℕ → Option Word) (notes : Notes) (start : ℕ) (executed : List ℕ)
         (findings : List Finding) → IsAccepted loads notes start executed
         → AreFindings loads notes start findings → findings ≡ unused loads notes executed }
+{}
+
+/// What refuses the analysis of a deck is found first, by its numbers; where edges free of marks
+/// lead round, the first is an edge that closes a loop, and nothing else is in the way.
+pub fn refusal_is_found_first()
+    ensures { (loads : ℕ → Option Word) (notes : Notes) (start : ℕ) (refusal : Refusal)
+        (findings : List Finding) → IsRefusal loads notes start refusal
+        → AreFindings loads notes start findings → IsFoundFirst refusal findings }
 {}

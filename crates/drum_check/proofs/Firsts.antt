@@ -1,0 +1,265 @@
+-- What refuses the analysis is found first.
+use Rattle.std.proofs.Common.{◌≡◌, ℕ, zero, suc, ◌+◌, ◌<◌, ◌≤◌, Bool, true, false, List, [], ◌∷◌, ◌++◌, map, length}
+use Rattle.std.proofs.Common.{get_or, take, drop, refl, ap, sym, ◌∙◌, subst, inl, inr, arith, Option, Some, is_some}
+use Rattle.std.specs.Prelude.{Contains, cond, filter, flat_map, slice_get}
+use Rattle.std.proofs.lemmas.Bool.{cases_lt, le-ltb, lt-ltb}
+use Rattle.std.proofs.lemmas.List.{length-take, get_or-take}
+use Rattle.std.proofs.lemmas.Option.{get_or_from_slice_get, slice_get-get_or, slice_get_within}
+use Rattle.drum_core.specs.declared.instruction.Instruction.{Instruction}
+use Rattle.drum_core.specs.declared.location.Location.{Location}
+use Rattle.drum_core.specs.declared.word.Word.{Word}
+use Rattle.drum_core.specs.Op.{op_of}
+use Rattle.drum_times.specs.Allowed.{Notes, allowed}
+use Rattle.drum_flow.specs.declared.refusal.Refusal.{Refusal}
+use Rattle.drum_flow.specs.declared.refusal.Refusal.TheVariants.{Memory, NotLoaded, NotInProfile, Alters, Unbounded}
+use Rattle.drum_flow.specs.declared.refusal.Refusal.TheVariants.{TooLarge}
+use Rattle.drum_flow.specs.Acceptance.{IsRefusal}
+use Rattle.drum_flow.specs.Accepted as said
+use Rattle.drum_flow.specs.Accepted.{IsAltered, IsFirstOutside, IsFree, IsFreeRound, IsGood, IsLowestAltered, IsMet}
+use Rattle.drum_flow.specs.Accepted.{IsNotInProfile, IsNotLoaded, IsSound, IsTooLarge, IsUnbounded, product_of}
+use Rattle.drum_flow.specs.Executed.{added_by, found_after}
+use Rattle.drum_flow.specs.Graph.{IsClosed}
+use Rattle.drum_flow.proofs.Acceptances.{one_order}
+use Rattle.drum_flow.proofs.Alterations.{split_at}
+use Rattle.drum_flow.proofs.Lists.{contains_at, contains_here}
+use Rattle.drum_flow.proofs.Members.{no_more}
+use Rattle.drum_flow.proofs.Orders.{found_different, only_executed, with_new_keeps}
+use Rattle.drum_check.specs.Findings.{AreFindings, Finding, not_loaded, not_in_profile, alters, too_large, closes}
+use Rattle.drum_check.specs.Findings.{altered, altered_by, altering, is_fixed, not_there, operations_outside, outside}
+use Rattle.drum_check.specs.Findings.{too_many, unfit, unused}
+use Rattle.drum_check.specs.First.{BeginsWith, IsFoundFirst}
+use Rattle.drum_check.proofs.Begins.{begins_behind, begins_flat, begins_left, begins_lowest, begins_mapped, begins_new}
+use Rattle.drum_check.proofs.Fits.{absent_told, alters_none, good_fit, there_untold, unaltering}
+use Rattle.drum_check.proofs.Fixeds.{fixed_only, fixed_so}
+use Rattle.drum_check.proofs.Nothing.{all_nothing}
+use Rattle.drum_check.proofs.Outsides.{inside_none, outside_of}
+use Rattle.drum_check.proofs.Silent.{round_left}
+use Rattle.drum_check.proofs.WriteRanges.{writes_range}
+
+-- a member of the first so many stands among these
+taken_at : (xs : List ℕ) (count x : ℕ) → Contains (take count xs) x → (k : ℕ) × (k < count) × (slice_get xs k ≡ Some x)
+taken_at xs count x there =
+    let at : (k : ℕ) × (slice_get (take count xs) k ≡ Some x) = contains_at (take count xs) x there in
+    let inside : at.0 < length (take count xs) = slice_get_within (take count xs) at.0 x at.1 in
+    let below : at.0 < count = omega (arith, inside, length-take count xs) in
+    let within : at.0 < length xs = omega (arith, inside, length-take count xs) in (
+      at.0,
+      below,
+      slice_get-get_or xs at.0 x within ∙ ap Some (sym (get_or-take count xs at.0 x below)
+          ∙ get_or_from_slice_get (take count xs) at.0 x x at.1),
+    )
+
+module _ (loads : ℕ → Option Word) (notes : Notes) (start : ℕ) where
+  -- what was found stays where it was
+  found_stays : (before after k x : ℕ) → before ≤ after → slice_get (found_after loads notes start before) k ≡ Some x
+      → slice_get (found_after loads notes start after) k ≡ Some x
+  found_stays before zero k x le e =
+      let same : before ≡ 0 = omega (arith, le) in
+      sym (ap (λ (t : ℕ). slice_get (found_after loads notes start t) k) same) ∙ e
+  found_stays before (suc after) k x le e = elim (cases_lt after before) [
+    | inl last ↦ (let same : before ≡ suc after = omega (arith, le, last) in
+        sym (ap (λ (t : ℕ). slice_get (found_after loads notes start t) k) same) ∙ e)
+    | inr earlier ↦ with_new_keeps (found_after loads notes start after)
+        (added_by loads notes (slice_get (found_after loads notes start after) after)) k x
+        (found_stays before after k x earlier e)
+  ]
+
+  -- an operation outside the profile, of which none comes before it
+  outside_first : (place op : ℕ) → IsFirstOutside loads notes place op
+      → BeginsWith (operations_outside loads notes place) op
+  outside_first place op (ins, (before, after, split, has, none), same) =
+      let alone : outside ins.op ≡ ins.op ∷ [] = ap (λ (b : Bool). cond b [] (ins.op ∷ [])) has in
+      subst (BeginsWith (operations_outside loads notes place)) same
+      (begins_new (flat_map outside_of (allowed loads notes place)) ins.op
+      (begins_flat outside_of (allowed loads notes place) before after ins ins.op split
+      (λ other there. inside_none other.op (known (is_some (op_of other.op)) refl (none other there))) ([], alone)))
+    where
+      known : {b : Bool} (a : Bool) → b ≡ a → ¬ (b ≡ false) → b ≡ true
+      known true e out = e
+      known false e out = absurd (out e)
+
+  module _ (findings : List Finding) (a : AreFindings loads notes start findings) where
+    abbrev first_part : List Finding
+    first_part = flat_map (unfit loads notes) a.executed
+
+    abbrev second_part : List Finding
+    second_part = flat_map (altering loads notes a.executed) a.executed
+
+    abbrev third_part : List Finding
+    third_part = too_many (product_of a.executed notes.marks)
+
+    -- where each part stands
+    told_first : (x : Finding) → BeginsWith first_part x → BeginsWith findings x
+    told_first x begins =
+        subst (λ (all : List Finding). BeginsWith all x) (sym a.all)
+        (begins_left (first_part ++ second_part ++ third_part ++ map closes a.edges)
+        (unused loads notes a.executed) x
+        (begins_left (first_part ++ second_part ++ third_part) (map closes a.edges) x
+        (begins_left (first_part ++ second_part) third_part x (begins_left first_part second_part x begins))))
+
+    told_second : (x : Finding) → first_part ≡ [] → BeginsWith second_part x → BeginsWith findings x
+    told_second x none begins =
+        subst (λ (all : List Finding). BeginsWith all x) (sym a.all)
+        (begins_left (first_part ++ second_part ++ third_part ++ map closes a.edges)
+        (unused loads notes a.executed) x
+        (begins_left (first_part ++ second_part ++ third_part) (map closes a.edges) x
+        (begins_left (first_part ++ second_part) third_part x (begins_behind first_part second_part x none begins))))
+
+    told_third : (x : Finding) → first_part ≡ [] → second_part ≡ [] → BeginsWith third_part x → BeginsWith findings x
+    told_third x none nor begins =
+        subst (λ (all : List Finding). BeginsWith all x) (sym a.all)
+        (begins_left (first_part ++ second_part ++ third_part ++ map closes a.edges)
+        (unused loads notes a.executed) x
+        (begins_left (first_part ++ second_part ++ third_part) (map closes a.edges) x
+        (begins_behind (first_part ++ second_part) third_part x
+        (ap (λ (xs : List Finding). xs ++ second_part) none ∙ nor) begins)))
+
+    told_fourth : (x : Finding) → first_part ≡ [] → second_part ≡ [] → third_part ≡ []
+        → BeginsWith (map closes a.edges) x → BeginsWith findings x
+    told_fourth x none nor neither begins =
+        subst (λ (all : List Finding). BeginsWith all x) (sym a.all)
+        (begins_left (first_part ++ second_part ++ third_part ++ map closes a.edges)
+        (unused loads notes a.executed) x
+        (begins_behind (first_part ++ second_part ++ third_part) (map closes a.edges) x
+        (ap (λ (xs : List Finding). xs ++ second_part ++ third_part) none
+        ∙ ap (λ (xs : List Finding). xs ++ third_part) nor ∙ neither) begins))
+
+    -- a location that discovery meets, and those before it
+    met_early : (place : ℕ) (met : IsMet loads notes start place) → met.count < a.found.order.count
+    met_early place met =
+        let inside = slice_get_within (found_after loads notes start met.count) met.count place met.member in
+        let few : length (found_after loads notes start met.count) ≤ length a.executed =
+        no_more (found_after loads notes start met.count) a.executed (found_different loads notes start met.count)
+        (λ x there. a.found.all x (only_executed loads notes start met.count x there)) in
+        omega (arith, inside, few, a.found.order.all)
+
+    met_here : (place : ℕ) (met : IsMet loads notes start place) → slice_get a.executed met.count ≡ Some place
+    met_here place met =
+        sym (ap (λ (xs : List ℕ). slice_get xs met.count) a.found.order.after
+        ∙ refl)
+        ∙ found_stays met.count a.found.order.count met.count place (omega (arith, met_early place met)) met.member
+
+    met_before : (place : ℕ) (met : IsMet loads notes start place) (other : ℕ)
+        → Contains (take met.count a.executed) other → IsGood loads notes other
+    met_before place met other there =
+        let at = taken_at a.executed met.count other there in
+        let inside : at.0 < length (found_after loads notes start met.count) =
+        omega (arith, at.1, slice_get_within (found_after loads notes start met.count) met.count place met.member) in
+        let was : ℕ = get_or (found_after loads notes start met.count) at.0 0 in
+        let there_then : slice_get (found_after loads notes start met.count) at.0 ≡ Some was =
+        slice_get-get_or (found_after loads notes start met.count) at.0 0 inside in
+        let now : slice_get a.executed at.0 ≡ Some was =
+        sym (ap (λ (xs : List ℕ). slice_get xs at.0) a.found.order.after ∙ refl)
+        ∙ found_stays met.count a.found.order.count at.0 was (omega (arith, met_early place met)) there_then in
+        let same : ◌≡◌ {A = Option ℕ} (Some was) (Some other) = sym now ∙ at.2 in
+        let one : was ≡ other = cc in
+        met.before at.0 other at.1 (there_then ∙ ap Some one)
+
+    unfit_first : (place : ℕ) (met : IsMet loads notes start place) (x : Finding)
+        → BeginsWith (unfit loads notes place) x → BeginsWith findings x
+    unfit_first place met x begins =
+        told_first x (begins_flat (unfit loads notes) a.executed (take met.count a.executed)
+        (drop (met.count + 1) a.executed) place x (split_at a.executed met.count place (met_here place met))
+        (λ other there. good_fit loads notes other (met_before place met other there)) begins)
+
+    -- where nothing is wrong with the locations, and where none alters
+    all_good : ((place : ℕ) → Contains a.executed place → IsGood loads notes place) → first_part ≡ []
+    all_good good =
+        all_nothing (unfit loads notes) a.executed (λ place there. good_fit loads notes place (good place there))
+
+    sound_parts : IsSound loads notes start → (first_part ≡ []) × (second_part ≡ [])
+    sound_parts sound = (
+      all_good (λ place there. sound.good place (a.found.only place there)),
+      all_nothing (altering loads notes a.executed) a.executed
+          (λ place there. unaltering loads notes start a.executed a.found place
+          (λ ins has. sound.unaltered place ins (a.found.only place there) has)),
+    )
+
+    -- the lowest word that an instruction alters is the first that it adds
+    lowest_added : (ins : Instruction) (word : ℕ) → IsLowestAltered loads notes start ins word
+        → BeginsWith (altered_by notes a.executed ins) word
+    lowest_added ins word lowest =
+        let range = writes_range ins in
+        let p : ℕ → Bool = is_fixed notes a.executed in
+        let fixed : (at : ℕ) → p at ≡ true → said.IsFixed loads notes start at = λ at is.
+        (a.found.only at (fixed_only notes a.executed at is).0, (fixed_only notes a.executed at is).1) in
+        subst (λ (words : List ℕ). BeginsWith (filter p words) word) (sym range.2)
+        (begins_lowest p range.0 range.1 word
+        (subst (λ (words : List ℕ). Contains words word) range.2 lowest.written)
+        (fixed_so notes a.executed word (a.found.all word lowest.fixed.0) lowest.fixed.1)
+        (λ other there is. lowest.lowest other (subst (λ (words : List ℕ). Contains words other) (sym range.2) there)
+        (fixed other is)))
+
+    altered_first : (writer word : ℕ) → IsAltered loads notes start writer word → BeginsWith findings (alters writer word)
+    altered_first writer word is =
+        let same : is.executed ≡ a.executed =
+        one_order loads notes start is.executed a.executed is.order a.found.order in
+        let none : first_part ≡ [] = all_good (λ place there. is.good place (a.found.only place there)) in
+        let before = is.first.0 in
+        let after = is.first.1 in
+        let adds : BeginsWith (flat_map (altered_by notes a.executed) (allowed loads notes writer)) word =
+        begins_flat (altered_by notes a.executed) (allowed loads notes writer) before after is.ins word is.first.2
+        (λ other there. alters_none loads notes start a.executed a.found other (is.first.4 other there))
+        (lowest_added is.ins word is.lowest) in
+        told_second (alters writer word) none
+        (begins_flat (altering loads notes a.executed) a.executed is.before is.behind writer (alters writer word)
+        (sym same ∙ is.split)
+        (λ other there. unaltering loads notes start a.executed a.found other
+        (λ ins has. is.none_before other ins there has))
+        (begins_mapped (alters writer) (altered loads notes a.executed writer) word
+        (begins_new (flat_map (altered_by notes a.executed) (allowed loads notes writer)) word adds)))
+
+    large_first : (product : ℕ) → IsTooLarge loads notes start product → BeginsWith findings (too_large product)
+    large_first product is =
+        let parts = sound_parts is.0 in
+        let order = is.2 in
+        let same : order.0 ≡ a.executed =
+        one_order loads notes start order.0 a.executed order.1 a.found.order in
+        let equal : product_of a.executed notes.marks ≡ product =
+        sym (order.2 ∙ ap (λ (all : List ℕ). product_of all notes.marks) same) in
+        told_third (too_large product) parts.0 parts.1 (
+          [],
+          ap too_many equal
+              ∙ ap (λ (b : Bool). cond b (too_large product ∷ []) []) (lt-ltb 4000000 product is.1),
+        )
+
+    round_first : (cycle : List ℕ) → IsUnbounded loads notes start cycle
+        → (edge : ℕ × ℕ) × BeginsWith findings (closes edge)
+    round_first cycle is = go a.edges refl
+      where
+        small : third_part ≡ []
+        small = ap (λ (b : Bool). cond b (too_large (product_of a.executed notes.marks) ∷ []) [])
+            (le-ltb 4000000 (product_of a.executed notes.marks) (is.small a.executed a.found.order))
+
+        closed : (places : List ℕ) → cycle ≡ places → a.edges ≡ [] → IsClosed (IsFree loads notes) places → ⊥
+        closed [] same none round = round
+        closed (place ∷ places) same none round =
+            a.closing.enough place places
+            (is.round.executed place
+            (subst (λ (all : List ℕ). Contains all place) (sym same) (contains_here place places)))
+            (round_left loads notes a.edges place place places none round)
+
+        go : (edges : List (ℕ × ℕ)) → a.edges ≡ edges → (edge : ℕ × ℕ) × BeginsWith findings (closes edge)
+        go [] none = absurd (closed cycle refl none is.round.closed)
+        go (edge ∷ edges) same =
+            let parts = sound_parts is.round.sound in
+            (edge, told_fourth (closes edge) parts.0 parts.1 small (map closes edges, ap (map closes) same))
+
+    pub refusal_first : (refusal : Refusal) → IsRefusal loads notes start refusal → IsFoundFirst refusal findings
+    refusal_first (NotLoaded location) is =
+        unfit_first location.number is.0 (not_loaded location.number)
+        (begins_left (not_there loads notes location.number)
+        (map (not_in_profile location.number) (operations_outside loads notes location.number))
+        (not_loaded location.number) ([], absent_told loads notes location.number is.1))
+    refusal_first (NotInProfile location op) is =
+        unfit_first location.number is.0 (not_in_profile location.number op)
+        (begins_behind (not_there loads notes location.number)
+        (map (not_in_profile location.number) (operations_outside loads notes location.number))
+        (not_in_profile location.number op) (there_untold loads notes location.number is.1)
+        (begins_mapped (not_in_profile location.number) (operations_outside loads notes location.number) op
+        (outside_first location.number op is.2)))
+    refusal_first (Alters writer word) is = altered_first writer.number word.number is
+    refusal_first (TooLarge product) is = large_first product is
+    refusal_first (Unbounded cycle) is =
+        round_first (map (λ (location : Location). location.number) cycle.locations.items) is
+    refusal_first Memory is = tt

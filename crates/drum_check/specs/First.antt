@@ -1,0 +1,20 @@
+-- What is found first of a deck that the analysis refuses: just what refuses it; where edges free of
+-- marks lead round, an edge that closes a loop.
+use Rattle.std.specs.Prelude.{◌≡◌, ℕ, List, ◌∷◌}
+use Rattle.drum_flow.specs.declared.refusal.Refusal.{Refusal}
+use Rattle.drum_flow.specs.declared.refusal.Refusal.TheVariants.{Memory, NotLoaded, NotInProfile, Alters, Unbounded}
+use Rattle.drum_flow.specs.declared.refusal.Refusal.TheVariants.{TooLarge}
+use Rattle.drum_check.specs.Findings.{Finding, not_loaded, not_in_profile, alters, too_large}
+use Rattle.drum_check.specs.Findings.{closes}
+
+abbrev pub BeginsWith : {X : Type 0} → List X → X → Type 0
+BeginsWith {X} found first = (others : List X) × (found ≡ first ∷ others)
+
+abbrev pub IsFoundFirst : Refusal → List Finding → Type 0
+IsFoundFirst (NotLoaded location) found = BeginsWith found (not_loaded location.number)
+IsFoundFirst (NotInProfile location op) found =
+    BeginsWith found (not_in_profile location.number op)
+IsFoundFirst (Alters writer word) found = BeginsWith found (alters writer.number word.number)
+IsFoundFirst (TooLarge product) found = BeginsWith found (too_large product)
+IsFoundFirst (Unbounded cycle) found = (edge : ℕ × ℕ) × BeginsWith found (closes edge)
+IsFoundFirst Memory found = Unit {0}
