@@ -1,9 +1,9 @@
--- What is found first of a deck that the analysis refuses: just what refuses it; where edges free of
--- marks lead round, an edge that closes a loop.
+-- What is found first of a deck that the analysis refuses: just what refuses it; where edges free
+-- of marks lead round, an edge that closes a loop.
 use Rattle.std.specs.Prelude.{◌≡◌, ℕ, List, ◌∷◌}
 use Rattle.drum_flow.specs.declared.refusal.Refusal.{Refusal}
-use Rattle.drum_flow.specs.declared.refusal.Refusal.TheVariants.{Memory, NotLoaded, NotInProfile, Alters, Unbounded}
-use Rattle.drum_flow.specs.declared.refusal.Refusal.TheVariants.{TooLarge}
+use Rattle.drum_flow.specs.declared.refusal.Refusal.TheVariants.{Memory, NotLoaded, NotInProfile}
+use Rattle.drum_flow.specs.declared.refusal.Refusal.TheVariants.{Alters, Unbounded, TooLarge}
 use Rattle.drum_check.specs.Findings.{Finding, not_loaded, not_in_profile, alters, too_large}
 use Rattle.drum_check.specs.Findings.{closes}
 
