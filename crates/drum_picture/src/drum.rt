@@ -14,8 +14,10 @@ fn draw_ring(text: &mut String, ring: Ring) -> Result<(), AllocError> {
     let (track, middle, height) = (Ink::Track, ring.middle(), ring.height());
     write!(
         text,
-        "<circle {track} r='{middle}' stroke-width='{height}'/>"
+        "<circle {track} r='{middle}' stroke-width='{height}'><title>"
     )?;
+    let (first, last) = (ring.first(), ring.first() + 49);
+    write!(text, "{first:04} to {last:04}</title></circle>")?;
     let (far, near) = (Point::end_of_word(outer), Point::end_of_word(inner));
     let (far_right, far_up, near_right, near_up) = (far.x, far.y, near.x, near.y);
     let (far_left, near_left) = (

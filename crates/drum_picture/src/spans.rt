@@ -12,8 +12,10 @@ pub const COLUMN: u64 = 10;
 /// From one row to the next, in pixels.
 const PITCH: u64 = 22;
 
-/// How many word times a label takes.
+/// How many word times a label takes: a location, and one with an operation behind it.
 const LABEL: u64 = 3;
+
+const LONG_LABEL: u64 = 6;
 
 /// Where the rows' upper sides are, in pixels from the first's.
 pub(crate) fn top_of(row: u64) -> u64 {
@@ -40,24 +42,40 @@ fn draw_span(
     Ok(())
 }
 
-/// Draws a stroke where an instruction is found, with its location where there is room before the
-/// next is found.
+/// Writes the location and the operation of a hop where there is room for so many word times, or
+/// the location alone.
+fn draw_label(
+    text: &mut String,
+    visit: &Visit,
+    x: u64,
+    base: u64,
+    room: u64,
+) -> Result<(), AllocError> {
+    let (number, op) = (visit.place.number(), visit.instruction.op());
+    if room >= LONG_LABEL {
+        write!(text, "<text x='{x}' y='{base}'>{number:04} {op:02}</text>")?;
+    } else if room >= LABEL {
+        write!(text, "<text x='{x}' y='{base}'>{number:04}</text>")?;
+    }
+    Ok(())
+}
+
+/// Draws a stroke where an instruction is found, with its label where there is room before the next
+/// is found.
 fn draw_stroke(
     text: &mut String,
     rows: &Rows,
-    number: u16,
+    visit: &Visit,
     found: u64,
     next: u64,
 ) -> Result<(), AllocError> {
     let angle = found % 50;
-    let has_room = next.saturating_sub(found) >= LABEL && angle <= 50 - LABEL;
+    let room = next.saturating_sub(found).min(50 - angle);
     for (row, revolution) in (0..MOST_ROWS).zip(rows.shown.iter()) {
         if *revolution == found / 50 {
             let (x, y, base) = (angle * COLUMN, top_of(row), top_of(row).saturating_sub(2));
             write!(text, "<path d='M{x} {y}h2v9h-2z'/>")?;
-            if has_room {
-                write!(text, "<text x='{x}' y='{base}'>{number:04}</text>")?;
-            }
+            draw_label(text, visit, x, base, room)?;
         }
     }
     Ok(())
@@ -69,7 +87,8 @@ fn draw_visit_title(text: &mut String, visit: &Visit, parts: Parts) -> Result<()
     let seek = parts.found.saturating_sub(parts.begun);
     let data = parts.reached.saturating_sub(parts.ready);
     let time = parts.ended.saturating_sub(parts.begun);
-    write!(text, "<title>{number:04}: {time} word times")?;
+    let op = visit.instruction.op();
+    write!(text, "<title>{number:04} {op:02}: {time} word times")?;
     if seek > 0 || data > 0 {
         write!(
             text,
@@ -94,6 +113,6 @@ pub(crate) fn draw_visit(
     draw_span(text, rows, Ink::Data, parts.ready, parts.reached)?;
     draw_span(text, rows, Ink::Cards, parts.worked, parts.ended)?;
     let next = next_found(visit, parts);
-    draw_stroke(text, rows, visit.place.number(), parts.found, next)?;
+    draw_stroke(text, rows, visit, parts.found, next)?;
     text.push_str("</g>\n")
 }

@@ -1,9 +1,10 @@
 //! How often each location is visited, and for how long.
 
+use crate::operations::Operations;
 use crate::parts::data_of;
 use crate::walk::Walk;
 use drum_bound::{Visit, Worst};
-use drum_core::{Deck, Location};
+use drum_core::{Deck, Instruction, Location};
 use std::alloc::{AllocError, Global};
 
 /// How many locations there are: those of the drum, then 8000 to 8003.
@@ -22,6 +23,8 @@ pub struct Tally {
     pub time: u64,
     /// How often the walk waits for it as data.
     pub data: u64,
+    /// Which operations stand there: those that the walk executes, else that of the deck's word.
+    pub operations: Operations,
 }
 
 impl Tally {
@@ -32,6 +35,7 @@ impl Tally {
         visits: 0,
         time: 0,
         data: 0,
+        operations: Operations::None,
     };
 
     /// Whether the location is drawn.
@@ -81,6 +85,7 @@ impl Tallies {
             let time = u64::from(visit.took);
             tally.visits = tally.visits.saturating_add(1);
             tally.time = tally.time.saturating_add(time);
+            tally.operations = tally.operations.with(visit.instruction.op());
         }
         let Some(data) = data_of(visit) else {
             return;
@@ -102,6 +107,9 @@ impl Tallies {
         for (number, tally) in (0..Location::DRUM).zip(self.all.iter_mut()) {
             let word = Location::new(number).and_then(|location| deck.word(location));
             tally.loaded = word.is_some();
+            if let (Some(word), Operations::None) = (word, tally.operations) {
+                tally.operations = Operations::One(Instruction::of(word).op());
+            }
         }
     }
 

@@ -1,4 +1,5 @@
 use crate::ink::Ink;
+use crate::operations::Operations;
 use crate::scale::scaled;
 use crate::tallies::{Tallies, Tally};
 use std::alloc::AllocError;
@@ -70,7 +71,11 @@ impl Word {
     pub(crate) fn finish(self, text: &mut String) -> Result<(), AllocError> {
         let (ink, number) = (self.ink(), self.number);
         let (visits, time, data) = (self.tally.visits, self.tally.time, self.tally.data);
-        write!(text, " {ink}><title>{number:04}: ")?;
+        write!(text, " {ink}><title>{number:04}")?;
+        if let (Operations::One(op), true) = (self.tally.operations, self.tally.executed) {
+            write!(text, " {op:02}")?;
+        }
+        text.push_str(": ")?;
         match ink {
             Ink::Other => text.push_str("executed by other walks")?,
             Ink::Place => {
