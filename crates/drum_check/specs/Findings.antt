@@ -1,5 +1,5 @@
--- All that keeps a deck from having a bound under its notes. `loads` says which word the deck loads
--- into a location.
+-- All that keeps a deck from having a bound under its notes, and what is unused of the notes.
+-- `loads` says which word the deck loads into a location.
 use Rattle.std.specs.Prelude.{◌≡◌, ℕ, nat_lt, ◌==◌, if◌then◌else◌, ◌||◌, ◌&&◌, not, Bool}
 use Rattle.std.specs.Prelude.{List, [], ◌∷◌, ◌++◌, map, filter, flat_map, Option, is_some}
 use Rattle.std.specs.List.{list_any, range_with_len}

@@ -13,13 +13,13 @@ use drum_loops::{Edge, closing_edges};
 use drum_times::{Mark, Notes};
 use std::alloc::{AllocError, Global};
 
-/// How many findings there can be at most, far beyond what any memory holds.
+/// The most findings that are held, far more than any deck has.
 const LIMIT: usize = 1 << 40;
 
 /// The most that executed words times counts may be (this project's choice).
 const PRODUCT_LIMIT: u128 = 4_000_000;
 
-/// All that keeps a deck from having a bound under its notes.
+/// All that keeps a deck from having a bound under its notes, and what is unused of the notes.
 #[derive(Debug, Drop)]
 pub struct Findings {
     pub(crate) all: Vec<Finding>,
@@ -87,7 +87,7 @@ impl Findings {
         Ok(())
     }
 
-    /// Adds words that an instruction of a location alters.
+    /// Adds words that the instructions of a location alter.
     fn add_words(&mut self, writer: Location, words: &[Location]) -> Result<(), AllocError>
         ensures { OnOk result (found_in self.new ≡ found_in self.old
             ++ map (λ word. alters writer.number word.number) words.now) }
@@ -187,7 +187,7 @@ impl Findings {
         self.add(Finding::TooLarge(product))
     }
 
-    /// Adds that a mark stands on an edge that the flow graph doesn't have, if it does.
+    /// Adds that a mark stands on an edge that the flow graph doesn't have, if it is so.
     fn add_astray(&mut self, alloc: Global, flow: &Flow<'_>, mark: &Mark) -> Result<(), AllocError>
         ensures { OnOk result (found_in self.new ≡ found_in self.old
             ++ astray (loads_in flow.now.deck.now) flow.now.notes.now (executed_in flow.now)
@@ -245,7 +245,7 @@ impl Findings {
         Ok(())
     }
 
-    /// Adds what the notes say that nothing comes to.
+    /// Adds the marks and the lists that nothing comes to.
     fn add_unused(&mut self, alloc: Global, flow: &Flow<'_>) -> Result<(), AllocError>
         ensures { OnOk result (found_in self.new ≡ found_in self.old
             ++ unused (loads_in flow.now.deck.now) flow.now.notes.now (executed_in flow.now)) }
@@ -257,8 +257,8 @@ impl Findings {
 
     /// All that keeps the deck from having a bound under these notes: first what is wrong with
     /// each executed location by itself, in the order of discovery, then what the instructions of
-    /// each alter, then the size, and then the edges that close loops; and last what the notes say
-    /// that nothing comes to, each mark in order and each list by its location.
+    /// each alter, then the size, and then the edges that close loops; and last the marks and the
+    /// lists that nothing comes to, each mark in order and each list by its location.
     ///
     /// # Errors
     ///

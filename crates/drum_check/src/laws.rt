@@ -11,7 +11,7 @@ ghost use Rattle.drum_check.specs.Findings.{AreFindings, Finding, unused};
 ghost use Rattle.drum_check.specs.First.{IsFoundFirst};
 
 /// Nothing is found, but what is unused of the notes, exactly where the deck with its notes is
-/// accepted: then, and only then, it has a bound.
+/// accepted.
 pub fn none_found_where_accepted()
     ensures accepted { (loads : ℕ → Option Word) (notes : Notes) (start : ℕ) (executed : List ℕ)
         → AreFound loads notes start executed

@@ -62,7 +62,7 @@ pub(crate) fn entries() -> &'static [Entry]
         },
         Entry {
             name: "check",
-            about: "Prints all that keeps the deck from a bound: what to load, list and mark",
+            about: "Prints all that keeps the deck from a bound, and what the notes lack",
             example: "Example: drum650 check deck.txt times.toml notes.toml",
             files: COMMON_FILES,
         },

@@ -3,5 +3,6 @@ pub mod Backs
 pub mod Befores
 pub mod Closings
 pub mod Flags
+pub mod Markings
 pub mod Paths
 pub mod Rankings

@@ -3,4 +3,5 @@ pub mod Arranging
 pub mod Closing
 pub mod Flags
 pub mod Loops
+pub mod Marked
 pub mod Ranks

@@ -57,8 +57,8 @@ fn edges_back(
 }
 
 /// The edges that close the loops of a flow graph. With a mark on each of them, no list of edges
-/// that closes is free of marks, and without a mark on any one of them some list is. It costs as
-/// much as the flow graph has edges, and as the square of its locations.
+/// that closes is free of marks; and if one of these marks is left out, whichever, some list is. It
+/// costs as much as discovery, as the flow graph has edges, and as the square of its locations.
 ///
 /// # Errors
 ///

@@ -1,6 +1,7 @@
 use drum_core::Location;
 
-/// An edge of the flow graph.
+/// A step from one location to another: an edge of the flow graph, or where a mark says that there
+/// is one.
 #[derive(Clone, Copy, Debug, PartialEq, Eq)]
 pub struct Edge {
     /// The location that it leads from.

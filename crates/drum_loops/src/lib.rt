@@ -1,5 +1,5 @@
-//! The edges that close the loops of a flow graph: those that want a mark before a deck has a
-//! bound.
+//! The edges that close the loops of a flow graph: with a mark on each of them nothing closed is
+//! free of marks, and none of these marks can be spared.
 //!
 //! `arrangement` is a depth-first search that puts a graph's nodes into an order, and `arranging`
 //! runs it over all of them. `ranking` tells where each node stands there, `behind` which of a
@@ -11,6 +11,7 @@ mod arranging;
 mod behind;
 mod closing;
 mod edge;
+pub mod laws;
 mod ranking;
 
 pub use closing::closing_edges;

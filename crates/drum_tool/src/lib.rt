@@ -24,6 +24,7 @@ pub use drum_check::{Finding, Findings, Lacking, list_findings};
 pub use drum_core::{Deck, DeckFault, Reading, read_deck};
 pub use drum_inputs::{InputFault, Inputs, read_inputs};
 pub use drum_lines::{Fault, Part, PartFault, Status, Verdict, WriteFault};
+pub use drum_loops::Edge;
 pub use drum_report::report;
 pub use drum_times::{NoteFault, Notes, Times, read_notes, read_times};
 pub use replaying::replay;

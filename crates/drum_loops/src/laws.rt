@@ -1,0 +1,19 @@
+//! Laws of the definitions, each the contract of a function that does nothing.
+
+ghost use Rattle.std.specs.Prelude.{◌∷◌, ℕ, List, Option};
+ghost use Rattle.drum_core.specs.declared.word.Word.{Word};
+ghost use Rattle.drum_times.specs.Allowed.{Notes};
+ghost use Rattle.drum_flow.specs.Accepted.{IsFree};
+ghost use Rattle.drum_flow.specs.Graph.{IsClosed};
+ghost use Rattle.drum_flow.specs.Hops.{IsExecuted};
+ghost use Rattle.drum_loops.specs.Loops.{AreClosing};
+ghost use Rattle.drum_loops.specs.Marked.{AreMarked};
+
+/// Marks on the edges that close the loops are enough: under notes that have a mark on each of
+/// them, and say else what these do, nothing closed is free of marks.
+pub fn marks_are_enough()
+    ensures { (loads : ℕ → Option Word) (notes : Notes) (start : ℕ) (edges : List (ℕ × ℕ))
+        (marked : Notes) → AreClosing loads notes start edges → AreMarked notes edges marked
+        → (first : ℕ) (others : List ℕ) → IsExecuted loads marked start first
+        → ¬ IsClosed (IsFree loads marked) (first ∷ others) }
+{}
