@@ -1,8 +1,8 @@
 use drum_core::Location;
 use drum_loops::Edge;
 
-/// Something that keeps a deck from having a bound under its notes, or a mark or a list that nothing
-/// comes to.
+/// Something that keeps a deck from having a bound under its notes, or a mark or a list that
+/// nothing comes to.
 #[derive(Clone, Copy, Debug, PartialEq, Eq)]
 pub enum Finding {
     /// An executed location is neither loaded nor listed.

@@ -60,8 +60,9 @@ fn draw_walk(
 
 /// The picture of an analysis, an SVG document: the drum with the words of the deck and the edges
 /// of the worst walk between them, the walk's first revolutions, and where all its word times go.
-/// It is well-formed and has some hundred thousand bytes at most, whatever analysis, deck and timing
-/// table are handed in; it means something where the analysis is of this deck and timing table.
+/// It is well-formed and has some hundred thousand bytes at most, whatever analysis, deck and
+/// timing table are handed in; it means something where the analysis is of this deck and timing
+/// table.
 ///
 /// # Errors
 ///
