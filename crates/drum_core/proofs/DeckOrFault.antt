@@ -1,14 +1,13 @@
 -- Every text is a deck, or it has its fault.
-use Rattle.std.proofs.Common.{◌≡◌, ℕ, zero, suc, ◌+◌, ◌<◌, List, [], ◌∷◌, ◌++◌, length, refl, ap, sym, ◌∙◌, subst}
+use Rattle.std.proofs.Common.{◌≡◌, ℕ, zero, suc, ◌+◌, ◌<◌, List, [], ◌∷◌, length, refl, ap, ◌∙◌}
 use Rattle.std.proofs.Common.{arith, inl, inr, ◌⊎◌, length-append}
 use Rattle.std.proofs.lemmas.Bool.{cases_lt, cases_eq}
 use Rattle.std.proofs.lemmas.List.{append-nil}
-use Rattle.std.specs.Prelude.{Any}
 use Rattle.drum_core.specs.declared.deck.fault.DeckFault.{DeckFault}
 use Rattle.drum_core.specs.declared.deck.fault.DeckFault.TheVariants.{Card, Twice, NoStart, TwoStarts, PastDrum}
 use Rattle.drum_core.specs.declared.deck.fault.DeckFault.TheVariants.{TooLong}
 use Rattle.drum_core.specs.DeckText.{Line, comment, start, card, IsLine, Say, Given, given_from, starts, IsGiven}
-use Rattle.drum_core.specs.DeckText.{AreSound, IsTooLong, IsDeck, IsFaultOfLine, IsFirstFault, LacksStart, IsRefused}
+use Rattle.drum_core.specs.DeckText.{AreSound, IsTooLong, IsDeck, IsFaultOfLine, LacksStart, IsRefused}
 use Rattle.drum_core.specs.Lines.{lines_of}
 use Rattle.drum_core.proofs.DeckLaws.{line_one}
 use Rattle.drum_core.proofs.FaultLaws.{starts-append}

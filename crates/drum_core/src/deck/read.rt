@@ -1,4 +1,4 @@
-//! Reading a deck from its device, line by line.
+//! Reading a deck, from its device or from its text, line by line.
 
 ghost use Rattle.std.specs.Prelude.{◌≡◌, ◌≢◌, ◌+◌, ◌^◌, ◌≤◌, ◌↔◌, ◌⊎◌, List, IsErrOf, IfOk, IfErr, IfSome};
 ghost use Rattle.drum_core.specs.DeckText.{Line, IsTooLong, IsDeck, IsRefused};
@@ -56,10 +56,25 @@ pub fn read_deck<I: Input>(alloc: Global, reader: &mut I) -> Result<Deck, DeckFa
         Err(WholeError::Memory) => return Err(DeckFault::Memory),
         Err(WholeError::TooLong) => return Err(DeckFault::TooLong),
     };
-    if is_longer(&text, LINES, LINE) {
+    deck_of(alloc, &text)
+}
+
+/// The deck of a text that is held.
+///
+/// # Errors
+///
+/// Memory; TooLong before any line is looked at; then the first line with a fault, Card before
+/// PastDrum before TwoStarts before Twice; NoStart last.
+pub fn deck_of(alloc: Global, text: &[u8]) -> Result<Deck, DeckFault>
+    ensures deck { IfOk result (λ deck.
+        (lines : List Line) × IsDeck text.now lines × IsDeckOf deck lines) }
+    ensures refused { IfErr result (λ fault. fault ≢ DeckFault.Memory → IsRefused text.now fault) }
+    ensures read { ¬ IsErrOf result DeckFault.Read }
+{
+    if is_longer(text, LINES, LINE) {
         return Err(DeckFault::TooLong);
     }
-    read_lines(alloc, &text)
+    read_lines(alloc, text)
 }
 
 /// The deck of a text that isn't too long.
