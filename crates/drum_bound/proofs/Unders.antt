@@ -6,7 +6,7 @@ use Rattle.drum_machine.specs.declared.why.Why.TheVariants as why
 use Rattle.drum_machine.specs.Counts.{after_pass, no_counts, AreWithin}
 use Rattle.drum_machine.specs.Ending.{stops_by}
 use Rattle.drum_machine.specs.Keeps.{IsKept}
-use Rattle.drum_machine.specs.Run.{Turn, IsRun, IsFirstState}
+use Rattle.drum_machine.specs.Run.{Stride, IsRun, IsFirstState}
 use Rattle.drum_machine.specs.Step.{State, Stepped, on, stopped}
 use Rattle.drum_machine.specs.Ways.{Way, early, to, late}
 use Rattle.drum_flow.specs.Accepted.{IsAdmitted, IsFixed}
@@ -142,29 +142,29 @@ module _ (g : Setting) where
           arrives = arrive_more prefix g.start 0 none from used next passes hop arrives onto;
         })
 
-    -- of these turns, behind a walk that arrives where they begin, each that goes on arrives under an entry
-    abbrev UnderBehind : List Turn → Type 0
-    UnderBehind turns = (prefix : List Taken) (from used : ℕ) (passes : List ℕ) → Walks angle prefix
+    -- of these strides, behind a walk that arrives where they begin, each that goes on arrives under an entry
+    abbrev UnderBehind : List Stride → Type 0
+    UnderBehind strides = (prefix : List Taken) (from used : ℕ) (passes : List ℕ) → Walks angle prefix
         → Arrives prefix from used passes
-        → IsWalkFrom g angle from used passes (hops_taken turns) → ArriveUnder g.notes rows passes turns
+        → IsWalkFrom g angle from used passes (hops_taken strides) → ArriveUnder g.notes rows passes strides
 
-    -- turns without hops are none
-    none_under : (turns : List Turn) (passes : List ℕ) → hops_taken turns ≡ [] → ArriveUnder g.notes rows passes turns
+    -- strides without hops are none
+    none_under : (strides : List Stride) (passes : List ℕ) → hops_taken strides ≡ [] → ArriveUnder g.notes rows passes strides
     none_under [] passes none = tt
-    none_under (turn ∷ turns) passes none = absurd (cc)
+    none_under (stride ∷ strides) passes none = absurd (cc)
 
-    -- a turn by its parts
-    abbrev turn_of : State → ℕ → Stepped → Turn
-    turn_of s wait outcome = record { origin = s; wait = wait; outcome = outcome }
+    -- a stride by its parts
+    abbrev stride_of : State → ℕ → Stepped → Stride
+    stride_of s wait outcome = record { origin = s; wait = wait; outcome = outcome }
 
-    -- a turn from where a walk arrives, and what follows it
-    turn_under : (s : State) (wait : ℕ) (outcome : Stepped) (turns : List Turn) → UnderBehind turns
+    -- a stride from where a walk arrives, and what follows it
+    stride_under : (s : State) (wait : ℕ) (outcome : Stepped) (strides : List Stride) → UnderBehind strides
         → (prefix : List Taken) (used : ℕ) (passes : List ℕ) → Walks angle prefix → Arrives prefix s.sought used passes
-        → IsWalkFrom g angle s.sought used passes (hops_taken (turn_of s wait outcome ∷ turns))
-        → ArriveUnder g.notes rows passes (turn_of s wait outcome ∷ turns)
-    turn_under s wait (on next) turns behind prefix used passes walk arrives left =
+        → IsWalkFrom g angle s.sought used passes (hops_taken (stride_of s wait outcome ∷ strides))
+        → ArriveUnder g.notes rows passes (stride_of s wait outcome ∷ strides)
+    stride_under s wait (on next) strides behind prefix used passes walk arrives left =
         let none : List ℕ = no_counts g.notes.marks in
-        let hop : Taken = hop_of (turn_of s wait (on next)) in
+        let hop : Taken = hop_of (stride_of s wait (on next)) in
         let last : IsWalkFrom g angle s.sought used passes (hop ∷ []) = (left.0, (left.1.0, tt)) in (
           hop_under prefix s.sought used next.sought passes hop walk arrives last refl,
           behind (prefix ++ hop ∷ []) next.sought next.time (after s.sought next.sought passes)
@@ -172,26 +172,26 @@ module _ (g : Setting) where
               (arrive_more prefix g.start 0 none s.sought used next.sought passes hop arrives refl)
               left.1.1,
         )
-    turn_under s wait (stopped held because moment) turns behind prefix used passes walk arrives left =
-        (tt, none_under turns passes (stop_follows because _ (hops_taken turns) left.1))
+    stride_under s wait (stopped held because moment) strides behind prefix used passes walk arrives left =
+        (tt, none_under strides passes (stop_follows because _ (hops_taken strides) left.1))
 
-    -- turns from where a walk arrives, one after the other
-    turns_under : (turns : List Turn) → UnderBehind turns
+    -- strides from where a walk arrives, one after the other
+    turns_under : (strides : List Stride) → UnderBehind strides
     turns_under [] prefix from used passes walk arrives left = tt
-    turns_under (turn ∷ turns) prefix from used passes walk arrives left =
-        let here : from ≡ turn.origin.sought = sym left.0.here in
-        turn_under turn.origin turn.wait turn.outcome turns (turns_under turns) prefix used passes walk
+    turns_under (stride ∷ strides) prefix from used passes walk arrives left =
+        let here : from ≡ stride.origin.sought = sym left.0.here in
+        stride_under stride.origin stride.wait stride.outcome strides (turns_under strides) prefix used passes walk
         (subst (λ (at : ℕ). Arrives prefix at used passes) here arrives)
-        (subst (λ (at : ℕ). IsWalkFrom g angle at used passes (hops_taken (turn ∷ turns))) here left)
+        (subst (λ (at : ℕ). IsWalkFrom g angle at used passes (hops_taken (stride ∷ strides))) here left)
 
 -- Each step of a kept run that goes on arrives under an entry of the table.
-pub arrive_under : (g : Setting) (rows : List Row) (executed : List ℕ) (s : State) (turns : List Turn) → IsTable g rows
+pub arrive_under : (g : Setting) (rows : List Row) (executed : List ℕ) (s : State) (strides : List Stride) → IsTable g rows
     → IsProper g
     → IsAdmitted g.loads g.notes g.start executed → IsFirstState g.loads (IsFixed g.loads g.notes g.start) g.start s
-    → IsRun g.times s turns
-    → IsKept g.loads g.notes s turns → ArriveUnder g.notes rows (no_counts g.notes.marks) turns
-arrive_under g rows executed s turns table proper accepted first is_run kept =
-    let walk : IsWalk g s.start (hops_taken turns) =
-    (kept_walk g executed s turns proper accepted first is_run kept).0 in
-    turns_under g rows table s.start walk.on_drum turns [] g.start 0 (no_counts g.notes.marks) tt (refl, refl, refl)
+    → IsRun g.times s strides
+    → IsKept g.loads g.notes s strides → ArriveUnder g.notes rows (no_counts g.notes.marks) strides
+arrive_under g rows executed s strides table proper accepted first is_run kept =
+    let walk : IsWalk g s.start (hops_taken strides) =
+    (kept_walk g executed s strides proper accepted first is_run kept).0 in
+    turns_under g rows table s.start walk.on_drum strides [] g.start 0 (no_counts g.notes.marks) tt (refl, refl, refl)
     walk.from_start

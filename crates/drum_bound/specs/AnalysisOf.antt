@@ -9,7 +9,7 @@ use Rattle.drum_times.specs.Allowed.{Notes}
 use Rattle.drum_times.specs.Entries.{entry_in}
 use Rattle.drum_machine.specs.Counts.{no_counts}
 use Rattle.drum_machine.specs.Keeps.{IsKept}
-use Rattle.drum_machine.specs.Run.{Turn, IsRun, IsFirstState}
+use Rattle.drum_machine.specs.Run.{Stride, IsRun, IsFirstState}
 use Rattle.drum_machine.specs.Step.{State}
 use Rattle.drum_flow.specs.Accepted.{counts_of, IsAccepted, IsFixed}
 use Rattle.drum_flow.specs.Bounded.{IsBounded}
@@ -106,7 +106,7 @@ pub record IsAnalysisOf (deck : Deck) (times : Times) (notes : Notes) (analysis 
   pub walks : IsAnalysis (setting deck times notes) analysis
   -- no run that keeps to the notes passes the bound at any moment, nor an entry where it arrives
   pub kept : IsBounded (setting deck times notes) (bound_of analysis)
-  pub under : (s : State) (steps : List Turn)
+  pub under : (s : State) (steps : List Stride)
       → IsFirstState (loads_in deck) (IsFixed (loads_in deck) notes (start_in deck)) (start_in deck)
       s → IsRun (entry_in times) s steps → IsKept (loads_in deck) notes s steps
       → ArriveUnder notes (rows_of analysis) (no_counts notes.marks) steps

@@ -3,7 +3,7 @@ use Rattle.std.specs.Prelude.{◌≡◌, ℕ, ◌≤◌, List, [], ◌∷◌, Co
 use Rattle.drum_times.specs.declared.notes.mark.Mark.{Mark}
 use Rattle.drum_times.specs.Allowed.{Notes}
 use Rattle.drum_machine.specs.Keeps.{counts_after}
-use Rattle.drum_machine.specs.Run.{Turn}
+use Rattle.drum_machine.specs.Run.{Stride}
 use Rattle.drum_machine.specs.Step.{State, Stepped, on, stopped}
 use Rattle.drum_bound.specs.Table.{number_of, Row}
 
@@ -20,9 +20,9 @@ IfOn (stopped held because moment) Right = Unit {0}
 
 -- Each of these steps that goes on, with so many passes of the marks before the first, arrives
 -- under an entry: at the location that it goes on to, with the passes and the word times used then.
-abbrev pub ArriveUnder : Notes → List Row → List ℕ → List Turn → Type 0
+abbrev pub ArriveUnder : Notes → List Row → List ℕ → List Stride → Type 0
 ArriveUnder notes rows counts [] = Unit {0}
-ArriveUnder notes rows counts (turn ∷ steps) =
-    IfOn turn.outcome (λ s.
-    IsUnder notes.marks rows s.sought (counts_after notes counts turn) s.time)
-    × ArriveUnder notes rows (counts_after notes counts turn) steps
+ArriveUnder notes rows counts (stride ∷ steps) =
+    IfOn stride.outcome (λ s.
+    IsUnder notes.marks rows s.sought (counts_after notes counts stride) s.time)
+    × ArriveUnder notes rows (counts_after notes counts stride) steps

@@ -13,7 +13,7 @@ use Rattle.drum_machine.specs.Counts.{is_inside}
 use Rattle.drum_machine.specs.declared.why.Why as whys
 use Rattle.drum_machine.specs.declared.why.Why.TheVariants as why
 use Rattle.drum_machine.specs.Ending.{ended_by, stops_by}
-use Rattle.drum_machine.specs.Run.{Turn}
+use Rattle.drum_machine.specs.Run.{Stride}
 use Rattle.drum_machine.specs.Since.{Edge, edge_by, edges_of, passes_of}
 use Rattle.drum_machine.specs.Step.{Stepped, on, stopped}
 use Rattle.drum_flow.specs.Accepted.{counts_of, product_of, IsAdmitted, IsSound}
@@ -34,17 +34,17 @@ use Rattle.drum_ceiling.specs.Certificate.{priced_from}
 use Rattle.drum_ceiling.proofs.Costs.{priced_alike, priced_few}
 
 -- The edges that a run takes are those that its hops take.
-run_edges : (turns : List Turn) → edges_taken (hops_taken turns) ≡ edges_of turns
+run_edges : (strides : List Stride) → edges_taken (hops_taken strides) ≡ edges_of strides
 run_edges [] = refl
-run_edges (turn ∷ turns) =
-    ap (λ (edges : List Edge). edges ++ edges_taken (hops_taken turns)) (by turn.outcome)
-    ∙ ap (λ (edges : List Edge). edge_by turn.origin.sought turn.outcome ++ edges) (run_edges turns)
+run_edges (stride ∷ strides) =
+    ap (λ (edges : List Edge). edges ++ edges_taken (hops_taken strides)) (by stride.outcome)
+    ∙ ap (λ (edges : List Edge). edge_by stride.origin.sought stride.outcome ++ edges) (run_edges strides)
   where
-    by : (outcome : Stepped) → edge_taken turn.origin.sought (ended_by outcome) ≡ edge_by turn.origin.sought outcome
+    by : (outcome : Stepped) → edge_taken stride.origin.sought (ended_by outcome) ≡ edge_by stride.origin.sought outcome
     by (on next) = refl
     by (stopped held because moment) = none because
       where
-        none : (because : whys.Why) → edge_taken turn.origin.sought (stops_by because) ≡ []
+        none : (because : whys.Why) → edge_taken stride.origin.sought (stops_by because) ≡ []
         none why.Operand = refl
         none why.Card = refl
         none why.Operation = refl

@@ -6,7 +6,7 @@ use Rattle.drum_times.specs.declared.times.Times.{Times}
 use Rattle.drum_times.specs.Allowed.{Notes}
 use Rattle.drum_times.specs.Entries.{entry_in}
 use Rattle.drum_machine.specs.Keeps.{IsKept}
-use Rattle.drum_machine.specs.Run.{Turn, IsRun, IsFirstState}
+use Rattle.drum_machine.specs.Run.{Stride, IsRun, IsFirstState}
 use Rattle.drum_machine.specs.Since.{edges_of, passes_of}
 use Rattle.drum_machine.specs.Step.{State}
 use Rattle.drum_flow.specs.declared.refusal.Refusal.{Refusal}
@@ -58,7 +58,7 @@ pub record IsCeilingOf (deck : Deck) (times : Times) (notes : Notes) (ceiling : 
         → passes_of notes.marks k (edges_taken hops) ≤ slice_index (passes_in ceiling) k
     -- no run that keeps to the notes uses more at any moment, nor passes a mark more often
     pub kept : IsBounded (setting deck times notes) (total_of ceiling)
-    pub kept_passed : (s : State) (steps : List Turn) (k : ℕ)
+    pub kept_passed : (s : State) (steps : List Stride) (k : ℕ)
         → IsFirstState (loads_in deck) (IsFixed (loads_in deck) notes (start_in deck))
         (start_in deck) s → IsRun (entry_in times) s steps → IsKept (loads_in deck) notes s steps
         → k < length notes.marks

@@ -23,9 +23,9 @@ use Rattle.drum_machine.specs.Counts.{after_pass, no_counts, AreWithin}
 use Rattle.drum_machine.specs.Effect.{is_too_large, quotient}
 use Rattle.drum_machine.specs.Ending.{ended_by, stops_by, clock_by}
 use Rattle.drum_machine.proofs.Ends.{Ends, KeepsStart, step_ends}
-use Rattle.drum_machine.specs.Keeps.{IsAsDeclared, IsAllowed, counts_after, counts_by, IsKeptTurn, AreKept, IsKept}
+use Rattle.drum_machine.specs.Keeps.{IsAsDeclared, IsAllowed, counts_after, counts_by, IsKeptStride, AreKept, IsKept}
 use Rattle.drum_machine.specs.Run as run
-use Rattle.drum_machine.specs.Run.{Turn, IsTurn, IsRun, IsFirstState, used_from}
+use Rattle.drum_machine.specs.Run.{Stride, IsStride, IsRun, IsFirstState, used_from}
 use Rattle.drum_machine.specs.Step.{State, Stepped, on, stopped, contents_after, step, instruction_in, clock_of}
 use Rattle.drum_machine.specs.Step.{MayWait}
 use Rattle.drum_machine.specs.Timing.{ready, ended, units_of, digit_sum, IsWait}
@@ -41,9 +41,9 @@ use Rattle.drum_flow.specs.Walk.{Setting, IsProper, Taken, MayHaveUnits, end_by,
 use Rattle.drum_flow.specs.Walk.{IsWalkFrom, IsWalk, time_from, time_of}
 
 -- their time is what the run uses
-pub same_time : (time : ℕ) (turns : List Turn) → time_from time (hops_taken turns) ≡ used_from time turns
+pub same_time : (time : ℕ) (strides : List Stride) → time_from time (hops_taken strides) ≡ used_from time strides
 same_time time [] = refl
-same_time time (turn ∷ turns) = same_time (run.time_after turn.outcome) turns
+same_time time (stride ∷ strides) = same_time (run.time_after stride.outcome) strides
 
 -- ten digits sum up to 90 at most
 digits_below : (count n : ℕ) → digit_sum count n ≤ 9 * count
@@ -203,128 +203,128 @@ module _ (g : Setting) (executed : List ℕ) (angle : ℕ) (proper : IsProper g)
         ∙ sym (drum_word s.contents place below) ∙ stays.agrees place w fixed loads;
   }
 
-  -- a turn from such a state, by an operation of the profile
-  module _ (turn : Turn) (op : Op) (stays : Stays g angle turn.origin)
-      (is : op_of (instruction_in turn.origin).op ≡ Some op)
-      (may_be : Contains (allowed g.loads g.notes turn.origin.sought) (instruction_in turn.origin))
-      (may_wait : MayWait g.times (op_of (instruction_in turn.origin).op) turn.wait)
-      (ends : Ends (ways g.notes (instruction_in turn.origin)) turn.origin.start
-      (ready (g.times op) turn.origin.sought (clock_of turn.origin))
-      (ended (g.times op) op (instruction_in turn.origin).d turn.origin.sought
-      (units_of op (instruction_in turn.origin).d turn.origin.contents) turn.wait (clock_of turn.origin))
-      turn.outcome) where
-    hop_timed : IsTimed g.times angle (hop_of turn) (op_of (instruction_in turn.origin).op)
+  -- a stride from such a state, by an operation of the profile
+  module _ (stride : Stride) (op : Op) (stays : Stays g angle stride.origin)
+      (is : op_of (instruction_in stride.origin).op ≡ Some op)
+      (may_be : Contains (allowed g.loads g.notes stride.origin.sought) (instruction_in stride.origin))
+      (may_wait : MayWait g.times (op_of (instruction_in stride.origin).op) stride.wait)
+      (ends : Ends (ways g.notes (instruction_in stride.origin)) stride.origin.start
+      (ready (g.times op) stride.origin.sought (clock_of stride.origin))
+      (ended (g.times op) op (instruction_in stride.origin).d stride.origin.sought
+      (units_of op (instruction_in stride.origin).d stride.origin.contents) stride.wait (clock_of stride.origin))
+      stride.outcome) where
+    hop_timed : IsTimed g.times angle (hop_of stride) (op_of (instruction_in stride.origin).op)
     hop_timed =
-        let ins : Instruction = instruction_in turn.origin in
-        let way : Way = ended_by turn.outcome in
-        let waits : IsWait op (g.times op) turn.wait =
-        subst (λ (found : Option Op). MayWait g.times found turn.wait) is may_wait in
-        let Right : ℕ → ℕ → Type 0 = λ begin units. MayHaveUnits op ins.d units × IsWait op (g.times op) turn.wait
-        × (begin + run.time_after turn.outcome
-        ≡ end_by way (g.times op) op ins.d turn.origin.sought units turn.wait (begin + turn.origin.time)) in
-        let at : Right turn.origin.start (units_of op ins.d turn.origin.contents) = (
-          units_right op ins.d turn.origin.contents,
+        let ins : Instruction = instruction_in stride.origin in
+        let way : Way = ended_by stride.outcome in
+        let waits : IsWait op (g.times op) stride.wait =
+        subst (λ (found : Option Op). MayWait g.times found stride.wait) is may_wait in
+        let Right : ℕ → ℕ → Type 0 = λ begin units. MayHaveUnits op ins.d units × IsWait op (g.times op) stride.wait
+        × (begin + run.time_after stride.outcome
+        ≡ end_by way (g.times op) op ins.d stride.origin.sought units stride.wait (begin + stride.origin.time)) in
+        let at : Right stride.origin.start (units_of op ins.d stride.origin.contents) = (
+          units_right op ins.d stride.origin.contents,
           waits,
-          ends.at ∙ sym (same_end way (g.times op) op ins.d turn.origin.sought (units_of op ins.d turn.origin.contents)
-              turn.wait (clock_of turn.origin)),
+          ends.at ∙ sym (same_end way (g.times op) op ins.d stride.origin.sought (units_of op ins.d stride.origin.contents)
+              stride.wait (clock_of stride.origin)),
         ) in
-        let from : Right angle (units_of op ins.d turn.origin.contents) =
-        subst (λ (begin : ℕ). Right begin (units_of op ins.d turn.origin.contents)) stays.start at in
-        let units : units_with (op_of ins.op) ins.d turn.origin.contents ≡ units_of op ins.d turn.origin.contents =
-        ap (λ (found : Option Op). units_with found ins.d turn.origin.contents) is in
-        subst (IsTimed g.times angle (hop_of turn)) (sym is) (subst (Right angle) (sym units) from)
+        let from : Right angle (units_of op ins.d stride.origin.contents) =
+        subst (λ (begin : ℕ). Right begin (units_of op ins.d stride.origin.contents)) stays.start at in
+        let units : units_with (op_of ins.op) ins.d stride.origin.contents ≡ units_of op ins.d stride.origin.contents =
+        ap (λ (found : Option Op). units_with found ins.d stride.origin.contents) is in
+        subst (IsTimed g.times angle (hop_of stride)) (sym is) (subst (Right angle) (sym units) from)
 
-    hop_right : IsHopAt g angle turn.origin.sought turn.origin.time (hop_of turn)
+    hop_right : IsHopAt g angle stride.origin.sought stride.origin.time (hop_of stride)
     hop_right = record {
       here = refl;
       allowed =
-          hops_in g.notes (allowed g.loads g.notes turn.origin.sought) (instruction_in turn.origin)
-          (ended_by turn.outcome) may_be ends.by;
+          hops_in g.notes (allowed g.loads g.notes stride.origin.sought) (instruction_in stride.origin)
+          (ended_by stride.outcome) may_be ends.by;
       begins = refl;
       timed = hop_timed;
     }
 
-  -- what follows a turn is right if what follows a step that goes on is
-  follows : (s : State) (wait : ℕ) (counts : List ℕ) (turns : List Turn) (outcome : Stepped) → Stays g angle s
+  -- what follows a stride is right if what follows a step that goes on is
+  follows : (s : State) (wait : ℕ) (counts : List ℕ) (strides : List Stride) (outcome : Stepped) → Stays g angle s
       → Contains (allowed g.loads g.notes s.sought) (instruction_in s) → outcome ≡ step g.times s wait
       → Contains (ways g.notes (instruction_in s)) (ended_by outcome) → KeepsStart s.start outcome
-      → run.FollowStep outcome (λ next. IsRun g.times next turns) turns
+      → run.FollowStep outcome (λ next. IsRun g.times next strides) strides
       → AreWithin g.notes.marks (counts_by g.notes counts s.sought outcome)
-      → ((next : State) → Stays g angle next → IsRun g.times next turns
+      → ((next : State) → Stays g angle next → IsRun g.times next strides
       → counts_by g.notes counts s.sought outcome ≡ after_pass g.notes.marks s.sought next.sought counts
       → IsWalkFrom g angle next.sought next.time (after_pass g.notes.marks s.sought next.sought counts)
-      (hops_taken turns))
+      (hops_taken strides))
       → FollowHop (ended_by outcome) (λ next.
       AreWithin g.notes.marks (after_pass g.notes.marks s.sought next counts)
       × IsWalkFrom g angle next (run.time_after outcome) (after_pass g.notes.marks s.sought next counts)
-      (hops_taken turns)) (hops_taken turns)
-  follows s wait counts turns (on next) stays may_be stepped by from run within rest =
+      (hops_taken strides)) (hops_taken strides)
+  follows s wait counts strides (on next) stays may_be stepped by from run within rest =
       (within, rest next (next_stays s next wait stays may_be (sym stepped) by from) run refl)
-  follows s wait counts turns (stopped held because moment) stays may_be stepped by from run within rest =
-      nothing_follows because _ (hops_taken turns) (ap hops_taken run)
+  follows s wait counts strides (stopped held because moment) stays may_be stepped by from run within rest =
+      nothing_follows because _ (hops_taken strides) (ap hops_taken run)
 
-  -- a turn and what follows it
-  turn_walks : (turn : Turn) (turns : List Turn) (counts : List ℕ) → Stays g angle turn.origin
-      → IsTurn g.times turn.origin turn
-      → run.FollowStep turn.outcome (λ next. IsRun g.times next turns) turns → IsKeptTurn g.loads g.notes counts turn
-      → ((next : State) → Stays g angle next → IsRun g.times next turns
-      → counts_after g.notes counts turn ≡ after_pass g.notes.marks turn.origin.sought next.sought counts
-      → IsWalkFrom g angle next.sought next.time (after_pass g.notes.marks turn.origin.sought next.sought counts)
-      (hops_taken turns))
-      → IsWalkFrom g angle turn.origin.sought turn.origin.time counts (hops_taken (turn ∷ turns))
-  turn_walks turn turns counts stays turned is_run kept rest =
-      let may_be : Contains (allowed g.loads g.notes turn.origin.sought) (instruction_in turn.origin) =
-      fetched_allowed turn.origin stays kept.listed in
-      go may_be (op_of (instruction_in turn.origin).op) refl
-      (admitted.profile turn.origin.sought stays.executed (instruction_in turn.origin) may_be)
+  -- a stride and what follows it
+  stride_walks : (stride : Stride) (strides : List Stride) (counts : List ℕ) → Stays g angle stride.origin
+      → IsStride g.times stride.origin stride
+      → run.FollowStep stride.outcome (λ next. IsRun g.times next strides) strides → IsKeptStride g.loads g.notes counts stride
+      → ((next : State) → Stays g angle next → IsRun g.times next strides
+      → counts_after g.notes counts stride ≡ after_pass g.notes.marks stride.origin.sought next.sought counts
+      → IsWalkFrom g angle next.sought next.time (after_pass g.notes.marks stride.origin.sought next.sought counts)
+      (hops_taken strides))
+      → IsWalkFrom g angle stride.origin.sought stride.origin.time counts (hops_taken (stride ∷ strides))
+  stride_walks stride strides counts stays turned is_run kept rest =
+      let may_be : Contains (allowed g.loads g.notes stride.origin.sought) (instruction_in stride.origin) =
+      fetched_allowed stride.origin stays kept.listed in
+      go may_be (op_of (instruction_in stride.origin).op) refl
+      (admitted.profile stride.origin.sought stays.executed (instruction_in stride.origin) may_be)
     where
-      go : Contains (allowed g.loads g.notes turn.origin.sought) (instruction_in turn.origin) → (found : Option Op)
-          → op_of (instruction_in turn.origin).op ≡ found → IsSome found
-          → IsWalkFrom g angle turn.origin.sought turn.origin.time counts (hops_taken (turn ∷ turns))
+      go : Contains (allowed g.loads g.notes stride.origin.sought) (instruction_in stride.origin) → (found : Option Op)
+          → op_of (instruction_in stride.origin).op ≡ found → IsSome found
+          → IsWalkFrom g angle stride.origin.sought stride.origin.time counts (hops_taken (stride ∷ strides))
       go may_be None is some = absurd (cc)
       go may_be (Some op) is some =
           let ends =
-          subst (Ends (ways g.notes (instruction_in turn.origin)) turn.origin.start
-          (ready (g.times op) turn.origin.sought (clock_of turn.origin))
-          (ended (g.times op) op (instruction_in turn.origin).d turn.origin.sought
-          (units_of op (instruction_in turn.origin).d turn.origin.contents) turn.wait (clock_of turn.origin)))
-          (sym turned.stepped) (step_ends g.times turn.origin turn.wait op g.notes is stays.as_declared kept.cards) in (
-            hop_right turn op stays is may_be turned.may_wait ends,
-            follows turn.origin turn.wait counts turns turn.outcome stays may_be turned.stepped ends.by ends.from is_run
+          subst (Ends (ways g.notes (instruction_in stride.origin)) stride.origin.start
+          (ready (g.times op) stride.origin.sought (clock_of stride.origin))
+          (ended (g.times op) op (instruction_in stride.origin).d stride.origin.sought
+          (units_of op (instruction_in stride.origin).d stride.origin.contents) stride.wait (clock_of stride.origin)))
+          (sym turned.stepped) (step_ends g.times stride.origin stride.wait op g.notes is stays.as_declared kept.cards) in (
+            hop_right stride op stays is may_be turned.may_wait ends,
+            follows stride.origin stride.wait counts strides stride.outcome stays may_be turned.stepped ends.by ends.from is_run
                 kept.marks rest,
           )
 
-  walk_from : (turns : List Turn) (s : State) (counts : List ℕ) → Stays g angle s → IsRun g.times s turns
-      → AreKept g.loads g.notes counts turns
-      → IsWalkFrom g angle s.sought s.time counts (hops_taken turns)
+  walk_from : (strides : List Stride) (s : State) (counts : List ℕ) → Stays g angle s → IsRun g.times s strides
+      → AreKept g.loads g.notes counts strides
+      → IsWalkFrom g angle s.sought s.time counts (hops_taken strides)
   walk_from [] s counts stays is_run kept = tt
-  walk_from (turn ∷ turns) s counts stays is_run kept =
+  walk_from (stride ∷ strides) s counts stays is_run kept =
       let Walks : State → Type 0 =
-      λ state. IsWalkFrom g angle state.sought state.time counts (hops_taken (turn ∷ turns)) in
-      let from : Stays g angle turn.origin = subst (Stays g angle) (sym is_run.0.from_here) stays in
-      let turned : IsTurn g.times turn.origin turn =
-      subst (λ (state : State). IsTurn g.times state turn) (sym is_run.0.from_here) is_run.0 in
+      λ state. IsWalkFrom g angle state.sought state.time counts (hops_taken (stride ∷ strides)) in
+      let from : Stays g angle stride.origin = subst (Stays g angle) (sym is_run.0.from_here) stays in
+      let turned : IsStride g.times stride.origin stride =
+      subst (λ (state : State). IsStride g.times state stride) (sym is_run.0.from_here) is_run.0 in
       subst Walks is_run.0.from_here
-      (turn_walks turn turns counts from turned is_run.1 kept.0
+      (stride_walks stride strides counts from turned is_run.1 kept.0
       (λ next next_stays_so runs same.
-      walk_from turns next (after_pass g.notes.marks turn.origin.sought next.sought counts) next_stays_so runs
-      (subst (λ (after : List ℕ). AreKept g.loads g.notes after turns) same kept.1)))
+      walk_from strides next (after_pass g.notes.marks stride.origin.sought next.sought counts) next_stays_so runs
+      (subst (λ (after : List ℕ). AreKept g.loads g.notes after strides) same kept.1)))
 
 -- A kept run of an admitted deck is a walk, from the same angle and of the same time.
-pub kept_walk : (g : Setting) (executed : List ℕ) (s : State) (turns : List Turn) → IsProper g
+pub kept_walk : (g : Setting) (executed : List ℕ) (s : State) (strides : List Stride) → IsProper g
     → IsAdmitted g.loads g.notes g.start executed
-    → IsFirstState g.loads (IsFixed g.loads g.notes g.start) g.start s → IsRun g.times s turns
-    → IsKept g.loads g.notes s turns
-    → IsWalk g s.start (hops_taken turns) × (time_of (hops_taken turns) ≡ used_from 0 turns)
-kept_walk g executed s turns proper admitted first is_run kept =
+    → IsFirstState g.loads (IsFixed g.loads g.notes g.start) g.start s → IsRun g.times s strides
+    → IsKept g.loads g.notes s strides
+    → IsWalk g s.start (hops_taken strides) × (time_of (hops_taken strides) ≡ used_from 0 strides)
+kept_walk g executed s strides proper admitted first is_run kept =
     let stays : Stays g s.start s =
     record { start = refl; executed = ([], sym first.seeks); as_declared = kept.declared; agrees = first.agrees } in
-    let walks : IsWalkFrom g s.start s.sought s.time (no_counts g.notes.marks) (hops_taken turns) =
-    walk_from g executed s.start proper admitted turns s (no_counts g.notes.marks) stays is_run kept.kept in
-    let seeking : IsWalkFrom g s.start g.start s.time (no_counts g.notes.marks) (hops_taken turns) =
-    subst (λ (place : ℕ). IsWalkFrom g s.start place s.time (no_counts g.notes.marks) (hops_taken turns)) first.seeks
+    let walks : IsWalkFrom g s.start s.sought s.time (no_counts g.notes.marks) (hops_taken strides) =
+    walk_from g executed s.start proper admitted strides s (no_counts g.notes.marks) stays is_run kept.kept in
+    let seeking : IsWalkFrom g s.start g.start s.time (no_counts g.notes.marks) (hops_taken strides) =
+    subst (λ (place : ℕ). IsWalkFrom g s.start place s.time (no_counts g.notes.marks) (hops_taken strides)) first.seeks
     walks in
-    let at_once : IsWalkFrom g s.start g.start 0 (no_counts g.notes.marks) (hops_taken turns) =
-    subst (λ (time : ℕ). IsWalkFrom g s.start g.start time (no_counts g.notes.marks) (hops_taken turns)) first.at_once
+    let at_once : IsWalkFrom g s.start g.start 0 (no_counts g.notes.marks) (hops_taken strides) =
+    subst (λ (time : ℕ). IsWalkFrom g s.start g.start time (no_counts g.notes.marks) (hops_taken strides)) first.at_once
     seeking in
-    (record { on_drum = first.angle; from_start = at_once }, same_time 0 turns)
+    (record { on_drum = first.angle; from_start = at_once }, same_time 0 strides)

@@ -1,7 +1,7 @@
 -- What no run that keeps to the notes uses more than.
 use Rattle.std.specs.Prelude.{ℕ, ◌≤◌, List}
 use Rattle.drum_machine.specs.Keeps.{IsKept}
-use Rattle.drum_machine.specs.Run.{Turn, IsRun, IsFirstState, used_from}
+use Rattle.drum_machine.specs.Run.{Stride, IsRun, IsFirstState, used_from}
 use Rattle.drum_machine.specs.Step.{State}
 use Rattle.drum_flow.specs.Accepted.{IsAccepted, IsFixed}
 use Rattle.drum_flow.specs.Walk.{Setting}
@@ -12,6 +12,6 @@ IsDeckAccepted g = (executed : List ℕ) × IsAccepted g.loads g.notes g.start e
 
 -- each run that keeps to the notes uses so many word times at most, at any moment
 abbrev pub IsBounded : Setting → ℕ → Type 0
-IsBounded g most = (s : State) (steps : List Turn)
+IsBounded g most = (s : State) (steps : List Stride)
     → IsFirstState g.loads (IsFixed g.loads g.notes g.start) g.start s
     → IsRun g.times s steps → IsKept g.loads g.notes s steps → used_from 0 steps ≤ most

@@ -12,7 +12,7 @@ ghost use Rattle.drum_times.specs.Marks.{mark_on};
 ghost use Rattle.drum_machine.specs.Counts.{after_pass, AreWithin};
 ghost use Rattle.drum_machine.specs.Keeps.{IsKept};
 ghost use Rattle.drum_machine.specs.Since.{passes_of};
-ghost use Rattle.drum_machine.specs.Run.{Turn, IsRun, IsFirstState, used_from};
+ghost use Rattle.drum_machine.specs.Run.{Stride, IsRun, IsFirstState, used_from};
 ghost use Rattle.drum_machine.specs.Step.{State};
 ghost use Rattle.drum_machine.specs.Timing.{units_of, IsWait};
 ghost use Rattle.drum_machine.specs.Ways.{Way};
@@ -59,11 +59,11 @@ pub fn one_time()
 /// The hops that a run takes, where it keeps to the notes of an admitted deck, are a walk from the
 /// same start angle, and its time is what the run has used. (So the empty run is the empty walk.)
 pub fn kept_run_is_a_walk()
-    ensures { (g : Setting) (executed : List ℕ) (s : State) (turns : List Turn) → IsProper g
+    ensures { (g : Setting) (executed : List ℕ) (s : State) (strides : List Stride) → IsProper g
         → IsAdmitted g.loads g.notes g.start executed
-        → IsFirstState g.loads (IsFixed g.loads g.notes g.start) g.start s → IsRun g.times s turns
-        → IsKept g.loads g.notes s turns
-        → IsWalk g s.start (hops_taken turns) × (time_of (hops_taken turns) ≡ used_from 0 turns) }
+        → IsFirstState g.loads (IsFixed g.loads g.notes g.start) g.start s → IsRun g.times s strides
+        → IsKept g.loads g.notes s strides
+        → IsWalk g s.start (hops_taken strides) × (time_of (hops_taken strides) ≡ used_from 0 strides) }
 {}
 
 /// The units of an operation's work, whatever the contents, are units that a hop may have.

@@ -11,13 +11,13 @@ use Rattle.drum_core.specs.Moment.{first}
 use Rattle.drum_core.specs.Word.{word}
 use Rattle.drum_times.specs.declared.entry.Entry.{Entry}
 use Rattle.drum_times.specs.Entries.{blank}
-use Rattle.drum_machine.specs.Run.{Turn}
+use Rattle.drum_machine.specs.Run.{Stride}
 use Rattle.drum_machine.specs.Step.{State, step}
 use Rattle.drum_machine.specs.Ways.{Way, early, to, late}
 use Rattle.drum_bound.specs.Visited.{Visited}
 use Rattle.drum_listing.specs.declared.moments.Moments.{Moments}
 use Rattle.drum_listing.specs.Moments.{moments_of}
-use Rattle.drum_listing.specs.TraceText.{turn_lines}
+use Rattle.drum_listing.specs.TraceText.{stride_lines}
 use Rattle.drum_listing.specs.WalkText.{walk_text}
 
 -- 69 takes three word times before it has its data and three after, all else one in all
@@ -91,16 +91,16 @@ state first = record {
   start = 1;
 }
 
-abbrev turn : Word → Turn
-turn first = record { origin = state first; wait = 0; outcome = step times (state first) 0 }
+abbrev stride : Word → Stride
+stride first = record { origin = state first; wait = 0; outcome = step times (state first) 0 }
 
 -- what it holds, and no word is written
 abbrev registers : List ℕ
 registers = codes " accumulator +00000000000000000000 distributor +0000000000 latch off\n"
 
 -- a step that goes on, one that stops early, and one of an operation outside of the profile
-steps : turn_lines times 7
-    (turn (word false 6901030106) ∷ turn (word true 6925000106) ∷ turn (word false 8401000106) ∷ [])
+steps : stride_lines times 7
+    (stride (word false 6901030106) ∷ stride (word true 6925000106) ∷ stride (word false 8401000106) ∷ [])
     ≡ codes "step 7 0100 +6901030106 found 49 ready 52 data 52 ended 55" ++ registers
     ++ codes "step 8 0100 -6925000106 found 49 ready 52 ended 52" ++ registers
     ++ codes "step 9 0100 +8401000106 found 49 ended 49" ++ registers

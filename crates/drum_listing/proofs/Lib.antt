@@ -6,7 +6,7 @@ pub mod Lines
 pub mod NextAngles
 pub mod OneListing
 pub mod SameKinds
-pub mod Turns
+pub mod Strides
 mod WaitChecks
 pub mod WaitLines
 pub mod WaitRows

@@ -9,7 +9,7 @@ use Rattle.drum_core.specs.Numeral.{digits_of}
 use Rattle.drum_core.specs.Word.{spelling}
 use Rattle.drum_times.specs.declared.entry.Entry.{Entry}
 use Rattle.drum_machine.specs.Ending.{ended_by}
-use Rattle.drum_machine.specs.Run.{Turn, time_after}
+use Rattle.drum_machine.specs.Run.{Stride, time_after}
 use Rattle.drum_machine.specs.Contents.{Contents}
 use Rattle.drum_machine.specs.Step.{contents_after, fetched, instruction_in}
 use Rattle.drum_machine.specs.Ways.{Way, early, to, late}
@@ -21,7 +21,7 @@ use Rattle.drum_listing.specs.MomentsText.{moment_text, moments_text}
 use Rattle.drum_listing.specs.Pieces.{digits_with, fetch_text, held_text, name_with, onto_digits}
 use Rattle.drum_listing.specs.Pieces.{times_text, remainder_name, remainder_sign, way_name}
 use Rattle.drum_listing.specs.HeldText.{accumulator_text, latch_text, registers_text, remainder_text}
-use Rattle.drum_listing.specs.TraceText.{turn_acted, turn_line}
+use Rattle.drum_listing.specs.TraceText.{stride_acted, stride_line}
 use Rattle.drum_listing.specs.WalkText.{hop_text, visit_line, way_text}
 
 -- a moment is its two pieces, and so are a remainder's sign and a way
@@ -140,31 +140,31 @@ visit_told times angle visit moments told =
     ∙ hop_grouped (hop_text visit ++ codes " begun " ++ decimal visit.begun) (moments_text (moments_of times angle visit.place visit.ins visit.way visit.begun))
     (codes " ended ") (decimal visit.ended) (codes "\n")
 
--- the line of a turn
-pub turn_told : (times : Op → Entry) (number angle : ℕ) (turn : Turn) (visit : Visited) (word : Word)
+-- the line of a stride
+pub stride_told : (times : Op → Entry) (number angle : ℕ) (stride : Stride) (visit : Visited) (word : Word)
     (moments : Moments) (held : Contents)
-    → visit ≡ visited (hop_of turn) → word ≡ fetched turn.origin → turn.origin.start ≡ angle
+    → visit ≡ visited (hop_of stride) → word ≡ fetched stride.origin → stride.origin.start ≡ angle
     → moments ≡ moments_of times angle visit.place visit.ins visit.way visit.begun
-    → held ≡ contents_after turn.outcome
+    → held ≡ contents_after stride.outcome
     → (fetch_text number visit.place word ++ times_text moments visit.ended []) ++ held_text visit held
-    ≡ turn_line times number turn
-turn_told times number angle turn visit word moments held same is start told after =
-    let s = turn.origin in
-    let at_start : moments ≡ moments_of times s.start s.sought (instruction_in s) (ended_by turn.outcome) s.time =
+    ≡ stride_line times number stride
+stride_told times number angle stride visit word moments held same is start told after =
+    let s = stride.origin in
+    let at_start : moments ≡ moments_of times s.start s.sought (instruction_in s) (ended_by stride.outcome) s.time =
     told ∙ ap (λ (v : Visited). moments_of times angle v.place v.ins v.way v.begun) same
-    ∙ ap (λ (a : ℕ). moments_of times a s.sought (instruction_in s) (ended_by turn.outcome) s.time) (sym start) in
-    let hop : Visited = visited (hop_of turn) in
+    ∙ ap (λ (a : ℕ). moments_of times a s.sought (instruction_in s) (ended_by stride.outcome) s.time) (sym start) in
+    let hop : Visited = visited (hop_of stride) in
     ap (λ (v : Visited). (fetch_text number v.place word ++ times_text moments v.ended []) ++ held_text v held) same
     ∙ ap (λ (w : Word). (fetch_text number s.sought w ++ times_text moments hop.ended []) ++ held_text hop held) is
     ∙ ap (λ (some : Moments). (fetch_text number s.sought (fetched s) ++ times_text some hop.ended [])
     ++ held_text hop held) at_start
     ∙ ap (λ (c : Contents). (fetch_text number s.sought (fetched s)
-    ++ times_text (moments_of times s.start s.sought (instruction_in s) (ended_by turn.outcome) s.time) hop.ended [])
+    ++ times_text (moments_of times s.start s.sought (instruction_in s) (ended_by stride.outcome) s.time) hop.ended [])
     ++ held_text hop c) after
     ∙ line_grouped (codes "step ") (codes " ") (decimal number) (digits_of 4 s.sought) (spelling (fetched s))
-    (moments_text (moments_of times s.start s.sought (instruction_in s) (ended_by turn.outcome) s.time))
-    (codes " ended ") (decimal (time_after turn.outcome)) (registers_text (contents_after turn.outcome))
-    (turn_acted turn) (codes "\n")
+    (moments_text (moments_of times s.start s.sought (instruction_in s) (ended_by stride.outcome) s.time))
+    (codes " ended ") (decimal (time_after stride.outcome)) (registers_text (contents_after stride.outcome))
+    (stride_acted stride) (codes "\n")
 
 -- texts of things that are seen otherwise
 pub flat_map_map : {X Y : Type 0} (f : Y → List ℕ) (g : X → Y) (xs : List X)

@@ -7,15 +7,15 @@ use Rattle.drum_machine.specs.declared.machine.Machine.{Machine}
 use Rattle.drum_machine.specs.declared.step.Step.{Step}
 use Rattle.drum_machine.specs.Machine.{held_by}
 use Rattle.drum_machine.specs.Monitor.{IsToldOf}
-use Rattle.drum_machine.specs.Run.{Turn}
+use Rattle.drum_machine.specs.Run.{Stride}
 use Rattle.drum_machine.specs.Step.{contents_after}
 
--- The step is that of a turn, on a drum with this angle at time 0, with so many word times used
--- before it; the machine is as it is after the turn, with some cards in the reader.
+-- The step is that of a stride, on a drum with this angle at time 0, with so many word times used
+-- before it; the machine is as it is after the stride, with some cards in the reader.
 pub record IsStepOf (times : Op → Entry) (angle before : ℕ) (step : Step) (machine : Machine)
-    (turn : Turn) : Type 0 where
-  pub told : IsToldOf times turn step
-  pub start : turn.origin.start ≡ angle
-  pub time : turn.origin.time ≡ before
+    (stride : Stride) : Type 0 where
+  pub told : IsToldOf times stride step
+  pub start : stride.origin.start ≡ angle
+  pub time : stride.origin.time ≡ before
   pub cards : List Card
-  pub held : held_by machine cards ≡ contents_after turn.outcome
+  pub held : held_by machine cards ≡ contents_after stride.outcome

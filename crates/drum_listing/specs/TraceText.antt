@@ -7,33 +7,33 @@ use Rattle.drum_core.specs.Op.{op_of}
 use Rattle.drum_core.specs.Word.{spelling}
 use Rattle.drum_times.specs.declared.entry.Entry.{Entry}
 use Rattle.drum_machine.specs.Ending.{ended_by}
-use Rattle.drum_machine.specs.Run.{Turn, time_after}
+use Rattle.drum_machine.specs.Run.{Stride, time_after}
 use Rattle.drum_machine.specs.Step.{contents_after, fetched, instruction_in}
 use Rattle.drum_listing.specs.HeldText.{acted_text, acting, registers_text}
 use Rattle.drum_listing.specs.Moments.{moments_of}
 use Rattle.drum_listing.specs.MomentsText.{moments_text}
 
--- what a turn did to words of the drum, as they stand after it
-abbrev pub turn_acted : Turn → List ℕ
-turn_acted turn =
-    let ins = instruction_in turn.origin in
-    acted_text (acting (ended_by turn.outcome) (op_of ins.op) ins.d) ins.d
-    (contents_after turn.outcome).drum
+-- what a stride did to words of the drum, as they stand after it
+abbrev pub stride_acted : Stride → List ℕ
+stride_acted stride =
+    let ins = instruction_in stride.origin in
+    acted_text (acting (ended_by stride.outcome) (op_of ins.op) ins.d) ins.d
+    (contents_after stride.outcome).drum
 
--- the line of a turn of a run, which is the one of this number, with what the machine holds after
--- it; of a turn with a card another line
-abbrev pub turn_line : (Op → Entry) → ℕ → Turn → List ℕ
-turn_line times number turn =
-    let s = turn.origin in
+-- the line of a stride of a run, which is the one of this number, with what the machine holds after
+-- it; of a stride with a card another line
+abbrev pub stride_line : (Op → Entry) → ℕ → Stride → List ℕ
+stride_line times number stride =
+    let s = stride.origin in
     codes "step " ++ decimal number ++ codes " " ++ digits_of 4 s.sought
     ++ codes " " ++ spelling (fetched s)
     ++ moments_text
-    (moments_of times s.start s.sought (instruction_in s) (ended_by turn.outcome) s.time)
-    ++ codes " ended " ++ decimal (time_after turn.outcome)
-    ++ registers_text (contents_after turn.outcome) ++ turn_acted turn ++ codes "\n"
+    (moments_of times s.start s.sought (instruction_in s) (ended_by stride.outcome) s.time)
+    ++ codes " ended " ++ decimal (time_after stride.outcome)
+    ++ registers_text (contents_after stride.outcome) ++ stride_acted stride ++ codes "\n"
 
--- the lines of turns, of which the first has this number
-abbrev pub turn_lines : (Op → Entry) → ℕ → List Turn → List ℕ
-turn_lines times number [] = []
-turn_lines times number (turn ∷ turns) =
-    turn_line times number turn ++ turn_lines times (suc number) turns
+-- the lines of strides, of which the first has this number
+abbrev pub stride_lines : (Op → Entry) → ℕ → List Stride → List ℕ
+stride_lines times number [] = []
+stride_lines times number (stride ∷ strides) =
+    stride_line times number stride ++ stride_lines times (suc number) strides

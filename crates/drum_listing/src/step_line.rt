@@ -8,7 +8,7 @@ ghost use Rattle.drum_machine.specs.declared.card.Card.{Card};
 ghost use Rattle.drum_machine.specs.Ending.{stops_by};
 ghost use Rattle.drum_machine.specs.Machine.{held_by};
 ghost use Rattle.drum_machine.specs.Monitor.{IsToldOf};
-ghost use Rattle.drum_machine.specs.Run.{Turn};
+ghost use Rattle.drum_machine.specs.Run.{Stride};
 ghost use Rattle.drum_machine.specs.Step.{contents_after, fetched};
 ghost use Rattle.drum_flow.specs.RunHops.{hop_of};
 ghost use Rattle.drum_machine.specs.WaysLeft.{seen_way};
@@ -16,7 +16,7 @@ ghost use Rattle.drum_bound.specs.Visited.{visited};
 ghost use Rattle.drum_lines.specs.Sent.{IsSent, fails_by};
 ghost use Rattle.drum_listing.specs.Pieces.{fetch_text, held_text, times_text};
 ghost use Rattle.drum_listing.specs.Told.{seen_told};
-ghost use Rattle.drum_listing.specs.TraceText.{turn_line};
+ghost use Rattle.drum_listing.specs.TraceText.{stride_line};
 
 use crate::acted::send_acted;
 use crate::moments::Moments;
@@ -42,8 +42,8 @@ fn way_of(why: Why) -> Way
 
 /// The word that a step has fetched.
 fn word_of(step: &Step) -> Word
-    ensures { (times : Op → Entry) (turn : Turn) → IsToldOf times turn step.now
-        → result ≡ fetched turn.origin }
+    ensures { (times : Op → Entry) (stride : Stride) → IsToldOf times stride step.now
+        → result ≡ fetched stride.origin }
 {
     match *step {
         Step::Went { word, .. } | Step::Stopped { word, .. } => word,
@@ -52,8 +52,8 @@ fn word_of(step: &Step) -> Word
 
 /// A step as a hop from the location where it begins, with so many word times used before it.
 fn told_of(step: &Step, before: u64) -> Told
-    ensures told { (times : Op → Entry) (turn : Turn) → IsToldOf times turn step.now
-        → turn.origin.time ≡ before → seen_told result ≡ visited (hop_of turn) }
+    ensures told { (times : Op → Entry) (stride : Stride) → IsToldOf times stride step.now
+        → stride.origin.time ≡ before → seen_told result ≡ visited (hop_of stride) }
     ensures begun { result.begun ≡ before }
 {
     match *step {
@@ -179,11 +179,11 @@ pub fn send_step<O: Output>(
     requires called { O.called writer.old ≤ 2 ^ 62 + 2 ^ 60 }
     requires few { sent ≤ 2 ^ 60 }
     requires early { before ≤ 2 ^ 62 }
-    ensures sent { (turn : Turn) → IsToldOf (entry_in times.now) turn step.now
-        → turn.origin.start ≡ angle → turn.origin.time ≡ before
-        → (cards : List Card) → held_by machine.now cards ≡ contents_after turn.outcome
+    ensures sent { (stride : Stride) → IsToldOf (entry_in times.now) stride step.now
+        → stride.origin.start ≡ angle → stride.origin.time ≡ before
+        → (cards : List Card) → held_by machine.now cards ≡ contents_after stride.outcome
         → IsSent (O.written writer.old) (O.written writer.new) sent result
-        (turn_line (entry_in times.now) number turn) }
+        (stride_line (entry_in times.now) number stride) }
     ensures failures { O.failed writer.new ≡ O.failed writer.old + fails_by result }
     ensures calls { O.called writer.new ≤ O.called writer.old + 500 }
     ensures few { IfOk result (λ total. total ≤ sent + 500) }

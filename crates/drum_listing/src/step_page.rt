@@ -2,11 +2,11 @@
 
 ghost use Rattle.std.specs.Prelude.{◌≡◌, ◌+◌, ◌^◌, ◌≤◌, ◌++◌, [], ℕ, true, false, List, Option, Ok, IfOk, OnOk, length};
 ghost use Rattle.drum_times.specs.Entries.{entry_in};
-ghost use Rattle.drum_machine.specs.Run.{Turn};
+ghost use Rattle.drum_machine.specs.Run.{Stride};
 ghost use Rattle.drum_lines.specs.Sent.{IsSent, fails_by};
 ghost use Rattle.drum_listing.specs.Page.{HasPassed, text_of};
 ghost use Rattle.drum_listing.specs.StepOf.{IsStepOf};
-ghost use Rattle.drum_listing.specs.TraceText.{turn_line};
+ghost use Rattle.drum_listing.specs.TraceText.{stride_line};
 
 use crate::page::Page;
 use crate::step_line::send_step;
@@ -27,11 +27,11 @@ fn gather_step(
 ) -> bool
     requires called { ⟦<Page as Output>⟧.called page.old ≤ 2 ^ 62 }
     requires early { before ≤ 2 ^ 62 }
-    requires told { (turn : Turn)
-        × IsStepOf (entry_in times.now) angle before step.now machine.now turn }
-    ensures line { (turn : Turn)
-        → IsStepOf (entry_in times.now) angle before step.now machine.now turn → result ≡ true
-        → text_of page.new ≡ text_of page.old ++ turn_line (entry_in times.now) number turn }
+    requires told { (stride : Stride)
+        × IsStepOf (entry_in times.now) angle before step.now machine.now stride }
+    ensures line { (stride : Stride)
+        → IsStepOf (entry_in times.now) angle before step.now machine.now stride → result ≡ true
+        → text_of page.new ≡ text_of page.old ++ stride_line (entry_in times.now) number stride }
     ensures short { result ≡ true → length (text_of page.new) ≤ length (text_of page.old) + 500 }
     ensures none { result ≡ false → text_of page.new ≡ text_of page.old }
     ensures calls { ⟦<Page as Output>⟧.called page.new
@@ -62,10 +62,10 @@ fn send_behind<O: Output>(
     requires called { O.called writer.old + length (text_of page.old) ≤ 2 ^ 62 + 2 ^ 60 }
     requires few { sent + length (text_of page.old) ≤ 2 ^ 60 }
     requires early { before ≤ 2 ^ 62 }
-    ensures sent { (turn : Turn)
-        → IsStepOf (entry_in times.now) angle before step.now machine.now turn
+    ensures sent { (stride : Stride)
+        → IsStepOf (entry_in times.now) angle before step.now machine.now stride
         → IsSent (O.written writer.old) (O.written writer.new) sent result
-        (text_of page.old ++ turn_line (entry_in times.now) number turn) }
+        (text_of page.old ++ stride_line (entry_in times.now) number stride) }
     ensures failures { O.failed writer.new ≡ O.failed writer.old + fails_by result }
     ensures empty { OnOk result (text_of page.new ≡ []) }
     ensures gathered { ⟦<Page as Output>⟧.called page.new ≡ ⟦<Page as Output>⟧.called page.old }
@@ -102,14 +102,14 @@ pub fn pass_step<O: Output>(
     requires few { sent + length (text_of page.old) ≤ 2 ^ 60 }
     requires gathered { ⟦<Page as Output>⟧.called page.old ≤ 2 ^ 62 }
     requires early { before ≤ 2 ^ 62 }
-    requires told { (turn : Turn)
-        × IsStepOf (entry_in times.now) angle before step.now machine.now turn }
-    ensures sent { (turn : Turn)
-        → IsStepOf (entry_in times.now) angle before step.now machine.now turn
+    requires told { (stride : Stride)
+        × IsStepOf (entry_in times.now) angle before step.now machine.now stride }
+    ensures sent { (stride : Stride)
+        → IsStepOf (entry_in times.now) angle before step.now machine.now stride
         → (begun : Option (List ℕ)) (gone : List ℕ)
         → IsSent begun (O.written writer.old) 0 (Ok sent) gone
         → HasPassed begun (O.written writer.new) result (gone ++ (text_of page.old
-        ++ turn_line (entry_in times.now) number turn)) (text_of page.new) }
+        ++ stride_line (entry_in times.now) number stride)) (text_of page.new) }
     ensures failures { O.failed writer.new ≡ O.failed writer.old + fails_by result }
     ensures gathered { ⟦<Page as Output>⟧.called page.new
         ≤ ⟦<Page as Output>⟧.called page.old + 500 }

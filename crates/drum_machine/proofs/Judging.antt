@@ -19,10 +19,10 @@ use Rattle.drum_machine.specs.declared.left.Left.TheVariants.{Unlisted}
 use Rattle.drum_machine.specs.declared.step.Step.TheVariants.{Went, Stopped}
 use Rattle.drum_machine.specs.declared.why.Why as whys
 use Rattle.drum_machine.specs.Counts.{AreWithin}
-use Rattle.drum_machine.specs.Keeps.{IsAllowed, IsKeptTurn, Leaves, counts_after, counts_by, reads_load, reads_with}
+use Rattle.drum_machine.specs.Keeps.{IsAllowed, IsKeptStride, Leaves, counts_after, counts_by, reads_load, reads_with}
 use Rattle.drum_machine.specs.Keeps.{is_load}
 use Rattle.drum_machine.specs.Machine.{Tells}
-use Rattle.drum_machine.specs.Run.{Turn}
+use Rattle.drum_machine.specs.Run.{Stride}
 use Rattle.drum_machine.specs.Step.{State, Stepped, on, stopped, step, step_of, step_with, fetched, instruction_in}
 use Rattle.drum_machine.specs.Step.{leaves, lacks_card, has_cards, clock_of}
 use Rattle.drum_core.specs.Location.{is_location}
@@ -56,17 +56,17 @@ allowed_there loads notes s number word numbers words h =
     subst (λ (n : ℕ). AllowedAt loads notes n (fetched s)) numbers
     (subst (λ (w : Word). AllowedAt loads notes number w) words h)
 
-pub unlisted_leaves : (loads : ℕ → Option Word) (notes : Notes) (counts : List ℕ) (turn : Turn) (location : Location)
+pub unlisted_leaves : (loads : ℕ → Option Word) (notes : Notes) (counts : List ℕ) (stride : Stride) (location : Location)
     (word : Word) (left : Left)
-    → location.number ≡ turn.origin.sought → word ≡ fetched turn.origin → left ≡ Unlisted location word
-    → ¬ AllowedAt loads notes location.number word → Leaves loads notes counts turn left
-unlisted_leaves loads notes counts turn location word left numbers words is other =
-    subst (Leaves loads notes counts turn) (sym is) (
+    → location.number ≡ stride.origin.sought → word ≡ fetched stride.origin → left ≡ Unlisted location word
+    → ¬ AllowedAt loads notes location.number word → Leaves loads notes counts stride left
+unlisted_leaves loads notes counts stride location word left numbers words is other =
+    subst (Leaves loads notes counts stride) (sym is) (
       numbers,
       words,
       λ h. other (λ listed.
           subst (λ (n : ℕ). AllowedAt loads notes n word) (sym numbers)
-          (subst (λ (w : Word). AllowedAt loads notes turn.origin.sought w) (sym words) h) listed),
+          (subst (λ (w : Word). AllowedAt loads notes stride.origin.sought w) (sym words) h) listed),
     )
 
 -- a step that reads a load card goes on
@@ -136,23 +136,23 @@ pub stop_reads_none : (times : Op → Entry) (s : State) (wait : ℕ) (held : Co
 stop_reads_none times s wait held why moment stops =
     stops_without_load times s wait held why moment (op_of (instruction_in s).op) stops
 
--- a turn that stops is judged by its fetched word alone
-pub stop_judged : (loads : ℕ → Option Word) (notes : Notes) (counts : List ℕ) (turn : Turn) (location : Location)
+-- a stride that stops is judged by its fetched word alone
+pub stop_judged : (loads : ℕ → Option Word) (notes : Notes) (counts : List ℕ) (stride : Stride) (location : Location)
     (word : Word) (held : Contents) (why : whys.Why) (moment : ℕ) (left : Option Left)
-    → location.number ≡ turn.origin.sought → word ≡ fetched turn.origin → turn.outcome ≡ stopped held why moment
-    → reads_load turn.origin ≡ false
+    → location.number ≡ stride.origin.sought → word ≡ fetched stride.origin → stride.outcome ≡ stopped held why moment
+    → reads_load stride.origin ≡ false
     → MatchOption left (AllowedAt loads notes location.number word)
     (λ l. (l ≡ Unlisted location word) × ¬ AllowedAt loads notes location.number word)
-    → MatchOption left (AreWithin notes.marks counts → IsKeptTurn loads notes counts turn
-    × (counts ≡ counts_after notes counts turn)) (λ l. Leaves loads notes counts turn l)
-stop_judged loads notes counts turn location word held why moment None numbers words stops unread listed = λ within.
-    let same : counts ≡ counts_after notes counts turn = sym (ap (counts_by notes counts turn.origin.sought) stops) in (
+    → MatchOption left (AreWithin notes.marks counts → IsKeptStride loads notes counts stride
+    × (counts ≡ counts_after notes counts stride)) (λ l. Leaves loads notes counts stride l)
+stop_judged loads notes counts stride location word held why moment None numbers words stops unread listed = λ within.
+    let same : counts ≡ counts_after notes counts stride = sym (ap (counts_by notes counts stride.origin.sought) stops) in (
       record {
-        listed = allowed_there loads notes turn.origin location.number word numbers words listed;
+        listed = allowed_there loads notes stride.origin location.number word numbers words listed;
         cards = λ _. unread;
         marks = subst (AreWithin notes.marks) same within;
       },
       same,
     )
-stop_judged loads notes counts turn location word held why moment (Some left) numbers words stops unread other =
-    unlisted_leaves loads notes counts turn location word left numbers words other.0 other.1
+stop_judged loads notes counts stride location word held why moment (Some left) numbers words stops unread other =
+    unlisted_leaves loads notes counts stride location word left numbers words other.0 other.1

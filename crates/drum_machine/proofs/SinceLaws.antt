@@ -16,8 +16,8 @@ use Rattle.drum_times.specs.declared.notes.mark.Mark.{Mark}
 use Rattle.drum_times.specs.Allowed.{Notes, IsEarlier, StandInEarlier}
 use Rattle.drum_times.specs.Marks.{mark_on}
 use Rattle.drum_machine.specs.Counts.{outer_of, is_inside_by, is_inside, passed_from, after_pass, no_counts}
-use Rattle.drum_machine.specs.Keeps.{IsAsDeclared, counts_by, counts_after, IsKeptTurn, AreKept, IsKept}
-use Rattle.drum_machine.specs.Run.{Turn}
+use Rattle.drum_machine.specs.Keeps.{IsAsDeclared, counts_by, counts_after, IsKeptStride, AreKept, IsKept}
+use Rattle.drum_machine.specs.Run.{Stride}
 use Rattle.drum_machine.specs.Since.{Edge, counts_along, passes_of, LeadsOut, StandsInside, Restarts}
 use Rattle.drum_machine.specs.Since.{EndsIn, IsCountSince, edge_by, edges_of, counts_before}
 use Rattle.drum_machine.specs.Step.{State, Stepped, on, stopped}
@@ -286,47 +286,47 @@ pub along_length : (marks : List Mark) (edges : List Edge)
     → length (counts_along marks (no_counts marks) edges) ≡ length marks
 along_length marks edges = more_length marks (no_counts marks) edges ∙ length-map marks (λ (mark : Mark). 0)
 
--- the edge that a turn takes, if any, makes the counts after it
-along_turn : (notes : Notes) (counts : List ℕ) (from : ℕ) (outcome : Stepped) (edges : List Edge)
+-- the edge that a stride takes, if any, makes the counts after it
+along_stride : (notes : Notes) (counts : List ℕ) (from : ℕ) (outcome : Stepped) (edges : List Edge)
     → counts_along notes.marks (counts_by notes counts from outcome) edges
     ≡ counts_along notes.marks counts (edge_by from outcome ++ edges)
-along_turn notes counts from (on next) edges = refl
-along_turn notes counts from (stopped held because moment) edges = refl
+along_stride notes counts from (on next) edges = refl
+along_stride notes counts from (stopped held because moment) edges = refl
 
-each_kept : (loads : ℕ → Option Word) (notes : Notes) (counts : List ℕ) (turns : List Turn)
-    → AreKept loads notes counts turns → (n : ℕ) (turn : Turn) → slice_get turns n ≡ Some turn
-    → IsKeptTurn loads notes (counts_along notes.marks counts (edges_of (take n turns))) turn
-each_kept loads notes counts [] kept n turn e = absurd (none-some turn e)
-each_kept loads notes counts (turn ∷ turns) kept zero other e =
-    subst (IsKeptTurn loads notes counts) (same_Some turn other e) kept.0
-each_kept loads notes counts (turn ∷ turns) kept (suc n) other e =
-    subst (λ (cs : List ℕ). IsKeptTurn loads notes cs other)
-    (along_turn notes counts turn.origin.sought turn.outcome (edges_of (take n turns)))
-    (each_kept loads notes (counts_after notes counts turn) turns kept.1 n other e)
+each_kept : (loads : ℕ → Option Word) (notes : Notes) (counts : List ℕ) (strides : List Stride)
+    → AreKept loads notes counts strides → (n : ℕ) (stride : Stride) → slice_get strides n ≡ Some stride
+    → IsKeptStride loads notes (counts_along notes.marks counts (edges_of (take n strides))) stride
+each_kept loads notes counts [] kept n stride e = absurd (none-some stride e)
+each_kept loads notes counts (stride ∷ strides) kept zero other e =
+    subst (IsKeptStride loads notes counts) (same_Some stride other e) kept.0
+each_kept loads notes counts (stride ∷ strides) kept (suc n) other e =
+    subst (λ (cs : List ℕ). IsKeptStride loads notes cs other)
+    (along_stride notes counts stride.origin.sought stride.outcome (edges_of (take n strides)))
+    (each_kept loads notes (counts_after notes counts stride) strides kept.1 n other e)
 
-all_kept : (loads : ℕ → Option Word) (notes : Notes) (counts : List ℕ) (turns : List Turn)
-    → ((n : ℕ) (turn : Turn) → slice_get turns n ≡ Some turn
-    → IsKeptTurn loads notes (counts_along notes.marks counts (edges_of (take n turns))) turn)
-    → AreKept loads notes counts turns
+all_kept : (loads : ℕ → Option Word) (notes : Notes) (counts : List ℕ) (strides : List Stride)
+    → ((n : ℕ) (stride : Stride) → slice_get strides n ≡ Some stride
+    → IsKeptStride loads notes (counts_along notes.marks counts (edges_of (take n strides))) stride)
+    → AreKept loads notes counts strides
 all_kept loads notes counts [] each = tt
-all_kept loads notes counts (turn ∷ turns) each = (
-  each 0 turn refl,
-  all_kept loads notes (counts_after notes counts turn) turns
-      (λ n other e. subst (λ (cs : List ℕ). IsKeptTurn loads notes cs other)
-      (sym (along_turn notes counts turn.origin.sought turn.outcome (edges_of (take n turns))))
+all_kept loads notes counts (stride ∷ strides) each = (
+  each 0 stride refl,
+  all_kept loads notes (counts_after notes counts stride) strides
+      (λ n other e. subst (λ (cs : List ℕ). IsKeptStride loads notes cs other)
+      (sym (along_stride notes counts stride.origin.sought stride.outcome (edges_of (take n strides))))
       (each (suc n) other e)),
 )
 
--- A run keeps to the notes where each turn does, with the counts after the edges that the turns before it take.
-pub kept_iff : (loads : ℕ → Option Word) (notes : Notes) (s : State) (turns : List Turn)
-    → IsKept loads notes s turns ↔ (IsAsDeclared notes.programmed s.contents.programmed_stops
-    × ((n : ℕ) (turn : Turn) → slice_get turns n ≡ Some turn
-    → IsKeptTurn loads notes (counts_before notes turns n) turn))
-kept_iff loads notes s turns = (
-  λ kept. (kept.declared, each_kept loads notes (no_counts notes.marks) turns kept.kept),
+-- A run keeps to the notes where each stride does, with the counts after the edges that the strides before it take.
+pub kept_iff : (loads : ℕ → Option Word) (notes : Notes) (s : State) (strides : List Stride)
+    → IsKept loads notes s strides ↔ (IsAsDeclared notes.programmed s.contents.programmed_stops
+    × ((n : ℕ) (stride : Stride) → slice_get strides n ≡ Some stride
+    → IsKeptStride loads notes (counts_before notes strides n) stride))
+kept_iff loads notes s strides = (
+  λ kept. (kept.declared, each_kept loads notes (no_counts notes.marks) strides kept.kept),
   λ both. record {
     declared = both.0;
-    kept = all_kept loads notes (no_counts notes.marks) turns both.1;
+    kept = all_kept loads notes (no_counts notes.marks) strides both.1;
   },
 )
 

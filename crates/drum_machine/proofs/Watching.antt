@@ -1,4 +1,4 @@
--- What a monitor has seen, one turn later.
+-- What a monitor has seen, one stride later.
 use Rattle.std.proofs.Common.{◌≡◌, ℕ, zero, suc, ◌≤◌, List, [], ◌∷◌, ◌++◌, take, length, replicate, Option, Some, None}
 use Rattle.std.proofs.Common.{refl, sym, ap, subst, ◌∙◌, arith}
 use Rattle.std.specs.Prelude.{MatchOption}
@@ -8,56 +8,56 @@ use Rattle.drum_times.specs.Allowed.{Notes}
 use Rattle.drum_machine.specs.declared.left.Left.{Left}
 use Rattle.drum_machine.specs.declared.monitor.Monitor.{Monitor}
 use Rattle.drum_machine.specs.Counts.{no_counts, AreWithin}
-use Rattle.drum_machine.specs.Keeps.{AreKept, IsKeptTurn, Leaves, counts_after}
+use Rattle.drum_machine.specs.Keeps.{AreKept, IsKeptStride, Leaves, counts_after}
 use Rattle.drum_machine.specs.Monitor.{counts_in, counts_over, HasSeen}
-use Rattle.drum_machine.specs.Run.{Turn}
+use Rattle.drum_machine.specs.Run.{Stride}
 
 zeros_within : (marks : List Mark) → AreWithin marks (no_counts marks)
 zeros_within [] = tt
 zeros_within (mark ∷ marks) = (omega arith, zeros_within marks)
 
-kept_within : (loads : ℕ → Option Word) (notes : Notes) (counts : List ℕ) (turns : List Turn)
-    → AreKept loads notes counts turns → AreWithin notes.marks counts
-    → AreWithin notes.marks (counts_over notes counts turns)
+kept_within : (loads : ℕ → Option Word) (notes : Notes) (counts : List ℕ) (strides : List Stride)
+    → AreKept loads notes counts strides → AreWithin notes.marks counts
+    → AreWithin notes.marks (counts_over notes counts strides)
 kept_within loads notes counts [] kept within = within
-kept_within loads notes counts (turn ∷ turns) kept within =
-    kept_within loads notes (counts_after notes counts turn) turns kept.1 kept.0.marks
+kept_within loads notes counts (stride ∷ strides) kept within =
+    kept_within loads notes (counts_after notes counts stride) strides kept.1 kept.0.marks
 
-kept_more : (loads : ℕ → Option Word) (notes : Notes) (counts : List ℕ) (turns : List Turn) (turn : Turn)
-    → AreKept loads notes counts turns
-    → IsKeptTurn loads notes (counts_over notes counts turns) turn → AreKept loads notes counts (turns ++ turn ∷ [])
-kept_more loads notes counts [] turn kept one = (one, tt)
-kept_more loads notes counts (first ∷ turns) turn kept one =
-    (kept.0, kept_more loads notes (counts_after notes counts first) turns turn kept.1 one)
+kept_more : (loads : ℕ → Option Word) (notes : Notes) (counts : List ℕ) (strides : List Stride) (stride : Stride)
+    → AreKept loads notes counts strides
+    → IsKeptStride loads notes (counts_over notes counts strides) stride → AreKept loads notes counts (strides ++ stride ∷ [])
+kept_more loads notes counts [] stride kept one = (one, tt)
+kept_more loads notes counts (first ∷ strides) stride kept one =
+    (kept.0, kept_more loads notes (counts_after notes counts first) strides stride kept.1 one)
 
-over_more : (notes : Notes) (counts : List ℕ) (turns : List Turn) (turn : Turn)
-    → counts_over notes counts (turns ++ turn ∷ []) ≡ counts_after notes (counts_over notes counts turns) turn
-over_more notes counts [] turn = refl
-over_more notes counts (first ∷ turns) turn = over_more notes (counts_after notes counts first) turns turn
+over_more : (notes : Notes) (counts : List ℕ) (strides : List Stride) (stride : Stride)
+    → counts_over notes counts (strides ++ stride ∷ []) ≡ counts_after notes (counts_over notes counts strides) stride
+over_more notes counts [] stride = refl
+over_more notes counts (first ∷ strides) stride = over_more notes (counts_after notes counts first) strides stride
 
--- one turn more is seen, or leaves the notes
-pub seen_more : (loads : ℕ → Option Word) (notes : Notes) (m n : Monitor) (turns : List Turn) (turn : Turn)
-    (left : Option Left) → HasSeen loads notes m turns
-    → MatchOption left (AreWithin notes.marks (counts_in m notes) → IsKeptTurn loads notes (counts_in m notes) turn
-    × (counts_in n notes ≡ counts_after notes (counts_in m notes) turn))
-    (λ l. Leaves loads notes (counts_in m notes) turn l)
-    → MatchOption left (HasSeen loads notes n (turns ++ turn ∷ []))
-    (λ l. Leaves loads notes (counts_over notes (no_counts notes.marks) turns) turn l)
-seen_more loads notes m n turns turn None seen judged =
+-- one stride more is seen, or leaves the notes
+pub seen_more : (loads : ℕ → Option Word) (notes : Notes) (m n : Monitor) (strides : List Stride) (stride : Stride)
+    (left : Option Left) → HasSeen loads notes m strides
+    → MatchOption left (AreWithin notes.marks (counts_in m notes) → IsKeptStride loads notes (counts_in m notes) stride
+    × (counts_in n notes ≡ counts_after notes (counts_in m notes) stride))
+    (λ l. Leaves loads notes (counts_in m notes) stride l)
+    → MatchOption left (HasSeen loads notes n (strides ++ stride ∷ []))
+    (λ l. Leaves loads notes (counts_over notes (no_counts notes.marks) strides) stride l)
+seen_more loads notes m n strides stride None seen judged =
     let within : AreWithin notes.marks (counts_in m notes) =
     subst (AreWithin notes.marks) (sym seen.counts)
-    (kept_within loads notes (no_counts notes.marks) turns seen.kept (zeros_within notes.marks)) in
+    (kept_within loads notes (no_counts notes.marks) strides seen.kept (zeros_within notes.marks)) in
     let one = judged within in
     record {
       counts =
-          one.1 ∙ ap (λ (counts : List ℕ). counts_after notes counts turn) seen.counts
-          ∙ sym (over_more notes (no_counts notes.marks) turns turn);
+          one.1 ∙ ap (λ (counts : List ℕ). counts_after notes counts stride) seen.counts
+          ∙ sym (over_more notes (no_counts notes.marks) strides stride);
       kept =
-          kept_more loads notes (no_counts notes.marks) turns turn seen.kept
-          (subst (λ (counts : List ℕ). IsKeptTurn loads notes counts turn) seen.counts one.0);
+          kept_more loads notes (no_counts notes.marks) strides stride seen.kept
+          (subst (λ (counts : List ℕ). IsKeptStride loads notes counts stride) seen.counts one.0);
     }
-seen_more loads notes m n turns turn (Some l) seen judged =
-    subst (λ (counts : List ℕ). Leaves loads notes counts turn l) seen.counts judged
+seen_more loads notes m n strides stride (Some l) seen judged =
+    subst (λ (counts : List ℕ). Leaves loads notes counts stride l) seen.counts judged
 
 -- no pass is counted at first
 pub zeros : (marks : List Mark) (most : ℕ) → length marks ≤ most

@@ -10,7 +10,7 @@ use Rattle.drum_machine.specs.declared.card.Card.{Card}
 use Rattle.drum_machine.specs.declared.left.Left.{Left}
 use Rattle.drum_machine.specs.declared.left.Left.TheVariants.{Unlisted, TooOften, Switch, LoadCard}
 use Rattle.drum_machine.specs.Counts.{after_pass, no_counts, AreWithin}
-use Rattle.drum_machine.specs.Run.{Turn}
+use Rattle.drum_machine.specs.Run.{Stride}
 use Rattle.drum_machine.specs.Step.{State, Stepped, on, stopped, fetched, instruction_in, is_read}
 
 -- the programmed switch is as declared
@@ -46,43 +46,43 @@ abbrev pub counts_by : Notes → List ℕ → ℕ → Stepped → List ℕ
 counts_by notes counts from (on next) = after_pass notes.marks from next.sought counts
 counts_by notes counts from (stopped held because moment) = counts
 
-abbrev pub counts_after : Notes → List ℕ → Turn → List ℕ
-counts_after notes counts turn = counts_by notes counts turn.origin.sought turn.outcome
+abbrev pub counts_after : Notes → List ℕ → Stride → List ℕ
+counts_after notes counts stride = counts_by notes counts stride.origin.sought stride.outcome
 
 -- the step goes on to this location
 abbrev pub GoesTo : Stepped → ℕ → Type 0
 GoesTo (on next) location = next.sought ≡ location
 GoesTo (stopped held because moment) location = ⊥
 
--- the turn keeps to the notes, where marks were passed so often before it
-pub record IsKeptTurn (loads : ℕ → Option Word) (notes : Notes) (counts : List ℕ)
-    (turn : Turn) : Type 0 where
-  pub listed : IsAllowed loads notes turn.origin
-  pub cards : IsWithoutLoad notes turn.origin
-  pub marks : AreWithin notes.marks (counts_after notes counts turn)
+-- the stride keeps to the notes, where marks were passed so often before it
+pub record IsKeptStride (loads : ℕ → Option Word) (notes : Notes) (counts : List ℕ)
+    (stride : Stride) : Type 0 where
+  pub listed : IsAllowed loads notes stride.origin
+  pub cards : IsWithoutLoad notes stride.origin
+  pub marks : AreWithin notes.marks (counts_after notes counts stride)
 
-abbrev pub AreKept : (ℕ → Option Word) → Notes → List ℕ → List Turn → Type 0
+abbrev pub AreKept : (ℕ → Option Word) → Notes → List ℕ → List Stride → Type 0
 AreKept loads notes counts [] = Unit {0}
-AreKept loads notes counts (turn ∷ turns) =
-    IsKeptTurn loads notes counts turn
-    × AreKept loads notes (counts_after notes counts turn) turns
+AreKept loads notes counts (stride ∷ strides) =
+    IsKeptStride loads notes counts stride
+    × AreKept loads notes (counts_after notes counts stride) strides
 
 -- A run keeps to the notes.
 pub record IsKept (loads : ℕ → Option Word) (notes : Notes) (s : State)
-    (turns : List Turn) : Type 0 where
+    (strides : List Stride) : Type 0 where
   pub declared : IsAsDeclared notes.programmed s.contents.programmed_stops
-  pub kept : AreKept loads notes (no_counts notes.marks) turns
+  pub kept : AreKept loads notes (no_counts notes.marks) strides
 
--- How a turn leaves the notes: the first cause in the order Unlisted, LoadCard, TooOften. (Switch
--- is decided before any turn.)
-abbrev pub Leaves : (ℕ → Option Word) → Notes → List ℕ → Turn → Left → Type 0
-Leaves loads notes counts turn (Unlisted location w) =
-    (location.number ≡ turn.origin.sought) × (w ≡ fetched turn.origin)
-    × ¬ IsAllowed loads notes turn.origin
-Leaves loads notes counts turn LoadCard =
-    IsAllowed loads notes turn.origin × ¬ IsWithoutLoad notes turn.origin
-Leaves loads notes counts turn (TooOften from onto) =
-    IsAllowed loads notes turn.origin × IsWithoutLoad notes turn.origin
-    × ¬ AreWithin notes.marks (counts_after notes counts turn)
-    × (from.number ≡ turn.origin.sought) × GoesTo turn.outcome onto.number
-Leaves loads notes counts turn Switch = ⊥
+-- How a stride leaves the notes: the first cause in the order Unlisted, LoadCard, TooOften. (Switch
+-- is decided before any stride.)
+abbrev pub Leaves : (ℕ → Option Word) → Notes → List ℕ → Stride → Left → Type 0
+Leaves loads notes counts stride (Unlisted location w) =
+    (location.number ≡ stride.origin.sought) × (w ≡ fetched stride.origin)
+    × ¬ IsAllowed loads notes stride.origin
+Leaves loads notes counts stride LoadCard =
+    IsAllowed loads notes stride.origin × ¬ IsWithoutLoad notes stride.origin
+Leaves loads notes counts stride (TooOften from onto) =
+    IsAllowed loads notes stride.origin × IsWithoutLoad notes stride.origin
+    × ¬ AreWithin notes.marks (counts_after notes counts stride)
+    × (from.number ≡ stride.origin.sought) × GoesTo stride.outcome onto.number
+Leaves loads notes counts stride Switch = ⊥

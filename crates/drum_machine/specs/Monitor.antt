@@ -12,7 +12,7 @@ use Rattle.drum_machine.specs.Counts.{no_counts}
 use Rattle.drum_machine.specs.CountsIn as held
 use Rattle.drum_machine.specs.Keeps.{AreKept, counts_after, reads_load}
 use Rattle.drum_machine.specs.Machine.{Tells}
-use Rattle.drum_machine.specs.Run.{Turn}
+use Rattle.drum_machine.specs.Run.{Stride}
 use Rattle.drum_machine.specs.Step.{fetched, step}
 
 -- what a monitor has answered so far
@@ -23,22 +23,22 @@ answer_of m = m.left
 abbrev pub counts_in : Monitor → Notes → List ℕ
 counts_in m notes = held.counts_in m.counts notes.marks
 
--- the counts after turns
-abbrev pub counts_over : Notes → List ℕ → List Turn → List ℕ
+-- the counts after strides
+abbrev pub counts_over : Notes → List ℕ → List Stride → List ℕ
 counts_over notes counts [] = counts
-counts_over notes counts (turn ∷ turns) = counts_over notes (counts_after notes counts turn) turns
+counts_over notes counts (stride ∷ strides) = counts_over notes (counts_after notes counts stride) strides
 
--- a monitor has seen these turns, which keep to the notes
+-- a monitor has seen these strides, which keep to the notes
 pub record HasSeen (loads : ℕ → Option Word) (notes : Notes) (m : Monitor)
-    (turns : List Turn) : Type 0 where
-  pub counts : counts_in m notes ≡ counts_over notes (no_counts notes.marks) turns
-  pub kept : AreKept loads notes (no_counts notes.marks) turns
+    (strides : List Stride) : Type 0 where
+  pub counts : counts_in m notes ≡ counts_over notes (no_counts notes.marks) strides
+  pub kept : AreKept loads notes (no_counts notes.marks) strides
 
--- the answer of a step tells of this turn, which is a step of the definitions
-pub record IsToldOf (times : Op → Entry) (turn : Turn) (answer : answers.Step) : Type 0 where
-  pub stepped : turn.outcome ≡ step times turn.origin turn.wait
+-- the answer of a step tells of this stride, which is a step of the definitions
+pub record IsToldOf (times : Op → Entry) (stride : Stride) (answer : answers.Step) : Type 0 where
+  pub stepped : stride.outcome ≡ step times stride.origin stride.wait
   pub origin : Location
-  pub sought : origin.number ≡ turn.origin.sought
+  pub sought : origin.number ≡ stride.origin.sought
   pub punched : Option (List Word)
   pub tells :
-      Tells turn.outcome origin (fetched turn.origin) (reads_load turn.origin) punched answer
+      Tells stride.outcome origin (fetched stride.origin) (reads_load stride.origin) punched answer

@@ -8,28 +8,28 @@ use Rattle.drum_machine.specs.Contents.{Contents, word_at}
 use Rattle.drum_machine.specs.Step.{State, Stepped, on, stopped, step, MayWait, instruction_in}
 
 -- a step of a run: where it begins, how long the card machine lets it wait, and where it ends
-pub record Turn : Type 0 where
+pub record Stride : Type 0 where
   pub origin : State
   pub wait : ℕ
   pub outcome : Stepped
 
--- the turn is a step from this state
-pub record IsTurn (times : Op → Entry) (s : State) (turn : Turn) : Type 0 where
-  pub from_here : turn.origin ≡ s
-  pub may_wait : MayWait times (op_of (instruction_in s).op) turn.wait
-  pub stepped : turn.outcome ≡ step times s turn.wait
+-- the stride is a step from this state
+pub record IsStride (times : Op → Entry) (s : State) (stride : Stride) : Type 0 where
+  pub from_here : stride.origin ≡ s
+  pub may_wait : MayWait times (op_of (instruction_in s).op) stride.wait
+  pub stepped : stride.outcome ≡ step times s stride.wait
 
 -- nothing follows a stop, and what follows a step that goes on is right for the state that it left
-abbrev pub FollowStep : Stepped → (State → Type 0) → List Turn → Type 0
-FollowStep (on next) Right turns = Right next
-FollowStep (stopped held because moment) Right turns = turns ≡ []
+abbrev pub FollowStep : Stepped → (State → Type 0) → List Stride → Type 0
+FollowStep (on next) Right strides = Right next
+FollowStep (stopped held because moment) Right strides = strides ≡ []
 
--- A run from a state: each turn is a step from the state that the one before left, and only the
+-- A run from a state: each stride is a step from the state that the one before left, and only the
 -- last may stop.
-abbrev pub IsRun : (Op → Entry) → State → List Turn → Type 0
+abbrev pub IsRun : (Op → Entry) → State → List Stride → Type 0
 IsRun times s [] = Unit {0}
-IsRun times s (turn ∷ turns) =
-    IsTurn times s turn × FollowStep turn.outcome (λ next. IsRun times next turns) turns
+IsRun times s (stride ∷ strides) =
+    IsStride times s stride × FollowStep stride.outcome (λ next. IsRun times next strides) strides
 
 -- the word times used at the end of a step
 abbrev pub time_after : Stepped → ℕ
@@ -37,9 +37,9 @@ time_after (on s) = s.time
 time_after (stopped held why moment) = moment
 
 -- the word times used after a run that begins when so many are
-abbrev pub used_from : ℕ → List Turn → ℕ
+abbrev pub used_from : ℕ → List Stride → ℕ
 used_from time [] = time
-used_from time (turn ∷ turns) = used_from (time_after turn.outcome) turns
+used_from time (stride ∷ strides) = used_from (time_after stride.outcome) strides
 
 -- the contents are within their limits: 2000 words on the drum, twenty digits in the accumulator
 pub record IsWhole (c : Contents) : Type 0 where

@@ -7,7 +7,7 @@ use Rattle.drum_times.specs.declared.notes.mark.Mark.{Mark}
 use Rattle.drum_times.specs.Allowed.{Notes}
 use Rattle.drum_times.specs.Marks.{mark_on}
 use Rattle.drum_machine.specs.Counts.{outer_of, after_pass, no_counts}
-use Rattle.drum_machine.specs.Run.{Turn}
+use Rattle.drum_machine.specs.Run.{Stride}
 use Rattle.drum_machine.specs.Step.{Stepped, on, stopped}
 
 -- an edge that was taken: from which location onto which
@@ -67,11 +67,11 @@ abbrev pub edge_by : ℕ → Stepped → List Edge
 edge_by from (on next) = record { from = from; onto = next.sought } ∷ []
 edge_by from (stopped held because moment) = []
 
--- the edges that turns take, in their order
-abbrev pub edges_of : List Turn → List Edge
-edges_of turns = flat_map (λ turn. edge_by turn.origin.sought turn.outcome) turns
+-- the edges that strides take, in their order
+abbrev pub edges_of : List Stride → List Edge
+edges_of strides = flat_map (λ stride. edge_by stride.origin.sought stride.outcome) strides
 
--- the counts when the turn at a place begins
-abbrev pub counts_before : Notes → List Turn → ℕ → List ℕ
-counts_before notes turns place =
-    counts_along notes.marks (no_counts notes.marks) (edges_of (take place turns))
+-- the counts when the stride at a place begins
+abbrev pub counts_before : Notes → List Stride → ℕ → List ℕ
+counts_before notes strides place =
+    counts_along notes.marks (no_counts notes.marks) (edges_of (take place strides))

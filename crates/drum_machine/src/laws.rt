@@ -10,8 +10,8 @@ ghost use Rattle.drum_times.specs.declared.notes.mark.Mark.{Mark};
 ghost use Rattle.drum_times.specs.Allowed.{Notes, StandInEarlier};
 ghost use Rattle.drum_machine.specs.Counts.{is_inside, no_counts};
 ghost use Rattle.drum_machine.specs.Ending.{ended_by, clock_by, own_notes};
-ghost use Rattle.drum_machine.specs.Keeps.{IsAsDeclared, IsKeptTurn, IsKept};
-ghost use Rattle.drum_machine.specs.Run.{Turn, IsRun, IsWhole, time_after};
+ghost use Rattle.drum_machine.specs.Keeps.{IsAsDeclared, IsKeptStride, IsKept};
+ghost use Rattle.drum_machine.specs.Run.{Stride, IsRun, IsWhole, time_after};
 ghost use Rattle.drum_machine.specs.Since.{Edge, counts_along, StandsInside, IsCountSince};
 ghost use Rattle.drum_machine.specs.Since.{counts_before};
 ghost use Rattle.drum_machine.specs.Step.{State, contents_after, step, instruction_in, clock_of};
@@ -55,14 +55,14 @@ pub fn stays_whole()
 
 /// Each prefix of a run is a run.
 pub fn prefixes_are_runs()
-    ensures { (times : Op → Entry) (s : State) (turns : List Turn) (n : ℕ)
-        → IsRun times s turns → IsRun times s (take n turns) }
+    ensures { (times : Op → Entry) (s : State) (strides : List Stride) (n : ℕ)
+        → IsRun times s strides → IsRun times s (take n strides) }
 {}
 
 /// Each prefix of a run that keeps to the notes keeps to them.
 pub fn prefixes_are_kept()
-    ensures { (loads : ℕ → Option Word) (notes : Notes) (s : State) (turns : List Turn) (n : ℕ)
-        → IsKept loads notes s turns → IsKept loads notes s (take n turns) }
+    ensures { (loads : ℕ → Option Word) (notes : Notes) (s : State) (strides : List Stride) (n : ℕ)
+        → IsKept loads notes s strides → IsKept loads notes s (take n strides) }
 {}
 
 /// Of marks that each stand inside of an earlier one, if of any: one is inside of another, as the
@@ -86,11 +86,11 @@ pub fn counts_are_since()
         → count ≡ other }
 {}
 
-/// A run keeps to the notes exactly where the programmed switch is as declared and each turn keeps
-/// to them with the counts after the edges that the turns before it take.
-pub fn kept_turn_by_turn()
-    ensures { (loads : ℕ → Option Word) (notes : Notes) (s : State) (turns : List Turn)
-        → IsKept loads notes s turns ↔ (IsAsDeclared notes.programmed s.contents.programmed_stops
-        × ((place : ℕ) (turn : Turn) → slice_get turns place ≡ Some turn
-        → IsKeptTurn loads notes (counts_before notes turns place) turn)) }
+/// A run keeps to the notes exactly where the programmed switch is as declared and each stride keeps
+/// to them with the counts after the edges that the strides before it take.
+pub fn kept_stride_by_stride()
+    ensures { (loads : ℕ → Option Word) (notes : Notes) (s : State) (strides : List Stride)
+        → IsKept loads notes s strides ↔ (IsAsDeclared notes.programmed s.contents.programmed_stops
+        × ((place : ℕ) (stride : Stride) → slice_get strides place ≡ Some stride
+        → IsKeptStride loads notes (counts_before notes strides place) stride)) }
 {}

@@ -56,8 +56,8 @@ impl Monitor {
     ghost use Rattle.drum_core.specs.declared.word.Word.{Word};
     ghost use Rattle.drum_machine.specs.declared.left.Left.{Left as LeftType};
     ghost use Rattle.drum_times.specs.declared.entry.Entry.{Entry};
-    ghost use Rattle.drum_machine.specs.Keeps.{IsKeptTurn, Leaves, counts_after};
-    ghost use Rattle.drum_machine.specs.Run.{Turn};
+    ghost use Rattle.drum_machine.specs.Keeps.{IsKeptStride, Leaves, counts_after};
+    ghost use Rattle.drum_machine.specs.Run.{Stride};
     ghost use Rattle.drum_machine.specs.Counts.{after_pass, no_counts, AreWithin};
     ghost use Rattle.drum_machine.specs.CountsIn.{counts_in as counts_of};
     ghost use Rattle.drum_machine.specs.Monitor.{answer_of, counts_in, counts_over, HasSeen, IsToldOf};
@@ -111,13 +111,13 @@ impl Monitor {
 
     /// How a step leaves the notes; where it doesn't, it is counted.
     fn judge(&mut self, notes: &Notes, deck: &Deck, step: &Step) -> Option<Left>
-        ensures { (times : Op → Entry) (turn : Turn) → IsToldOf times turn step.now
+        ensures { (times : Op → Entry) (stride : Stride) → IsToldOf times stride step.now
             → let counts = counts_in self.old notes.now in
             MatchOption result
             (AreWithin notes.now.marks counts
-            → IsKeptTurn (loads_in deck.now) notes.now counts turn
-            × (counts_in self.new notes.now ≡ counts_after notes.now counts turn))
-            (λ left. Leaves (loads_in deck.now) notes.now counts turn left) }
+            → IsKeptStride (loads_in deck.now) notes.now counts stride
+            × (counts_in self.new notes.now ≡ counts_after notes.now counts stride))
+            (λ left. Leaves (loads_in deck.now) notes.now counts stride left) }
     {
         match step {
             Step::Stopped { origin, word, .. } => unlisted(notes, deck, *origin, *word),
@@ -145,12 +145,12 @@ impl Monitor {
     pub fn check(&mut self, notes: &Notes, deck: &Deck, step: &Step) -> Option<Left>
         ensures answered { result ≡ answer_of self.new }
         ensures judged { answer_of self.old ≡ None
-            → (times : Op → Entry) (turns : List Turn) (turn : Turn)
-            → HasSeen (loads_in deck.now) notes.now self.old turns → IsToldOf times turn step.now
+            → (times : Op → Entry) (strides : List Stride) (stride : Stride)
+            → HasSeen (loads_in deck.now) notes.now self.old strides → IsToldOf times stride step.now
             → MatchOption result
-            (HasSeen (loads_in deck.now) notes.now self.new (turns ++ turn ∷ []))
-            (λ left. let counts = counts_over notes.now (no_counts notes.now.marks) turns in
-            Leaves (loads_in deck.now) notes.now counts turn left) }
+            (HasSeen (loads_in deck.now) notes.now self.new (strides ++ stride ∷ []))
+            (λ left. let counts = counts_over notes.now (no_counts notes.now.marks) strides in
+            Leaves (loads_in deck.now) notes.now counts stride left) }
         ensures stays { (left : LeftType) → answer_of self.old ≡ Some left
             → (result ≡ Some left) × (self.new ≡ self.old) }
     {

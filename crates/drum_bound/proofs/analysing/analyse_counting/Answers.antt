@@ -47,11 +47,11 @@ returns-clause-analysed g c =
     record {
       accepted = (executed_in accepted.flow, ensures.accepted, c.in_ok-analysis.ensures.words ∙ same);
       walks = is;
-      kept = λ s turns first is_run kept.
-          let walked = kept_walk (setting deck times notes) (executed_in accepted.flow) s turns proper
+      kept = λ s strides first is_run kept.
+          let walked = kept_walk (setting deck times notes) (executed_in accepted.flow) s strides proper
           ensures.accepted.admitted first is_run kept in
-          omega (arith, is.worst.most s.start (hops_taken turns) walked.0, walked.1);
-      under = λ s turns first is_run kept.
-          arrive_under (setting deck times notes) (rows_of analysis) (executed_in accepted.flow) s turns is.table proper
+          omega (arith, is.worst.most s.start (hops_taken strides) walked.0, walked.1);
+      under = λ s strides first is_run kept.
+          arrive_under (setting deck times notes) (rows_of analysis) (executed_in accepted.flow) s strides is.table proper
           ensures.accepted.admitted first is_run kept;
     }

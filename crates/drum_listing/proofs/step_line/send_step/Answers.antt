@@ -6,11 +6,11 @@ use Rattle.drum_lines.specs.Sent.{IsSent}
 use Rattle.drum_lines.proofs.Sending.{IsSent-cut, IsSent-then}
 use Rattle.drum_listing.specs.Pieces.{fetch_text, held_text, times_text}
 use Rattle.drum_listing.specs.Told.{seen_told}
-use Rattle.drum_listing.proofs.Lines.{turn_told}
+use Rattle.drum_listing.proofs.Lines.{stride_told}
 use Rattle.drum_listing.proofs.step_line.send_step.Goals as goal
 
 pub returns-in_err-sent-clause-sent : goal.returns-in_err-sent-clause-sent
-returns-in_err-sent-clause-sent g c turn tells start before cards held =
+returns-in_err-sent-clause-sent g c stride tells start before cards held =
     let times = entry_in c.args.times.now in
     let hop = c.told_of-told.result in
     let moments = c.of-moments.result in
@@ -21,13 +21,13 @@ returns-in_err-sent-clause-sent g c turn tells start before cards held =
     let course = fetch_text c.args.number hop.place.number c.word_of.result ++ times_text moments hop.ended [] in
     let after = held_by c.args.machine.now cards in
     rw (p.1, p.2) (subst (IsSent old new c.args.sent (Err fault))
-    (turn_told times c.args.number c.args.angle turn (seen_told hop) c.word_of.result moments after
-    (c.told_of-told.ensures.told times turn tells before)
-    (c.word_of.ensures times turn tells) start c.of-moments.ensures held)
+    (stride_told times c.args.number c.args.angle stride (seen_told hop) c.word_of.result moments after
+    (c.told_of-told.ensures.told times stride tells before)
+    (c.word_of.ensures times stride tells) start c.of-moments.ensures held)
     (IsSent-cut old new c.args.sent fault course (held_text (seen_told hop) after) c.in_err-sent.ensures.sent))
 
 pub returns-clause-sent : goal.returns-clause-sent
-returns-clause-sent g c turn tells start before cards held =
+returns-clause-sent g c stride tells start before cards held =
     let times = entry_in c.args.times.now in
     let hop = c.told_of-told.result in
     let moments = c.of-moments.result in
@@ -37,8 +37,8 @@ returns-clause-sent g c turn tells start before cards held =
     let course = fetch_text c.args.number hop.place.number c.word_of.result ++ times_text moments hop.ended [] in
     let after = held_by c.args.machine.now cards in
     subst (IsSent old new c.args.sent c.send_held.result)
-    (turn_told times c.args.number c.args.angle turn (seen_told hop) c.word_of.result moments after
-    (c.told_of-told.ensures.told times turn tells before)
-    (c.word_of.ensures times turn tells) start c.of-moments.ensures held)
+    (stride_told times c.args.number c.args.angle stride (seen_told hop) c.word_of.result moments after
+    (c.told_of-told.ensures.told times stride tells before)
+    (c.word_of.ensures times stride tells) start c.of-moments.ensures held)
     (IsSent-then old between new c.args.sent c.in_ok-sent.sent c.send_held.result course
     (held_text (seen_told hop) after) c.in_ok-sent.ensures.sent (c.send_held.ensures.sent cards))

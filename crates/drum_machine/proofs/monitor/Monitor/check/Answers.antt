@@ -3,7 +3,7 @@ use Rattle.drum_machine.proofs.Watching.{seen_more}
 use Rattle.drum_machine.proofs.monitor.Monitor.check.Goals as goal
 
 pub returns-clause-judged : goal.returns-clause-judged
-returns-clause-judged c fresh times turns turn seen told =
+returns-clause-judged c fresh times strides stride seen told =
     seen_more (loads_in c.args.deck.now) c.args.notes.now c.args.self.now
-    (record { counts = c.judge-judged.new.self.counts; left = c.judge-judged.result }) turns turn
-    c.judge-judged.result seen (c.judge-judged.ensures times turn told)
+    (record { counts = c.judge-judged.new.self.counts; left = c.judge-judged.result }) strides stride
+    c.judge-judged.result seen (c.judge-judged.ensures times stride told)
