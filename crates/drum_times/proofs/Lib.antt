@@ -1,5 +1,9 @@
 pub mod Matching
+mod Added
+mod Adding
+mod AllFaultsLaws
 mod Choices
+mod Repeating
 mod Sequences
 mod EntryFaults
 mod Faultless

@@ -1,4 +1,6 @@
+pub mod AllFaults
 pub mod Allowed
+pub mod Complaint
 pub mod Document
 pub mod Entries
 pub mod Listed

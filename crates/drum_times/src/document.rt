@@ -4,9 +4,11 @@ ghost use Rattle.std.specs.Prelude.{IfOk, IfErr};
 ghost use Rattle.drum_times.specs.Refused.{IsDocument, IsUnread};
 ghost use Rattle.toml.specs.View.{table_view};
 
+pub mod faults;
 pub mod fields;
+pub mod table_faults;
 pub mod tables;
-mod value;
+pub mod value;
 mod values;
 
 use crate::fault::NoteFault;

@@ -4,6 +4,7 @@ ghost use Rattle.std.specs.Prelude.{◌≡◌, ◌<◌, map, option_map};
 ghost use Rattle.drum_times.specs.Allowed as said;
 ghost use Rattle.drum_times.specs.Listed.{listed};
 
+pub mod faults;
 pub mod listing;
 pub mod mark;
 pub mod pattern;
@@ -12,6 +13,7 @@ pub mod read;
 mod read_list;
 mod read_mark;
 mod repeated;
+mod repeated_faults;
 
 use drum_core::Location;
 use listing::Listing;

@@ -3,6 +3,7 @@ ghost use Rattle.std.specs.Prelude.{◌≡◌, length};
 use crate::entry::Entry;
 use drum_core::Op;
 
+pub mod faults;
 pub mod read;
 mod read_entry;
 

@@ -92,7 +92,7 @@ impl Fields<'_> {
 }
 
 /// Whether a key is one of these.
-fn is_among(key: &str, keys: &[&str]) -> bool
+pub fn is_among(key: &str, keys: &[&str]) -> bool
     ensures { result ≡ document.is_among key.now (map (λ one. one.now) keys.now) }
 {
     for one in keys {

@@ -64,7 +64,7 @@ impl Fields<'_> {
 }
 
 /// Whether there may be so many elements.
-fn is_count(count: usize, low: usize, high: Option<usize>) -> bool
+pub fn is_count(count: usize, low: usize, high: Option<usize>) -> bool
     ensures { result ≡ document.is_count low high count }
 {
     match high {
@@ -130,7 +130,7 @@ fn read_element<T: Element>(
 }
 
 /// The path of the element at a place, from 0.
-fn element_path(alloc: Global, path: &str, place: usize) -> Result<String, AllocError>
+pub fn element_path(alloc: Global, path: &str, place: usize) -> Result<String, AllocError>
     requires { place + 1 < 2 ^ 64 }
     ensures { IfOk result (λ at. string_bytes at ≡ path.now ++ codes "." ++ decimal (place + 1)) }
 {

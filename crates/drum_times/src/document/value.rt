@@ -36,6 +36,16 @@ pub fn whole_number(value: &Value, low: u64, high: u64) -> Result<u64, ValueFaul
     }
 }
 
+/// The number that a value is; 0 where it is none, or a negative one.
+pub fn number(value: &Value) -> u64
+    ensures { result ≡ document.number_in (view value.now) }
+{
+    let Some(number) = value.as_integer() else {
+        return 0;
+    };
+    u64::try_from(number).unwrap_or(0)
+}
+
 /// The location whose number a value is.
 pub fn location(value: &Value) -> Result<Location, ValueFault>
     ensures found { IfOk result (λ location. view value.now ≡ integer (pos location.number)) }

@@ -86,4 +86,14 @@ impl Fields<'_> {
             Err(wrong) => Err(self.fault(key, wrong)),
         }
     }
+
+    /// The number at a key; 0 where there is none, or a negative one.
+    pub fn number(&self, key: &str) -> u64
+        ensures { result ≡ document.number_at key.now (table_view self.now.table.now) }
+    {
+        let Some(value) = self.get(key) else {
+            return 0;
+        };
+        value::number(value)
+    }
 }

@@ -17,13 +17,13 @@ use crate::fault::NoteFault;
 use std::alloc::Global;
 use toml::Table;
 
-const PROGRAMMED: [(&str, Programmed); 3] = [
+pub const PROGRAMMED: [(&str, Programmed); 3] = [
     ("stop", Programmed::Stop),
     ("run", Programmed::Run),
     ("any", Programmed::Any),
 ];
 
-const LOAD_CARDS: [(&str, bool); 2] = [("none", false), ("any", true)];
+pub const LOAD_CARDS: [(&str, bool); 2] = [("none", false), ("any", true)];
 
 /// Reads notes: a TOML document with the keys `programmed` and `load_cards`, and perhaps `mark` and
 /// `list`.

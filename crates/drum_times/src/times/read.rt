@@ -105,7 +105,7 @@ fn read_operation(operations: &Fields<'_>, key: &str, op: Op) -> Result<Entry, N
 }
 
 /// The keys of the operations, in their order.
-fn keys() -> [&'static str; 42]
+pub fn keys() -> [&'static str; 42]
     ensures { map (λ key. key.now) result ≡ map document.key_of ops }
 {
     [

@@ -33,7 +33,7 @@ pub fn form_of(op: Op) -> Form
     }
 }
 
-fn keys_of(form: Form) -> &'static [&'static str]
+pub fn keys_of(form: Form) -> &'static [&'static str]
     ensures { map (λ key. key.now) result.now ≡ document.keys_of form }
 {
     match form {
@@ -43,7 +43,7 @@ fn keys_of(form: Form) -> &'static [&'static str]
     }
 }
 
-const PARITIES: [(&str, Parity); 3] = [
+pub const PARITIES: [(&str, Parity); 3] = [
     ("any", Parity::Any),
     ("even", Parity::Even),
     ("odd", Parity::Odd),
