@@ -1,0 +1,83 @@
+-- The lines of all faults of three texts (this project's choice).
+use Rattle.std.specs.Prelude.{◌≡◌, ℕ, ◌≤◌, ◌⊎◌, List, [], ◌++◌, length, flat_map, codes, decimal, Option, Some, None}
+use Rattle.drum_lines.specs.FaultText.{deck_text, note_text}
+use Rattle.drum_times.specs.AllFaults.{AreAllFaults, all_notes_faults}
+use Rattle.drum_times.specs.Complaint.{line_at, column_at}
+use Rattle.drum_times.specs.declared.fault.NoteFault.{NoteFault}
+use Rattle.drum_times.specs.Document.{Fault}
+use Rattle.drum_times.specs.Refused.{IsDocument}
+use Rattle.drum_times.specs.TimesDocument.{times_faults}
+use Rattle.toml.specs.Data.{Members}
+use Rattle.drum_faults.specs.DeckFaults.{AreDeckFaults}
+use Rattle.drum_faults.specs.declared.placed_fault.PlacedFault.{PlacedFault}
+use Rattle.drum_faults.specs.declared.slip.Slip.{Slip}
+use Rattle.drum_faults.specs.declared.slip.Slip.TheVariants.{ByteOrderMark, Utf16, CarriageReturn, SmallLetters}
+
+-- a text, and the name of the file that holds it
+pub record Named : Type 0 where
+  pub name : List ℕ
+  pub bytes : List ℕ
+
+-- where a fault stands: in the file of this name, at this line, if at one
+abbrev pub at_line : List ℕ → Option ℕ → List ℕ
+at_line name None = name ++ codes ": "
+at_line name (Some line) = name ++ codes ":" ++ decimal line ++ codes ": "
+
+-- the earlier line that a fault points at
+abbrev pub earlier_text : List ℕ → Option ℕ → List ℕ
+earlier_text name None = []
+earlier_text name (Some line) = at_line name (Some line) ++ codes "the first is here\n"
+
+-- what was done to a line
+abbrev pub slip_said : Slip → List ℕ
+slip_said ByteOrderMark = codes "the line begins with a byte order mark\n"
+slip_said Utf16 = codes "the text is UTF-16\n"
+slip_said CarriageReturn = codes "the line ends with a carriage return\n"
+slip_said SmallLetters = codes "the line has small letters\n"
+
+abbrev pub slip_text : List ℕ → Option ℕ → Option Slip → List ℕ
+slip_text name line None = []
+slip_text name line (Some slip) = at_line name line ++ slip_said slip
+
+-- the lines of a deck's fault: where it stands and its own line, and what explains it
+abbrev pub deck_fault_text : List ℕ → PlacedFault → List ℕ
+deck_fault_text name placed =
+    at_line name placed.line ++ deck_text placed.fault ++ earlier_text name placed.earlier
+    ++ slip_text name placed.line placed.slip
+
+-- the line of a fault of a timing table or of notes
+abbrev pub note_fault_text : List ℕ → List ℕ → NoteFault → List ℕ
+note_fault_text name part fault = at_line name None ++ note_text part fault
+
+-- the line of what `toml` says
+abbrev pub complaint_text : List ℕ → ℕ → ℕ → List ℕ → List ℕ
+complaint_text name line column message =
+    name ++ codes ":" ++ decimal line ++ codes ":" ++ decimal column ++ codes ": " ++ message
+    ++ codes "\n"
+
+-- the text is that line, where bytes are no document; else it is nothing
+abbrev pub IsComplaint : List ℕ → List ℕ → List ℕ → Type 0
+IsComplaint name bytes text =
+    (((document : Members) × IsDocument bytes document) × (text ≡ []))
+    ⊎ (((document : Members) → ¬ IsDocument bytes document)
+    × ((offset : ℕ) × (offset ≤ length bytes) × (message : List ℕ)
+    × (text ≡ complaint_text name (line_at bytes offset) (column_at bytes offset) message)))
+
+-- the lines of all faults of a timing table or of notes
+pub record AreDocumentLines (faults_of : Members → List Fault) (part : List ℕ) (text : Named)
+    (lines : List ℕ) : Type 0 where
+  pub faults : List NoteFault
+  pub are : AreAllFaults faults_of text.bytes faults
+  pub complaint : List ℕ
+  pub said : IsComplaint text.name text.bytes complaint
+  pub all : lines ≡ flat_map (note_fault_text text.name part) faults ++ complaint
+
+-- the lines of all faults of three texts
+pub record AreFaultLines (deck times notes : Named) (lines : List ℕ) : Type 0 where
+  pub faults : List PlacedFault
+  pub are : AreDeckFaults deck.bytes faults
+  pub of_times : List ℕ
+  pub times_are : AreDocumentLines times_faults (codes "times") times of_times
+  pub of_notes : List ℕ
+  pub notes_are : AreDocumentLines all_notes_faults (codes "notes") notes of_notes
+  pub all : lines ≡ flat_map (deck_fault_text deck.name) faults ++ of_times ++ of_notes

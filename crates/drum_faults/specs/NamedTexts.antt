@@ -1,0 +1,15 @@
+-- What the code's values hold of the lines of faults.
+use Rattle.std.specs.Prelude.{ℕ, List, [], Option, Some, None, string_bytes}
+use Rattle.drum_times.specs.declared.complaint.Complaint.{Complaint}
+use Rattle.drum_faults.specs.declared.named_text.NamedText.{NamedText}
+use Rattle.drum_faults.specs.FaultLines.{Named, complaint_text}
+
+-- a text and its file's name, out of memory
+abbrev pub named : NamedText → Named
+named text = record { name = text.name.now; bytes = text.bytes.now }
+
+-- the line of what `toml` says, if it says anything
+abbrev pub complaint_said : List ℕ → Option Complaint → List ℕ
+complaint_said name None = []
+complaint_said name (Some complaint) =
+    complaint_text name complaint.line complaint.column (string_bytes complaint.message)

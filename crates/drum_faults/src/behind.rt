@@ -1,0 +1,175 @@
+//! A text in memory, with what is said of a fault behind it.
+
+ghost use Rattle.std.specs.Prelude.{◌≡◌, ◌++◌, codes, decimal, flat_map, IfOk};
+ghost use Rattle.drum_faults.specs.FaultLines.{at_line, earlier_text, slip_said, slip_text};
+ghost use Rattle.drum_faults.specs.FaultLines.{deck_fault_text, note_fault_text, complaint_text};
+ghost use Rattle.drum_lines.specs.FaultText.{fault_text};
+
+use crate::placed_fault::PlacedFault;
+use crate::slip::Slip;
+use drum_core::Writing;
+use drum_lines::{Fault, write_fault};
+use drum_times::NoteFault;
+use itoa::Buffer;
+use std::alloc::AllocError;
+
+/// Some bytes.
+fn with_bytes(mut text: Vec<u8>, bytes: &[u8]) -> Result<Vec<u8>, AllocError>
+    ensures { IfOk result (λ new. new.items ≡ text.items ++ bytes.now) }
+{
+    text.extend_from_slice(bytes)?;
+    Ok(text)
+}
+
+/// A colon and a number.
+fn with_number(mut text: Vec<u8>, number: usize) -> Result<Vec<u8>, AllocError>
+    ensures { IfOk result (λ new. new.items ≡ text.items ++ codes ":" ++ decimal number) }
+{
+    let mut buffer = Buffer::new();
+    text.extend_from_slice(b":")?;
+    text.extend_from_slice(buffer.format(number).as_bytes())?;
+    Ok(text)
+}
+
+/// Where a fault stands: in the file of this name, at this line, if at one.
+fn with_place(text: Vec<u8>, name: &str, line: Option<u16>) -> Result<Vec<u8>, AllocError>
+    ensures { IfOk result (λ new. new.items ≡ text.items ++ at_line name.now line) }
+{
+    let text = with_bytes(text, name.as_bytes())?;
+    match line {
+        None => with_bytes(text, b": "),
+        Some(line) => with_bytes(with_number(text, usize::from(line))?, b": "),
+    }
+}
+
+/// The line of a fault.
+fn with_fault(text: Vec<u8>, fault: &Fault) -> Result<Vec<u8>, AllocError>
+    ensures { IfOk result (λ new. new.items ≡ text.items ++ fault_text fault.now) }
+{
+    let mut writing = Writing::new(text);
+    match write_fault(&mut writing, fault) {
+        Ok(()) => Ok(writing.writer),
+        Err(_) => Err(AllocError),
+    }
+}
+
+/// The earlier line that a fault points at, if it points at one.
+fn with_earlier(text: Vec<u8>, name: &str, line: Option<u16>) -> Result<Vec<u8>, AllocError>
+    ensures { IfOk result (λ new. new.items ≡ text.items ++ earlier_text name.now line) }
+{
+    match line {
+        None => Ok(text),
+        Some(_) => with_bytes(with_place(text, name, line)?, b"the first is here\n"),
+    }
+}
+
+/// What is said of what was done to a line.
+fn said(slip: Slip) -> &'static [u8]
+    ensures { result.now ≡ slip_said slip }
+{
+    match slip {
+        Slip::ByteOrderMark => b"the line begins with a byte order mark\n",
+        Slip::Utf16 => b"the text is UTF-16\n",
+        Slip::CarriageReturn => b"the line ends with a carriage return\n",
+        Slip::SmallLetters => b"the line has small letters\n",
+    }
+}
+
+/// What was done to a line, if it is known.
+fn with_slip(
+    text: Vec<u8>,
+    name: &str,
+    line: Option<u16>,
+    slip: Option<Slip>,
+) -> Result<Vec<u8>, AllocError>
+    ensures { IfOk result (λ new. new.items ≡ text.items ++ slip_text name.now line slip) }
+{
+    match slip {
+        None => Ok(text),
+        Some(slip) => with_bytes(with_place(text, name, line)?, said(slip)),
+    }
+}
+
+/// The lines of a fault of a deck.
+fn with_deck_fault(text: Vec<u8>, name: &str, placed: &PlacedFault) -> Result<Vec<u8>, AllocError>
+    ensures { IfOk result (λ new.
+        new.items ≡ text.items ++ deck_fault_text name.now placed.now) }
+{
+    let text = with_place(text, name, placed.line)?;
+    let text = with_fault(text, &Fault::Deck(placed.fault))?;
+    let text = with_earlier(text, name, placed.earlier)?;
+    with_slip(text, name, placed.line, placed.slip)
+}
+
+/// The lines of faults of a deck.
+pub fn with_deck_faults(
+    mut text: Vec<u8>,
+    name: &str,
+    faults: &[PlacedFault],
+) -> Result<Vec<u8>, AllocError>
+    ensures { IfOk result (λ new.
+        new.items ≡ text.items ++ flat_map (deck_fault_text name.now) faults.now) }
+{
+    for placed in faults {
+        text = with_deck_fault(text, name, placed)?;
+    }
+    Ok(text)
+}
+
+/// The line of a fault of a document.
+fn with_placed(text: Vec<u8>, name: &str, fault: &Fault) -> Result<Vec<u8>, AllocError>
+    ensures { IfOk result (λ new.
+        new.items ≡ text.items ++ at_line name.now None ++ fault_text fault.now) }
+{
+    let text = with_place(text, name, None)?;
+    with_fault(text, fault)
+}
+
+/// The lines of faults of a timing table.
+pub fn with_times_faults(
+    mut text: Vec<u8>,
+    name: &str,
+    faults: Vec<NoteFault>,
+) -> Result<Vec<u8>, AllocError>
+    ensures { IfOk result (λ new. new.items
+        ≡ text.items ++ flat_map (note_fault_text name.now (codes "times")) faults.items) }
+{
+    for fault in faults {
+        text = with_placed(text, name, &Fault::Times(fault))?;
+    }
+    Ok(text)
+}
+
+/// The lines of faults of notes.
+pub fn with_notes_faults(
+    mut text: Vec<u8>,
+    name: &str,
+    faults: Vec<NoteFault>,
+) -> Result<Vec<u8>, AllocError>
+    ensures { IfOk result (λ new. new.items
+        ≡ text.items ++ flat_map (note_fault_text name.now (codes "notes")) faults.items) }
+{
+    for fault in faults {
+        text = with_placed(text, name, &Fault::Notes(fault))?;
+    }
+    Ok(text)
+}
+
+/// The line of what `toml` says.
+pub fn with_message(
+    text: Vec<u8>,
+    name: &str,
+    line: usize,
+    column: usize,
+    message: &str,
+) -> Result<Vec<u8>, AllocError>
+    ensures { IfOk result (λ new.
+        new.items ≡ text.items ++ complaint_text name.now line column message.now) }
+{
+    let text = with_bytes(text, name.as_bytes())?;
+    let text = with_number(text, line)?;
+    let text = with_number(text, column)?;
+    let text = with_bytes(text, b": ")?;
+    let text = with_bytes(text, message.as_bytes())?;
+    with_bytes(text, b"\n")
+}

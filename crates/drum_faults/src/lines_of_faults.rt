@@ -1,0 +1,86 @@
+//! The lines of all faults of three texts.
+
+ghost use Rattle.std.specs.Prelude.{◌≡◌, ℕ, ◌^◌, ◌≤◌, List, ◌++◌, length, codes, IfOk};
+ghost use Rattle.drum_times.specs.AllFaults as of_notes;
+ghost use Rattle.drum_times.specs.TimesDocument as of_times;
+ghost use Rattle.drum_faults.specs.FaultLines.{AreDocumentLines, AreFaultLines};
+ghost use Rattle.drum_faults.specs.NamedTexts.{named, complaint_said};
+
+use crate::behind::{with_deck_faults, with_message, with_notes_faults, with_times_faults};
+use crate::faults_of_deck::deck_faults;
+use crate::named_text::NamedText;
+use drum_times::{Complaint, notes_faults, times_faults, toml_complaint};
+use std::alloc::{AllocError, Global};
+
+/// The most bytes of all lines: for more no machine has room.
+const LONGEST: usize = 1 << 61;
+
+/// The lines of all faults of a deck, a timing table and notes; empty where they have none. Of a
+/// timing table or notes that are no document, the last line is what `toml` says, and where.
+///
+/// # Errors
+///
+/// Want of memory, also for lines of more than 2^61 bytes, for which no machine has room.
+pub fn fault_lines(
+    alloc: Global,
+    deck: NamedText<'_>,
+    times: NamedText<'_>,
+    notes: NamedText<'_>,
+) -> Result<Vec<u8>, AllocError>
+    ensures lines { IfOk result (λ lines. AreFaultLines (named deck.entry) (named times.entry)
+        (named notes.entry) lines.items) }
+    ensures short { IfOk result (λ lines. length lines.items ≤ 2 ^ 61) }
+{
+    let faults = deck_faults(alloc, deck.bytes)?;
+    let text = with_deck_faults(Vec::new(alloc), deck.name, &faults)?;
+    let text = with_times(alloc, text, times)?;
+    let text = with_notes(alloc, text, notes)?;
+    if text.len() > LONGEST {
+        return Err(AllocError);
+    }
+    Ok(text)
+}
+
+/// Behind a text the lines of all faults of a timing table.
+fn with_times(alloc: Global, text: Vec<u8>, times: NamedText<'_>) -> Result<Vec<u8>, AllocError>
+    ensures { IfOk result (λ new. (lines : List ℕ)
+        × AreDocumentLines of_times.times_faults (codes "times") (named times.entry) lines
+        × (new.items ≡ text.items ++ lines)) }
+{
+    let faults = times_faults(alloc, times.bytes)?;
+    let complaint = toml_complaint(alloc, times.bytes)?;
+    let text = with_times_faults(text, times.name, faults)?;
+    with_complaint(text, times.name, complaint)
+}
+
+/// Behind a text the lines of all faults of notes.
+fn with_notes(alloc: Global, text: Vec<u8>, notes: NamedText<'_>) -> Result<Vec<u8>, AllocError>
+    ensures { IfOk result (λ new. (lines : List ℕ)
+        × AreDocumentLines of_notes.all_notes_faults (codes "notes") (named notes.entry) lines
+        × (new.items ≡ text.items ++ lines)) }
+{
+    let faults = notes_faults(alloc, notes.bytes)?;
+    let complaint = toml_complaint(alloc, notes.bytes)?;
+    let text = with_notes_faults(text, notes.name, faults)?;
+    with_complaint(text, notes.name, complaint)
+}
+
+/// Behind a text what `toml` says, if it says anything.
+fn with_complaint(
+    text: Vec<u8>,
+    name: &str,
+    complaint: Option<Complaint>,
+) -> Result<Vec<u8>, AllocError>
+    ensures { IfOk result (λ new. new.items ≡ text.items ++ complaint_said name.now complaint) }
+{
+    match complaint {
+        None => Ok(text),
+        Some(complaint) => with_message(
+            text,
+            name,
+            complaint.line,
+            complaint.column,
+            complaint.message.as_str(),
+        ),
+    }
+}
