@@ -12,7 +12,7 @@ use Rattle.drum_flow.proofs.Lists.{contains_here}
 use Rattle.drum_flow.proofs.Orders.{lead_push}
 use Rattle.drum_loops.specs.Loops.{IsLeft, LeadBy}
 use Rattle.drum_check.specs.Findings.{AreFindings, Finding, too_large, closes}
-use Rattle.drum_check.specs.Findings.{altering, too_many, unfit, unused}
+use Rattle.drum_check.specs.Findings.{altering, too_many, unfit, AreUnmeant}
 use Rattle.drum_check.proofs.Fits.{good_fit, unaltering}
 use Rattle.drum_check.proofs.Nothing.{all_nothing}
 
@@ -50,14 +50,14 @@ module _ (loads : ℕ → Option Word) (notes : Notes) (start : ℕ) (executed :
       (from.0 ++ edge.1 ∷ [], lead_push loads notes start start edge.0 edge.1 from.0 from.1 free.0)
       (round_back loads notes a.edges edge.1 edge.1 edge.0 back.0 back.1 free))
 
-  pub accepted_silent : findings ≡ unused loads notes executed
+  pub accepted_silent : AreUnmeant loads notes start executed findings
   accepted_silent =
       let same : a.executed ≡ executed =
       one_order loads notes start a.executed executed a.found.order accepted.admitted.order in
       let small : product_of a.executed notes.marks ≤ 4000000 =
       subst (λ (all : List ℕ). product_of all notes.marks ≤ 4000000) (sym same) accepted.small in
-      let rest : List Finding = unused loads notes a.executed in
-      a.all
+      let rest : List Finding = a.unmeant in
+      let nothing_else : findings ≡ a.unmeant = a.all
       ∙ ap (λ (xs : List Finding). xs ++ flat_map (altering loads notes a.executed) a.executed
       ++ too_many (product_of a.executed notes.marks) ++ map closes a.edges ++ rest)
       (all_nothing (unfit loads notes) a.executed nothing_unfit)
@@ -65,5 +65,6 @@ module _ (loads : ℕ → Option Word) (notes : Notes) (start : ℕ) (executed :
       (all_nothing (altering loads notes a.executed) a.executed nothing_altered)
       ∙ ap (λ (b : Bool). cond b (too_large (product_of a.executed notes.marks) ∷ []) [] ++ map closes a.edges ++ rest)
       (le-ltb 4000000 (product_of a.executed notes.marks) small)
-      ∙ ap (λ (xs : List Finding). xs ++ rest) (no_edge a.edges refl)
-      ∙ ap (unused loads notes) same
+      ∙ ap (λ (xs : List Finding). xs ++ rest) (no_edge a.edges refl) in
+      subst (λ (all : List Finding). AreUnmeant loads notes start executed all) (sym nothing_else)
+      (subst (λ (places : List ℕ). AreUnmeant loads notes start places a.unmeant) same a.are_unmeant)

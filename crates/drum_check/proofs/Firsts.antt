@@ -26,7 +26,7 @@ use Rattle.drum_flow.proofs.Members.{no_more}
 use Rattle.drum_flow.proofs.Orders.{found_different, only_executed, with_new_keeps}
 use Rattle.drum_check.specs.Findings.{AreFindings, Finding, not_loaded, not_in_profile, alters, too_large, closes}
 use Rattle.drum_check.specs.Findings.{altered, altered_by, altering, is_fixed, not_there, operations_outside, outside}
-use Rattle.drum_check.specs.Findings.{too_many, unfit, unused}
+use Rattle.drum_check.specs.Findings.{too_many, unfit}
 use Rattle.drum_check.specs.First.{BeginsWith, IsFoundFirst}
 use Rattle.drum_check.proofs.Begins.{begins_behind, begins_flat, begins_left, begins_lowest, begins_mapped, begins_new}
 use Rattle.drum_check.proofs.Fits.{absent_told, alters_none, good_fit, there_untold, unaltering}
@@ -93,7 +93,7 @@ module _ (loads : ℕ → Option Word) (notes : Notes) (start : ℕ) where
     told_first x begins =
         subst (λ (all : List Finding). BeginsWith all x) (sym a.all)
         (begins_left (first_part ++ second_part ++ third_part ++ map closes a.edges)
-        (unused loads notes a.executed) x
+        a.unmeant x
         (begins_left (first_part ++ second_part ++ third_part) (map closes a.edges) x
         (begins_left (first_part ++ second_part) third_part x (begins_left first_part second_part x begins))))
 
@@ -101,7 +101,7 @@ module _ (loads : ℕ → Option Word) (notes : Notes) (start : ℕ) where
     told_second x none begins =
         subst (λ (all : List Finding). BeginsWith all x) (sym a.all)
         (begins_left (first_part ++ second_part ++ third_part ++ map closes a.edges)
-        (unused loads notes a.executed) x
+        a.unmeant x
         (begins_left (first_part ++ second_part ++ third_part) (map closes a.edges) x
         (begins_left (first_part ++ second_part) third_part x (begins_behind first_part second_part x none begins))))
 
@@ -109,7 +109,7 @@ module _ (loads : ℕ → Option Word) (notes : Notes) (start : ℕ) where
     told_third x none nor begins =
         subst (λ (all : List Finding). BeginsWith all x) (sym a.all)
         (begins_left (first_part ++ second_part ++ third_part ++ map closes a.edges)
-        (unused loads notes a.executed) x
+        a.unmeant x
         (begins_left (first_part ++ second_part ++ third_part) (map closes a.edges) x
         (begins_behind (first_part ++ second_part) third_part x
         (ap (λ (xs : List Finding). xs ++ second_part) none ∙ nor) begins)))
@@ -119,7 +119,7 @@ module _ (loads : ℕ → Option Word) (notes : Notes) (start : ℕ) where
     told_fourth x none nor neither begins =
         subst (λ (all : List Finding). BeginsWith all x) (sym a.all)
         (begins_left (first_part ++ second_part ++ third_part ++ map closes a.edges)
-        (unused loads notes a.executed) x
+        a.unmeant x
         (begins_behind (first_part ++ second_part ++ third_part) (map closes a.edges) x
         (ap (λ (xs : List Finding). xs ++ second_part ++ third_part) none
         ∙ ap (λ (xs : List Finding). xs ++ third_part) nor ∙ neither) begins))

@@ -8,6 +8,7 @@ pub mod Fixeds
 pub mod Nothing
 pub mod Outsides
 pub mod Silent
+pub mod Unsaids
 pub mod Whole
 pub mod Words
 pub mod WriteRanges

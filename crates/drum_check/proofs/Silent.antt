@@ -17,10 +17,11 @@ use Rattle.drum_flow.proofs.Lists.{contains_here, contains_none}
 use Rattle.drum_loops.specs.Loops.{IsLeft}
 use Rattle.drum_check.specs.Findings.{AreFindings, Finding, not_loaded, not_in_profile, alters, too_large, closes}
 use Rattle.drum_check.specs.Findings.{altered, altered_by, altering, is_fixed, not_there, operations_outside}
-use Rattle.drum_check.specs.Findings.{outside, too_many, unfit, unused}
+use Rattle.drum_check.specs.Findings.{outside, too_many, unfit, unused, inside_at, AreUnmeant, IsUnsaid, pairs_of}
 use Rattle.drum_check.proofs.Fixeds.{fixed_so}
 use Rattle.drum_check.proofs.Nothing.{before_nothing, both_nothing, each_nothing, in_filter, in_flat_map, none_added, of_nothing}
 use Rattle.drum_check.proofs.Outsides.{outside_of}
+use Rattle.drum_check.proofs.Unsaids.{those_one}
 
 -- edges that are left where there are none that close loops
 pub round_left : (loads : ℕ → Option Word) (notes : Notes) (edges : List (ℕ × ℕ)) (first node : ℕ) (xs : List ℕ)
@@ -66,8 +67,18 @@ told_small product none = elim (cases_lt 4000000 product) [
   | inr small ↦ small
 ]
 
-module _ (loads : ℕ → Option Word) (notes : Notes) (start : ℕ) (executed : List ℕ)
-    (found : AreFound loads notes start executed) (a : AreFindings loads notes start (unused loads notes executed)) where
+-- what isn't meant is one list
+pub one_unmeant : (loads : ℕ → Option Word) (notes : Notes) (start : ℕ) (executed : List ℕ) (some others : List Finding)
+    → AreUnmeant loads notes start executed some → AreUnmeant loads notes start executed others → some ≡ others
+one_unmeant loads notes start executed some others one other =
+    one.all
+    ∙ ap (λ (pairs : List (ℕ × ℕ)). unused loads notes executed ++ map (inside_at notes.marks) pairs)
+    (those_one (IsUnsaid loads notes start executed) (pairs_of notes.marks) one.pairs other.pairs one.unsaid other.unsaid)
+    ∙ sym other.all
+
+module _ (loads : ℕ → Option Word) (notes : Notes) (start : ℕ) (executed : List ℕ) (findings : List Finding)
+    (found : AreFound loads notes start executed) (a : AreFindings loads notes start findings)
+    (alone : AreUnmeant loads notes start executed findings) where
   -- an instruction that isn't told alters nothing
   told_unaltered : (place : ℕ) (ins : Instruction) (at : ℕ) → altered loads notes a.executed place ≡ []
       → Contains (allowed loads notes place) ins → Contains (writes ins) at → ¬ IsFixed loads notes start at
@@ -87,8 +98,10 @@ module _ (loads : ℕ → Option Word) (notes : Notes) (start : ℕ) (executed :
 
   none_in_the_way : in_the_way ≡ []
   none_in_the_way =
-      before_nothing in_the_way (unused loads notes a.executed)
-      (sym (ap (unused loads notes) same_executed) ∙ a.all)
+      let here : AreUnmeant loads notes start a.executed findings =
+      subst (λ (places : List ℕ). AreUnmeant loads notes start places findings) same_executed alone in
+      before_nothing in_the_way a.unmeant
+      (one_unmeant loads notes start a.executed a.unmeant findings a.are_unmeant here ∙ a.all)
 
   pub silent_accepted : IsAccepted loads notes start executed
   silent_accepted =

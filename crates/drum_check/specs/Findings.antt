@@ -1,18 +1,21 @@
--- All that keeps a deck from having a bound under its notes, and what is unused of the notes.
+-- All that keeps a deck from having a bound under its notes, and what of the notes isn't meant.
 -- `loads` says which word the deck loads into a location.
-use Rattle.std.specs.Prelude.{◌≡◌, ℕ, nat_lt, ◌==◌, if◌then◌else◌, ◌||◌, ◌&&◌, not, Bool}
-use Rattle.std.specs.Prelude.{List, [], ◌∷◌, ◌++◌, map, filter, flat_map, Option, is_some}
+use Rattle.std.specs.Prelude.{◌≡◌, ℕ, nat_lt, ◌==◌, if◌then◌else◌, ◌||◌, ◌&&◌, not, Bool, true, false}
+use Rattle.std.specs.Prelude.{List, [], ◌∷◌, ◌++◌, ◌⊎◌, map, filter, flat_map, length, slice_get}
+use Rattle.std.specs.Prelude.{Option, Some, None, is_some}
 use Rattle.std.specs.List.{list_any, range_with_len}
 use Rattle.drum_core.specs.declared.instruction.Instruction.{Instruction}
 use Rattle.drum_core.specs.declared.word.Word.{Word}
 use Rattle.drum_core.specs.Op.{op_of}
 use Rattle.drum_times.specs.declared.notes.mark.Mark.{Mark}
 use Rattle.drum_times.specs.Allowed.{Notes, is_listed, allowed}
+use Rattle.drum_machine.specs.Counts.{is_inside}
 use Rattle.drum_machine.specs.Writes.{writes}
 use Rattle.drum_flow.specs.Accepted.{product_of}
 use Rattle.drum_flow.specs.Executed.{successors, with_new}
 use Rattle.drum_flow.specs.Flow.{AreFound}
 use Rattle.drum_loops.specs.Loops.{AreClosing}
+use Rattle.drum_loops.specs.Nested.{IsNested}
 
 -- something that was found, by the numbers of its locations, its operation or its product
 pub data Finding : Type 0 where
@@ -23,6 +26,7 @@ pub data Finding : Type 0 where
   closes : ℕ × ℕ → Finding
   unused_mark : ℕ × ℕ → Finding
   unused_list : ℕ → Finding
+  inside : ℕ × ℕ → ℕ × ℕ → Finding
 
 -- whether a location is loaded or listed
 abbrev pub is_there : (ℕ → Option Word) → Notes → ℕ → Bool
@@ -99,16 +103,72 @@ unused loads notes executed =
     flat_map (astray loads notes executed) notes.marks
     ++ flat_map (idle notes executed) all_locations
 
+-- the edge of the mark at a place
+abbrev pub edge_at : List Mark → ℕ → ℕ × ℕ
+edge_at marks place =
+    elim (slice_get marks place) [
+      | None ↦ (0, 0)
+      | Some mark ↦ (mark.from.number, mark.onto.number)
+    ]
+
+-- whether the flow graph has the edge of the mark at a place
+abbrev pub is_on_edge : (ℕ → Option Word) → Notes → List ℕ → ℕ → Bool
+is_on_edge loads notes executed place =
+    has_edge loads notes executed (edge_at notes.marks place).0 (edge_at notes.marks place).1
+
+-- Of two marks, by their places: the loop that the first one's edge closes stands inside the loop
+-- of the second one's, and the first doesn't say that it stands inside the second, directly or
+-- through others.
+pub record IsUnsaid (loads : ℕ → Option Word) (notes : Notes) (start : ℕ) (executed : List ℕ)
+    (places : ℕ × ℕ) : Type 0 where
+  pub inner : is_on_edge loads notes executed places.0 ≡ true
+  pub outer : is_on_edge loads notes executed places.1 ≡ true
+  pub nested : IsNested loads notes start (edge_at notes.marks places.1)
+      (edge_at notes.marks places.0)
+  pub unsaid : is_inside notes.marks places.0 places.1 ≡ false
+
+-- these are those of a list that have a property, in order
+abbrev pub AreThose : {X : Type 0} → (X → Type 0) → List X → List X → Type 0
+AreThose IsOne [] those = those ≡ []
+AreThose {X} IsOne (x ∷ xs) those =
+    (IsOne x × ((others : List X) × (those ≡ x ∷ others) × AreThose IsOne xs others))
+    ⊎ (¬ IsOne x × AreThose IsOne xs those)
+
+-- all pairs of places of marks, by the first and then by the second
+abbrev pub pairs_of : List Mark → List (ℕ × ℕ)
+pairs_of marks =
+    flat_map (λ inner. map (λ outer. (inner, outer)) (range_with_len 0 (length marks)))
+    (range_with_len 0 (length marks))
+
+-- that the loop of the first mark of a pair stands inside that of the second
+abbrev pub inside_at : List Mark → ℕ × ℕ → Finding
+inside_at marks places = inside (edge_at marks places.0) (edge_at marks places.1)
+
+-- What of the notes isn't meant: what nothing comes to, and each pair of marks whose loops stand
+-- one inside the other where the notes don't say so.
+pub record AreUnmeant (loads : ℕ → Option Word) (notes : Notes) (start : ℕ)
+    (executed : List ℕ) (unmeant : List Finding) : Type 0 where
+  pub pairs : List (ℕ × ℕ)
+  pub unsaid : AreThose (IsUnsaid loads notes start executed) (pairs_of notes.marks) pairs
+  pub all : unmeant ≡ unused loads notes executed ++ map (inside_at notes.marks) pairs
+
+-- Something that may be meant as it is: that a mark's loop stands inside another one's, of which the
+-- notes don't say so. It may be a count of the whole run.
+abbrev pub may_be_meant : Finding → Bool
+may_be_meant (inside inner outer) = true
+may_be_meant _ = false
+
 -- These are all the findings: of each executed location, in the order of discovery, what is wrong
--- with it, then what each alters, then the size, the edges that close loops, and last what is
--- unused of the notes.
+-- with it, then what each alters, then the size, the edges that close loops, and last what of the
+-- notes isn't meant.
 pub record AreFindings (loads : ℕ → Option Word) (notes : Notes) (start : ℕ)
     (findings : List Finding) : Type 0 where
   pub executed : List ℕ
   pub found : AreFound loads notes start executed
   pub edges : List (ℕ × ℕ)
   pub closing : AreClosing loads notes start edges
+  pub unmeant : List Finding
+  pub are_unmeant : AreUnmeant loads notes start executed unmeant
   pub all : findings ≡ flat_map (unfit loads notes) executed
       ++ flat_map (altering loads notes executed) executed
-      ++ too_many (product_of executed notes.marks) ++ map closes edges
-      ++ unused loads notes executed
+      ++ too_many (product_of executed notes.marks) ++ map closes edges ++ unmeant

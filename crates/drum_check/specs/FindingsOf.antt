@@ -9,7 +9,7 @@ use Rattle.drum_check.specs.declared.finding.Finding as held
 use Rattle.drum_check.specs.declared.finding.Finding.TheVariants as finding
 use Rattle.drum_check.specs.declared.findings.Findings.{Findings}
 use Rattle.drum_check.specs.Findings.{Finding, not_loaded, not_in_profile, alters, too_large}
-use Rattle.drum_check.specs.Findings.{closes, unused_mark, unused_list}
+use Rattle.drum_check.specs.Findings.{closes, unused_mark, unused_list, inside}
 
 -- a finding by its numbers
 abbrev pub seen : held.Finding → Finding
@@ -20,6 +20,7 @@ seen (finding.TooLarge product) = too_large product
 seen (finding.Loop edge) = closes (edge_of edge)
 seen (finding.UnusedMark edge) = unused_mark (edge_of edge)
 seen (finding.UnusedList location) = unused_list location.number
+seen (finding.Inside inner outer) = inside (edge_of inner) (edge_of outer)
 
 -- all of them, in order
 abbrev pub found_in : Findings → List Finding

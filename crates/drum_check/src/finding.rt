@@ -1,8 +1,8 @@
 use drum_core::Location;
 use drum_loops::Edge;
 
-/// Something that keeps a deck from having a bound under its notes, or a mark or a list that
-/// nothing comes to.
+/// Something that keeps a deck from having a bound under its notes, or something in the notes that
+/// isn't meant.
 #[derive(Clone, Copy, Debug, PartialEq, Eq)]
 pub enum Finding {
     /// An executed location is neither loaded nor listed.
@@ -20,4 +20,21 @@ pub enum Finding {
     UnusedMark(Edge),
     /// A location that isn't executed has a list.
     UnusedList(Location),
+    /// The loop that a mark's edge closes stands inside the one that another mark's edge closes, and
+    /// the notes don't say that the one mark stands inside the other.
+    Inside { inner: Edge, outer: Edge },
+}
+
+impl Finding {
+    ghost use Rattle.std.specs.Prelude.{◌≡◌};
+    ghost use Rattle.drum_check.specs.Findings as said;
+    ghost use Rattle.drum_check.specs.FindingsOf.{seen};
+
+    /// Whether it may be meant as it is: a mark that doesn't say inside which other one it stands
+    /// may be one whose passes are counted over the whole run.
+    pub(crate) fn may_be_meant(&self) -> bool
+        ensures { result ≡ said.may_be_meant (seen self.now) }
+    {
+        matches!(self, Finding::Inside { .. })
+    }
 }

@@ -4,6 +4,7 @@ use crate::altered::altered_at;
 use crate::edges::{has_edge, is_executed};
 use crate::finding::Finding;
 use crate::operations::operations_outside;
+use crate::unsaid::{are_unsaid, unsaid_marks};
 use drum_core::{Deck, Location};
 use drum_flow::counts::counts_of;
 use drum_flow::fixed::Fixed;
@@ -19,7 +20,7 @@ const LIMIT: usize = 1 << 40;
 /// The most that executed words times counts may be (this project's choice).
 const PRODUCT_LIMIT: u128 = 4_000_000;
 
-/// All that keeps a deck from having a bound under its notes, and what is unused of the notes.
+/// All that keeps a deck from having a bound under its notes, and what of the notes isn't meant.
 #[derive(Debug, Drop)]
 pub struct Findings {
     pub(crate) all: Vec<Finding>,
@@ -29,14 +30,14 @@ pub struct Findings {
 impl Findings {
     ghost use Rattle.std.specs.Prelude.{◌≡◌, ◌++◌, [], ◌∷◌, ◌↔◌, ℕ, ◌-◌, ◌<◌, map, flat_map};
     ghost use Rattle.std.specs.Prelude.{IsTrue, IfOk, OnOk};
-    ghost use Rattle.std.specs.List.{range_with_len};
+    ghost use Rattle.std.specs.List.{list_all, range_with_len};
     ghost use Rattle.drum_core.specs.Location.{IsLocation};
     ghost use Rattle.drum_core.specs.Loads.{loads_in, start_in};
     ghost use Rattle.drum_flow.specs.Accepted.{product_of};
     ghost use Rattle.drum_flow.specs.Flow.{executed_in, of_flow, AreFound};
     ghost use Rattle.drum_loops.specs.Loops.{edge_of};
     ghost use Rattle.drum_check.specs.Findings.{not_there, unfit, altering, too_many};
-    ghost use Rattle.drum_check.specs.Findings.{astray, idle, unused};
+    ghost use Rattle.drum_check.specs.Findings.{astray, idle, may_be_meant, unused};
     ghost use Rattle.drum_check.specs.Findings.{not_in_profile, alters, closes, AreFindings};
     ghost use Rattle.drum_check.specs.FindingsOf.{AreFixed, seen, found_in};
 
@@ -255,10 +256,21 @@ impl Findings {
         self.add_all_idle(flow, 8000, 8004)
     }
 
+    /// Adds the marks that don't say inside which other one they stand.
+    fn add_unsaid(&mut self, unsaid: &[Finding]) -> Result<(), AllocError>
+        ensures { OnOk result (found_in self.new ≡ found_in self.old ++ map seen unsaid.now) }
+    {
+        for finding in unsaid {
+            self.add(*finding)?;
+        }
+        Ok(())
+    }
+
     /// All that keeps the deck from having a bound under these notes: first what is wrong with
     /// each executed location by itself, in the order of discovery, then what the instructions of
-    /// each alter, then the size, and then the edges that close loops; and last the marks and the
-    /// lists that nothing comes to, each mark in order and each list by its location.
+    /// each alter, then the size, and then the edges that close loops; and last what of the notes
+    /// isn't meant: the marks and the lists that nothing comes to, each mark in order and each list
+    /// by its location, and the marks that don't say inside which other one they stand.
     ///
     /// # Errors
     ///
@@ -270,12 +282,14 @@ impl Findings {
         let flow = discover(alloc, deck, notes)?;
         let fixed = Fixed::of(alloc, flow.executed(), notes)?;
         let edges = closing_edges(alloc, &flow)?;
+        let unsaid = unsaid_marks(alloc, &flow)?;
         let mut findings = Findings::none(alloc);
         findings.add_all_unfit(alloc, &flow)?;
         findings.add_all_altering(alloc, &flow, &fixed)?;
         findings.add_size(&flow)?;
         findings.add_edges(&edges)?;
         findings.add_unused(alloc, &flow)?;
+        findings.add_unsaid(&unsaid)?;
         Ok(findings)
     }
 
@@ -284,6 +298,14 @@ impl Findings {
         ensures { IsTrue result ↔ (found_in self.now ≡ []) }
     {
         self.all.is_empty()
+    }
+
+    /// Whether all that was found may be meant as it is: marks alone that don't say inside which
+    /// other one they stand.
+    pub fn may_be_meant(&self) -> bool
+        ensures { result ≡ list_all may_be_meant (found_in self.now) }
+    {
+        are_unsaid(&self.all)
     }
 
     /// What was found, in order.

@@ -1,10 +1,11 @@
 //! All that keeps a deck from having a bound under its notes, at once, where an analysis tells the
-//! first of it alone; and what the notes say that nothing comes to.
+//! first of it alone; and what of the notes isn't meant.
 //!
 //! A `finding` is one of these things. `operations` are those of a location that are outside the
 //! profile, `altered` the words that its instructions alter, `edges` tells whether a mark's edge is
-//! there, and `findings` gathers what is found at all locations. `listing` writes a line for each,
-//! and `pasting` the notes that are `lacking` behind them.
+//! there, `unsaid` finds the marks that don't say inside which other they stand, and `findings`
+//! gathers what is found. `listing` writes a line for each, and `pasting` the notes that are
+//! `lacking` behind them.
 #![tactic(auto)]
 
 mod altered;
@@ -16,6 +17,7 @@ pub mod laws;
 mod listing;
 mod operations;
 mod pasting;
+mod unsaid;
 
 pub use finding::Finding;
 pub use findings::Findings;

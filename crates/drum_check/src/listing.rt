@@ -10,6 +10,7 @@ use crate::finding::Finding;
 use crate::findings::Findings;
 use drum_core::{Location, Output};
 use drum_lines::{WriteFault, four_digits, send, two_digits};
+use drum_loops::Edge;
 use itoa::Buffer;
 
 /// Writes a line of a name and a location.
@@ -77,6 +78,43 @@ fn send_number<O: Output>(
     send(writer, sent, &pieces)
 }
 
+/// Writes a line of a name and two edges.
+fn send_edges<O: Output>(
+    writer: &mut O,
+    sent: usize,
+    name: &[u8],
+    first: Edge,
+    second: Edge,
+) -> Result<usize, WriteFault>
+    requires called { O.called writer.old ≤ 2 ^ 62 + 2 ^ 60 }
+    requires few { sent ≤ 2 ^ 60 }
+    requires short { length name.now ≤ 20 }
+    ensures sent { IsSent (O.written writer.old) (O.written writer.new) sent result
+        (name.now ++ digits_of 4 first.from.number ++ codes " " ++ digits_of 4 first.onto.number
+        ++ codes " " ++ digits_of 4 second.from.number ++ codes " "
+        ++ digits_of 4 second.onto.number ++ codes "\n") }
+    ensures failures { O.failed writer.new ≡ O.failed writer.old + fails_by result }
+    ensures calls { O.called writer.new ≤ O.called writer.old + 80 }
+    ensures few { IfOk result (λ total. total ≤ sent + 80) }
+{
+    let from = four_digits(first.from.number());
+    let onto = four_digits(first.onto.number());
+    let other_from = four_digits(second.from.number());
+    let other_onto = four_digits(second.onto.number());
+    let pieces: [&[u8]; 9] = [
+        name,
+        &from,
+        b" ",
+        &onto,
+        b" ",
+        &other_from,
+        b" ",
+        &other_onto,
+        b"\n",
+    ];
+    send(writer, sent, &pieces)
+}
+
 /// Writes the line of a finding behind so many bytes, and tells how many have gone out then.
 fn send_finding<O: Output>(
     writer: &mut O,
@@ -110,6 +148,7 @@ fn send_finding<O: Output>(
             send_behind(writer, sent, b"unused mark ", edge.from, &digits)
         }
         Finding::UnusedList(location) => send_location(writer, sent, b"unused list ", location),
+        Finding::Inside { inner, outer } => send_edges(writer, sent, b"inside ", inner, outer),
     }
 }
 

@@ -6,3 +6,4 @@ pub mod Flags
 pub mod Markings
 pub mod Paths
 pub mod Rankings
+pub mod Reachings

@@ -4,4 +4,5 @@ pub mod Closing
 pub mod Flags
 pub mod Loops
 pub mod Marked
+pub mod Nested
 pub mod Ranks
