@@ -38,12 +38,14 @@ fn draw_drum(
     text.push_str("</g>\n")
 }
 
-/// Draws the walk: its first revolutions, and where its word times go.
+/// Draws the walk: its first revolutions and those where it spends most, and where its word times
+/// go.
 fn draw_walk(
     alloc: Global,
     text: &mut String,
     walk: Walk<'_>,
     times: &Times,
+    tallies: &Tallies,
 ) -> Result<(), AllocError> {
     if walk.visits.is_empty() {
         return write!(
@@ -51,7 +53,7 @@ fn draw_walk(
             "<text {TITLE} x='690' y='112'>The worst walk has no hop</text>\n"
         );
     }
-    let rows = Rows::of(alloc, walk, times)?;
+    let rows = Rows::of(alloc, walk, times, tallies)?;
     draw_revolutions_title(text, walk, &rows)?;
     draw_rows_key(text)?;
     draw_revolutions(text, walk, times, &rows)?;
@@ -59,7 +61,7 @@ fn draw_walk(
 }
 
 /// The picture of an analysis, an SVG document: the drum with the words of the deck and the edges
-/// of the worst walk between them, the walk's first revolutions, and where all its word times go.
+/// of the worst walk between them, revolutions of the walk, and where all its word times go.
 /// It is well-formed and has some hundred thousand bytes at most, whatever analysis, deck and
 /// timing table are handed in; it means something where the analysis is of this deck and timing
 /// table.
@@ -78,7 +80,7 @@ pub fn picture(
     let mut text = String::new(alloc);
     begin(&mut text, walk)?;
     draw_drum(alloc, &mut text, walk, &tallies)?;
-    draw_walk(alloc, &mut text, walk, times)?;
+    draw_walk(alloc, &mut text, walk, times, &tallies)?;
     text.push_str("</svg>\n")?;
     Ok(text)
 }

@@ -30,7 +30,7 @@ fn draw_span(
     from: u64,
     to: u64,
 ) -> Result<(), AllocError> {
-    for (row, revolution) in (0..MOST_ROWS).zip(rows.shown.iter()) {
+    for (row, revolution) in (0..MOST_ROWS as u64).zip(rows.shown.iter()) {
         let first = revolution.saturating_mul(50);
         let left = from.saturating_sub(first).min(50);
         let right = to.saturating_sub(first).min(50);
@@ -71,7 +71,7 @@ fn draw_stroke(
 ) -> Result<(), AllocError> {
     let angle = found % 50;
     let room = next.saturating_sub(found).min(50 - angle);
-    for (row, revolution) in (0..MOST_ROWS).zip(rows.shown.iter()) {
+    for (row, revolution) in (0..MOST_ROWS as u64).zip(rows.shown.iter()) {
         if *revolution == found / 50 {
             let (x, y, base) = (angle * COLUMN, top_of(row), top_of(row).saturating_sub(2));
             write!(text, "<path d='M{x} {y}h2v9h-2z'/>")?;
