@@ -23,7 +23,8 @@ use Rattle.drum_tool.specs.Documents.{IsAnalysisFault, IsCeilingFault, IsLimit, 
 use Rattle.drum_tool.specs.Documents.{setting_of}
 use Rattle.drum_tool.specs.Files.{AreTold, FilesTold, Held, behind}
 use Rattle.drum_tool.specs.Replay.{Given, IsReplayFault, IsRunFault, IsTraceFault}
-use Rattle.drum_tool.specs.Reply.{IsLineOf, LooksAsTold, Reply, SaysTrace, SaysTurns, cut_reply, fault_reply, says, trace_reply}
+use Rattle.drum_tool.specs.Reply.{IsLineOf, IsWanting, LooksAsTold, Reply, SaysTrace, SaysStrides, cut_reply, fault_reply}
+use Rattle.drum_tool.specs.Reply.{lists, says, trace_reply}
 
 -- what is asked is also something else
 pub asks_as : (before after : Option (List Asked)) (P Q : List Asked → Type 0)
@@ -231,17 +232,20 @@ module _ (files : List Named) (before after : Option (List Asked)) where
 pub no_line : (text : List ℕ) (ends : statuses.Status) → IsLineOf None (says text ends)
 no_line text ends fault is = cc
 
-no_line_of_turns : (g : Setting) (by : Limit) (most : ℕ) (given : Given) (reply : Reply)
-    → SaysTurns g by most given reply → IsLineOf None reply
-no_line_of_turns g by most given reply (inl (turns, verdict, traced, is)) fault clash =
-    let bad : trace_reply g by turns verdict ≡ fault_reply fault = sym is ∙ clash in cc
-no_line_of_turns g by most given reply (inr (turns, replayed, is)) fault clash =
-    let bad : cut_reply g turns ≡ fault_reply fault = sym is ∙ clash in cc
+pub no_line_of_lists : (text : List ℕ) → IsLineOf None (lists text)
+no_line_of_lists text fault is = cc
+
+no_line_of_strides : (g : Setting) (by : Limit) (most : ℕ) (given : Given) (reply : Reply)
+    → SaysStrides g by most given reply → IsLineOf None reply
+no_line_of_strides g by most given reply (inl (strides, verdict, traced, is)) fault clash =
+    let bad : trace_reply g by strides verdict ≡ fault_reply fault = sym is ∙ clash in cc
+no_line_of_strides g by most given reply (inr (strides, replayed, is)) fault clash =
+    let bad : cut_reply g strides ≡ fault_reply fault = sym is ∙ clash in cc
 
 pub no_line_of_trace : (documents : Documents) (given : Given) (reply : Reply) → SaysTrace documents given reply
     → IsLineOf None reply
 no_line_of_trace documents given reply traced =
-    no_line_of_turns (setting_of documents) traced.1.0 traced.1.1 given reply traced.1.3
+    no_line_of_strides (setting_of documents) traced.1.0 traced.1.1 given reply traced.1.3
 
 -- neither a refusal nor a run has a fault of a file
 refusal_of_none : (Is : Refusal → Type 0) (told : Fault) → IsRefusedFor Is told → part_of told ≡ None
@@ -284,3 +288,15 @@ pub trace_of_none : (documents : Documents) (given : Given) (told : Fault) → I
 trace_of_none documents given told is =
     run_of_none (setting_of documents) given (IsLimitRefusal documents)
     ((limit : Limit) × (most : ℕ) × IsLimit documents limit most) told is
+
+-- nor has want of memory
+pub wanting_of_none : (told : Fault) → IsWanting told → part_of told ≡ None
+wanting_of_none (faults.Refused refusal) is = refl
+wanting_of_none faults.NoPart is = absurd is
+wanting_of_none (faults.Part part what) is = absurd is
+wanting_of_none faults.Memory is = refl
+wanting_of_none (faults.Deck fault) is = absurd is
+wanting_of_none (faults.Times fault) is = absurd is
+wanting_of_none (faults.Notes fault) is = absurd is
+wanting_of_none (faults.Inputs fault) is = absurd is
+wanting_of_none (faults.Loaded location) is = absurd is

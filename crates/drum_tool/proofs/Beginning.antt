@@ -5,7 +5,7 @@ use Rattle.drum_machine.specs.declared.left.Left as lefts
 use Rattle.drum_machine.specs.declared.left.Left.TheVariants as left
 use Rattle.drum_machine.specs.declared.setup.Setup.{Setup}
 use Rattle.drum_machine.specs.Keeps.{IsAsDeclared}
-use Rattle.drum_machine.specs.Run.{Turn}
+use Rattle.drum_machine.specs.Run.{Stride}
 use Rattle.drum_flow.specs.Walk.{Setting}
 use Rattle.drum_lines.specs.declared.verdict.Verdict.{Verdict}
 use Rattle.drum_tool.specs.declared.replaying.Begun.{Begun}
@@ -48,10 +48,10 @@ module _ (g : Setting) (given : Given) (begun : Begun) (is : IsBegun g given beg
       let says = says_before verdict at in record { says = says.0; within = omega (arith, says.1); short = omega arith }
 
   -- the verdict of a run that was followed
-  pub judged_followed : (turns : List Turn) (verdict : Verdict)
-      → IsFollowed g (state_of begun.following) (waits_of begun.following) begun.most turns verdict
-      → IsJudged g given begun.most (length turns) verdict
-  judged_followed turns verdict followed = record {
+  pub judged_followed : (strides : List Stride) (verdict : Verdict)
+      → IsFollowed g (state_of begun.following) (waits_of begun.following) begun.most strides verdict
+      → IsJudged g given begun.most (length strides) verdict
+  judged_followed strides verdict followed = record {
     says = followed.says given is.are;
     within = followed.within;
     short = followed.short;

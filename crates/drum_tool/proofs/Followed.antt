@@ -22,14 +22,14 @@ use Rattle.drum_machine.specs.Keeps.{IsAsDeclared, Leaves, reads_load}
 use Rattle.drum_machine.specs.Machine.{GoesOn, Tells, Becomes, TakesStep, state_in, used_by, sought_by, op_in}
 use Rattle.drum_machine.specs.Machine.{held_by, punched_with}
 use Rattle.drum_machine.specs.Monitor.{HasSeen, IsToldOf, answer_of, counts_over}
-use Rattle.drum_machine.specs.Run.{Turn, IsFirstState, time_after, used_from}
+use Rattle.drum_machine.specs.Run.{Stride, IsFirstState, time_after, used_from}
 use Rattle.drum_machine.specs.Step.{State, Stepped, on, stopped, contents_after, fetched}
 use Rattle.drum_flow.specs.Walk.{Setting}
 use Rattle.drum_lines.specs.declared.verdict.Verdict.TheVariants.{Kept, Left}
 use Rattle.drum_tool.specs.declared.following.Following.{Following}
 use Rattle.drum_flow.specs.Bounded.{IsBounded}
 use Rattle.drum_tool.specs.Following.{CanBegin, AreGiven, AreOfRun, IsFollowed, IsFollowing, state_of}
-use Rattle.drum_tool.specs.Following.{waits_of, turn_of, used_so_far}
+use Rattle.drum_tool.specs.Following.{waits_of, stride_of, used_so_far}
 use Rattle.drum_tool.specs.Replay.{Given, AreFed, IsLeft, IsUnderWay, LeavesAt}
 use Rattle.drum_tool.proofs.Leading.{lead_run, lead_fed, lead_more, lead_used, used_more}
 
@@ -65,10 +65,10 @@ none_yet g bound f begins seen silent goes none = record {
   each_takes_time = omega (arith, none);
 }
 
--- how many turns there are, with one more
-counts_more : (turns : List Turn) (turn : Turn) (number : ℕ) → number ≡ length turns
-    → number + 1 ≡ length (turns ++ turn ∷ [])
-counts_more turns turn number counted = omega (arith, counted, length-append turns (turn ∷ []))
+-- how many strides there are, with one more
+counts_more : (strides : List Stride) (stride : Stride) (number : ℕ) → number ≡ length strides
+    → number + 1 ≡ length (strides ++ stride ∷ [])
+counts_more strides stride number counted = omega (arith, counted, length-append strides (stride ∷ []))
 
 -- what a machine holds after a step
 pub held_after : (outcome : Stepped) (origin : Location) (word : Word) (after : Machine) (cards : List Card)
@@ -77,9 +77,9 @@ held_after (on next) origin word after cards is = ap (λ (s : State). s.contents
 held_after (stopped held because moment) origin word after cards is = is.3
 
 module _ (g : Setting) where
-  -- what is answered tells of the turn
+  -- what is answered tells of the stride
   pub told : (before : Following) (said : answers.Step) (after : Machine) (rest : Feed)
-      → TakesStep g.times before.machine before.feed said after rest → IsToldOf g.times (turn_of g.times before) said
+      → TakesStep g.times before.machine before.feed said after rest → IsToldOf g.times (stride_of g.times before) said
   told before said after rest takes =
       let now : State = state_of before in
       record {
@@ -96,23 +96,23 @@ module _ (g : Setting) where
         → IsAsDeclared g.notes.programmed given.setup.programmed
     as_declared given are = subst (IsAsDeclared g.notes.programmed) are.set_up.programmed begins.declared
 
-    module _ (turns : List Turn) (before : Following) (following : IsFollowing g first waits bound turns before) where
-      -- the state, the waits and the turn of the step that is taken
+    module _ (strides : List Stride) (before : Following) (following : IsFollowing g first waits bound strides before) where
+      -- the state, the waits and the stride of the step that is taken
       abbrev now : State
       now = state_of before
 
       abbrev left_waits : List ℕ
       left_waits = waits_of before
 
-      abbrev turn : Turn
-      turn = turn_of g.times before
+      abbrev stride : Stride
+      stride = stride_of g.times before
 
-      -- the counts after the turns so far, and they with this one
+      -- the counts after the strides so far, and they with this one
       abbrev counts : List ℕ
-      counts = counts_over g.notes (no_counts g.notes.marks) turns
+      counts = counts_over g.notes (no_counts g.notes.marks) strides
 
-      abbrev more : List Turn
-      more = turns ++ turn ∷ []
+      abbrev more : List Stride
+      more = strides ++ stride ∷ []
 
       -- an answer tells of an outcome
       abbrev TellsOf : Stepped → answers.Step → Type 0
@@ -123,11 +123,11 @@ module _ (g : Setting) where
       module _ (said : answers.Step) (after : Machine) (rest : Feed)
           (takes : TakesStep g.times before.machine before.feed said after rest) where
         -- they use no more than the bound, where they are seen,
-        seen_bounded : (seer : Monitor) → HasSeen g.loads g.notes seer more → time_after turn.outcome ≤ bound
+        seen_bounded : (seer : Monitor) → HasSeen g.loads g.notes seer more → time_after stride.outcome ≤ bound
         seen_bounded seer seen =
-            subst (λ (used : ℕ). used ≤ bound) (used_more 0 turns turn)
+            subst (λ (used : ℕ). used ≤ bound) (used_more 0 strides stride)
             (bounded first more begins.first
-            (lead_run g.times first waits turns now left_waits takes.may_wait following.lead)
+            (lead_run g.times first waits strides now left_waits takes.may_wait following.lead)
             (record { declared = begins.declared; kept = seen.kept }))
 
         -- and are the first of the run that is fixed by what is given
@@ -136,13 +136,13 @@ module _ (g : Setting) where
           first = first;
           set_up = are.set_up;
           reader = are.reader;
-          run = lead_run g.times first waits turns now left_waits takes.may_wait following.lead;
+          run = lead_run g.times first waits strides now left_waits takes.may_wait following.lead;
           fed = subst (λ (all : List ℕ). AreFed g.times all more) are.feed
-              (lead_fed g.times first waits turns now left_waits following.lead);
+              (lead_fed g.times first waits strides now left_waits following.lead);
         }
 
         -- they are under way, up to this one
-        pub under_way : (given : Given) → AreGiven g given first waits → IsUnderWay g given turns turn
+        pub under_way : (given : Given) → AreGiven g given first waits → IsUnderWay g given strides stride
         under_way given are = record {
           declared = as_declared given are;
           replayed = replayed given are;
@@ -159,22 +159,22 @@ module _ (g : Setting) where
             → ((origin : Location) (word : Word) (because : whys.Why) (used : ℕ)
             → said ≡ answer.Stopped origin word because used → ⊥)
             → IsFollowing g first waits bound more (further seer)
-        goes_on seer seen silent later goes = go turn.outcome refl takes.tells takes.becomes
+        goes_on seer seen silent later goes = go stride.outcome refl takes.tells takes.becomes
           where
-            go : (outcome : Stepped) → turn.outcome ≡ outcome → TellsOf outcome said
+            go : (outcome : Stepped) → stride.outcome ≡ outcome → TellsOf outcome said
                 → Becomes outcome (sought_by before.machine) (fetched now) after (cards_left rest)
                 → IsFollowing g first waits bound more (further seer)
             go (on next) is tells becomes =
                 let then : State = state_in after (cards_left rest) in
-                let onto : turn.outcome ≡ on then = is ∙ ap on (sym becomes.1) in
+                let onto : stride.outcome ≡ on then = is ∙ ap on (sym becomes.1) in
                 record {
-                  lead = lead_more g.times first waits turns now left_waits then (waits_left rest) takes.may_wait
+                  lead = lead_more g.times first waits strides now left_waits then (waits_left rest) takes.may_wait
                       following.lead onto (sym takes.waits);
                   seen = seen;
                   silent = silent;
                   goes = becomes.0;
                   within = subst (λ (used : ℕ). used ≤ bound) (ap time_after onto) (seen_bounded seer seen);
-                  counted = counts_more turns turn before.steps following.counted;
+                  counted = counts_more strides stride before.steps following.counted;
                   each_takes_time = omega (arith, later becomes.0, following.each_takes_time);
                 }
             go (stopped held because moment) is tells becomes =
@@ -187,12 +187,12 @@ module _ (g : Setting) where
               following.counted,
               following.each_takes_time,
               following.within,
-              length-append turns
-                  (turn ∷ []),
+              length-append strides
+                  (stride ∷ []),
             )
 
         number : before.steps + 1 ≡ length more
-        number = counts_more turns turn before.steps following.counted
+        number = counts_more strides stride before.steps following.counted
 
         -- A step that stops, and doesn't leave the notes, is the last.
         pub stops_here : (seer : Monitor) → HasSeen g.loads g.notes seer more
@@ -200,20 +200,20 @@ module _ (g : Setting) where
             → said ≡ answer.Stopped origin word because used
             → IsFollowed g first waits bound more (Kept used bound because)
         stops_here seer seen origin word because used stops =
-            let is : turn.outcome ≡ stopped (contents_after turn.outcome) because used =
-            go turn.outcome refl (subst (TellsOf turn.outcome) stops takes.tells) in
+            let is : stride.outcome ≡ stopped (contents_after stride.outcome) because used =
+            go stride.outcome refl (subst (TellsOf stride.outcome) stops takes.tells) in
             record {
               says = λ given are. (
                 refl,
                 record {
                   declared = as_declared given are;
-                  turns = turns;
-                  last = turn;
+                  strides = strides;
+                  last = stride;
                   replayed = replayed given are;
                   kept = seen.kept;
-                  held = contents_after turn.outcome;
+                  held = contents_after stride.outcome;
                   stops = is;
-                  number = length-append turns (turn ∷ []);
+                  number = length-append strides (stride ∷ []);
                 },
               );
               of_run = replayed;
@@ -221,20 +221,20 @@ module _ (g : Setting) where
               short = few;
             }
           where
-            go : (outcome : Stepped) → turn.outcome ≡ outcome
+            go : (outcome : Stepped) → stride.outcome ≡ outcome
                 → TellsOf outcome (answer.Stopped origin word because used)
-                → turn.outcome ≡ stopped (contents_after turn.outcome) because used
+                → stride.outcome ≡ stopped (contents_after stride.outcome) because used
             go (on next) is tells = absurd tells
             go (stopped held why moment) is tells =
                 let same : why ≡ because = cc in
                 let at : moment ≡ used = cc in
-                let holds : held ≡ contents_after turn.outcome = ap contents_after (sym is) in
+                let holds : held ≡ contents_after stride.outcome = ap contents_after (sym is) in
                 is ∙ ap (λ (c : Contents). stopped c why moment) holds
-                ∙ ap (λ (w : whys.Why). stopped (contents_after turn.outcome) w moment) same
-                ∙ ap (stopped (contents_after turn.outcome) because) at
+                ∙ ap (λ (w : whys.Why). stopped (contents_after stride.outcome) w moment) same
+                ∙ ap (stopped (contents_after stride.outcome) because) at
 
         -- A step that leaves the notes is the last.
-        pub leaves_here : (what : lefts.Left) → Leaves g.loads g.notes counts turn what
+        pub leaves_here : (what : lefts.Left) → Leaves g.loads g.notes counts stride what
             → IsFollowed g first waits bound more (Left what (before.steps + 1) (used_so_far before))
         leaves_here what leaves = record {
           says = λ given are. (number, go what given (at given are) leaves);
@@ -246,17 +246,17 @@ module _ (g : Setting) where
             at : (given : Given) → AreGiven g given first waits
                 → LeavesAt g given (length more) (used_so_far before) what
             at given are = record {
-              turns = turns;
-              last = turn;
+              strides = strides;
+              last = stride;
               under_way = under_way given are;
               leaves = leaves;
-              number = length-append turns (turn ∷ []);
-              time = sym (subst (λ (time : ℕ). used_from time turns ≡ used_so_far before) begins.first.at_once
-                  (lead_used g.times first waits turns now left_waits following.lead));
+              number = length-append strides (stride ∷ []);
+              time = sym (subst (λ (time : ℕ). used_from time strides ≡ used_so_far before) begins.first.at_once
+                  (lead_used g.times first waits strides now left_waits following.lead));
             }
 
             go : (way : lefts.Left) (given : Given) → LeavesAt g given (length more) (used_so_far before) way
-                → Leaves g.loads g.notes counts turn way → IsLeft g given (length more) (used_so_far before) way
+                → Leaves g.loads g.notes counts stride way → IsLeft g given (length more) (used_so_far before) way
             go (left.Unlisted location word) given is_at told_so = is_at
             go (left.TooOften from onto) given is_at told_so = is_at
             go left.Switch given is_at told_so = absurd told_so

@@ -4,6 +4,7 @@ pub mod Beginning
 pub mod Cuts
 pub mod Followed
 pub mod Giving
+pub mod Joining
 pub mod Leading
 pub mod Limits
 pub mod OneRun

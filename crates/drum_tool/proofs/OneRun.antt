@@ -9,12 +9,12 @@ use Rattle.drum_machine.specs.declared.card.Card.{Card}
 use Rattle.drum_machine.specs.Contents.{Contents}
 use Rattle.drum_machine.specs.FirstState.{IsFirstDrum, IsSetUp}
 use Rattle.drum_machine.specs.Machine.{op_in, wait_with, waits_with}
-use Rattle.drum_machine.specs.Run.{Turn, IsTurn, IsRun, FollowStep}
+use Rattle.drum_machine.specs.Run.{Stride, IsStride, IsRun, FollowStep}
 use Rattle.drum_machine.proofs.Prefixes.{run_prefix}
 use Rattle.drum_machine.specs.Step.{State, Stepped, on, stopped, step}
 use Rattle.drum_flow.specs.Walk.{Setting}
 use Rattle.drum_tool.specs.Replay.{Given, AreFed, IsReplayed}
-use Rattle.drum_tool.specs.Following.{turn_at}
+use Rattle.drum_tool.specs.Following.{stride_at}
 
 -- lists that are as long and have the same at each place are one
 same_places : (xs ys : List Word) → length xs ≡ length ys → ((k : ℕ) → k < length xs → slice_get xs k ≡ slice_get ys k)
@@ -70,15 +70,15 @@ same_state s t contents sought time start =
     λ c next used angle. record { contents = c; sought = next; time = used; start = angle } in
     state_alike made s t contents sought time start
 
-turn_alike : (made : State → ℕ → Stepped → Turn) (a b : Turn) → a.origin ≡ b.origin → a.wait ≡ b.wait
+stride_alike : (made : State → ℕ → Stepped → Stride) (a b : Stride) → a.origin ≡ b.origin → a.wait ≡ b.wait
     → a.outcome ≡ b.outcome
     → made a.origin a.wait a.outcome ≡ made b.origin b.wait b.outcome
-turn_alike made a b origin wait outcome = cc
+stride_alike made a b origin wait outcome = cc
 
-same_turn : (a b : Turn) → a.origin ≡ b.origin → a.wait ≡ b.wait → a.outcome ≡ b.outcome → a ≡ b
-same_turn a b origin wait outcome =
-    let made : State → ℕ → Stepped → Turn = λ s time stepped. record { origin = s; wait = time; outcome = stepped } in
-    turn_alike made a b origin wait outcome
+same_stride : (a b : Stride) → a.origin ≡ b.origin → a.wait ≡ b.wait → a.outcome ≡ b.outcome → a ≡ b
+same_stride a b origin wait outcome =
+    let made : State → ℕ → Stepped → Stride = λ s time stepped. record { origin = s; wait = time; outcome = stepped } in
+    stride_alike made a b origin wait outcome
 
 -- one drum is set up,
 one_drum : (loads : ℕ → Option Word) (given : Given) (drum other : List Word)
@@ -103,68 +103,68 @@ one_first g given s t is reader is_other other_reader =
     (is.seeks ∙ sym is_other.seeks) (is.at_once ∙ sym is_other.at_once) (is.angle ∙ sym is_other.angle)
 
 module _ (times : Op → Entry) where
-  -- a state and the waits fix the turn
-  the_turn : (s : State) (waits : List ℕ) (turn : Turn) → IsTurn times s turn
-      → turn.wait ≡ wait_with times (op_in turn.origin) waits → turn ≡ turn_at times s waits
-  the_turn s waits turn is fed =
-      let wait : turn.wait ≡ wait_with times (op_in s) waits =
+  -- a state and the waits fix the stride
+  the_stride : (s : State) (waits : List ℕ) (stride : Stride) → IsStride times s stride
+      → stride.wait ≡ wait_with times (op_in stride.origin) waits → stride ≡ stride_at times s waits
+  the_stride s waits stride is fed =
+      let wait : stride.wait ≡ wait_with times (op_in s) waits =
       fed ∙ ap (λ (from : State). wait_with times (op_in from) waits) is.from_here in
-      same_turn turn (turn_at times s waits) is.from_here wait (is.stepped ∙ ap (step times s) wait)
+      same_stride stride (stride_at times s waits) is.from_here wait (is.stepped ∙ ap (step times s) wait)
 
-  pub one_turn : (s : State) (waits : List ℕ) (turn other : Turn) → IsTurn times s turn
-      → turn.wait ≡ wait_with times (op_in turn.origin) waits
-      → IsTurn times s other → other.wait ≡ wait_with times (op_in other.origin) waits → turn ≡ other
-  one_turn s waits turn other is fed is_other other_fed =
-      the_turn s waits turn is fed ∙ sym (the_turn s waits other is_other other_fed)
+  pub one_stride : (s : State) (waits : List ℕ) (stride other : Stride) → IsStride times s stride
+      → stride.wait ≡ wait_with times (op_in stride.origin) waits
+      → IsStride times s other → other.wait ≡ wait_with times (op_in other.origin) waits → stride ≡ other
+  one_stride s waits stride other is fed is_other other_fed =
+      the_stride s waits stride is fed ∙ sym (the_stride s waits other is_other other_fed)
 
-  one_rest : (outcome : Stepped) (turns others : List Turn) → FollowStep outcome (λ next. IsRun times next turns) turns
+  one_rest : (outcome : Stepped) (strides others : List Stride) → FollowStep outcome (λ next. IsRun times next strides) strides
       → FollowStep outcome (λ next. IsRun times next others) others
-      → ((next : State) → IsRun times next turns → IsRun times next others → turns ≡ others) → turns ≡ others
-  one_rest (on next) turns others follow follow_other so = so next follow follow_other
-  one_rest (stopped held because moment) turns others follow follow_other so = follow ∙ sym follow_other
+      → ((next : State) → IsRun times next strides → IsRun times next others → strides ≡ others) → strides ≡ others
+  one_rest (on next) strides others follow follow_other so = so next follow follow_other
+  one_rest (stopped held because moment) strides others follow follow_other so = follow ∙ sym follow_other
 
-  -- a state and the waits fix the turns, but for how many they are
-  one_from : (turns others : List Turn) (s : State) (waits : List ℕ) → IsRun times s turns → AreFed times waits turns
-      → IsRun times s others → AreFed times waits others → length turns ≡ length others → turns ≡ others
+  -- a state and the waits fix the strides, but for how many they are
+  one_from : (strides others : List Stride) (s : State) (waits : List ℕ) → IsRun times s strides → AreFed times waits strides
+      → IsRun times s others → AreFed times waits others → length strides ≡ length others → strides ≡ others
   one_from [] [] s waits run fed run_other fed_other long = refl
   one_from [] (other ∷ others) s waits run fed run_other fed_other long = absurd (omega (arith, long))
-  one_from (turn ∷ turns) [] s waits run fed run_other fed_other long = absurd (omega (arith, long))
-  one_from (turn ∷ turns) (other ∷ others) s waits run fed run_other fed_other long =
-      let here : other ≡ turn = sym (one_turn s waits turn other run.0 fed.0 run_other.0 fed_other.0) in
-      let follow_other : FollowStep turn.outcome (λ next. IsRun times next others) others =
-      subst (λ (one : Turn). FollowStep one.outcome (λ next. IsRun times next others) others) here run_other.1 in
-      let waits_other : AreFed times (waits_with (op_in turn.origin) turn.origin waits) others =
-      subst (λ (one : Turn). AreFed times (waits_with (op_in one.origin) one.origin waits) others) here fed_other.1 in
-      let rest : turns ≡ others =
-      one_rest turn.outcome turns others run.1 follow_other (λ next runs runs_other.
-      one_from turns others next (waits_with (op_in turn.origin) turn.origin waits) runs fed.1 runs_other waits_other
+  one_from (stride ∷ strides) [] s waits run fed run_other fed_other long = absurd (omega (arith, long))
+  one_from (stride ∷ strides) (other ∷ others) s waits run fed run_other fed_other long =
+      let here : other ≡ stride = sym (one_stride s waits stride other run.0 fed.0 run_other.0 fed_other.0) in
+      let follow_other : FollowStep stride.outcome (λ next. IsRun times next others) others =
+      subst (λ (one : Stride). FollowStep one.outcome (λ next. IsRun times next others) others) here run_other.1 in
+      let waits_other : AreFed times (waits_with (op_in stride.origin) stride.origin waits) others =
+      subst (λ (one : Stride). AreFed times (waits_with (op_in one.origin) one.origin waits) others) here fed_other.1 in
+      let rest : strides ≡ others =
+      one_rest stride.outcome strides others run.1 follow_other (λ next runs runs_other.
+      one_from strides others next (waits_with (op_in stride.origin) stride.origin waits) runs fed.1 runs_other waits_other
       (omega (arith, long))) in
       cc
 
-pub one_run : (g : Setting) (given : Given) (turns others : List Turn) → IsReplayed g given turns
+pub one_run : (g : Setting) (given : Given) (strides others : List Stride) → IsReplayed g given strides
     → IsReplayed g given others
-    → length turns ≡ length others → turns ≡ others
-one_run g given turns others is is_other long =
+    → length strides ≡ length others → strides ≡ others
+one_run g given strides others is is_other long =
     let same : is_other.first ≡ is.first =
     one_first g given is_other.first is.first is_other.set_up is_other.reader is.set_up is.reader in
-    one_from g.times turns others is.first given.waits is.run is.fed
+    one_from g.times strides others is.first given.waits is.run is.fed
     (subst (λ (s : State). IsRun g.times s others) same is_other.run) is_other.fed long
 
--- Waits that are fed to turns are fed to the first of them,
-fed_prefix : (times : Op → Entry) (waits : List ℕ) (turns : List Turn) (n : ℕ) → AreFed times waits turns
-    → AreFed times waits (take n turns)
-fed_prefix times waits turns zero fed = tt
+-- Waits that are fed to strides are fed to the first of them,
+fed_prefix : (times : Op → Entry) (waits : List ℕ) (strides : List Stride) (n : ℕ) → AreFed times waits strides
+    → AreFed times waits (take n strides)
+fed_prefix times waits strides zero fed = tt
 fed_prefix times waits [] (suc n) fed = tt
-fed_prefix times waits (turn ∷ turns) (suc n) fed =
-    (fed.0, fed_prefix times (waits_with (op_in turn.origin) turn.origin waits) turns n fed.1)
+fed_prefix times waits (stride ∷ strides) (suc n) fed =
+    (fed.0, fed_prefix times (waits_with (op_in stride.origin) stride.origin waits) strides n fed.1)
 
--- and so the first turns of a run are those of a shorter one.
-pub prefix_replayed : (g : Setting) (given : Given) (turns : List Turn) (n : ℕ) → IsReplayed g given turns
-    → IsReplayed g given (take n turns)
-prefix_replayed g given turns n is = record {
+-- and so the first strides of a run are those of a shorter one.
+pub prefix_replayed : (g : Setting) (given : Given) (strides : List Stride) (n : ℕ) → IsReplayed g given strides
+    → IsReplayed g given (take n strides)
+prefix_replayed g given strides n is = record {
   first = is.first;
   set_up = is.set_up;
   reader = is.reader;
-  run = run_prefix g.times is.first turns n is.run;
-  fed = fed_prefix g.times given.waits turns n is.fed;
+  run = run_prefix g.times is.first strides n is.run;
+  fed = fed_prefix g.times given.waits strides n is.fed;
 }

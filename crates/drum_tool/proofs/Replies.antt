@@ -26,8 +26,9 @@ use Rattle.drum_lines.specs.FaultStatus.{status_after}
 use Rattle.drum_tool.specs.Documents.{IsAnalysisFault, IsBound, IsRefusedFor, setting_of}
 use Rattle.drum_tool.specs.Asked.{files_of}
 use Rattle.drum_tool.specs.Files.{AreTold, FilesTold, Held}
-use Rattle.drum_tool.specs.Reply.{AnswersCommand, AnswersOn, IsFault, Reply, SaysBound, SaysTrace, SaysTurns, TellsOfReads}
-use Rattle.drum_tool.specs.Reply.{bound_reply, breaks_off, complains, cut_reply, fault_reply, says, trace_reply}
+use Rattle.drum_tool.specs.Reply.{AnswersCommand, AnswersOn, IsFault, Reply, SaysBound, SaysTrace, SaysStrides, TellsOfReads}
+use Rattle.drum_tool.specs.Reply.{bound_reply, breaks_off, complains, cut_reply, fault_reply, lists, says, trace_reply}
+use Rattle.drum_tool.specs.Reply.{IsWanting}
 use Rattle.drum_tool.specs.Words.{refused_reply}
 
 module _ {Are : Documents → Type 0} {No : Fault → Type 0} where
@@ -109,24 +110,44 @@ counted P old new failures n first second p =
 pub result_of_no_read : (text : List ℕ) (ends : statuses.Status) → TellsOfReads 0 (says text ends)
 result_of_no_read text ends = inr (refl, λ fault is. cc)
 
+-- nor are the lines of texts' faults
+pub lists_of_no_read : (text : List ℕ) → TellsOfReads 0 (lists text)
+lists_of_no_read text = inr (refl, λ fault is. cc)
+
+-- want of memory tells of no failed read
+wanting_unread : (fault : Fault) → IsWanting fault → reads_failed fault ≡ 0
+wanting_unread (faults.Refused refusal) is = refl
+wanting_unread faults.NoPart is = absurd is
+wanting_unread (faults.Part part what) is = absurd is
+wanting_unread faults.Memory is = refl
+wanting_unread (faults.Deck fault) is = absurd is
+wanting_unread (faults.Times fault) is = absurd is
+wanting_unread (faults.Notes fault) is = absurd is
+wanting_unread (faults.Inputs fault) is = absurd is
+wanting_unread (faults.Loaded location) is = absurd is
+
+pub checked_unread : {A : Type 0} (result : Result A Fault) → IfErr result IsWanting → failed_by result ≡ 0
+checked_unread (Ok found) is = refl
+checked_unread (Err fault) is = wanting_unread fault is
+
 -- nor is a text that is given up
-turns_of_no_read : (g : Setting) (by : Limit) (most : ℕ) (given : Given) (reply : Reply)
-    → SaysTurns g by most given reply → TellsOfReads 0 reply
-turns_of_no_read g by most given reply (inl (turns, verdict, traced, is)) = inr (
+strides_of_no_read : (g : Setting) (by : Limit) (most : ℕ) (given : Given) (reply : Reply)
+    → SaysStrides g by most given reply → TellsOfReads 0 reply
+strides_of_no_read g by most given reply (inl (strides, verdict, traced, is)) = inr (
   refl,
   λ fault clash.
-      let bad : trace_reply g by turns verdict ≡ fault_reply fault = sym is ∙ clash in cc,
+      let bad : trace_reply g by strides verdict ≡ fault_reply fault = sym is ∙ clash in cc,
 )
-turns_of_no_read g by most given reply (inr (turns, replayed, is)) = inr (
+strides_of_no_read g by most given reply (inr (strides, replayed, is)) = inr (
   refl,
   λ fault clash.
-      let bad : cut_reply g turns ≡ fault_reply fault = sym is ∙ clash in cc,
+      let bad : cut_reply g strides ≡ fault_reply fault = sym is ∙ clash in cc,
 )
 
 pub trace_of_no_read : (documents : Documents) (given : Given) (reply : Reply) → SaysTrace documents given reply
     → TellsOfReads 0 reply
 trace_of_no_read documents given reply traced =
-    turns_of_no_read (setting_of documents) traced.1.0 traced.1.1 given reply traced.1.3
+    strides_of_no_read (setting_of documents) traced.1.0 traced.1.1 given reply traced.1.3
 
 -- a fault's line tells of as many as the fault does
 pub fault_of_reads : (fault : Fault) → TellsOfReads (reads_failed fault) (fault_reply fault)
@@ -198,6 +219,7 @@ not_done fault is = go (status_after fault) (after_fault fault) is
 abbrev status_in : Reply → statuses.Status
 status_in (says text ends) = ends
 status_in (complains text ends) = ends
+status_in (lists text) = status.Refused
 status_in (breaks_off text) = status.Failed
 
 -- so what is wrong with words is no fault's line

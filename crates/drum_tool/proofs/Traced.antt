@@ -8,7 +8,7 @@ use Rattle.drum_core.proofs.Bytes.{Appends-then, take_behind}
 use Rattle.drum_core.specs.declared.op.Op.{Op}
 use Rattle.drum_times.specs.declared.entry.Entry.{Entry}
 use Rattle.drum_machine.specs.Machine.{op_in, waits_with}
-use Rattle.drum_machine.specs.Run.{Turn}
+use Rattle.drum_machine.specs.Run.{Stride}
 use Rattle.drum_machine.specs.Step.{State, Stepped, on, stopped, clock_of, instruction_in, lacks_card, leaves, step}
 use Rattle.drum_machine.specs.Step.{step_with}
 use Rattle.drum_machine.specs.declared.why.Why.TheVariants as why
@@ -19,7 +19,7 @@ use Rattle.drum_core.specs.Op.{op_of, operand_of, is_operand}
 use Rattle.drum_flow.specs.Walk.{Setting}
 use Rattle.drum_lines.specs.declared.status.Status.{Status}
 use Rattle.drum_lines.specs.declared.verdict.Verdict.{Verdict}
-use Rattle.drum_listing.specs.TraceText.{turn_line, turn_lines}
+use Rattle.drum_listing.specs.TraceText.{stride_line, stride_lines}
 use Rattle.drum_tool.specs.declared.replaying.Begun.{Begun}
 use Rattle.drum_tool.specs.Begun.{IsBegun}
 use Rattle.drum_tool.specs.Following.{Goes, IsFollowed, Lead, state_of, waits_of}
@@ -28,19 +28,19 @@ use Rattle.drum_tool.specs.Replay.{Given, IsTraced}
 use Rattle.drum_tool.proofs.Beginning.{judged_before, judged_followed}
 
 -- one line more
-pub lines_more : (times : Op → Entry) (number : ℕ) (turns : List Turn) (turn : Turn)
-    → turn_lines times number (turns ++ turn ∷ []) ≡ turn_lines times number turns
-    ++ turn_line times (number + length turns) turn
-lines_more times number [] turn =
+pub lines_more : (times : Op → Entry) (number : ℕ) (strides : List Stride) (stride : Stride)
+    → stride_lines times number (strides ++ stride ∷ []) ≡ stride_lines times number strides
+    ++ stride_line times (number + length strides) stride
+lines_more times number [] stride =
     let same : number + 0 ≡ number = omega arith in
-    append-nil (turn_line times number turn) ∙ ap (λ (n : ℕ). turn_line times n turn) (sym same)
-lines_more times number (one ∷ turns) turn =
-    let same : suc number + length turns ≡ number + suc (length turns) = omega arith in
-    ap (λ (rest : List ℕ). turn_line times number one ++ rest)
-    (lines_more times (suc number) turns turn
-    ∙ ap (λ (n : ℕ). turn_lines times (suc number) turns ++ turn_line times n turn) same)
-    ∙ sym (append_assoc (turn_line times number one) (turn_lines times (suc number) turns)
-    (turn_line times (number + suc (length turns)) turn))
+    append-nil (stride_line times number stride) ∙ ap (λ (n : ℕ). stride_line times n stride) (sym same)
+lines_more times number (one ∷ strides) stride =
+    let same : suc number + length strides ≡ number + suc (length strides) = omega arith in
+    ap (λ (rest : List ℕ). stride_line times number one ++ rest)
+    (lines_more times (suc number) strides stride
+    ∙ ap (λ (n : ℕ). stride_lines times (suc number) strides ++ stride_line times n stride) same)
+    ∙ sym (append_assoc (stride_line times number one) (stride_lines times (suc number) strides)
+    (stride_line times (number + suc (length strides)) stride))
 
 -- ---- a run keeps its angle at time 0
 
@@ -84,20 +84,20 @@ goes_start : (s : State) (now : State) (outcome reached : Stepped) (Right : Stat
 goes_start s now (on next) reached Right is here later onward = later next onward ∙ here next (sym is)
 goes_start s now (stopped held because moment) reached Right is here later onward = absurd onward
 
--- turns that lead on keep it
-pub lead_start : (times : Op → Entry) (s : State) (waits : List ℕ) (turns : List Turn) (now : State) (left : List ℕ)
-    → Lead times s waits turns now left → now.start ≡ s.start
+-- strides that lead on keep it
+pub lead_start : (times : Op → Entry) (s : State) (waits : List ℕ) (strides : List Stride) (now : State) (left : List ℕ)
+    → Lead times s waits strides now left → now.start ≡ s.start
 lead_start times s waits [] now left lead = ap (λ (state : State). state.start) (sym lead.0)
-lead_start times s waits (turn ∷ turns) now left lead =
-    goes_start s now turn.outcome (step times s turn.wait)
-    (λ next. Lead times next (waits_with (op_in turn.origin) turn.origin waits) turns now left) lead.0.stepped
-    (λ next is. step_start times s turn.wait next is)
-    (λ next rest. lead_start times next (waits_with (op_in turn.origin) turn.origin waits) turns now left rest) lead.2
+lead_start times s waits (stride ∷ strides) now left lead =
+    goes_start s now stride.outcome (step times s stride.wait)
+    (λ next. Lead times next (waits_with (op_in stride.origin) stride.origin waits) strides now left) lead.0.stepped
+    (λ next is. step_start times s stride.wait next is)
+    (λ next rest. lead_start times next (waits_with (op_in stride.origin) stride.origin waits) strides now left rest) lead.2
 
 -- ---- what a trace is
 
 module _ (g : Setting) (given : Given) (begun : Begun) (is : IsBegun g given begun) where
-  -- no turns, where the verdict comes before any,
+  -- no strides, where the verdict comes before any,
   pub traced_before : (verdict : Verdict) → begun.verdict ≡ Some verdict → IsTraced g given begun.most [] verdict
   traced_before verdict at = record {
     judged = judged_before g given begun is verdict at;
@@ -111,11 +111,11 @@ module _ (g : Setting) (given : Given) (begun : Begun) (is : IsBegun g given beg
   }
 
   -- and else those that were followed
-  pub traced_followed : (turns : List Turn) (verdict : Verdict)
-      → IsFollowed g (state_of begun.following) (waits_of begun.following) begun.most turns verdict
-      → IsTraced g given begun.most turns verdict
-  traced_followed turns verdict followed = record {
-    judged = judged_followed g given begun is turns verdict followed;
+  pub traced_followed : (strides : List Stride) (verdict : Verdict)
+      → IsFollowed g (state_of begun.following) (waits_of begun.following) begun.most strides verdict
+      → IsTraced g given begun.most strides verdict
+  traced_followed strides verdict followed = record {
+    judged = judged_followed g given begun is strides verdict followed;
     replayed = followed.of_run given is.are;
   }
 

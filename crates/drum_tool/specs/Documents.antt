@@ -95,6 +95,9 @@ pub record Texts : Type 0 where
   pub times : List ℕ
   pub notes : List ℕ
 
+abbrev pub texts_of : List ℕ → List ℕ → List ℕ → Texts
+texts_of deck times notes = record { deck = deck; times = times; notes = notes }
+
 pub record Say (texts : Texts) (documents : Documents) : Type 0 where
   pub deck : SaysDeck texts.deck documents.deck
   pub times : SayTimes texts.times documents.times

@@ -1,5 +1,6 @@
 pub mod Asked
 pub mod Begun
+pub mod Checked
 pub mod Documents
 pub mod Files
 pub mod Following
@@ -9,5 +10,6 @@ pub mod Output
 pub mod PartsOf
 pub mod Replay
 pub mod Reply
+pub mod TextsHeld
 pub mod Told
 pub mod Words

@@ -2,8 +2,8 @@
 use Rattle.std.specs.Prelude.{◌≡◌, ℕ, ◌+◌, ◌<◌, List, length, take, Option, Result, Ok, Err, ◌⊎◌}
 use Rattle.std.specs.Io.KnownBytes.{Appends}
 use Rattle.drum_lines.specs.declared.status.Status.{Status}
-use Rattle.drum_lines.specs.declared.status.Status.TheVariants.{Failed}
-use Rattle.drum_tool.specs.Reply.{Reply, says, complains, breaks_off}
+use Rattle.drum_lines.specs.declared.status.Status.TheVariants.{Failed, Refused}
+use Rattle.drum_tool.specs.Reply.{Reply, says, complains, lists, breaks_off}
 
 -- what a device was given, where that is known, and how many writes to it failed
 pub record Device : Type 0 where
@@ -40,13 +40,15 @@ abbrev pub ended_with : {A E : Type 0} → Result A E → Status → Status
 ended_with (Ok done) status = status
 ended_with (Err fault) status = Failed
 
--- A result goes to standard output, and a complaint to standard error, where a write that fails
--- changes nothing. Of a text that is given up standard output gets a prefix. The other device gets
+-- A result goes to standard output, and a complaint or a list of faults to standard error, where a
+-- write that fails changes nothing. Of a text that is given up standard output gets a prefix. The other device gets
 -- nothing.
 abbrev pub Tells : Reply → Device → Device → Device → Device → Status → Type 0
 Tells (says text done) out out' err err' status =
     GetsResult out out' text done status × (err' ≡ err)
 Tells (complains text after) out out' err err' status =
     (out' ≡ out) × GetsComplaint err err' text × (status ≡ after)
+Tells (lists text) out out' err err' status =
+    (out' ≡ out) × GetsComplaint err err' text × (status ≡ Refused)
 Tells (breaks_off text) out out' err err' status =
     GetsPrefix out out' text × (status ≡ Failed) × (err' ≡ err)

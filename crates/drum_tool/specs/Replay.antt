@@ -13,7 +13,7 @@ use Rattle.drum_machine.specs.FirstState.{IsSetUp}
 use Rattle.drum_machine.specs.Keeps.{IsAsDeclared, AreKept, Leaves}
 use Rattle.drum_machine.specs.Machine.{op_in, wait_with, waits_with}
 use Rattle.drum_machine.specs.Monitor.{counts_over}
-use Rattle.drum_machine.specs.Run.{Turn, IsRun, used_from}
+use Rattle.drum_machine.specs.Run.{Stride, IsRun, used_from}
 use Rattle.drum_machine.specs.Setup.{first_loaded}
 use Rattle.drum_machine.specs.Step.{State, stopped}
 use Rattle.drum_flow.specs.declared.refusal.Refusal.{Refusal}
@@ -35,51 +35,51 @@ pub record Given : Type 0 where
   pub cards : List Card
   pub waits : List ℕ
 
--- the turns take the waits that are fed, one after the other
-abbrev pub AreFed : (Op → Entry) → List ℕ → List Turn → Type 0
+-- the strides take the waits that are fed, one after the other
+abbrev pub AreFed : (Op → Entry) → List ℕ → List Stride → Type 0
 AreFed times waits [] = Unit {0}
-AreFed times waits (turn ∷ turns) =
-    (turn.wait ≡ wait_with times (op_in turn.origin) waits)
-    × AreFed times (waits_with (op_in turn.origin) turn.origin waits) turns
+AreFed times waits (stride ∷ strides) =
+    (stride.wait ≡ wait_with times (op_in stride.origin) waits)
+    × AreFed times (waits_with (op_in stride.origin) stride.origin waits) strides
 
--- The turns are the first of the run that a setup and a feed fix: from the state that is set up,
+-- The strides are the first of the run that a setup and a feed fix: from the state that is set up,
 -- with the cards in the reader, and with the waits as they are fed.
-pub record IsReplayed (g : Setting) (given : Given) (turns : List Turn) : Type 0 where
+pub record IsReplayed (g : Setting) (given : Given) (strides : List Stride) : Type 0 where
   pub first : State
   pub set_up : IsSetUp g.loads g.start given.setup first
   pub reader : first.contents.cards ≡ given.cards
-  pub run : IsRun g.times first turns
-  pub fed : AreFed g.times given.waits turns
+  pub run : IsRun g.times first strides
+  pub fed : AreFed g.times given.waits strides
 
--- The run keeps to the notes in these turns, and takes this one after them.
-pub record IsUnderWay (g : Setting) (given : Given) (turns : List Turn) (last : Turn) : Type 0 where
+-- The run keeps to the notes in these strides, and takes this one after them.
+pub record IsUnderWay (g : Setting) (given : Given) (strides : List Stride) (last : Stride) : Type 0 where
   pub declared : IsAsDeclared g.notes.programmed given.setup.programmed
-  pub replayed : IsReplayed g given (turns ++ last ∷ [])
-  pub kept : AreKept g.loads g.notes (no_counts g.notes.marks) turns
+  pub replayed : IsReplayed g given (strides ++ last ∷ [])
+  pub kept : AreKept g.loads g.notes (no_counts g.notes.marks) strides
 
 -- The run keeps to the notes until it stops, at this step, for this reason, with so many word times
 -- used.
 pub record StopsAt (g : Setting) (given : Given) (step used : ℕ) (because : Why) : Type 0 where
   pub declared : IsAsDeclared g.notes.programmed given.setup.programmed
-  pub turns : List Turn
-  pub last : Turn
-  pub replayed : IsReplayed g given (turns ++ last ∷ [])
-  pub kept : AreKept g.loads g.notes (no_counts g.notes.marks) (turns ++ last ∷ [])
+  pub strides : List Stride
+  pub last : Stride
+  pub replayed : IsReplayed g given (strides ++ last ∷ [])
+  pub kept : AreKept g.loads g.notes (no_counts g.notes.marks) (strides ++ last ∷ [])
   -- what the machine then holds
   pub held : Contents
   pub stops : last.outcome ≡ stopped held because used
-  pub number : step ≡ length turns + 1
+  pub number : step ≡ length strides + 1
 
 -- The run keeps to the notes before this step, with so many word times used, and leaves them with
 -- it.
 pub record LeavesAt (g : Setting) (given : Given) (step used : ℕ) (what : lefts.Left) : Type 0 where
-  pub turns : List Turn
-  pub last : Turn
-  pub under_way : IsUnderWay g given turns last
+  pub strides : List Stride
+  pub last : Stride
+  pub under_way : IsUnderWay g given strides last
   pub leaves :
-      Leaves g.loads g.notes (counts_over g.notes (no_counts g.notes.marks) turns) last what
-  pub number : step ≡ length turns + 1
-  pub time : used ≡ used_from 0 turns
+      Leaves g.loads g.notes (counts_over g.notes (no_counts g.notes.marks) strides) last what
+  pub number : step ≡ length strides + 1
+  pub time : used ≡ used_from 0 strides
 
 -- how the notes are left: by the programmed switch before any step, else with a step
 abbrev pub IsLeft : Setting → Given → ℕ → ℕ → lefts.Left → Type 0
@@ -124,19 +124,19 @@ pub record IsReplay (g : Setting) (given : Given) (verdict : Verdict) : Type 0 w
   pub step : ℕ
   pub judged : IsJudged g given worst step verdict
 
--- The turns of a run up to the one with which its verdict comes, where kept runs use so many word
+-- The strides of a run up to the one with which its verdict comes, where kept runs use so many word
 -- times at most: none, where it comes before any step.
-pub record IsTraced (g : Setting) (given : Given) (most : ℕ) (turns : List Turn)
+pub record IsTraced (g : Setting) (given : Given) (most : ℕ) (strides : List Stride)
     (verdict : Verdict) : Type 0 where
-  pub judged : IsJudged g given most (length turns) verdict
-  pub replayed : IsReplayed g given turns
+  pub judged : IsJudged g given most (length strides) verdict
+  pub replayed : IsReplayed g given strides
 
--- The turns of a trace that goes out in part: the first of its run, up to one at most with which
+-- The strides of a trace that goes out in part: the first of its run, up to one at most with which
 -- the run leaves the notes or stops.
-pub record IsTracedInPart (g : Setting) (given : Given) (turns : List Turn) : Type 0 where
-  pub before : List Turn
-  pub last : Turn
-  pub all : turns ≡ before ++ last ∷ []
+pub record IsTracedInPart (g : Setting) (given : Given) (strides : List Stride) : Type 0 where
+  pub before : List Stride
+  pub last : Stride
+  pub all : strides ≡ before ++ last ∷ []
   pub under_way : IsUnderWay g given before last
 
 -- Why there is no verdict: a word is given that the deck loads too, of which the first is told;

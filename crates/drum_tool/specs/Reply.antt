@@ -1,18 +1,21 @@
 -- What the program has to say, and when it says it (this project's choice).
-use Rattle.std.specs.Prelude.{◌≡◌, ◌≢◌, ℕ, ◌+◌, List, [], ◌∷◌, ◌++◌, Option, Some, None, ◌⊎◌}
+use Rattle.std.specs.Prelude.{◌≡◌, ◌≢◌, ℕ, ◌+◌, if◌then◌else◌, List, [], ◌∷◌, ◌++◌, Option, Some, None, ◌⊎◌}
+use Rattle.std.specs.List.{list_all}
 use Rattle.drum_core.specs.Loads.{loads_in, start_in}
 use Rattle.drum_times.specs.Entries.{entry_in}
-use Rattle.drum_machine.specs.Run.{Turn}
+use Rattle.drum_machine.specs.Run.{Stride}
 use Rattle.drum_flow.specs.declared.refusal.Refusal.TheVariants as refusal
 use Rattle.drum_flow.specs.Walk.{Setting}
 use Rattle.drum_lines.specs.declared.limit.Limit as limits
 use Rattle.drum_lines.specs.declared.limit.Limit.TheVariants as limit
 use Rattle.drum_bound.specs.Visited.{Visited}
 use Rattle.drum_ceiling.specs.declared.answer.Ceiling as ceilings
-use Rattle.drum_check.specs.Findings.{AreFindings, Finding}
+use Rattle.drum_check.specs.Findings.{AreFindings, Finding, may_be_meant}
 use Rattle.drum_check.specs.Lacking.{check_text}
 use Rattle.drum_command.specs.declared.command.Command.{Command}
+use Rattle.drum_command.specs.declared.command.Files.{Files}
 use Rattle.drum_command.specs.declared.command.Command.TheVariants.{Bound, Check, Report, Walk, Waits, Draw, Ceiling, Replay, Trace}
+use Rattle.drum_faults.specs.FaultLines as printed
 use Rattle.drum_inputs.specs.declared.inputs.Inputs.{Inputs}
 use Rattle.drum_tool.specs.declared.documents.Documents.{Documents}
 use Rattle.drum_lines.specs.declared.fault.Fault.{Fault}
@@ -29,23 +32,26 @@ use Rattle.drum_lines.specs.Status.{status_of}
 use Rattle.drum_lines.specs.VerdictText.{verdict_text}
 use Rattle.drum_report.specs.CeilingText.{ceiling_text}
 use Rattle.drum_report.specs.Report.{report_text}
-use Rattle.drum_listing.specs.TraceText.{turn_lines}
+use Rattle.drum_listing.specs.TraceText.{stride_lines}
 use Rattle.drum_listing.specs.Waits.{AreDearestFirst}
 use Rattle.drum_listing.specs.WaitsText.{waits_text}
 use Rattle.drum_listing.specs.WalkText.{walk_text}
 use Rattle.drum_tool.specs.Asked.{Asked, Looks, Named}
 use Rattle.drum_flow.specs.Bounded.{IsDeckAccepted}
-use Rattle.drum_tool.specs.Documents.{IsAnalysisFault, IsBound, IsCeiling, IsCeilingFault, IsLimit, IsWorstWalk, setting_of}
+use Rattle.drum_tool.specs.Documents.{IsAnalysisFault, IsBound, IsCeiling, IsCeilingFault, IsLimit, IsWorstWalk, Say, Texts}
+use Rattle.drum_tool.specs.Documents.{setting_of}
 use Rattle.drum_tool.specs.Files.{AreHeld, AreInputsHeld, AreNoInputsHeld, AreNotHeld, Held}
 use Rattle.drum_tool.specs.Given.{given}
 use Rattle.drum_tool.specs.Joined.{Gives, GivesNone}
+use Rattle.drum_tool.specs.TextsHeld.{AreNoTextsHeld, AreTextsHeld}
 use Rattle.drum_tool.specs.Replay.{Given, HasOwnWords, IsReplay, IsReplayFault, IsTraced, IsTracedInPart, IsTraceFault}
 
--- A text, for standard output or for standard error, and how the program ends; or a text that is
--- given up, since a write of it fails.
+-- A text, for standard output or for standard error, and how the program ends; the lines of all
+-- faults of texts, for standard error; or a text that is given up, since a write of it fails.
 pub data Reply : Type 0 where
   says : List ℕ → Status → Reply
   complains : List ℕ → Status → Reply
+  lists : List ℕ → Reply
   breaks_off : List ℕ → Reply
 
 -- ---- what is said
@@ -72,10 +78,9 @@ picture_reply picture = says picture Done
 abbrev pub ceiling_reply : Documents → ceilings.Ceiling → Reply
 ceiling_reply documents ceiling = says (ceiling_text documents.notes ceiling) Done
 
--- what was found, and how the program ends after it: as with a refusal, unless nothing was found
+-- what was found, and how the program ends after it: as with a refusal, unless all may be meant
 abbrev pub status_after_check : List Finding → Status
-status_after_check [] = Done
-status_after_check (finding ∷ findings) = Refused
+status_after_check findings = if list_all may_be_meant findings then Done else Refused
 
 abbrev pub findings_reply : List Finding → Reply
 findings_reply findings = says (check_text findings) (status_after_check findings)
@@ -111,16 +116,16 @@ ReadsAll reply ended ended' given given' =
     × (given' ≡ given + 16777217 → (reply ≡ fault_reply (fault.Part part.Input what.TooLong))
     ⊎ (reply ≡ fault_reply fault.Memory))
 
--- a verdict, with the turns of its run before it, and turns alone, on which a write fails
+-- a verdict, with the strides of its run before it, and strides alone, on which a write fails
 abbrev pub verdict_reply : Verdict → Reply
 verdict_reply verdict = says (verdict_text limit.Bound verdict) (status_of verdict)
 
-abbrev pub trace_reply : Setting → limits.Limit → List Turn → Verdict → Reply
-trace_reply g by turns verdict =
-    says (turn_lines g.times 1 turns ++ verdict_text by verdict) (status_of verdict)
+abbrev pub trace_reply : Setting → limits.Limit → List Stride → Verdict → Reply
+trace_reply g by strides verdict =
+    says (stride_lines g.times 1 strides ++ verdict_text by verdict) (status_of verdict)
 
-abbrev pub cut_reply : Setting → List Turn → Reply
-cut_reply g turns = breaks_off (turn_lines g.times 1 turns)
+abbrev pub cut_reply : Setting → List Stride → Reply
+cut_reply g strides = breaks_off (stride_lines g.times 1 strides)
 
 -- ---- what is said of documents
 
@@ -168,6 +173,31 @@ SaysFindings documents reply =
     × AreFindings (loads_in documents.deck) documents.notes (start_in documents.deck) findings
     × (reply ≡ findings_reply findings)
 
+-- ---- what is said of texts
+
+-- a text with its file's name
+abbrev pub in_file_of : List ℕ → List ℕ → printed.Named
+in_file_of name bytes = record { name = name; bytes = bytes }
+
+-- these are the lines of all faults of three texts, in the files of these names
+abbrev pub AreLinesOfFaults : Files → Texts → List ℕ → Type 0
+AreLinesOfFaults files texts lines =
+    printed.AreFaultLines (in_file_of files.deck.now texts.deck)
+    (in_file_of files.times.now texts.times) (in_file_of files.notes.now texts.notes) lines
+
+-- All faults of texts, if they have any; else all that keeps the deck that they say from having a
+-- bound.
+abbrev pub SaysCheck : Files → Texts → Reply → Type 0
+SaysCheck files texts reply =
+    ((lines : List ℕ) × (lines ≢ []) × AreLinesOfFaults files texts lines × (reply ≡ lists lines))
+    ⊎ ((documents : Documents) × Say texts documents × SaysFindings documents reply)
+
+-- memory is wanting (which is tested, not said)
+abbrev pub IsWanting : Fault → Type 0
+IsWanting fault.Memory = Unit {0}
+IsWanting (fault.Refused refusal.Memory) = Unit {0}
+IsWanting _ = ⊥
+
 -- ---- what is said of a run
 
 -- the verdict on the run that is fixed by what is given
@@ -176,20 +206,20 @@ SaysVerdict documents given reply =
     (verdict : Verdict) × IsReplay (setting_of documents) given verdict
     × (reply ≡ verdict_reply verdict)
 
--- the turns of a run that is limited so, and its verdict; or its first turns alone, where a write
+-- the strides of a run that is limited so, and its verdict; or its first strides alone, where a write
 -- fails
-abbrev pub SaysTurns : Setting → limits.Limit → ℕ → Given → Reply → Type 0
-SaysTurns g by most given reply =
-    ((turns : List Turn) × (verdict : Verdict) × IsTraced g given most turns verdict
-    × (reply ≡ trace_reply g by turns verdict))
-    ⊎ ((turns : List Turn) × IsTracedInPart g given turns × (reply ≡ cut_reply g turns))
+abbrev pub SaysStrides : Setting → limits.Limit → ℕ → Given → Reply → Type 0
+SaysStrides g by most given reply =
+    ((strides : List Stride) × (verdict : Verdict) × IsTraced g given most strides verdict
+    × (reply ≡ trace_reply g by strides verdict))
+    ⊎ ((strides : List Stride) × IsTracedInPart g given strides × (reply ≡ cut_reply g strides))
 
--- the turns of the run that is fixed by what is given, limited by the bound or by a ceiling
+-- the strides of the run that is fixed by what is given, limited by the bound or by a ceiling
 abbrev pub SaysTrace : Documents → Given → Reply → Type 0
 SaysTrace documents given reply =
     HasOwnWords (setting_of documents) given
     × ((by : limits.Limit) × (most : ℕ) × IsLimit documents by most
-    × SaysTurns (setting_of documents) by most given reply)
+    × SaysStrides (setting_of documents) by most given reply)
 
 -- ---- to commands
 
@@ -258,12 +288,18 @@ abbrev pub AnswersCeilingOfFiles : Held → ℕ → Reply → Type 0
 AnswersCeilingOfFiles held =
     AnswersBy IsCeilingFault SaysCeiling (AreHeld held) (AreNotHeld held)
 
--- the same, where want of memory alone keeps anything from being said of them
-abbrev pub IsWanting : Documents → Fault → Type 0
-IsWanting documents told = told ≡ fault.Refused refusal.Memory
+-- why texts in files aren't checked: they can't be had, or memory is wanting
+abbrev pub IsCheckFaultOfFiles : Held → Fault → Type 0
+IsCheckFaultOfFiles held fault =
+    AreNoTextsHeld held fault
+    ⊎ (((texts : Texts) × AreTextsHeld held texts) × IsWanting fault)
 
-abbrev pub AnswersCheckOfFiles : Held → ℕ → Reply → Type 0
-AnswersCheckOfFiles held = AnswersBy IsWanting SaysFindings (AreHeld held) (AreNotHeld held)
+-- the reply to a check of texts in files, where so many reads failed
+abbrev pub AnswersCheckOfFiles : Files → Held → ℕ → Reply → Type 0
+AnswersCheckOfFiles files held failures reply =
+    ((texts : Texts) × AreTextsHeld held texts × (failures ≡ 0) × SaysCheck files texts reply)
+    ⊎ ((fault : Fault) × IsCheckFaultOfFiles held fault
+    × (failures ≡ reads_failed fault) × (reply ≡ fault_reply fault))
 
 abbrev pub AnswersRunOfFiles : (Documents → Given → Fault → Type 0)
     → (Documents → Given → Reply → Type 0) → Held → ℕ → Reply → Type 0
@@ -278,9 +314,6 @@ IsFaultOfFiles held = IsFault (AreHeld held) (AreNotHeld held)
 abbrev pub IsCeilingFaultOfFiles : Held → Fault → Type 0
 IsCeilingFaultOfFiles held = IsFaultBy IsCeilingFault (AreHeld held) (AreNotHeld held)
 
-abbrev pub IsCheckFaultOfFiles : Held → Fault → Type 0
-IsCheckFaultOfFiles held = IsFaultBy IsWanting (AreHeld held) (AreNotHeld held)
-
 abbrev pub IsFaultBeforeOfFiles : Held → Fault → Type 0
 IsFaultBeforeOfFiles held = IsFaultBefore (AreHeld held) (AreNotHeld held) (AreNoInputsHeld held)
 
@@ -292,7 +325,7 @@ IsRunFaultOfFiles Refuses held =
 -- the reply to a command, where the files of its parts hold this and so many reads failed
 abbrev pub AnswersCommand : Held → Command → ℕ → Reply → Type 0
 AnswersCommand held (Bound files) = AnswersOnFiles SaysBound held
-AnswersCommand held (Check files) = AnswersCheckOfFiles held
+AnswersCommand held (Check files) = AnswersCheckOfFiles files held
 AnswersCommand held (Report files) = AnswersOnFiles SaysReport held
 AnswersCommand held (Walk files) = AnswersOnFiles SaysWalk held
 AnswersCommand held (Waits files) = AnswersOnFiles SaysWaits held

@@ -3,19 +3,18 @@
 ghost use Rattle.std.specs.Prelude.{◌≡◌, ◌+◌, ◌^◌, ◌≤◌, ℕ, List, Option, IfOk, IfErr, length, string_bytes};
 ghost use Rattle.drum_bound.specs.AnalysisOf.{angle_of, bound_of, visits_of};
 ghost use Rattle.drum_times.specs.Entries.{entry_in};
-ghost use Rattle.drum_check.specs.FindingsOf.{found_in};
-ghost use Rattle.drum_check.specs.Lacking.{words_altered};
-ghost use Rattle.drum_check.specs.LackingOf.{words_in};
 ghost use Rattle.drum_lines.specs.FaultStatus.{failed_by};
 ghost use Rattle.drum_listing.specs.WaitsOf.{AreWaits};
 ghost use Rattle.drum_tool.specs.Begun.{IsTraceBegun};
+ghost use Rattle.drum_tool.specs.Checked.{AreLacking, IsChecked, IsShort};
+ghost use Rattle.drum_tool.specs.Documents as said;
 ghost use Rattle.drum_tool.specs.Documents.{IsBound, IsCeiling, IsWorstWalk};
 ghost use Rattle.drum_tool.specs.Asked.{AsksFor, Looks, LooksFor, all_named_in, fault_in, files_of, named_in};
 ghost use Rattle.drum_tool.specs.Files.{AreHeld, AreInputsHeld, AreTold, Held};
 ghost use Rattle.drum_tool.specs.Output.{Tells, device};
 ghost use Rattle.drum_tool.specs.Replay.{Given, IsTraceFault};
+ghost use Rattle.drum_tool.specs.TextsHeld.{AreTextsHeld};
 ghost use Rattle.drum_tool.specs.Reply.{
-  AnswersCheckOfFiles,
   AnswersCommand,
   AnswersOnFiles,
   AnswersRunOfFiles,
@@ -32,23 +31,23 @@ ghost use Rattle.drum_tool.specs.Reply.{
   SaysVerdict,
   TellsOfReads,
   fault_reply,
-  findings_reply,
   picture_reply,
   verdict_reply,
 };
 
+use crate::checking::{Checked, check};
 use crate::documents::Documents;
 use crate::files::inputs_of;
 use crate::replaying::{Begun, replay};
 use crate::source::Source;
 use crate::telling::{
-    complain, tell_bound, tell_ceiling, tell_findings, tell_report, tell_text, tell_trace,
-    tell_verdict, tell_waits, tell_walk,
+    complain, tell_bound, tell_ceiling, tell_faults, tell_findings, tell_report, tell_text,
+    tell_trace, tell_verdict, tell_waits, tell_walk,
 };
+use crate::texts::Texts;
 use crate::tracing::begin_trace;
 use drum_bound::{Analysis, Refusal};
 use drum_ceiling::Ceiling;
-use drum_check::{Findings, Lacking};
 use drum_command::{Command, Files};
 use drum_core::Output;
 use drum_inputs::Inputs;
@@ -166,18 +165,14 @@ fn ceiling<S: Source>(
     Ok((documents, ceiling))
 }
 
-/// All that keeps documents in files from having a bound, and what is lacking.
-fn findings<S: Source>(
-    alloc: Global,
-    source: &mut S,
-    files: Files<'_>,
-) -> Result<(Findings, Lacking), Fault>
+/// What a check of texts in files comes to.
+fn checked<S: Source>(alloc: Global, source: &mut S, files: Files<'_>) -> Result<Checked, Fault>
     requires { S.failed source.old ≤ 2 ^ 61 }
-    ensures findings { IfOk result (λ checked. (held : Held)
+    ensures checked { IfOk result (λ checked. (held : Held)
         → AreTold (S.files source.old) held (named_in files.entry)
-        → AnswersCheckOfFiles held 0 (findings_reply (found_in checked.0))) }
-    ensures lacking { IfOk result (λ checked.
-        words_in checked.1 ≡ words_altered (found_in checked.0)) }
+        → (texts : said.Texts) × AreTextsHeld held texts × IsChecked files.entry texts checked) }
+    ensures lacking { IfOk result AreLacking }
+    ensures short { IfOk result IsShort }
     ensures fault { IfErr result (λ fault. (held : Held)
         → AreTold (S.files source.old) held (named_in files.entry)
         → IsCheckFaultOfFiles held fault) }
@@ -185,8 +180,8 @@ fn findings<S: Source>(
     ensures asked { AsksFor (S.asked source.old) (S.asked source.new)
         (Looks (named_in files.entry) (fault_in result)) }
 {
-    let documents = Documents::of_files(alloc, source, files)?;
-    documents.findings(alloc)
+    let texts = Texts::of_files(alloc, source, files)?;
+    check(alloc, files, &texts)
 }
 
 /// A picture of the worst walk of an analysis.
@@ -328,8 +323,9 @@ pub fn obey<S: Source, O: Output, E: Output>(
             Ok((_, bound)) => tell_bound(out, bound),
             Err(fault) => complain(err, fault),
         },
-        Command::Check(files) => match findings(alloc, source, files) {
-            Ok((findings, lacking)) => tell_findings(out, &findings, &lacking),
+        Command::Check(files) => match checked(alloc, source, files) {
+            Ok(Checked::Faulty(lines)) => tell_faults(err, &lines),
+            Ok(Checked::Sound(findings, lacking)) => tell_findings(out, &findings, &lacking),
             Err(fault) => complain(err, fault),
         },
         Command::Report(files) => match analysis(alloc, source, files) {

@@ -43,8 +43,8 @@ fn bytes_of<I: Input>(alloc: Global, part: Part, text: &mut I) -> Result<Vec<u8>
     }
 }
 
-/// The bytes of a part from its file.
-fn read_part<S: Source>(
+/// The bytes of a timing table or of notes, the part, from its file.
+pub(crate) fn read_part<S: Source>(
     alloc: Global,
     source: &mut S,
     part: Part,

@@ -5,7 +5,7 @@ ghost use Rattle.drum_times.specs.Entries.{entry_in};
 ghost use Rattle.drum_machine.specs.Feed.{cards_left};
 ghost use Rattle.drum_machine.specs.Machine.{GoesOn, held_by};
 ghost use Rattle.drum_machine.specs.Monitor.{IsToldOf};
-ghost use Rattle.drum_machine.specs.Run.{Turn};
+ghost use Rattle.drum_machine.specs.Run.{Stride};
 ghost use Rattle.drum_machine.specs.Step.{State, contents_after};
 ghost use Rattle.drum_flow.specs.SettingOf.{setting};
 ghost use Rattle.drum_flow.specs.Bounded.{IsBounded};
@@ -14,7 +14,7 @@ ghost use Rattle.drum_tool.specs.Following.{
   CanBegin,
   IsFollowed,
   IsFollowing,
-  turn_of,
+  stride_of,
   used_so_far,
   state_of,
   waits_of,
@@ -55,25 +55,25 @@ impl Following {
         requires within { used_so_far self.old ≤ bound }
         requires few { self.old.steps ≤ bound }
         ensures told { GoesOn self.old.machine
-            → IsToldOf (entry_in times.now) (turn_of (entry_in times.now) self.old) result.0 }
+            → IsToldOf (entry_in times.now) (stride_of (entry_in times.now) self.old) result.0 }
         ensures held { GoesOn self.old.machine
             → held_by self.new.machine (cards_left self.new.feed)
-            ≡ contents_after (turn_of (entry_in times.now) self.old).outcome }
-        ensures advanced { (s : State) (waits : List ℕ) (turns : List Turn)
+            ≡ contents_after (stride_of (entry_in times.now) self.old).outcome }
+        ensures advanced { (s : State) (waits : List ℕ) (strides : List Stride)
             → CanBegin (setting deck.now times.now notes.now) s
             → IsBounded (setting deck.now times.now notes.now) bound
-            → IsFollowing (setting deck.now times.now notes.now) s waits bound turns self.old
+            → IsFollowing (setting deck.now times.now notes.now) s waits bound strides self.old
             → MatchOption result.1
             (IsFollowing (setting deck.now times.now notes.now) s waits bound
-            (turns ++ turn_of (entry_in times.now) self.old ∷ []) self.new)
+            (strides ++ stride_of (entry_in times.now) self.old ∷ []) self.new)
             (IsFollowed (setting deck.now times.now notes.now) s waits bound
-            (turns ++ turn_of (entry_in times.now) self.old ∷ [])) }
-        ensures of_run { (s : State) (waits : List ℕ) (turns : List Turn)
+            (strides ++ stride_of (entry_in times.now) self.old ∷ [])) }
+        ensures of_run { (s : State) (waits : List ℕ) (strides : List Stride)
             → CanBegin (setting deck.now times.now notes.now) s
             → IsBounded (setting deck.now times.now notes.now) bound
-            → IsFollowing (setting deck.now times.now notes.now) s waits bound turns self.old
+            → IsFollowing (setting deck.now times.now notes.now) s waits bound strides self.old
             → AreOfRun (setting deck.now times.now notes.now) s waits
-            (turns ++ turn_of (entry_in times.now) self.old ∷ []) }
+            (strides ++ stride_of (entry_in times.now) self.old ∷ []) }
         ensures later { GoesOn self.new.machine → used_so_far self.old < used_so_far self.new }
         ensures steps { self.new.steps ≡ self.old.steps + 1 }
     {
@@ -109,8 +109,8 @@ pub fn follow(
     requires begins { CanBegin (setting deck.now times.now notes.now) (state_of following) }
     requires follows { IsFollowing (setting deck.now times.now notes.now) (state_of following)
         (waits_of following) bound [] following }
-    ensures { (turns : List Turn) × IsFollowed (setting deck.now times.now notes.now)
-        (state_of following) (waits_of following) bound turns result }
+    ensures { (strides : List Stride) × IsFollowed (setting deck.now times.now notes.now)
+        (state_of following) (waits_of following) bound strides result }
 {
     loop {
         let (_, verdict) = following.advance(deck, times, notes, bound);

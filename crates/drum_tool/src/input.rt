@@ -1,13 +1,13 @@
-//! The joined form, read from an input and taken apart.
+//! Documents from their texts, and from the joined form, read from an input and taken apart.
 
 ghost use Rattle.std.specs.Prelude.{◌≡◌, ◌+◌, ◌^◌, ◌≤◌, ◌⊎◌, ℕ, IfOk, IfErr, IfSome, IsErrOf};
 ghost use Rattle.drum_lines.specs.FaultStatus.{failed_by};
+ghost use Rattle.drum_tool.specs.Documents.{Say, SayNone, texts_of};
 ghost use Rattle.drum_tool.specs.Joined.{Gives, GivesNone, IsPastLimit, Joins, JoinsNone};
 
 use crate::documents::Documents;
-use crate::held::Held;
 use crate::joined::Parts;
-use drum_core::{Input, WholeError, read_deck, read_whole};
+use drum_core::{Input, WholeError, deck_of, read_whole};
 use drum_lines::{Fault, Part, PartFault};
 use drum_times::{read_notes, read_times};
 use std::alloc::Global;
@@ -16,6 +16,34 @@ use std::alloc::Global;
 const BYTES: usize = 16_777_216;
 
 impl Documents {
+    /// The documents that three texts say, checked one after the other.
+    ///
+    /// # Errors
+    ///
+    /// The fault of the first text that has one.
+    pub fn of_texts(
+        alloc: Global,
+        deck: &[u8],
+        times: &[u8],
+        notes: &[u8],
+    ) -> Result<Documents, Fault>
+        ensures said { IfOk result (Say (texts_of deck.now times.now notes.now)) }
+        ensures fault { IfErr result (SayNone (texts_of deck.now times.now notes.now)) }
+    {
+        let deck = match deck_of(alloc, deck) {
+            Ok(deck) => deck,
+            Err(fault) => return Err(Fault::Deck(fault)),
+        };
+        let times = match read_times(alloc, times) {
+            Ok(times) => times,
+            Err(fault) => return Err(Fault::Times(fault)),
+        };
+        match read_notes(alloc, notes) {
+            Ok(notes) => Ok(Documents { deck, times, notes }),
+            Err(fault) => Err(Fault::Notes(fault)),
+        }
+    }
+
     /// The documents of a joined form. Its parts are checked one after the other.
     ///
     /// # Errors
@@ -28,18 +56,7 @@ impl Documents {
         let Some(parts) = Parts::of(text) else {
             return Err(Fault::NoPart);
         };
-        let deck = match read_deck(alloc, &mut Held::new(parts.deck)) {
-            Ok(deck) => deck,
-            Err(fault) => return Err(Fault::Deck(fault)),
-        };
-        let times = match read_times(alloc, parts.times) {
-            Ok(times) => times,
-            Err(fault) => return Err(Fault::Times(fault)),
-        };
-        match read_notes(alloc, parts.notes) {
-            Ok(notes) => Ok(Documents { deck, times, notes }),
-            Err(fault) => Err(Fault::Notes(fault)),
-        }
+        Documents::of_texts(alloc, parts.deck, parts.times, parts.notes)
     }
 
     /// The documents of the joined form that an input gives, of 16,777,216 bytes at most.

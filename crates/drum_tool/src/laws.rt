@@ -4,7 +4,7 @@ ghost use Rattle.std.specs.Prelude.{◌≡◌, ◌≢◌, ◌≤◌, ◌⊎◌, 
 ghost use Rattle.clap.specs.Words.{Text, fault_of};
 ghost use Rattle.drum_command.specs.Line.{drum650};
 ghost use Rattle.drum_command.specs.declared.refused.Refused.{Refused};
-ghost use Rattle.drum_machine.specs.Run.{Turn};
+ghost use Rattle.drum_machine.specs.Run.{Stride};
 ghost use Rattle.drum_flow.specs.Walk.{Setting};
 ghost use Rattle.drum_bound.specs.Worst.{IsWorst};
 ghost use Rattle.drum_ceiling.specs.declared.answer.Ceiling.{Ceiling};
@@ -27,14 +27,14 @@ ghost use Rattle.drum_tool.specs.Words.{Answers, AreRefused, refused_reply};
 use drum_bound::laws::accepted_is_not_refused;
 use drum_command::laws::each_line_is_taken;
 
-/// What is given fixes one run: as many of its first turns are the same, and those of fewer are a
+/// What is given fixes one run: as many of its first strides are the same, and those of fewer are a
 /// prefix of those of more.
 pub fn one_run()
-    ensures same { (g : Setting) (given : Given) (turns others : List Turn)
-        → IsReplayed g given turns → IsReplayed g given others → length turns ≡ length others
-        → turns ≡ others }
-    ensures prefixes { (g : Setting) (given : Given) (turns : List Turn) (n : ℕ)
-        → IsReplayed g given turns → IsReplayed g given (take n turns) }
+    ensures same { (g : Setting) (given : Given) (strides others : List Stride)
+        → IsReplayed g given strides → IsReplayed g given others → length strides ≡ length others
+        → strides ≡ others }
+    ensures prefixes { (g : Setting) (given : Given) (strides : List Stride) (n : ℕ)
+        → IsReplayed g given strides → IsReplayed g given (take n strides) }
 {}
 
 /// What is given fixes one verdict, and the step with which it comes.

@@ -2,11 +2,11 @@
 //! out.
 #![tactic(auto)]
 
+mod checking;
 mod commands;
 mod documents;
 mod files;
 mod following;
-mod held;
 mod input;
 mod joined;
 pub mod laws;
@@ -14,6 +14,7 @@ mod replaying;
 mod running;
 mod source;
 mod telling;
+mod texts;
 mod tracing;
 
 pub use commands::obey;
@@ -22,6 +23,7 @@ pub use drum_bound::{Analysis, Refusal, Visit, Way, analyse, bound};
 pub use drum_ceiling::{Ceiling, ceiling};
 pub use drum_check::{Finding, Findings, Lacking, list_findings};
 pub use drum_core::{Deck, DeckFault, Reading, read_deck};
+pub use drum_faults::{NamedText, PlacedFault, Slip, deck_faults, fault_lines};
 pub use drum_inputs::{InputFault, Inputs, read_inputs};
 pub use drum_lines::{Fault, Part, PartFault, Status, Verdict, WriteFault};
 pub use drum_loops::Edge;

@@ -111,11 +111,12 @@ pub fn tell_ceiling<O: Output>(out: &mut O, documents: &Documents, ceiling: &Cei
     ended(report_ceiling(ceiling, &documents.notes, out), Status::Done)
 }
 
-/// How the program ends after what was found.
+/// How the program ends after what was found: a mark that doesn't say that it stands inside another
+/// one may be meant so.
 fn status_of(findings: &Findings) -> Status
     ensures { result ≡ status_after_check (found_in findings.now) }
 {
-    if findings.is_empty() {
+    if findings.may_be_meant() {
         Status::Done
     } else {
         Status::Refused
@@ -201,4 +202,16 @@ pub fn tell_usage<E: Output>(err: &mut E, text: &[u8]) -> Status
 {
     let _ = write_text(err, text);
     Status::Usage
+}
+
+/// Writes the lines of all faults of texts: a write that fails changes nothing.
+pub fn tell_faults<E: Output>(err: &mut E, lines: &[u8]) -> Status
+    requires err { E.called err.old ≤ 2 ^ 62 }
+    requires short { length lines.now ≤ 2 ^ 61 }
+    ensures lines { GetsComplaint (device (E.written err.old) (E.failed err.old))
+        (device (E.written err.new) (E.failed err.new)) lines.now }
+    ensures status { result ≡ Status.Refused }
+{
+    let _ = write_text(err, lines);
+    Status::Refused
 }

@@ -2,10 +2,10 @@
 
 ghost use Rattle.std.specs.Prelude.{◌≡◌, ◌+◌, ◌^◌, ◌<◌, ◌≤◌, List, IfOk, IfErr, MatchResult, []};
 ghost use Rattle.drum_times.specs.Entries.{entry_in};
-ghost use Rattle.drum_machine.specs.Run.{Turn};
+ghost use Rattle.drum_machine.specs.Run.{Stride};
 ghost use Rattle.drum_flow.specs.SettingOf.{setting};
 ghost use Rattle.drum_lines.specs.Sent.{IsWritten, fails_by};
-ghost use Rattle.drum_listing.specs.TraceText.{turn_lines};
+ghost use Rattle.drum_listing.specs.TraceText.{stride_lines};
 ghost use Rattle.drum_tool.specs.Begun.{IsBegun, IsReady, IsTraceBegun};
 ghost use Rattle.drum_flow.specs.Bounded.{IsBounded};
 ghost use Rattle.drum_tool.specs.Documents.{setting_of};
@@ -48,14 +48,14 @@ fn send_steps<O: Output>(
     requires begins { CanBegin (setting deck.now times.now notes.now) (state_of following) }
     requires follows { IsFollowing (setting deck.now times.now notes.now) (state_of following)
         (waits_of following) most [] following }
-    ensures written { (turns : List Turn)
+    ensures written { (strides : List Stride)
         × MatchResult result
         (IsFollowed (setting deck.now times.now notes.now) (state_of following)
-        (waits_of following) most turns)
+        (waits_of following) most strides)
         (λ _. AreUnderWay (setting deck.now times.now notes.now) (state_of following)
-        (waits_of following) turns)
+        (waits_of following) strides)
         × IsWritten (O.written out.old) (O.written out.new) result
-        (turn_lines (entry_in times.now) 1 turns) }
+        (stride_lines (entry_in times.now) 1 strides) }
     ensures failures { O.failed out.new ≡ O.failed out.old + fails_by result }
     ensures calls { O.called out.new ≤ O.called out.old + 2 ^ 60 }
 {
@@ -114,11 +114,11 @@ pub fn trace<O: Output>(
     requires called { O.called out.old ≤ 2 ^ 62 }
     requires ready { IsReady (setting_of documents.now) begun }
     ensures written { (given : Given) → IsBegun (setting_of documents.now) given begun
-        → (turns : List Turn)
-        × MatchResult result (IsTraced (setting_of documents.now) given begun.most turns)
-        (λ _. IsTracedInPart (setting_of documents.now) given turns)
+        → (strides : List Stride)
+        × MatchResult result (IsTraced (setting_of documents.now) given begun.most strides)
+        (λ _. IsTracedInPart (setting_of documents.now) given strides)
         × IsWritten (O.written out.old) (O.written out.new) result
-        (turn_lines (entry_in documents.now.times) 1 turns) }
+        (stride_lines (entry_in documents.now.times) 1 strides) }
     ensures failures { O.failed out.new ≡ O.failed out.old + fails_by result }
     ensures calls { O.called out.new ≤ O.called out.old + 2 ^ 60 }
 {

@@ -198,6 +198,7 @@ fn of_the_program_that_refuses(rt: HostRuntime) -> Result<(), Fail> {
         ("x\n", NOTES, ""),
     ] {
         let files = files(deck, notes, inputs);
+        holds(&rt, Call::Run(&["check", "deck", "times", "notes"], &files))?;
         for command in ["replay", "trace"] {
             holds(
                 &rt,

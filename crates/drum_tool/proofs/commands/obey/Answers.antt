@@ -5,12 +5,15 @@ use Rattle.drum_check.specs.FindingsOf.{found_in}
 use Rattle.drum_listing.specs.WaitsOf.{firsts_of}
 use Rattle.drum_lines.specs.FaultStatus.{reads_failed}
 use Rattle.drum_lines.specs.declared.status.Status.TheVariants.{Done}
-use Rattle.drum_tool.specs.Output.{GetsResult, device}
+use Rattle.drum_tool.specs.declared.checking.Checked.{Checked}
+use Rattle.drum_tool.specs.declared.checking.Checked.TheVariants.{Faulty, Sound}
+use Rattle.drum_tool.specs.Checked.{IsChecked}
+use Rattle.drum_tool.specs.Output.{GetsComplaint, GetsResult, device}
 use Rattle.drum_tool.specs.Reply.{bound_reply, ceiling_reply, fault_reply, findings_reply, picture_reply, report_reply}
-use Rattle.drum_tool.specs.Reply.{verdict_reply, waits_reply, walk_reply}
+use Rattle.drum_tool.specs.Reply.{lists, verdict_reply, waits_reply, walk_reply}
 use Rattle.drum_tool.specs.Asked.{all_named_in, named_in}
-use Rattle.drum_tool.proofs.Asking.{no_line, no_line_of_trace, told_fault, told_well}
-use Rattle.drum_tool.proofs.Replies.{Replied, counted, fault_of_reads, result_of_no_read, trace_of_no_read}
+use Rattle.drum_tool.proofs.Asking.{no_line, no_line_of_lists, no_line_of_trace, told_fault, told_well}
+use Rattle.drum_tool.proofs.Replies.{Replied, counted, fault_of_reads, lists_of_no_read, result_of_no_read, trace_of_no_read}
 use Rattle.drum_tool.proofs.commands.obey.Goals as goal
 
 pub returns-in-Ok-clause-told : goal.returns-in-Ok-clause-told
@@ -39,30 +42,60 @@ returns-in-Bound-clause-told g c =
           (g.S.Source.asked c.bound.new.source) fault c.in-Err.ensures.asked),
     )
 
-pub returns-in-Ok-findings-clause-told : goal.returns-in-Ok-findings-clause-told
-returns-in-Ok-findings-clause-told g c =
-    let reply = findings_reply (found_in c.in-Ok-findings.findings) in (
+pub returns-in-Ok-Faulty-clause-told : goal.returns-in-Ok-Faulty-clause-told
+returns-in-Ok-Faulty-clause-told g c =
+    let lines = c.in-Ok-Faulty.lines.items in
+    let old = device (g.E.Output.written c.args.err.now) (g.E.Output.failed c.args.err.now) in
+    let new = device (g.E.Output.written c.tell_faults.new.err) (g.E.Output.failed c.tell_faults.new.err) in
+    let gets = subst (λ (text : List ℕ). GetsComplaint old new text) c.deref.ensures.value c.tell_faults.ensures.lines in
+    let reply = lists lines in (
+      reply,
+      (refl, gets, c.tell_faults.ensures.status),
+      (λ failures count.
+          counted (Replied (g.S.Source.files c.args.source.now) c.args.command reply) _ _ failures 0
+          c.in-Ok-Faulty.ensures.counted count (
+            lists_of_no_read _,
+            rw c.in-Check.is (λ held told.
+                let is = c.in-Ok-Faulty.ensures.checked held told in
+                let faulty : IsChecked c.in-Check.files is.0 (Faulty c.in-Ok-Faulty.lines) =
+                subst (λ (one : Checked). IsChecked c.in-Check.files is.0 one) c.in-Ok-Faulty.field-0-is is.2 in
+                inl (is.0, is.1, refl, inl (lines, faulty.0, faulty.1, refl))),
+          )),
+      rw c.in-Check.is (told_well (named_in c.in-Check.files) (g.S.Source.asked c.args.source.now)
+          (g.S.Source.asked c.checked.new.source) reply (no_line_of_lists _) c.in-Ok-Faulty.ensures.asked),
+    )
+
+pub returns-in-Ok-Sound-clause-told : goal.returns-in-Ok-Sound-clause-told
+returns-in-Ok-Sound-clause-told g c =
+    let found = found_in c.in-Ok-Sound.findings in
+    let reply = findings_reply found in (
       reply,
       (c.tell_findings.ensures, refl),
       (λ failures count.
           counted (Replied (g.S.Source.files c.args.source.now) c.args.command reply) _ _ failures 0
-          c.in-Ok-findings.ensures.counted count
-          (result_of_no_read _ _, rw c.in-Check.is (λ held told. c.in-Ok-findings.ensures.findings held told))),
+          c.in-Ok-Sound.ensures.counted count (
+            result_of_no_read _ _,
+            rw c.in-Check.is (λ held told.
+                let is = c.in-Ok-Sound.ensures.checked held told in
+                let sound : IsChecked c.in-Check.files is.0 (Sound c.in-Ok-Sound.findings c.in-Ok-Sound.lacking) =
+                subst (λ (one : Checked). IsChecked c.in-Check.files is.0 one) c.in-Ok-Sound.field-0-is is.2 in
+                inl (is.0, is.1, refl, inr (sound.0, sound.1, (found, sound.2, refl)))),
+          )),
       rw c.in-Check.is (told_well (named_in c.in-Check.files) (g.S.Source.asked c.args.source.now)
-          (g.S.Source.asked c.findings.new.source) reply (no_line _ _) c.in-Ok-findings.ensures.asked),
+          (g.S.Source.asked c.checked.new.source) reply (no_line _ _) c.in-Ok-Sound.ensures.asked),
     )
 
 pub returns-in-Check-clause-told : goal.returns-in-Check-clause-told
 returns-in-Check-clause-told g c =
-    let fault = c.in-Err-findings.fault in (
+    let fault = c.in-Err-checked.fault in (
       fault_reply fault,
-      (refl, c.complain-in-Err-findings.ensures.line, c.complain-in-Err-findings.ensures.status),
+      (refl, c.complain-in-Err-checked.ensures.line, c.complain-in-Err-checked.ensures.status),
       (λ failures count.
           counted (Replied (g.S.Source.files c.args.source.now) c.args.command (fault_reply fault)) _ _ failures
-          (reads_failed fault) c.in-Err-findings.ensures.counted count
-          (fault_of_reads fault, rw c.in-Check.is (λ held told. inr (fault, c.in-Err-findings.ensures.fault held told, refl, refl)))),
+          (reads_failed fault) c.in-Err-checked.ensures.counted count
+          (fault_of_reads fault, rw c.in-Check.is (λ held told. inr (fault, c.in-Err-checked.ensures.fault held told, refl, refl)))),
       rw c.in-Check.is (told_fault (named_in c.in-Check.files) (g.S.Source.asked c.args.source.now)
-          (g.S.Source.asked c.findings.new.source) fault c.in-Err-findings.ensures.asked),
+          (g.S.Source.asked c.checked.new.source) fault c.in-Err-checked.ensures.asked),
     )
 
 pub returns-in-Ok-analysis-clause-told : goal.returns-in-Ok-analysis-clause-told

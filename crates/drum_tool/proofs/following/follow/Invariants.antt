@@ -1,14 +1,14 @@
 use Rattle.std.proofs.Common.{◌-◌, ◌+◌, List}
-use Rattle.drum_machine.specs.Run.{Turn}
+use Rattle.drum_machine.specs.Run.{Stride}
 use Rattle.drum_flow.specs.SettingOf.{setting}
 use Rattle.drum_tool.specs.Following.{IsFollowing, state_of, used_so_far, waits_of}
 use Rattle.drum_tool.proofs.following.follow.Given as goal
 
 abbrev pub invariant-loop-verdict : goal.invariant-loop-verdict
 invariant-loop-verdict l = record {
-  turns : List Turn;
+  strides : List Stride;
   so_far : IsFollowing (setting l.deck l.times l.notes) (state_of l.fn.following) (waits_of l.fn.following) l.bound
-      turns l.following;
+      strides l.following;
 }
 
 -- each step uses time

@@ -1,5 +1,5 @@
 use Rattle.std.proofs.Common.{arith, inl, inr, refl}
-use Rattle.drum_listing.specs.TraceText.{turn_lines}
+use Rattle.drum_listing.specs.TraceText.{stride_lines}
 use Rattle.drum_lines.specs.Status.{status_of}
 use Rattle.drum_lines.specs.VerdictText.{verdict_text}
 use Rattle.drum_tool.specs.Documents.{setting_of}
@@ -20,7 +20,7 @@ returns-in-Ok g c given is =
       trace_reply all by written.0 verdict,
       (is.own_words, (by, c.args.begun.most, is.limited, inl (written.0, verdict, written.1, refl))),
       (λ err. (
-        gets_behind old mid new (turn_lines all.times 1 written.0) (verdict_text by verdict) (status_of verdict)
+        gets_behind old mid new (stride_lines all.times 1 written.0) (verdict_text by verdict) (status_of verdict)
             c.tell_verdict.result
             (written.2, omega (arith, c.in-Ok.ensures.failures)) c.tell_verdict.ensures,
         refl,

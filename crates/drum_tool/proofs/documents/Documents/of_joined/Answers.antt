@@ -1,44 +1,14 @@
-use Rattle.std.proofs.Common.{IfSome, rules, subst}
-use Rattle.drum_core.specs.DeckText.{IsRefused}
-use Rattle.drum_tool.specs.Documents.{SaysDeck}
 use Rattle.drum_tool.specs.PartsOf.{texts_of}
-use Rattle.drum_tool.proofs.Answering.{no_deck}
+use Rattle.drum_tool.proofs.Replies.{err_map, ok_map}
+use Rattle.drum_tool.proofs.Joining.{joins_none}
 use Rattle.drum_tool.proofs.documents.Documents.of_joined.Goals as goal
 
-pub returns-in-Err-clause-fault : goal.returns-in-Err-clause-fault
-returns-in-Err-clause-fault c = (
-  texts_of c.in-Some.parts,
-  c.in-Some.ensures.found,
-  no_deck c.in-Some.parts.deck.now c.in-Err.fault (λ is. search rules) (λ read memory.
-      subst (λ left. IfSome left (λ bytes. IsRefused bytes c.in-Err.fault)) c.new.ensures.bytes
-      (c.in-Err.ensures.refused read memory)),
-)
+pub returns-clause-joins : goal.returns-clause-joins
+returns-clause-joins c =
+    ok_map _ _ c.of_texts.result c.of_texts.ensures.said
+    (λ documents said. (texts_of c.in-Some.parts, c.in-Some.ensures.found, said))
 
-pub returns-in-Err-read_times-clause-fault : goal.returns-in-Err-read_times-clause-fault
-returns-in-Err-read_times-clause-fault c = (
-  texts_of c.in-Some.parts,
-  c.in-Some.ensures.found,
-  (
-    (
-      c.in-Ok.deck,
-      subst (λ left. IfSome left (λ bytes. SaysDeck bytes c.in-Ok.deck)) c.new.ensures.bytes
-          c.in-Ok.ensures.deck,
-    ),
-    c.in-Err-read_times.ensures.refused,
-  ),
-)
-
-pub returns-in-Err-read_notes-clause-fault : goal.returns-in-Err-read_notes-clause-fault
-returns-in-Err-read_notes-clause-fault c = (
-  texts_of c.in-Some.parts,
-  c.in-Some.ensures.found,
-  (
-    (
-      c.in-Ok.deck,
-      subst (λ left. IfSome left (λ bytes. SaysDeck bytes c.in-Ok.deck)) c.new.ensures.bytes
-          c.in-Ok.ensures.deck,
-    ),
-    (c.in-Ok-read_times.times, c.in-Ok-read_times.ensures.read),
-    c.in-Err-read_notes.ensures.refused,
-  ),
-)
+pub returns-clause-fault : goal.returns-clause-fault
+returns-clause-fault c =
+    err_map _ _ c.of_texts.result c.of_texts.ensures.fault
+    (λ fault none. joins_none c.args.text.now (texts_of c.in-Some.parts) fault c.in-Some.ensures.found none)

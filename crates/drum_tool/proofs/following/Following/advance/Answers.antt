@@ -6,7 +6,7 @@ use Rattle.drum_machine.specs.Monitor.{HasSeen, IsToldOf}
 use Rattle.drum_machine.specs.Step.{fetched}
 use Rattle.drum_flow.specs.SettingOf.{setting}
 use Rattle.drum_lines.specs.declared.verdict.Verdict.TheVariants.{Left}
-use Rattle.drum_tool.specs.Following.{IsFollowed, state_of, turn_of}
+use Rattle.drum_tool.specs.Following.{IsFollowed, state_of, stride_of}
 use Rattle.drum_tool.proofs.Followed.{goes_on, held_after, leaves_here, replayed, stops_here, told}
 use Rattle.drum_tool.proofs.following.Following.advance.Goals as goal
 
@@ -20,7 +20,7 @@ pub returns-in-Stopped-clause-told : goal.returns-in-Stopped-clause-told
 returns-in-Stopped-clause-told c goes =
     let g = setting c.args.deck.now c.args.times.now c.args.notes.now in
     let before = c.args.self.now in
-    subst (IsToldOf g.times (turn_of g.times before)) c.in-Stopped.is
+    subst (IsToldOf g.times (stride_of g.times before)) c.in-Stopped.is
     (told g before c.step-step.result c.step-step.new.self c.step-step.new.feed (c.step-step.ensures.goes goes))
 
 pub returns-clause-told : goal.returns-clause-told
@@ -33,82 +33,82 @@ pub returns-in-Some-clause-held : goal.returns-in-Some-clause-held
 returns-in-Some-clause-held c goes =
     let before = c.args.self.now in
     let takes = c.step-step.ensures.goes goes in
-    held_after (turn_of (entry_in c.args.times.now) before).outcome before.machine.sought
+    held_after (stride_of (entry_in c.args.times.now) before).outcome before.machine.sought
     (fetched (state_of before)) c.step-step.new.self (cards_left c.step-step.new.feed) takes.becomes
 
 pub returns-in-Stopped-clause-held : goal.returns-in-Stopped-clause-held
 returns-in-Stopped-clause-held c goes =
     let before = c.args.self.now in
     let takes = c.step-step.ensures.goes goes in
-    held_after (turn_of (entry_in c.args.times.now) before).outcome before.machine.sought
+    held_after (stride_of (entry_in c.args.times.now) before).outcome before.machine.sought
     (fetched (state_of before)) c.step-step.new.self (cards_left c.step-step.new.feed) takes.becomes
 
 pub returns-clause-held : goal.returns-clause-held
 returns-clause-held c goes =
     let before = c.args.self.now in
     let takes = c.step-step.ensures.goes goes in
-    held_after (turn_of (entry_in c.args.times.now) before).outcome before.machine.sought
+    held_after (stride_of (entry_in c.args.times.now) before).outcome before.machine.sought
     (fetched (state_of before)) c.step-step.new.self (cards_left c.step-step.new.feed) takes.becomes
 
 pub returns-in-Some-clause-of_run : goal.returns-in-Some-clause-of_run
-returns-in-Some-clause-of_run c s waits turns begins bounded following =
-    replayed (setting c.args.deck.now c.args.times.now c.args.notes.now) s waits c.args.bound begins bounded turns
+returns-in-Some-clause-of_run c s waits strides begins bounded following =
+    replayed (setting c.args.deck.now c.args.times.now c.args.notes.now) s waits c.args.bound begins bounded strides
     c.args.self.now following
     c.step-step.result c.step-step.new.self c.step-step.new.feed (c.step-step.ensures.goes following.goes)
 
 pub returns-in-Stopped-clause-of_run : goal.returns-in-Stopped-clause-of_run
-returns-in-Stopped-clause-of_run c s waits turns begins bounded following =
-    replayed (setting c.args.deck.now c.args.times.now c.args.notes.now) s waits c.args.bound begins bounded turns
+returns-in-Stopped-clause-of_run c s waits strides begins bounded following =
+    replayed (setting c.args.deck.now c.args.times.now c.args.notes.now) s waits c.args.bound begins bounded strides
     c.args.self.now following
     c.step-step.result c.step-step.new.self c.step-step.new.feed (c.step-step.ensures.goes following.goes)
 
 pub returns-clause-of_run : goal.returns-clause-of_run
-returns-clause-of_run c s waits turns begins bounded following =
-    replayed (setting c.args.deck.now c.args.times.now c.args.notes.now) s waits c.args.bound begins bounded turns
+returns-clause-of_run c s waits strides begins bounded following =
+    replayed (setting c.args.deck.now c.args.times.now c.args.notes.now) s waits c.args.bound begins bounded strides
     c.args.self.now following
     c.step-step.result c.step-step.new.self c.step-step.new.feed (c.step-step.ensures.goes following.goes)
 
 pub returns-in-Some-clause-advanced : goal.returns-in-Some-clause-advanced
-returns-in-Some-clause-advanced c s waits turns begins bounded following =
+returns-in-Some-clause-advanced c s waits strides begins bounded following =
     let g = setting c.args.deck.now c.args.times.now c.args.notes.now in
     let before = c.args.self.now in
     let takes = c.step-step.ensures.goes following.goes in
     let told_so = told g before c.step-step.result c.step-step.new.self c.step-step.new.feed takes in
     let leaves =
-    c.in-Some.ensures.judged following.silent (entry_in c.args.times.now) turns (turn_of g.times before)
+    c.in-Some.ensures.judged following.silent (entry_in c.args.times.now) strides (stride_of g.times before)
     following.seen told_so in
-    subst (λ (used : ℕ). IsFollowed g s waits c.args.bound (turns ++ turn_of g.times before ∷ [])
+    subst (λ (used : ℕ). IsFollowed g s waits c.args.bound (strides ++ stride_of g.times before ∷ [])
     (Left c.in-Some.what (before.steps + 1) used))
     (sym c.used-before.ensures)
-    (leaves_here g s waits c.args.bound begins bounded turns before following c.step-step.result c.step-step.new.self
+    (leaves_here g s waits c.args.bound begins bounded strides before following c.step-step.result c.step-step.new.self
     c.step-step.new.feed takes
     c.in-Some.what leaves)
 
 pub returns-in-Stopped-clause-advanced : goal.returns-in-Stopped-clause-advanced
-returns-in-Stopped-clause-advanced c s waits turns begins bounded following =
+returns-in-Stopped-clause-advanced c s waits strides begins bounded following =
     let g = setting c.args.deck.now c.args.times.now c.args.notes.now in
     let before = c.args.self.now in
     let takes = c.step-step.ensures.goes following.goes in
     let told_so = told g before c.step-step.result c.step-step.new.self c.step-step.new.feed takes in
     let seen : HasSeen (loads_in c.args.deck.now) c.args.notes.now c.check.new.self
-    (turns ++ turn_of g.times before ∷ []) =
-    c.in_default.ensures.judged following.silent (entry_in c.args.times.now) turns (turn_of g.times before)
+    (strides ++ stride_of g.times before ∷ []) =
+    c.in_default.ensures.judged following.silent (entry_in c.args.times.now) strides (stride_of g.times before)
     following.seen told_so in
-    stops_here g s waits c.args.bound begins bounded turns before following c.step-step.result c.step-step.new.self
+    stops_here g s waits c.args.bound begins bounded strides before following c.step-step.result c.step-step.new.self
     c.step-step.new.feed takes
     c.check.new.self seen c.in-Stopped.origin c.in-Stopped.word c.in-Stopped.why c.in-Stopped.used c.in-Stopped.is
 
 pub returns-clause-advanced : goal.returns-clause-advanced
-returns-clause-advanced c s waits turns begins bounded following =
+returns-clause-advanced c s waits strides begins bounded following =
     let g = setting c.args.deck.now c.args.times.now c.args.notes.now in
     let before = c.args.self.now in
     let takes = c.step-step.ensures.goes following.goes in
     let told_so = told g before c.step-step.result c.step-step.new.self c.step-step.new.feed takes in
     let seen : HasSeen (loads_in c.args.deck.now) c.args.notes.now c.check.new.self
-    (turns ++ turn_of g.times before ∷ []) =
-    c.in_default.ensures.judged following.silent (entry_in c.args.times.now) turns (turn_of g.times before)
+    (strides ++ stride_of g.times before ∷ []) =
+    c.in_default.ensures.judged following.silent (entry_in c.args.times.now) strides (stride_of g.times before)
     following.seen told_so in
-    goes_on g s waits c.args.bound begins bounded turns before following c.step-step.result c.step-step.new.self
+    goes_on g s waits c.args.bound begins bounded strides before following c.step-step.result c.step-step.new.self
     c.step-step.new.feed takes
     c.check.new.self seen (sym c.check.ensures.answered ∙ c.in_default.is) c.step-step.ensures.advances
     c.in_default-step.not-Stopped

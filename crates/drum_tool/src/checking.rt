@@ -1,0 +1,71 @@
+//! A check of texts: all of their faults, or all that keeps the deck that they say from a bound.
+
+ghost use Rattle.std.specs.Prelude.{IfOk, IfErr, ◌≤◌, ◌^◌, length};
+ghost use Rattle.drum_tool.specs.Checked.{AreLacking, IsChecked, IsShort, texts_in};
+ghost use Rattle.drum_tool.specs.Reply.{AreLinesOfFaults, IsWanting};
+
+use crate::documents::Documents;
+use crate::texts::Texts;
+use drum_check::{Findings, Lacking};
+use drum_command::Files;
+use drum_faults::{NamedText, fault_lines};
+use drum_lines::Fault;
+use std::alloc::Global;
+
+/// What a check of texts comes to.
+#[derive(Debug, Drop)]
+pub enum Checked {
+    /// The lines of the faults that the texts have.
+    Faulty(Vec<u8>),
+    /// All that keeps what they say from a bound, and what is lacking.
+    Sound(Findings, Lacking),
+}
+
+/// The lines of all faults of texts, in the files of these names.
+fn lines_of(alloc: Global, files: Files<'_>, texts: &Texts) -> Result<Vec<u8>, Fault>
+    ensures lines { IfOk result (λ lines.
+        AreLinesOfFaults files.entry (texts_in texts.now) lines.items) }
+    ensures short { IfOk result (λ lines. length lines.items ≤ 2 ^ 61) }
+    ensures wanting { IfErr result IsWanting }
+{
+    let deck = NamedText {
+        name: files.deck,
+        bytes: &texts.deck,
+    };
+    let times = NamedText {
+        name: files.times,
+        bytes: &texts.times,
+    };
+    let notes = NamedText {
+        name: files.notes,
+        bytes: &texts.notes,
+    };
+    match fault_lines(alloc, deck, times, notes) {
+        Ok(lines) => Ok(lines),
+        Err(_) => Err(Fault::Memory),
+    }
+}
+
+/// All that is wrong with texts, in the files of these names: each of their faults; or, where they
+/// have none, all that keeps the deck from having a bound under its notes.
+///
+/// # Errors
+///
+/// Where memory is wanting.
+pub fn check(alloc: Global, files: Files<'_>, texts: &Texts) -> Result<Checked, Fault>
+    ensures checked { IfOk result (IsChecked files.entry (texts_in texts.now)) }
+    ensures lacking { IfOk result AreLacking }
+    ensures short { IfOk result IsShort }
+    ensures wanting { IfErr result IsWanting }
+{
+    let lines = lines_of(alloc, files, texts)?;
+    if !lines.is_empty() {
+        return Ok(Checked::Faulty(lines));
+    }
+    let Ok(documents) = Documents::of_texts(alloc, &texts.deck, &texts.times, &texts.notes) else {
+        // No text has a fault: only memory can be wanting.
+        return Err(Fault::Memory);
+    };
+    let (findings, lacking) = documents.findings(alloc)?;
+    Ok(Checked::Sound(findings, lacking))
+}
