@@ -79,6 +79,30 @@ class Flow:
         for place in sorted(set(self.lists) - set(self.order)):
             yield "unused list %04d" % place
 
+    def is_inside(self, inner, outer):
+        """Whether the notes say that the mark at one place stands inside the one at another."""
+        around = self.marks[inner].get("inside")
+        return around is not None and (around - 1 == outer or self.is_inside(around - 1, outer))
+
+    def is_nested(self, outer, inner):
+        """Whether the loop of one edge stands inside that of another: past the outer loop's head
+        the inner one's leads round its loop and to the outer edge, and the start leads to it through
+        that head alone."""
+        head, place = outer[1], inner[1]
+        past = [(one, onto) for one in self.order for onto in self.targets[one] if onto != head]
+        here = reached(past, place)
+        is_entered = self.order[0] == head or place not in reached(past, self.order[0])
+        return place != head and {inner[0], outer[0]} <= here and is_entered
+
+    def unsaid(self):
+        """Marks whose loop stands inside another one's where the notes don't say so."""
+        edges = [(mark["from"], mark["to"]) for mark in self.marks]
+        for at, inner in enumerate(edges):
+            for around, outer in enumerate(edges):
+                are_there = all(to in self.targets.get(source, []) for source, to in (inner, outer))
+                if are_there and self.is_nested(outer, inner) and not self.is_inside(at, around):
+                    yield "inside %04d %04d %04d %04d" % (*inner, *outer)
+
     def lines(self):
         """All that comes before the loops."""
         unfit = [line for place in self.order for line in self.unfit(place)]
@@ -144,13 +168,13 @@ def is_check(text, files):
     flow = Flow(files)
     told = [tuple(map(int, edge)) for edge in re.findall("^loop ([0-9]{4}) ([0-9]{4})$", text, re.M)]
     lines = flow.lines() + ["loop %04d %04d" % edge for edge in told]
-    lines += [*flow.unused(), *flow.lacking(told)]
+    lines += [*flow.unused(), *flow.unsaid(), *flow.lacking(told)]
     is_one = text == "".join(line + "\n" for line in lines)
     return is_one and are_closing(told, flow.free_edges())
 
 
-def is_unused(line):
-    return line.startswith("unused ")
+def is_unmeant(line):
+    return line.startswith(("unused ", "inside "))
 
 
 def is_first_of(line, told):

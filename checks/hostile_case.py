@@ -55,12 +55,14 @@ class Case:
         self.joined, self.stdin = more.pop("joined", None), more.pop("stdin", None)
         # Where standard output goes to: a device, `closed`, or `broken`, a pipe that nobody reads.
         self.to = more.pop("out", None)
+        # How many lines of faults a check lists, the last of which ends with the line.
+        self.lists = more.pop("lists", None)
         # What a long output is held to: a function of its file, which gives what is wrong with it.
         self.holds = more.pop("holds", None)
         # A result goes to standard output, a fault to standard error; neither where standard output
         # can't be written.
-        self.out = b"" if self.to or not is_result else line
-        self.err = b"" if is_result else line
+        self.out = b"" if self.to or self.lists or not is_result else line
+        self.err = line if self.lists or not is_result else b""
         # A part is its bytes, or a function that makes its file and gives the file's name.
         self.parts = dict(PARTS, **more)
 

@@ -227,6 +227,11 @@ def of_checks():
     holds = has_lines(5 * 2000 * 2001 // 2, last)
     parts = {"deck": b"START 0000\n", "notes": NOTES + every, "holds": holds}
     yield Case("check of 2,001,000 loops", last, "check", **parts)
+    # Eight of these edges are marked. Seven loops stand inside that of the start, by one line each.
+    edges = [(1999 - mark, mark, 1, 0) for mark in range(8)]
+    parts["notes"] += marks(edges)
+    parts["holds"] = has_lines(5 * (2000 * 2001 // 2 - 8) + 7, last)
+    yield Case("check of 2,000,992 loops and eight marks", last, "check", **parts)
     halves = b"".join(
         b"[[list]]\nlocation=%d\npattern=[{op=20,d_from=0,d_to=1999,i=%d}]\n" % (here, here + 1)
         for here in range(1000)
@@ -240,6 +245,12 @@ def of_checks():
     stored = storing_drum(64)
     name = "check of %s" % stored.name.removeprefix("bound of ")
     yield Case(name, b"", "check", **stored.parts)
+    # Every line of a deck but the first is a second card for a location, or no card at all.
+    twice = card(0, 1, 0, 0) * 4000
+    line = fault(5, b"deck", b"nostart")
+    yield Case("check of 3999 locations given twice", line, "check", deck=twice, lists=7999)
+    slips = b"start 0000\r\n" * 4000
+    yield Case("check of 4000 lines of small letters", line, "check", deck=slips, lists=8001)
 
 
 def of_outputs():

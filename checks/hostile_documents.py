@@ -56,6 +56,8 @@ def of_keys():
     for part, document in in_front(keys):
         line = unknown(part, b"k00000")
         yield from both("%s with 100,000 unknown keys" % part, line, **{part: document})
+        name = "check of %s with 100,000 unknown keys" % part
+        yield Case(name, unknown(part, b"k99999"), "check", lists=100_000, **{part: document})
     for part, text in [("times", TIMES), ("notes", NOTES)]:
         key = b"k" * (FILE - len(text) - 5)
         line = unknown(part, key)

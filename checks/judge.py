@@ -5,7 +5,7 @@ from collections import namedtuple
 
 from damage import FILES, files_of_joined, joined
 from faults import fault_of, has_its_form, is_accepted, names_what_is_there
-from findings import is_check, is_first_of, is_unused
+from findings import is_check, is_first_of, is_unmeant
 from results import (
     bound_of,
     ceiling_of,
@@ -19,6 +19,7 @@ from results import (
     waits_of_walk,
     walked_bound,
 )
+from text_faults import listed_faults
 
 # What a run gave: its status and both outputs.
 Ran = namedtuple("Ran", "status out err")
@@ -55,11 +56,17 @@ def verdict_of(line, status):
     return Told("left", None, left[1]) if left and status == LEFT else None
 
 
+def status_of_check(text):
+    """A mark that doesn't say that it stands inside another one may be meant so."""
+    are_asked = all(line.startswith("inside ") for line in text.splitlines())
+    return DONE if are_asked else REFUSED
+
+
 def result_of(asked, status, text):
     """What a result tells that was asked for; None where it is none."""
     command, files = asked
     if command == "check":
-        is_told = status == (REFUSED if text else DONE) and is_check(text, files)
+        is_told = status == status_of_check(text) and is_check(text, files)
         return Told("check") if is_told else None
     if command == "replay":
         told = verdict_of(text, status)
@@ -79,6 +86,12 @@ def result_of(asked, status, text):
     return Told(kind, bound) if bound is not None and status == DONE else None
 
 
+def is_list(asked, ran):
+    """Whether a run told the faults of texts, each with its file's name in front."""
+    is_refused = asked and asked[0] == "check" and ran.status == REFUSED and ran.out == b""
+    return is_refused and not ran.err.startswith(b"fault ")
+
+
 def told_of(asked, ran):
     """What a run told that was asked for this, or for no command over files that there are; None
     where it is nothing that may be told then."""
@@ -94,6 +107,8 @@ def told_of(asked, ran):
     if ran.status == USAGE:
         return None if asked else Told("usage")
     fault = fault_of(err, ran.status)
+    if is_list(asked, ran):
+        fault = (listed_faults(err, asked[1]) or [None])[0]
     kind = "unopened" if fault and fault.ending == "open" else "refused"
     return fault and Told(kind, fault=fault)
 
@@ -154,7 +169,7 @@ def is_said_first(ran, told, bound, files):
     other = told_of(("bound", files), bound)
     if other is None or told.fault:
         return other is not None and told.fault == other.fault
-    if all(map(is_unused, ran.out.decode().splitlines())):
+    if all(map(is_unmeant, ran.out.decode().splitlines())):
         return other.fault is None
     is_refused = other.fault is not None and other.fault.about == "analysis"
     return is_refused and is_first_of(bound.err.decode(), ran.out.decode())
@@ -213,7 +228,7 @@ def writes_where_its_status_says(ran, asked):
     """Whether a run wrote to the one output that goes with its status, and nothing to the other. A
     check that finds nothing writes nothing, and what it finds ends with the status of a fault."""
     if asked and asked[0] == "check" and ran.err == b"":
-        return ran.status == (REFUSED if ran.out else DONE)
+        return ran.status in (DONE, REFUSED) and (ran.out != b"" or ran.status == DONE)
     is_line = {DONE: ran.out, LEFT: ran.out, REFUSED: ran.err, FAILED: ran.err}
     written = is_line.get(ran.status, b"")
     if ran.status == USAGE:
@@ -241,7 +256,8 @@ def judged(case, ran, run):
     # An escape in a document may spell a key with a line feed.
     has_escape = any(b"\\" in text for text in [case.text, *case.files.values()])
     is_fault = ran.status in (REFUSED, FAILED) and ran.out == b""
-    hold("tells a fault in one line", not is_fault or has_escape or ran.err.count(b"\n") == 1)
+    is_one = is_list(asked, ran) or ran.err.count(b"\n") == 1
+    hold("tells a fault in one line", not is_fault or has_escape or is_one)
     told = told_of(asked, ran)
     hold("says what may be said", told is not None)
     hold("wants for nothing", not told.fault or told.fault.ending != "fail")
