@@ -182,7 +182,8 @@ fault_of_line_one before number text (Twice l) (Twice m) p q =
     let same : l.number ≡ m.number = omega arith in
     ap Twice (same_location l m same)
 
-deck_faults : HasOneFault IsLine AreSound IsFaultOfLine
+-- a line of a deck says one thing, a sound one has no fault, and a faulty one has one
+pub deck_faults : HasOneFault IsLine AreSound IsFaultOfLine
 deck_faults = record { one_line = line_one; none_among = no_fault_among; one_fault = fault_of_line_one }
 
 -- a text whose lines are sound has no faulty line

@@ -11,7 +11,7 @@ pub mod Firsts
 pub mod Handed
 pub mod LineCases
 pub mod LineLemmas
-mod Loads
+pub mod Loads
 pub mod Numerals
 pub mod OpLaws
 pub mod Progress

@@ -37,7 +37,7 @@ given_at-append (x ∷ xs) ys n = go (x.location == n) (given_at-append xs ys n)
     go false rest = rest
 
 -- a card gives nothing before its first location and behind its last
-given_at_card_out : (number first : ℕ) (words : List Word) (n : ℕ) → (n < first) ⊎ (first + length words ≤ n)
+pub given_at_card_out : (number first : ℕ) (words : List Word) (n : ℕ) → (n < first) ⊎ (first + length words ≤ n)
     → given_at (given_by_card number first words) n ≡ None
 given_at_card_out number first [] n out = refl
 given_at_card_out number first (word ∷ words) n out =
@@ -66,7 +66,7 @@ not_behind_none : (found : Bool) (x : Given) (rest : Option Given) → cond foun
 not_behind_none true x rest h = cc
 not_behind_none false x rest h = h
 
-not_given : (xs : List Given) (n : ℕ) → given_at xs n ≡ None → IsGiven xs n → ⊥
+pub not_given : (xs : List Given) (n : ℕ) → given_at xs n ≡ None → IsGiven xs n → ⊥
 not_given [] n e (k, one, within, here, at) = omega arith
 not_given (x ∷ xs) n e (zero, one, within, here, at) =
     let same : x.location ≡ n = ap (λ (g : Given). g.location) here ∙ at in
@@ -143,7 +143,7 @@ cards_from-push number (card n words ∷ lines) line =
     ∙ ap (λ (n : ℕ). cards_from (number + 1) lines ++ cards_from n (line ∷ [])) same)
 
 -- what lines and one more give
-given_from-push : (lines : List Line) (line : Line)
+pub given_from-push : (lines : List Line) (line : Line)
     → given_from 1 (lines ++ line ∷ []) ≡ given_from 1 lines ++ given_by (1 + length lines) line
 given_from-push lines line =
     given_from-append 1 lines (line ∷ [])
@@ -214,7 +214,7 @@ holds_start image cards lines {location} on_drum holds =
     holds_more image cards None (Some location) lines (start location.number) holds refl refl
     (λ past. omega (arith, past)) (ap (λ (xs : List ℕ). xs ++ location.number ∷ []) holds.begins) (omega arith)
 
-or_else_none : (one : Option Given) → or_else one None ≡ one
+pub or_else_none : (one : Option Given) → or_else one None ≡ one
 or_else_none None = refl
 or_else_none (Some one) = refl
 
@@ -230,7 +230,7 @@ none_given image cards begun lines n holds below free =
     unseen (given_at (given_from 1 lines) n) (sym (holds.words n below) ∙ free)
 
 -- what is found is given
-found_is_given : (xs : List Given) (n : ℕ) (one : Given) → given_at xs n ≡ Some one → IsGiven xs n
+pub found_is_given : (xs : List Given) (n : ℕ) (one : Given) → given_at xs n ≡ Some one → IsGiven xs n
 found_is_given [] n one e = cc
 found_is_given (x ∷ xs) n one e = go (x.location == n) refl e (found_is_given xs n one)
   where

@@ -1,7 +1,9 @@
 -- What is made of the word at D before an operation adds it.
 use Rattle.std.specs.Prelude.{ℕ}
 use Rattle.drum_core.specs.declared.op.amount.Amount.{Amount}
-use Rattle.drum_core.specs.declared.op.amount.Amount.TheVariants.{Upper, MinusUpper, Lower, MinusLower, AbsoluteLower, MinusAbsoluteLower}
+use Rattle.drum_core.specs.declared.op.amount.Amount.TheVariants.{Upper, MinusUpper, Lower}
+use Rattle.drum_core.specs.declared.op.amount.Amount.TheVariants.{MinusLower, AbsoluteLower}
+use Rattle.drum_core.specs.declared.op.amount.Amount.TheVariants.{MinusAbsoluteLower}
 
 -- the number of the operation that adds it, and doesn't reset the accumulator
 abbrev pub number_of : Amount → ℕ

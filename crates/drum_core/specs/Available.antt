@@ -2,7 +2,8 @@
 -- the other four: this project's choice.
 use Rattle.std.specs.Prelude.{ℕ, ◌%◌, Bool, true, ◌==◌}
 use Rattle.drum_core.specs.declared.location.Kind.{Kind}
-use Rattle.drum_core.specs.declared.location.Kind.TheVariants.{Drum, Switches, Distributor, Lower, Upper}
+use Rattle.drum_core.specs.declared.location.Kind.TheVariants.{Drum, Switches, Distributor, Lower}
+use Rattle.drum_core.specs.declared.location.Kind.TheVariants.{Upper}
 use Rattle.drum_core.specs.declared.rotation.parity.Parity.{Parity}
 use Rattle.drum_core.specs.declared.rotation.parity.Parity.TheVariants.{Any, Even, Odd}
 use Rattle.drum_core.specs.Kind.{kind_of}

@@ -1,7 +1,8 @@
 -- What a branching operation tests.
 use Rattle.std.specs.Prelude.{ℕ}
 use Rattle.drum_core.specs.declared.op.branch.Branch.{Branch}
-use Rattle.drum_core.specs.declared.op.branch.Branch.TheVariants.{UpperNonZero, NonZero, Minus, Overflow}
+use Rattle.drum_core.specs.declared.op.branch.Branch.TheVariants.{UpperNonZero, NonZero, Minus}
+use Rattle.drum_core.specs.declared.op.branch.Branch.TheVariants.{Overflow}
 
 -- the number of the operation that tests it
 abbrev pub number_of : Branch → ℕ

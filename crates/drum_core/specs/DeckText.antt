@@ -1,10 +1,13 @@
 -- Deck text (this project's choice): what each line says, which texts are decks, what a deck loads,
 -- and why another text is refused.
-use Rattle.std.specs.Prelude.{◌≡◌, ℕ, ◌+◌, ◌^◌, ◌<◌, ◌≤◌, List, [], ◌∷◌, ◌++◌, length, flat_map, codes, Any, ◌==◌, if◌then◌else◌, Option, Some, None}
+use Rattle.std.specs.Prelude.{◌≡◌, ℕ, ◌+◌, ◌^◌, ◌<◌, ◌≤◌, List, [], ◌∷◌, ◌++◌, length, flat_map}
+use Rattle.std.specs.Prelude.{codes, Any, ◌==◌, if◌then◌else◌, Option, Some, None}
 use Rattle.std.specs.List.{AllByRecursion}
 use Rattle.std.specs.Option.{option_map}
 use Rattle.drum_core.specs.declared.deck.fault.DeckFault.{DeckFault}
-use Rattle.drum_core.specs.declared.deck.fault.DeckFault.TheVariants.{Read, Memory, Card, Twice, NoStart, TwoStarts, PastDrum, TooLong}
+use Rattle.drum_core.specs.declared.deck.fault.DeckFault.TheVariants.{Read, Memory, Card, Twice}
+use Rattle.drum_core.specs.declared.deck.fault.DeckFault.TheVariants.{NoStart, TwoStarts, PastDrum}
+use Rattle.drum_core.specs.declared.deck.fault.DeckFault.TheVariants.{TooLong}
 use Rattle.drum_core.specs.declared.word.Word.{Word}
 use Rattle.drum_core.specs.Lines.{lines_of, IsLonger, EachSays, HasFirstFault}
 use Rattle.drum_core.specs.Numeral.{digits_of}

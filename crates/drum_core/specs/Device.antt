@@ -1,6 +1,7 @@
 -- What a device tells of its calls (this project's choice).
 use Rattle.std.specs.Borrow.{Bor}
-use Rattle.std.specs.Prelude.{ℕ, ◌==◌, ◌&&◌, Bool, true, false, List, flat_map, length, not, Result, Ok, Err}
+use Rattle.std.specs.Prelude.{ℕ, ◌==◌, ◌&&◌, Bool, true, false, List, flat_map, length, not, Result}
+use Rattle.std.specs.Prelude.{Ok, Err}
 
 -- a write that failed, or that took none of some bytes
 abbrev pub took_none : {E : Type 0} → Result ℕ E → List ℕ → Bool

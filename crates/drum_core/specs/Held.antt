@@ -1,8 +1,10 @@
 -- Which lines an image, the lines of cards and a start are of.
-use Rattle.std.specs.Prelude.{◌≡◌, ℕ, ◌<◌, ◌≤◌, List, [], ◌∷◌, length, slice_get, Option, Some, None}
+use Rattle.std.specs.Prelude.{◌≡◌, ℕ, ◌<◌, ◌≤◌, List, [], ◌∷◌, length, slice_get, Option, Some}
+use Rattle.std.specs.Prelude.{None}
 use Rattle.drum_core.specs.declared.deck.Given as held
 use Rattle.drum_core.specs.declared.location.Location.{Location}
-use Rattle.drum_core.specs.DeckText.{Line, Given, given_from, given_at, cards_from, starts, AreSound, Say}
+use Rattle.drum_core.specs.DeckText.{Line, Given, given_from, given_at, cards_from, starts}
+use Rattle.drum_core.specs.DeckText.{AreSound, Say}
 
 -- what is given to a location, as a deck holds it
 abbrev pub seen : Option Given → Option held.Given

@@ -1,7 +1,8 @@
 -- What stands at a location (IBM 650 Manual of Operation).
 use Rattle.std.specs.Prelude.{ℕ, nat_lt, ◌==◌, if◌then◌else◌}
 use Rattle.drum_core.specs.declared.location.Kind.{Kind}
-use Rattle.drum_core.specs.declared.location.Kind.TheVariants.{Drum, Switches, Distributor, Lower, Upper}
+use Rattle.drum_core.specs.declared.location.Kind.TheVariants.{Drum, Switches, Distributor, Lower}
+use Rattle.drum_core.specs.declared.location.Kind.TheVariants.{Upper}
 
 -- what stands at the location of this number (a number that is no location has no meaning here)
 abbrev pub kind_of : ℕ → Kind

@@ -1,5 +1,6 @@
 -- The lines of a text, what each says, and the first with a fault (this project's choice).
-use Rattle.std.specs.Prelude.{◌≡◌, ℕ, ◌+◌, ◌<◌, List, [], ◌∷◌, ◌++◌, ◌==◌, ◌⊎◌, Any, length, if◌then◌else◌}
+use Rattle.std.specs.Prelude.{◌≡◌, ℕ, ◌+◌, ◌<◌, List, [], ◌∷◌, ◌++◌, ◌==◌, ◌⊎◌, Any, length}
+use Rattle.std.specs.Prelude.{if◌then◌else◌}
 
 -- a byte in front of the first line
 abbrev pub with_front : ℕ → List (List ℕ) → List (List ℕ)

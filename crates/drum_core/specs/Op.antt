@@ -2,15 +2,23 @@
 -- Operation).
 use Rattle.std.specs.Prelude.{ℕ, ◌+◌, ◌==◌, Bool, true, nat_lt, List, [], ◌∷◌, Option, find}
 use Rattle.drum_core.specs.declared.op.Op.{Op}
-use Rattle.drum_core.specs.declared.op.Op.TheVariants.{NoOperation, Stop, Add, ResetAdd, Divide, DivideReset, Multiply, Store, Shift, Branch, LoadDistributor, Read, Punch, BranchOnDigit}
+use Rattle.drum_core.specs.declared.op.Op.TheVariants.{NoOperation, Stop, Add, ResetAdd, Divide}
+use Rattle.drum_core.specs.declared.op.Op.TheVariants.{DivideReset, Multiply, Store, Shift, Branch}
+use Rattle.drum_core.specs.declared.op.Op.TheVariants.{LoadDistributor, Read, Punch, BranchOnDigit}
 use Rattle.drum_core.specs.declared.op.Operand.{Operand}
 use Rattle.drum_core.specs.declared.op.Operand.TheVariants.{Any, Drum, Unused}
-use Rattle.drum_core.specs.declared.op.amount.Amount.TheVariants.{Upper, MinusUpper, Lower, MinusLower, AbsoluteLower, MinusAbsoluteLower}
-use Rattle.drum_core.specs.declared.op.branch.Branch.TheVariants.{UpperNonZero, NonZero, Minus, Overflow}
-use Rattle.drum_core.specs.declared.op.position.Position.TheVariants.{First, Second, Third, Fourth, Fifth, Sixth, Seventh, Eighth, Ninth, Tenth}
+use Rattle.drum_core.specs.declared.op.amount.Amount.TheVariants.{Upper, MinusUpper, Lower}
+use Rattle.drum_core.specs.declared.op.amount.Amount.TheVariants.{MinusLower, AbsoluteLower}
+use Rattle.drum_core.specs.declared.op.amount.Amount.TheVariants.{MinusAbsoluteLower}
+use Rattle.drum_core.specs.declared.op.branch.Branch.TheVariants.{UpperNonZero, NonZero, Minus}
+use Rattle.drum_core.specs.declared.op.branch.Branch.TheVariants.{Overflow}
+use Rattle.drum_core.specs.declared.op.position.Position.TheVariants.{First, Second, Third, Fourth}
+use Rattle.drum_core.specs.declared.op.position.Position.TheVariants.{Fifth, Sixth, Seventh, Eighth}
+use Rattle.drum_core.specs.declared.op.position.Position.TheVariants.{Ninth, Tenth}
 use Rattle.drum_core.specs.declared.op.shift.Shift.TheVariants.{Right, Round, Left}
 use Rattle.drum_core.specs.declared.op.store.Store.TheVariants as stored
-use Rattle.drum_core.specs.declared.op.store.Store.TheVariants.{DataAddress, InstructionAddress, Distributor}
+use Rattle.drum_core.specs.declared.op.store.Store.TheVariants.{DataAddress, InstructionAddress}
+use Rattle.drum_core.specs.declared.op.store.Store.TheVariants.{Distributor}
 use Rattle.drum_core.specs.Amount as amount
 use Rattle.drum_core.specs.Store as store
 use Rattle.drum_core.specs.Shift as shift

@@ -1,7 +1,9 @@
 -- A digit's position in a word: the first is the units, the tenth the leftmost.
 use Rattle.std.specs.Prelude.{ℕ}
 use Rattle.drum_core.specs.declared.op.position.Position.{Position}
-use Rattle.drum_core.specs.declared.op.position.Position.TheVariants.{First, Second, Third, Fourth, Fifth, Sixth, Seventh, Eighth, Ninth, Tenth}
+use Rattle.drum_core.specs.declared.op.position.Position.TheVariants.{First, Second, Third, Fourth}
+use Rattle.drum_core.specs.declared.op.position.Position.TheVariants.{Fifth, Sixth, Seventh, Eighth}
+use Rattle.drum_core.specs.declared.op.position.Position.TheVariants.{Ninth, Tenth}
 
 -- the number of the operation that tests it: 91 to 99, and 90 for the tenth
 abbrev pub number_of : Position → ℕ

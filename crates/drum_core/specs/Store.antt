@@ -1,7 +1,8 @@
 -- What a storing operation stores at D.
 use Rattle.std.specs.Prelude.{ℕ}
 use Rattle.drum_core.specs.declared.op.store.Store.{Store}
-use Rattle.drum_core.specs.declared.op.store.Store.TheVariants.{Lower, Upper, DataAddress, InstructionAddress, Distributor}
+use Rattle.drum_core.specs.declared.op.store.Store.TheVariants.{Lower, Upper, DataAddress}
+use Rattle.drum_core.specs.declared.op.store.Store.TheVariants.{InstructionAddress, Distributor}
 
 -- the number of the operation that stores it
 abbrev pub number_of : Store → ℕ

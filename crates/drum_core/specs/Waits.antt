@@ -1,7 +1,8 @@
 -- Each wait is for a property that recurs.
 use Rattle.std.proofs.Common.{◌≡◌, ℕ, ◌+◌, ◌-◌, ◌%◌, ◌<◌, refl, arith, eq-eqb}
 use Rattle.drum_core.specs.declared.location.Kind.{Kind}
-use Rattle.drum_core.specs.declared.location.Kind.TheVariants.{Drum, Switches, Distributor, Lower, Upper}
+use Rattle.drum_core.specs.declared.location.Kind.TheVariants.{Drum, Switches, Distributor, Lower}
+use Rattle.drum_core.specs.declared.location.Kind.TheVariants.{Upper}
 use Rattle.drum_core.specs.declared.rotation.parity.Parity.{Parity}
 use Rattle.drum_core.specs.declared.rotation.parity.Parity.TheVariants.{Any, Even, Odd}
 use Rattle.drum_core.specs.Available.{is_angle, has_parity, is_had, is_available}

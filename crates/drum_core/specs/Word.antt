@@ -1,5 +1,6 @@
 -- A word of the drum: a sign and ten decimal digits (IBM 650 Manual of Operation).
-use Rattle.std.specs.Prelude.{ℕ, ◌%◌, ◌^◌, ◌<◌, Bool, List, ◌∷◌, flat_map, if◌then◌else◌, ℤ, pos, neg_ℤ}
+use Rattle.std.specs.Prelude.{ℕ, ◌%◌, ◌^◌, ◌<◌, Bool, List, ◌∷◌, flat_map, if◌then◌else◌, ℤ, pos}
+use Rattle.std.specs.Prelude.{neg_ℤ}
 use Rattle.std.proofs.Common.{arith}
 use Rattle.drum_core.specs.declared.word.Word.{Word}
 use Rattle.drum_core.specs.Numeral.{digits_of}

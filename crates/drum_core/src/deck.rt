@@ -37,10 +37,20 @@ pub struct Deck {
 impl Deck {
     ghost use Rattle.std.specs.Prelude.{◌≤◌, ◌∷◌, [], List, length, All, Contains, IfSome};
     ghost use Rattle.std.specs.List.Sorted.{IsStrictlyIncreasing};
-    ghost use Rattle.drum_core.specs.DeckText.{Line, given_at, given_from, loads_of, card_of, cards_from, starts};
+    ghost use Rattle.drum_core.specs.DeckText.{Line, given_at, given_from, loads_of, card_of};
+    ghost use Rattle.drum_core.specs.DeckText.{cards_from, starts};
     ghost use Rattle.drum_core.specs.Held.{seen};
     ghost use Rattle.drum_core.specs.Holds.{IsDeckOf};
     ghost use Rattle.drum_core.specs.Loads.{card_in, cards_in, given_in, loads_in, start_in};
+
+    /// The most lines of a deck's text.
+    pub const LINES: u16 = 4000;
+
+    /// The most bytes of a line, without its line feed.
+    pub const LINE: usize = 100;
+
+    /// The most bytes of a text.
+    pub const BYTES: usize = Deck::LINES as usize * (Deck::LINE + 1);
 
     /// What the deck gives the location: nothing but for locations on the drum that it loads.
     fn given(&self, location: Location) -> Option<Given>

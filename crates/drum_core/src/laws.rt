@@ -3,7 +3,8 @@
 ghost use Rattle.std.specs.Prelude.{◌≡◌, ℕ, ◌<◌, ◌≤◌, ◌⊎◌, List, [], ◌∷◌, length, Some, Contains};
 ghost use Rattle.std.specs.List.Sorted.{IsStrictlyIncreasing};
 ghost use Rattle.drum_core.specs.Available.{is_angle, has_parity, is_available};
-ghost use Rattle.drum_core.specs.DeckText.{Given, Line, given_at, loads_of, starts, AreDistinct, IsDeck, IsRefused, Say};
+ghost use Rattle.drum_core.specs.DeckText.{Given, Line, given_at, loads_of, starts, AreDistinct};
+ghost use Rattle.drum_core.specs.DeckText.{IsDeck, IsRefused, Say};
 ghost use Rattle.drum_core.specs.Holds.{IsDeckOf};
 ghost use Rattle.drum_core.specs.Loads.{card_in, cards_in, loads_in, start_in};
 ghost use Rattle.drum_core.specs.Moment.{IsFirst, first};

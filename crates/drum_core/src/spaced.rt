@@ -1,6 +1,7 @@
 //! Words that are written with a space before each.
 
-ghost use Rattle.std.specs.Prelude.{◌≡◌, ◌≢◌, ◌*◌, ◌∷◌, List, length, IfSome, IfNone, IsTrue, IsFalse};
+ghost use Rattle.std.specs.Prelude.{◌≡◌, ◌≢◌, ◌*◌, ◌∷◌, List, length, IfSome, IfNone, IsTrue};
+ghost use Rattle.std.specs.Prelude.{IsFalse};
 ghost use Rattle.drum_core.specs.Word.{spelling, spaced};
 
 use crate::word::Word;

@@ -1,4 +1,5 @@
-ghost use Rattle.std.specs.Prelude.{◌≡◌, ℕ, ◌+◌, ◌<◌, ◌≤◌, ◌⊎◌, vec_len, length, take, slice_get, OnOk, IfErr};
+ghost use Rattle.std.specs.Prelude.{◌≡◌, ℕ, ◌+◌, ◌<◌, ◌≤◌, ◌⊎◌, vec_len, length, take, slice_get};
+ghost use Rattle.std.specs.Prelude.{OnOk, IfErr};
 ghost use Rattle.drum_core.specs.Loaded.{IsFirstLoaded};
 ghost use Rattle.std.specs.Option.{ForSome};
 

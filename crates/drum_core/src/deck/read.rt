@@ -1,6 +1,7 @@
 //! Reading a deck, from its device or from its text, line by line.
 
-ghost use Rattle.std.specs.Prelude.{◌≡◌, ◌≢◌, ◌+◌, ◌^◌, ◌≤◌, ◌↔◌, ◌⊎◌, List, IsErrOf, IfOk, IfErr, IfSome};
+ghost use Rattle.std.specs.Prelude.{◌≡◌, ◌≢◌, ◌+◌, ◌^◌, ◌≤◌, ◌↔◌, ◌⊎◌, List, IsErrOf, IfOk, IfErr};
+ghost use Rattle.std.specs.Prelude.{IfSome};
 ghost use Rattle.drum_core.specs.DeckText.{Line, IsTooLong, IsDeck, IsRefused};
 ghost use Rattle.drum_core.specs.Holds.{IsDeckOf};
 
@@ -11,15 +12,6 @@ use super::loading::Loading;
 use crate::device::input::Input;
 use crate::device::whole::{WholeError, read_whole};
 use std::alloc::Global;
-
-/// The most lines of a deck.
-const LINES: usize = 4000;
-
-/// The most bytes of a line, without its line feed.
-const LINE: usize = 100;
-
-/// The most bytes of a deck.
-const BYTES: usize = LINES * (LINE + 1);
 
 /// Reads a deck. The whole text is read first, 404,001 bytes at most, so that a reader without end
 /// is too long.
@@ -50,7 +42,7 @@ pub fn read_deck<I: Input>(alloc: Global, reader: &mut I) -> Result<Deck, DeckFa
     ensures each { I.called reader.new + I.given reader.old
         ≤ I.called reader.old + I.given reader.new + 1 }
 {
-    let text = match read_whole(alloc, reader, BYTES) {
+    let text = match read_whole(alloc, reader, Deck::BYTES) {
         Ok(text) => text,
         Err(WholeError::Read) => return Err(DeckFault::Read),
         Err(WholeError::Memory) => return Err(DeckFault::Memory),
@@ -71,7 +63,7 @@ pub fn deck_of(alloc: Global, text: &[u8]) -> Result<Deck, DeckFault>
     ensures refused { IfErr result (λ fault. fault ≢ DeckFault.Memory → IsRefused text.now fault) }
     ensures read { ¬ IsErrOf result DeckFault.Read }
 {
-    if is_longer(text, LINES, LINE) {
+    if is_longer(text, usize::from(Deck::LINES), Deck::LINE) {
         return Err(DeckFault::TooLong);
     }
     read_lines(alloc, text)

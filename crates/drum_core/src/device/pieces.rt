@@ -1,6 +1,7 @@
 //! Writing bytes whole.
 
-ghost use Rattle.std.specs.Prelude.{◌≡◌, ◌+◌, ◌^◌, ◌<◌, ◌≤◌, IfErr, IfOk, OnOk, is_err, if◌then◌else◌, take, length};
+ghost use Rattle.std.specs.Prelude.{◌≡◌, ◌+◌, ◌^◌, ◌<◌, ◌≤◌, IfErr, IfOk, OnOk, is_err};
+ghost use Rattle.std.specs.Prelude.{if◌then◌else◌, take, length};
 ghost use Rattle.std.specs.Io.KnownBytes.{Appends};
 ghost use Rattle.drum_core.specs.Device.{joined};
 

@@ -27,7 +27,8 @@ impl AtAngle {
 impl Clockwork for AtAngle {
     ghost use Rattle.drum_core.specs.Moment.{first};
     ghost use Rattle.drum_core.specs.Available.{is_angle};
-    ghost use Rattle.drum_core.specs.Recurs.{never_earlier as earlier_law, within_span as span_law, monotone as monotone_law, periodic as periodic_law};
+    ghost use Rattle.drum_core.specs.Recurs.{never_earlier as earlier_law, within_span as span_law};
+    ghost use Rattle.drum_core.specs.Recurs.{monotone as monotone_law, periodic as periodic_law};
     ghost use Rattle.drum_core.specs.Waits.{angle_recurs};
 
     ghost moment = { λ at clock. first (is_angle at.angle) clock };

@@ -23,7 +23,8 @@ impl Clockwork for AtParity {
     ghost use Rattle.drum_core.specs.Moment.{first};
     ghost use Rattle.drum_core.specs.Available.{has_parity};
     ghost use Rattle.drum_core.specs.Span.{parity_span};
-    ghost use Rattle.drum_core.specs.Recurs.{never_earlier as earlier_law, within_span as span_law, monotone as monotone_law, periodic as periodic_law};
+    ghost use Rattle.drum_core.specs.Recurs.{never_earlier as earlier_law, within_span as span_law};
+    ghost use Rattle.drum_core.specs.Recurs.{monotone as monotone_law, periodic as periodic_law};
     ghost use Rattle.drum_core.specs.Waits.{parity_recurs};
 
     ghost moment = { λ at clock. first (has_parity at.parity) clock };
