@@ -1,5 +1,6 @@
 -- An analysis, as it is held, and when it is right.
-use Rattle.std.specs.Prelude.{◌≡◌, ℕ, ◌-◌, ◌*◌, ◌^◌, ◌<◌, ◌≤◌, List, length, map, sum, slice_get, slice_index, Some}
+use Rattle.std.specs.Prelude.{◌≡◌, ℕ, ◌-◌, ◌*◌, ◌^◌, ◌<◌, ◌≤◌, List, length, map, sum, slice_get}
+use Rattle.std.specs.Prelude.{slice_index, Some}
 use Rattle.std.specs.Map.{values_of}
 use Rattle.drum_core.specs.declared.deck.Deck.{Deck}
 use Rattle.drum_core.specs.Loads.{loads_in, start_in}
@@ -23,7 +24,8 @@ use Rattle.drum_bound.specs.Ends.{HopEnd, AreEnds, AreRaised}
 use Rattle.drum_bound.specs.RowOf.{row_in}
 use Rattle.drum_bound.specs.Table.{Row, IsTable}
 use Rattle.drum_bound.specs.Under.{ArriveUnder}
-use Rattle.drum_bound.specs.Visited.{Visited, AreInTime, AreLongest, IsWalkOf, passes_in, seen_visit}
+use Rattle.drum_bound.specs.Visited.{Visited, AreInTime, AreLongest, IsWalkOf, passes_in}
+use Rattle.drum_bound.specs.Visited.{seen_visit}
 use Rattle.drum_bound.specs.Worst.{IsWorst}
 
 -- the bound, in word times

@@ -1,5 +1,6 @@
 -- What is kept at the keys, as cells hold it.
-use Rattle.std.specs.Prelude.{◌≡◌, ℕ, ◌*◌, ◌/◌, ◌^◌, ◌<◌, ◌≤◌, true, List, length, map, slice_get, Option, Some, Contains}
+use Rattle.std.specs.Prelude.{◌≡◌, ℕ, ◌*◌, ◌/◌, ◌^◌, ◌<◌, ◌≤◌, true, List, length, map, slice_get}
+use Rattle.std.specs.Prelude.{Option, Some, Contains}
 use Rattle.std.specs.List.{range_with_len}
 use Rattle.drum_bound.specs.declared.cells.Cells.{Cells}
 use Rattle.drum_flow.specs.Walk.{Setting}

@@ -1,7 +1,8 @@
 -- Keys: an index in an order of the executed locations, and counts of the marks, as one number. The
 -- counts, read with the first mark's leading, are the whole part of its division by the number of
 -- locations, and the index is the rest.
-use Rattle.std.specs.Prelude.{◌≡◌, ℕ, ◌*◌, ◌/◌, ◌%◌, ◌<◌, ◌≤◌, List, length, slice_index, Option, Contains}
+use Rattle.std.specs.Prelude.{◌≡◌, ℕ, ◌*◌, ◌/◌, ◌%◌, ◌<◌, ◌≤◌, List, length, slice_index, Option}
+use Rattle.std.specs.Prelude.{Contains}
 use Rattle.drum_core.specs.declared.word.Word.{Word}
 use Rattle.drum_times.specs.declared.notes.mark.Mark.{Mark}
 use Rattle.drum_times.specs.Allowed.{Notes, AreSound}

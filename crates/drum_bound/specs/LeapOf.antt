@@ -1,6 +1,7 @@
 -- What is known of a hop before the scan: how long it takes from the angle at which its instruction
 -- is found, and where it goes on.
-use Rattle.std.specs.Prelude.{◌≡◌, ℕ, ◌+◌, ◌%◌, ◌<◌, List, length, map, slice_get, Option, Some, Contains}
+use Rattle.std.specs.Prelude.{◌≡◌, ℕ, ◌+◌, ◌%◌, ◌<◌, List, length, map, slice_get, Option, Some}
+use Rattle.std.specs.Prelude.{Contains}
 use Rattle.std.proofs.Common.{Vec, Global}
 use Rattle.drum_times.specs.Marks.{mark_on}
 use Rattle.drum_machine.specs.Ways.{to}

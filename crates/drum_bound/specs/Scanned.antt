@@ -1,6 +1,8 @@
 -- What is known when some of the keys have been taken, the others not yet: the latest end at each
 -- key, and of all.
-use Rattle.std.specs.Prelude.{◌≡◌, ℕ, zero, suc, ◌+◌, ◌*◌, ◌<◌, ◌≤◌, nat_lt, if◌then◌else◌, List, length, slice_get, slice_index_or, slice_set, Option, Some, None, Contains, ◌⊎◌}
+use Rattle.std.specs.Prelude.{◌≡◌, ℕ, zero, suc, ◌+◌, ◌*◌, ◌<◌, ◌≤◌, nat_lt, if◌then◌else◌, List}
+use Rattle.std.specs.Prelude.{length, slice_get, slice_index_or, slice_set, Option, Some, None}
+use Rattle.std.specs.Prelude.{Contains, ◌⊎◌}
 use Rattle.drum_times.specs.declared.notes.mark.Mark.{Mark}
 use Rattle.drum_machine.specs.Timing.{longest_step}
 use Rattle.drum_machine.specs.Counts.{after_pass, no_counts, AreWithin}

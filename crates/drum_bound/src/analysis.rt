@@ -29,7 +29,9 @@ pub struct Analysis {
 
 impl Analysis {
     ghost use Rattle.std.specs.Prelude.{slice_index};
-    ghost use Rattle.drum_bound.specs.AnalysisOf.{Backs, angle_of, bound_of, counts_in_all, passed_of, rows_of, turns_of, visits_of, words_of};
+    ghost use Rattle.drum_bound.specs.AnalysisOf.{Backs, angle_of, bound_of, counts_in_all};
+    ghost use Rattle.drum_bound.specs.AnalysisOf.{passed_of, rows_of, turns_of, visits_of};
+    ghost use Rattle.drum_bound.specs.AnalysisOf.{words_of};
     ghost use Rattle.drum_bound.specs.RowOf.{row_in};
 
     /// The analysis of a table, which it keeps as it was raised, with a walk that takes as long as

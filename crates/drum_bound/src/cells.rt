@@ -51,10 +51,12 @@ pub struct Cells {
 }
 
 impl Cells {
-    ghost use Rattle.std.specs.Prelude.{ℕ, List, MatchOption, false, replicate, set, option_map, Some, None, IfOk, OnOk};
+    ghost use Rattle.std.specs.Prelude.{ℕ, List, MatchOption, false, replicate, set, option_map};
+    ghost use Rattle.std.specs.Prelude.{Some, None, IfOk, OnOk};
     ghost use Rattle.std.specs.Map.{values_of};
     ghost use Rattle.drum_flow.specs.Walk.{Setting};
-    ghost use Rattle.drum_bound.specs.Held.{AreHeld, HaveEntries, IsOnward, IsToEnd, SameScan, kept_in, size_of};
+    ghost use Rattle.drum_bound.specs.Held.{AreHeld, HaveEntries, IsOnward, IsToEnd, SameScan};
+    ghost use Rattle.drum_bound.specs.Held.{kept_in, size_of};
     ghost use Rattle.drum_bound.specs.Scanned.{cell_at, later, raised};
     ghost use Rattle.drum_bound.specs.SearchOf.{KeepsAt, end_sought};
 

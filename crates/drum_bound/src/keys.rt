@@ -1,6 +1,7 @@
 //! The keys of the table of worst times.
 
-ghost use Rattle.std.specs.Prelude.{◌≡◌, ℕ, ◌-◌, ◌%◌, ◌<◌, ◌≤◌, length, slice_get, Some, Contains, IfOk};
+ghost use Rattle.std.specs.Prelude.{◌≡◌, ℕ, ◌-◌, ◌%◌, ◌<◌, ◌≤◌, length, slice_get, Some, Contains};
+ghost use Rattle.std.specs.Prelude.{IfOk};
 ghost use Rattle.drum_machine.specs.Counts.{no_counts, AreWithin};
 ghost use Rattle.drum_flow.specs.Accepted.{counts_of as counts_in_all};
 ghost use Rattle.drum_flow.specs.AcceptedFlow.{in_order};
@@ -10,7 +11,8 @@ ghost use Rattle.drum_flow.specs.HopsLeft.{hops_left};
 ghost use Rattle.drum_machine.specs.CountsIn.{counts_in};
 ghost use Rattle.drum_bound.specs.Keys.{IsKey};
 ghost use Rattle.drum_bound.specs.Table.{start_angle as start_angle_of};
-ghost use Rattle.drum_bound.specs.KeysOf.{AreKeys, CanHaveKeys, HaveHops, HaveIndices, hops_in, marks_in, nodes_in, numbers, order_in, start_of};
+ghost use Rattle.drum_bound.specs.KeysOf.{AreKeys, CanHaveKeys, HaveHops, HaveIndices, hops_in};
+ghost use Rattle.drum_bound.specs.KeysOf.{marks_in, nodes_in, numbers, order_in, start_of};
 
 use crate::numbers::leading;
 use drum_core::{Location, REVOLUTION};

@@ -1,6 +1,7 @@
 //! The scan: each key in turn, and each of its hops.
 
-ghost use Rattle.std.specs.Prelude.{◌≡◌, ◌+◌, ◌*◌, ◌/◌, ◌%◌, ◌^◌, ◌<◌, ◌≤◌, ◌∷◌, List, length, IfOk, OnOk};
+ghost use Rattle.std.specs.Prelude.{◌≡◌, ◌+◌, ◌*◌, ◌/◌, ◌%◌, ◌^◌, ◌<◌, ◌≤◌, ◌∷◌, List, length};
+ghost use Rattle.std.specs.Prelude.{IfOk, OnOk};
 
 use crate::cells::{Cells, Onto};
 use crate::keys::Keys;
@@ -38,7 +39,9 @@ impl<'a> Scan<'a> {
     ghost use Rattle.drum_bound.specs.LeapOf.{AreLeaps, HaveLeaps, leap_hop};
     ghost use Rattle.drum_bound.specs.Scanned.{Taking};
     ghost use Rattle.drum_bound.specs.Table.{start_angle};
-    ghost use Rattle.drum_bound.specs.ScanOf.{AreCells, AreCounted, Goes, HasRound, IsAgreed, IsDone, IsReady, IsScanned, hops_of, order_of, place_in, setting_in};
+    ghost use Rattle.drum_bound.specs.ScanOf.{AreCells, AreCounted, Goes, HasRound, IsAgreed};
+    ghost use Rattle.drum_bound.specs.ScanOf.{IsDone, IsReady, IsScanned, hops_of, order_of};
+    ghost use Rattle.drum_bound.specs.ScanOf.{place_in, setting_in};
     ghost use Rattle.drum_bound.specs.SearchOf.{IsSearch, end_sought};
     ghost use Rattle.drum_bound.specs.Worst.{IsWorst};
 

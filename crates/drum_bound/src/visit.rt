@@ -1,6 +1,7 @@
 //! The hops of a walk, as they are handed out.
 
-ghost use Rattle.std.specs.Prelude.{◌≡◌, ℕ, ◌+◌, ◌^◌, ◌<◌, ◌≤◌, length, slice_get, slice_index, Some};
+ghost use Rattle.std.specs.Prelude.{◌≡◌, ℕ, ◌+◌, ◌^◌, ◌<◌, ◌≤◌, length, slice_get, slice_index};
+ghost use Rattle.std.specs.Prelude.{Some};
 ghost use Rattle.drum_times.specs.declared.notes.mark.Mark.{Mark as MarkOf};
 ghost use Rattle.drum_machine.specs.WaysLeft.{seen_way};
 ghost use Rattle.drum_flow.specs.Walk.{passes_by};

@@ -1,6 +1,7 @@
 -- Certificates: a price for each pass of a mark and a potential for each place, which together
 -- bound every walk (this project's choice).
-use Rattle.std.specs.Prelude.{◌≡◌, ℕ, ◌+◌, ◌*◌, ◌%◌, ◌<◌, ◌≤◌, List, [], ◌∷◌, sum_by, slice_get, slice_index, length, Option, Some, None, Contains}
+use Rattle.std.specs.Prelude.{◌≡◌, ℕ, ◌+◌, ◌*◌, ◌%◌, ◌<◌, ◌≤◌, List, [], ◌∷◌, sum_by, slice_get}
+use Rattle.std.specs.Prelude.{slice_index, length, Option, Some, None, Contains}
 use Rattle.drum_times.specs.declared.notes.mark.Mark.{Mark}
 use Rattle.drum_times.specs.Marks.{mark_on}
 use Rattle.drum_machine.specs.Since.{Edge}

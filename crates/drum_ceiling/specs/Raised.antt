@@ -1,6 +1,7 @@
 -- The latest ends of the hops that were looked at, of a location whose instruction is found at an
 -- angle.
-use Rattle.std.specs.Prelude.{◌≡◌, ℕ, ◌+◌, ◌%◌, ◌≤◌, List, Option, Some, None, All, Contains, slice_get}
+use Rattle.std.specs.Prelude.{◌≡◌, ℕ, ◌+◌, ◌%◌, ◌≤◌, List, Option, Some, None, All, Contains}
+use Rattle.std.specs.Prelude.{slice_get}
 use Rattle.drum_core.specs.declared.instruction.Instruction.{Instruction}
 use Rattle.drum_core.specs.Location.{IsLocation}
 use Rattle.drum_times.specs.Entries.{entry_in}

@@ -1,6 +1,7 @@
 -- Where instructions are found, as numbers below 2200: a drum location has its one angle; each of
 -- 8000 to 8003 has a number for each angle at which it may be found.
-use Rattle.std.specs.Prelude.{ℕ, ◌+◌, ◌-◌, ◌*◌, ◌/◌, ◌%◌, nat_lt, ◌==◌, ◌&&◌, if◌then◌else◌, List, slice_get, unwrap_or, Option, None}
+use Rattle.std.specs.Prelude.{ℕ, ◌+◌, ◌-◌, ◌*◌, ◌/◌, ◌%◌, nat_lt, ◌==◌, ◌&&◌, if◌then◌else◌, List}
+use Rattle.std.specs.Prelude.{slice_get, unwrap_or, Option, None}
 
 -- the number of a location and an angle
 abbrev pub slot_of : ℕ → ℕ → ℕ

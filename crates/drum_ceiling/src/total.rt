@@ -1,6 +1,7 @@
 //! What a base and prices come to.
 
-ghost use Rattle.std.specs.Prelude.{◌≡◌, ℕ, ◌+◌, ◌^◌, ◌<◌, ◌≤◌, length, slice_index, IfSome, IfNone};
+ghost use Rattle.std.specs.Prelude.{◌≡◌, ℕ, ◌+◌, ◌^◌, ◌<◌, ◌≤◌, length, slice_index, IfSome};
+ghost use Rattle.std.specs.Prelude.{IfNone};
 ghost use Rattle.drum_ceiling.specs.Certificate.{priced_from};
 
 /// The least number that is too large for a ceiling.

@@ -3,8 +3,10 @@ use Rattle.std.specs.Prelude.{ℕ, map, Option}
 use Rattle.drum_core.specs.declared.word.Word.{Word}
 use Rattle.drum_times.specs.Allowed.{Notes}
 use Rattle.drum_flow.specs.declared.refusal.Refusal.{Refusal}
-use Rattle.drum_flow.specs.declared.refusal.Refusal.TheVariants.{Memory, NotLoaded, NotInProfile, Alters, Unbounded, TooLarge}
-use Rattle.drum_flow.specs.Accepted.{IsNotLoaded, IsNotInProfile, IsAltered, IsFreeRound, IsTooLarge, IsUnbounded}
+use Rattle.drum_flow.specs.declared.refusal.Refusal.TheVariants.{Memory, NotLoaded, NotInProfile}
+use Rattle.drum_flow.specs.declared.refusal.Refusal.TheVariants.{Alters, Unbounded, TooLarge}
+use Rattle.drum_flow.specs.Accepted.{IsNotLoaded, IsNotInProfile, IsAltered, IsFreeRound}
+use Rattle.drum_flow.specs.Accepted.{IsTooLarge, IsUnbounded}
 
 -- the refusal is that of the deck with its notes, or memory is wanting
 abbrev pub IsRefusal : (ℕ → Option Word) → Notes → ℕ → Refusal → Type 0

@@ -2,7 +2,8 @@
 use Rattle.std.specs.Prelude.{ℕ, Option, Some, None}
 use Rattle.drum_core.specs.declared.instruction.Instruction.{Instruction}
 use Rattle.drum_core.specs.declared.op.Op.{Op}
-use Rattle.drum_core.specs.declared.op.Op.TheVariants.{Divide, DivideReset, Multiply, Shift, Read, Punch}
+use Rattle.drum_core.specs.declared.op.Op.TheVariants.{Divide, DivideReset, Multiply, Shift, Read}
+use Rattle.drum_core.specs.declared.op.Op.TheVariants.{Punch}
 use Rattle.drum_core.specs.Op.{op_of}
 use Rattle.drum_times.specs.declared.entry.Entry.{Entry}
 use Rattle.drum_machine.specs.Effect.{places}

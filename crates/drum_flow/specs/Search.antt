@@ -1,7 +1,8 @@
 -- A depth-first search of a graph: a path of nodes, whose edges to come are open, and the nodes
 -- that are finished.
 -- `row` says which nodes the edges of a node lead to.
-use Rattle.std.specs.Prelude.{◌≡◌, ℕ, ◌-◌, ◌<◌, List, [], ◌∷◌, length, reverse, slice_get, slice_index, sum_by, Option, Some, Contains}
+use Rattle.std.specs.Prelude.{◌≡◌, ℕ, ◌-◌, ◌<◌, List, [], ◌∷◌, length, reverse, slice_get}
+use Rattle.std.specs.Prelude.{slice_index, sum_by, Option, Some, Contains}
 use Rattle.drum_flow.specs.declared.graph.progress.Progress.{Progress}
 use Rattle.drum_flow.specs.declared.graph.progress.Progress.TheVariants.{New, Open, Finished}
 use Rattle.drum_flow.specs.declared.graph.search.Search.{Search}

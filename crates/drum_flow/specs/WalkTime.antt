@@ -1,11 +1,13 @@
 -- A law of walks: their start angle, hops, units and waits determine their times.
-use Rattle.std.proofs.Common.{◌≡◌, ℕ, ◌+◌, List, [], ◌∷◌, Option, Some, None, refl, ap, sym, ◌∙◌, subst, arith}
+use Rattle.std.proofs.Common.{◌≡◌, ℕ, ◌+◌, List, [], ◌∷◌, Option, Some, None, refl, ap, sym, ◌∙◌}
+use Rattle.std.proofs.Common.{subst, arith}
 use Rattle.drum_core.specs.declared.instruction.Instruction.{Instruction}
 use Rattle.drum_core.specs.declared.op.Op.{Op}
 use Rattle.drum_core.specs.Op.{op_of}
 use Rattle.drum_machine.specs.Counts.{after_pass, AreWithin}
 use Rattle.drum_machine.specs.Ways.{Way, early, to, late}
-use Rattle.drum_flow.specs.Walk.{Setting, Taken, IsTimed, IsWalkFrom, IsWalk, FollowHop, end_by, time_from, time_of}
+use Rattle.drum_flow.specs.Walk.{Setting, Taken, IsTimed, IsWalkFrom, IsWalk, FollowHop, end_by}
+use Rattle.drum_flow.specs.Walk.{time_from, time_of}
 
 -- two hops are alike but for their times
 pub record Alike (a b : Taken) : Type 0 where

@@ -5,7 +5,8 @@ ghost use Rattle.drum_core.specs.Loads.{loads_in};
 ghost use Rattle.drum_times.specs.Allowed.{allowed, matching};
 ghost use Rattle.drum_flow.specs.Accepted as said;
 ghost use Rattle.drum_flow.specs.Accepted.{IsLowestAltered};
-ghost use Rattle.drum_flow.specs.Altering.{FlagsFixed, IsFirstAltered, NoneAlters, AltersNone, IsAlteredBy};
+ghost use Rattle.drum_flow.specs.Altering.{FlagsFixed, IsFirstAltered, NoneAlters, AltersNone};
+ghost use Rattle.drum_flow.specs.Altering.{IsAlteredBy};
 ghost use Rattle.drum_flow.specs.Flow.{executed_in, of_flow, AreExecuted};
 
 use crate::alike::same_writes_end;

@@ -1,4 +1,5 @@
-ghost use Rattle.std.specs.Prelude.{◌≡◌, ◌≤◌, [], map, length, slice_get, Some, Contains, IfSome, IfNone};
+ghost use Rattle.std.specs.Prelude.{◌≡◌, ◌≤◌, [], map, length, slice_get, Some, Contains, IfSome};
+ghost use Rattle.std.specs.Prelude.{IfNone};
 ghost use Rattle.drum_core.specs.Loads.{loads_in};
 ghost use Rattle.drum_flow.specs.Hops as said;
 ghost use Rattle.drum_flow.specs.HopsLeft.{hops_left};

@@ -1,6 +1,7 @@
 //! Laws of the definitions, each the contract of a function that does nothing.
 
-ghost use Rattle.std.specs.Prelude.{◌≡◌, ℕ, ◌+◌, ◌%◌, ◌<◌, ◌≤◌, List, length, Option, Some, Contains};
+ghost use Rattle.std.specs.Prelude.{◌≡◌, ℕ, ◌+◌, ◌%◌, ◌<◌, ◌≤◌, List, length, Option, Some};
+ghost use Rattle.std.specs.Prelude.{Contains};
 ghost use Rattle.drum_core.specs.Available.{is_available};
 ghost use Rattle.drum_core.specs.Moment.{first};
 ghost use Rattle.drum_core.specs.declared.op.Op.{Op};
@@ -27,7 +28,8 @@ ghost use Rattle.drum_flow.specs.Hops.{IsExecuted};
 ghost use Rattle.drum_flow.specs.MostPasses.{edges_taken, most_passes};
 ghost use Rattle.drum_flow.specs.Passes.{leading};
 ghost use Rattle.drum_flow.specs.RunHops.{hops_taken};
-ghost use Rattle.drum_flow.specs.Walk.{Setting, IsProper, Taken, MayHaveUnits, IsWalk, end_by, time_of};
+ghost use Rattle.drum_flow.specs.Walk.{Setting, IsProper, Taken, MayHaveUnits, IsWalk, end_by};
+ghost use Rattle.drum_flow.specs.Walk.{time_of};
 ghost use Rattle.drum_flow.specs.WalkTime.{AreAlike};
 
 /// The order of discovery has each executed location once, and nothing else.
@@ -63,7 +65,8 @@ pub fn kept_run_is_a_walk()
         → IsAdmitted g.loads g.notes g.start executed
         → IsFirstState g.loads (IsFixed g.loads g.notes g.start) g.start s → IsRun g.times s strides
         → IsKept g.loads g.notes s strides
-        → IsWalk g s.start (hops_taken strides) × (time_of (hops_taken strides) ≡ used_from 0 strides) }
+        → IsWalk g s.start (hops_taken strides)
+        × (time_of (hops_taken strides) ≡ used_from 0 strides) }
 {}
 
 /// The units of an operation's work, whatever the contents, are units that a hop may have.

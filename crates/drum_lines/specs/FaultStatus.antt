@@ -10,7 +10,8 @@ use Rattle.drum_inputs.specs.declared.fault.InputFault.TheVariants as input
 use Rattle.drum_times.specs.declared.fault.NoteFault.{NoteFault}
 use Rattle.drum_times.specs.declared.fault.NoteFault.TheVariants as note
 use Rattle.drum_lines.specs.declared.fault.Fault.{Fault}
-use Rattle.drum_lines.specs.declared.fault.Fault.TheVariants.{NoPart, Part, Memory, Deck, Times, Notes, Inputs, Refused, Loaded}
+use Rattle.drum_lines.specs.declared.fault.Fault.TheVariants.{NoPart, Part, Memory, Deck, Times}
+use Rattle.drum_lines.specs.declared.fault.Fault.TheVariants.{Notes, Inputs, Refused, Loaded}
 use Rattle.drum_lines.specs.declared.part.PartFault.TheVariants as what
 use Rattle.drum_lines.specs.declared.status.Status as status
 use Rattle.drum_lines.specs.declared.status.Status.TheVariants as ends

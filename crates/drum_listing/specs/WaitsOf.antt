@@ -1,5 +1,6 @@
 -- What the waits of a walk are, as the code has them.
-use Rattle.std.specs.Prelude.{◌≡◌, ℕ, ◌-◌, ◌≤◌, Bool, ◌&&◌, ◌==◌, List, [], ◌∷◌, ◌++◌, codes, decimal, filter, length, map, sum_by, Option, Some, None, Contains}
+use Rattle.std.specs.Prelude.{◌≡◌, ℕ, ◌-◌, ◌≤◌, Bool, ◌&&◌, ◌==◌, List, [], ◌∷◌, ◌++◌, codes}
+use Rattle.std.specs.Prelude.{decimal, filter, length, map, sum_by, Option, Some, None, Contains}
 use Rattle.std.specs.Map.{values_of}
 use Rattle.indexmap.specs.IndexMap.{IndexMap, IsUnique, get, index_map_len}
 use Rattle.drum_core.specs.declared.op.Op.{Op}
@@ -11,7 +12,8 @@ use Rattle.drum_listing.specs.declared.waits.Waits.{Waits}
 use Rattle.drum_listing.specs.declared.waits.kind.Kind.{Kind}
 use Rattle.drum_listing.specs.declared.waits.wait.Wait.{Wait}
 use Rattle.drum_listing.specs.MomentsText.{moment_text}
-use Rattle.drum_listing.specs.Waits.{AreDearestFirst, alike, data_at, for_data, for_instruction, is_same_way, next_at, time_alike, time_of}
+use Rattle.drum_listing.specs.Waits.{AreDearestFirst, alike, data_at, for_data, for_instruction}
+use Rattle.drum_listing.specs.Waits.{is_same_way, next_at, time_alike, time_of}
 use Rattle.drum_listing.specs.WalkText.{hop_text}
 
 -- ---- kinds

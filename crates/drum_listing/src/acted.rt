@@ -1,6 +1,7 @@
 //! What a step did to words of the drum, in its line.
 
-ghost use Rattle.std.specs.Prelude.{◌≡◌, ◌+◌, ◌^◌, ◌≤◌, ◌++◌, true, IfOk, IfSome, length, slice_range};
+ghost use Rattle.std.specs.Prelude.{◌≡◌, ◌+◌, ◌^◌, ◌≤◌, ◌++◌, true, IfOk, IfSome, length};
+ghost use Rattle.std.specs.Prelude.{slice_range};
 ghost use Rattle.drum_core.specs.Numeral.{digits_of};
 ghost use Rattle.drum_core.specs.Op.{is_operand, op_of, operand_of};
 ghost use Rattle.drum_core.specs.Word.{spaced};

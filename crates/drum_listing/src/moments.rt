@@ -18,7 +18,8 @@ pub struct Moments {
 }
 
 impl Moments {
-    ghost use Rattle.std.specs.Prelude.{◌≡◌, ◌+◌, ◌-◌, ◌^◌, ◌≤◌, ◌||◌, Some, None, not, if◌then◌else◌};
+    ghost use Rattle.std.specs.Prelude.{◌≡◌, ◌+◌, ◌-◌, ◌^◌, ◌≤◌, ◌||◌, Some, None, not};
+    ghost use Rattle.std.specs.Prelude.{if◌then◌else◌};
     ghost use Rattle.drum_core.specs.Op.{operand_of, is_operand};
     ghost use Rattle.drum_times.specs.Entries.{entry_in};
     ghost use Rattle.drum_machine.specs.Timing.{reached as reached_at};

@@ -2,7 +2,8 @@
 
 ghost use Rattle.std.specs.Prelude.{◌≡◌, ◌+◌, ◌^◌, ◌≤◌, IfOk, length};
 ghost use Rattle.drum_lines.specs.Sent.{IsSent, fails_by};
-ghost use Rattle.drum_listing.specs.Pieces.{digits_with as digits_at, name_with as name_at, times_text};
+ghost use Rattle.drum_listing.specs.Pieces.{digits_with as digits_at, name_with as name_at};
+ghost use Rattle.drum_listing.specs.Pieces.{times_text};
 
 use crate::moments::Moments;
 use drum_core::Output;

@@ -1,6 +1,7 @@
 //! The lines of steps, of which many go out at once.
 
-ghost use Rattle.std.specs.Prelude.{◌≡◌, ◌+◌, ◌^◌, ◌≤◌, ◌++◌, [], ℕ, true, false, List, Option, Ok, IfOk, OnOk, length};
+ghost use Rattle.std.specs.Prelude.{◌≡◌, ◌+◌, ◌^◌, ◌≤◌, ◌++◌, [], ℕ, true, false, List, Option, Ok};
+ghost use Rattle.std.specs.Prelude.{IfOk, OnOk, length};
 ghost use Rattle.drum_times.specs.Entries.{entry_in};
 ghost use Rattle.drum_machine.specs.Run.{Stride};
 ghost use Rattle.drum_lines.specs.Sent.{IsSent, fails_by};

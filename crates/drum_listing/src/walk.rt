@@ -1,6 +1,7 @@
 //! The worst walk of an analysis, visit by visit.
 
-ghost use Rattle.std.specs.Prelude.{◌≡◌, ◌+◌, ◌^◌, ◌≤◌, ◌++◌, [], ℕ, true, false, List, Option, Ok, IfOk, OnOk, flat_map, length};
+ghost use Rattle.std.specs.Prelude.{◌≡◌, ◌+◌, ◌^◌, ◌≤◌, ◌++◌, [], ℕ, true, false, List, Option, Ok};
+ghost use Rattle.std.specs.Prelude.{IfOk, OnOk, flat_map, length};
 ghost use Rattle.drum_times.specs.Entries.{entry_in};
 ghost use Rattle.drum_bound.specs.AnalysisOf.{angle_of, bound_of, visits_of};
 ghost use Rattle.drum_bound.specs.Visited.{seen_visit};
@@ -15,7 +16,8 @@ use drum_core::Output;
 use drum_lines::{WriteFault, send, send_bound};
 use drum_times::Times;
 
-/// Gathers the line of a visit, and tells whether there was room for it: else the page is as it was.
+/// Gathers the line of a visit, and tells whether there was room for it: else the page is as it
+/// was.
 fn gather_visit(page: &mut Page, visit: &Visit, times: &Times, angle: u8) -> bool
     requires { ⟦<Page as Output>⟧.called page.old ≤ 2 ^ 62 }
     ensures line { result ≡ true → text_of page.new

@@ -16,7 +16,7 @@ use Rattle.drum_flow.proofs.Lists.{contains_from_get}
 use Rattle.drum_flow.proofs.Orders.{with_new_keeps, with_new_has, with_new_only, with_new_different, with_new_before}
 use Rattle.drum_flow.proofs.Orders.{target_there, hop_there}
 use Rattle.drum_loops.specs.Loops.{LeadBy}
-use Rattle.drum_loops.specs.Nested.{GoesPast, LeadsPast}
+use Rattle.drum_loops.specs.Nested.{GoesAround, LeadsAround}
 
 -- one is the other, or isn't
 pub same_or_not : (a b : ℕ) → (a ≡ b) ⊎ (a ≢ b)
@@ -45,7 +45,7 @@ pub record IsReaching (loads : ℕ → Option Word) (notes : Notes) (past from t
   pub begun : Contains places from
   pub different : AreDifferent places
   pub later : 1 ≤ turn
-  pub reached : (place : ℕ) → Contains places place → (place ≡ past) ⊎ LeadsPast loads notes past from place
+  pub reached : (place : ℕ) → Contains places place → (place ≡ past) ⊎ LeadsAround loads notes past from place
   pub added : (k place next : ℕ) → 1 ≤ k → k < turn → slice_get places k ≡ Some place
       → IsEdge loads notes place next → Contains places next
 
@@ -58,7 +58,7 @@ module _ (loads : ℕ → Option Word) (notes : Notes) (past from : ℕ) (apart 
       (sym (grown ∙ ap (λ (xs : List ℕ). with_new xs (from ∷ [])) is)) here
     where
       reached : (place : ℕ) → Contains (with_new (past ∷ []) (from ∷ [])) place
-          → (place ≡ past) ⊎ LeadsPast loads notes past from place
+          → (place ≡ past) ⊎ LeadsAround loads notes past from place
       reached place there = elim (with_new_only (past ∷ []) (from ∷ []) place there) [
         | inl old ↦ (elim (contains_cases past place [] old) [
           | inl same ↦ inl (sym same)
@@ -89,7 +89,7 @@ module _ (loads : ℕ → Option Word) (notes : Notes) (past from : ℕ) (apart 
         let zero_th : turn ≡ 0 = one_place places turn 0 past before.different here before.first in
         omega (arith, before.later, zero_th)
 
-    node_reached : LeadsPast loads notes past from node
+    node_reached : LeadsAround loads notes past from node
     node_reached = elim (before.reached node (contains_from_get places turn node at)) [
       | inl same ↦ absurd (other_than_past same)
       | inr lead ↦ lead
@@ -98,14 +98,14 @@ module _ (loads : ℕ → Option Word) (notes : Notes) (past from : ℕ) (apart 
     abbrev grown : List ℕ
     grown = with_new places (successors loads notes node)
 
-    more_reached : (place : ℕ) → Contains grown place → (place ≡ past) ⊎ LeadsPast loads notes past from place
+    more_reached : (place : ℕ) → Contains grown place → (place ≡ past) ⊎ LeadsAround loads notes past from place
     more_reached place there = elim (with_new_only places (successors loads notes node) place there) [
       | inl old ↦ before.reached place old
       | inr new ↦ (elim (same_or_not place past) [
         | inl same ↦ inl same
         | inr other ↦ inr (
           node_reached.0 ++ place ∷ [],
-          lead_push (GoesPast loads notes past) from node place node_reached.0 node_reached.1
+          lead_push (GoesAround loads notes past) from node place node_reached.0 node_reached.1
               (hop_there (hops loads notes node) place new, other),
         )
       ])
@@ -145,7 +145,7 @@ module _ (loads : ℕ → Option Word) (notes : Notes) (past from : ℕ) (apart 
   module _ (turn : ℕ) (places : List ℕ) (done : IsReaching loads notes past from turn places)
       (all : length places ≤ turn) where
     along : (node place : ℕ) (through : List ℕ) → Contains places node → node ≢ past
-        → LeadBy (GoesPast loads notes past) node through place → Contains places place
+        → LeadBy (GoesAround loads notes past) node through place → Contains places place
     along node place [] there other lead = subst (λ (n : ℕ). Contains places n) lead there
     along node place (next ∷ through) there other lead =
         let at : (k : ℕ) × (slice_get places k ≡ Some node) = contains_at places node there in
@@ -157,10 +157,10 @@ module _ (loads : ℕ → Option Word) (notes : Notes) (past from : ℕ) (apart 
             let same : node ≡ past = cc in absurd (other same))
         behind (suc k) e = omega arith
 
-    pub all_reached : (place : ℕ) → LeadsPast loads notes past from place → Contains places place
+    pub all_reached : (place : ℕ) → LeadsAround loads notes past from place → Contains places place
     all_reached place lead = along from place lead.0 done.begun apart lead.1
 
-    pub only_reached : (place : ℕ) → place ≢ past → Contains places place → LeadsPast loads notes past from place
+    pub only_reached : (place : ℕ) → place ≢ past → Contains places place → LeadsAround loads notes past from place
     only_reached place other there = elim (done.reached place there) [
       | inl same ↦ absurd (other same)
       | inr lead ↦ lead
@@ -168,7 +168,7 @@ module _ (loads : ℕ → Option Word) (notes : Notes) (past from : ℕ) (apart 
 
 -- what is reached so isn't that location
 lead_other : (loads : ℕ → Option Word) (notes : Notes) (past node place : ℕ) (through : List ℕ) → node ≢ past
-    → LeadBy (GoesPast loads notes past) node through place → place ≢ past
+    → LeadBy (GoesAround loads notes past) node through place → place ≢ past
 lead_other loads notes past node place [] other lead = λ same. other (lead ∙ same)
 lead_other loads notes past node place (next ∷ through) other lead =
     lead_other loads notes past next place through lead.0.1 lead.1
@@ -184,9 +184,9 @@ is_there None answer places place past same at none other =
 
 -- what is there is what is reached
 module _ (loads : ℕ → Option Word) (notes : Notes) (past from : ℕ) (places : List ℕ) (apart : from ≢ past)
-    (all : (place : ℕ) → place ≢ past → (Contains places place ↔ LeadsPast loads notes past from place)) where
+    (all : (place : ℕ) → place ≢ past → (Contains places place ↔ LeadsAround loads notes past from place)) where
   pub answer_leads : (answer : Bool) (place : ℕ) → (IsTrue answer ↔ ((place ≢ past) × Contains places place))
-      → (IsTrue answer ↔ LeadsPast loads notes past from place)
+      → (IsTrue answer ↔ LeadsAround loads notes past from place)
   answer_leads answer place is = (
     λ yes. (all place (is.0 yes).0).0 (is.0 yes).1,
     λ lead.

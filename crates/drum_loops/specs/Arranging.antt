@@ -1,7 +1,8 @@
 -- A depth-first search that arranges a graph's nodes: the path, and behind it the finished nodes,
 -- the last first, are the order so far.
 -- `row` says which nodes the edges of a node lead to.
-use Rattle.std.specs.Prelude.{◌≡◌, ℕ, ◌+◌, ◌<◌, Bool, true, false, List, ◌++◌, length, reverse, slice_get, slice_index, sum_by, Some, Contains}
+use Rattle.std.specs.Prelude.{◌≡◌, ℕ, ◌+◌, ◌<◌, Bool, true, false, List, ◌++◌, length, reverse}
+use Rattle.std.specs.Prelude.{slice_get, slice_index, sum_by, Some, Contains}
 use Rattle.drum_flow.specs.Graph.{AreDifferent}
 use Rattle.drum_flow.specs.Search.{AreLinked}
 use Rattle.drum_loops.specs.declared.arrangement.Arrangement.{Arrangement}

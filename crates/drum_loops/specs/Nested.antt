@@ -5,21 +5,21 @@ use Rattle.drum_times.specs.Allowed.{Notes}
 use Rattle.drum_flow.specs.Hops.{IsEdge}
 use Rattle.drum_loops.specs.Loops.{LeadsTo}
 
--- an edge that doesn't lead onto this location
-abbrev pub GoesPast : (ℕ → Option Word) → Notes → ℕ → ℕ → ℕ → Type 0
-GoesPast loads notes past from onto = IsEdge loads notes from onto × (onto ≢ past)
+-- an edge that doesn't lead onto the location to be avoided
+abbrev pub GoesAround : (ℕ → Option Word) → Notes → ℕ → ℕ → ℕ → Type 0
+GoesAround loads notes avoided from onto = IsEdge loads notes from onto × (onto ≢ avoided)
 
--- edges, perhaps none, lead from the one location to the other, and none of them onto this one
-abbrev pub LeadsPast : (ℕ → Option Word) → Notes → ℕ → ℕ → ℕ → Type 0
-LeadsPast loads notes past from onto = LeadsTo (GoesPast loads notes past) from onto
+-- edges, perhaps none, lead from the one location to the other, none of them onto the avoided one
+abbrev pub LeadsAround : (ℕ → Option Word) → Notes → ℕ → ℕ → ℕ → Type 0
+LeadsAround loads notes avoided from onto = LeadsTo (GoesAround loads notes avoided) from onto
 
 -- The loop that the inner edge closes stands inside the one that the outer edge closes. A loop's
--- head is the location that its edge leads onto. Past the outer head edges lead from the inner head
--- round the inner loop, and to the outer edge; and the start is the outer head, or leads to the
--- inner one through it alone.
+-- head is the location that its edge leads onto. Without coming to the outer head, edges lead from
+-- the inner head round the inner loop, and to the outer edge; and the start is the outer head, or
+-- leads to the inner head through the outer one alone.
 pub record IsNested (loads : ℕ → Option Word) (notes : Notes) (start : ℕ)
     (outer inner : ℕ × ℕ) : Type 0 where
   pub apart : inner.1 ≢ outer.1
-  pub round : LeadsPast loads notes outer.1 inner.1 inner.0
-  pub onward : LeadsPast loads notes outer.1 inner.1 outer.0
-  pub through : (start ≡ outer.1) ⊎ ¬ LeadsPast loads notes outer.1 start inner.1
+  pub round : LeadsAround loads notes outer.1 inner.1 inner.0
+  pub onward : LeadsAround loads notes outer.1 inner.1 outer.0
+  pub through : (start ≡ outer.1) ⊎ ¬ LeadsAround loads notes outer.1 start inner.1

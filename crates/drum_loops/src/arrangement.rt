@@ -1,4 +1,5 @@
-ghost use Rattle.std.specs.Prelude.{◌≡◌, ℕ, ◌<◌, ◌≤◌, ◌≢◌, [], true, false, length, slice_get, Some, IfOk, IfSome, IfNone, OnOk, Contains, ◌++◌, reverse};
+ghost use Rattle.std.specs.Prelude.{◌≡◌, ℕ, ◌<◌, ◌≤◌, ◌≢◌, [], true, false, length, slice_get};
+ghost use Rattle.std.specs.Prelude.{Some, IfOk, IfSome, IfNone, OnOk, Contains, ◌++◌, reverse};
 
 use drum_flow::graph::Graph;
 use std::alloc::{AllocError, Global};

@@ -5,7 +5,7 @@ ghost use Rattle.drum_core.specs.Loads.{loads_in, start_in};
 ghost use Rattle.drum_flow.specs.Found.{places_of};
 ghost use Rattle.drum_flow.specs.Flow.{of_flow};
 ghost use Rattle.drum_loops.specs.Loops.{edge_of};
-ghost use Rattle.drum_loops.specs.Nested.{LeadsPast, IsNested};
+ghost use Rattle.drum_loops.specs.Nested.{LeadsAround, IsNested};
 
 use crate::edge::Edge;
 use drum_core::Location;
@@ -23,7 +23,7 @@ fn reached_past(
     requires { from.number ≢ past.number }
     ensures { IfOk result (λ reached. (place : ℕ) → place ≢ past.number
         → (Contains (places_of reached) place
-        ↔ LeadsPast (loads_in flow.now.deck.now) flow.now.notes.now past.number from.number
+        ↔ LeadsAround (loads_in flow.now.deck.now) flow.now.notes.now past.number from.number
         place)) }
 {
     // It stands there from the beginning, so no edge onto it is followed.
@@ -46,13 +46,13 @@ fn is_reached(reached: &Executed, past: Location, location: Location) -> bool
     location.number() != past.number() && reached.index_of(location).is_some()
 }
 
-/// Whether edges lead from an inner loop's head round it, and to the outer loop's edge, none of them
-/// onto the outer loop's head.
+/// Whether edges lead from an inner loop's head round it, and to the outer loop's edge, none of
+/// them onto the outer loop's head.
 fn goes_round(alloc: Global, flow: &Flow<'_>, outer: Edge, inner: Edge) -> Result<bool, AllocError>
     requires { inner.onto.number ≢ outer.onto.number }
-    ensures { IfOk result (λ round. IsTrue round ↔ (LeadsPast (loads_in flow.now.deck.now)
+    ensures { IfOk result (λ round. IsTrue round ↔ (LeadsAround (loads_in flow.now.deck.now)
         flow.now.notes.now outer.onto.number inner.onto.number inner.from.number
-        × LeadsPast (loads_in flow.now.deck.now) flow.now.notes.now outer.onto.number
+        × LeadsAround (loads_in flow.now.deck.now) flow.now.notes.now outer.onto.number
         inner.onto.number outer.from.number)) }
 {
     let reached = reached_past(alloc, flow, outer.onto, inner.onto)?;
@@ -71,7 +71,7 @@ fn is_entered_by(
 ) -> Result<bool, AllocError>
     ensures { IfOk result (λ entered. IsTrue entered
         ↔ ((start_in flow.now.deck.now ≡ head.number)
-        ⊎ ¬ LeadsPast (loads_in flow.now.deck.now) flow.now.notes.now head.number
+        ⊎ ¬ LeadsAround (loads_in flow.now.deck.now) flow.now.notes.now head.number
         (start_in flow.now.deck.now) location.number)) }
 {
     let start = flow.deck().start();

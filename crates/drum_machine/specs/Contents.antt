@@ -1,7 +1,9 @@
 -- What a machine holds, apart from the time (IBM 650 Manual of Operation).
-use Rattle.std.specs.Prelude.{ℕ, ◌/◌, ◌%◌, ◌^◌, Bool, true, false, List, Option, ℤ, pos, negsuc, unsigned_abs, unwrap_or, slice_index_or}
+use Rattle.std.specs.Prelude.{ℕ, ◌/◌, ◌%◌, ◌^◌, Bool, true, false, List, Option, ℤ, pos, negsuc}
+use Rattle.std.specs.Prelude.{unsigned_abs, unwrap_or, slice_index_or}
 use Rattle.drum_core.specs.declared.location.Kind.{Kind}
-use Rattle.drum_core.specs.declared.location.Kind.TheVariants.{Drum, Switches, Distributor, Lower, Upper}
+use Rattle.drum_core.specs.declared.location.Kind.TheVariants.{Drum, Switches, Distributor, Lower}
+use Rattle.drum_core.specs.declared.location.Kind.TheVariants.{Upper}
 use Rattle.drum_core.specs.declared.word.Word.{Word}
 use Rattle.drum_core.specs.Kind.{kind_of}
 use Rattle.drum_core.specs.Word.{word}

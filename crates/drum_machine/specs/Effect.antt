@@ -4,9 +4,13 @@
 -- shifts by ten places; that a left shift is no overflow; that 47 turns the latch off; that at a
 -- quotient stop the latch is on and the divisor in the distributor, and the accumulator and the
 -- remainder's sign stay; and that an overflow leaves the same whether or not the machine stops.
-use Rattle.std.specs.Prelude.{ℕ, ◌+◌, ◌-◌, ◌*◌, ◌/◌, ◌%◌, ◌^◌, ◌==◌, Bool, true, false, not, if◌then◌else◌, nat_le, List, [], ◌∷◌, Some, None, ℤ, pos, neg_ℤ, ◌+ℤ◌, ◌*ℤ◌, unsigned_abs, slice_set, slice_range}
+use Rattle.std.specs.Prelude.{ℕ, ◌+◌, ◌-◌, ◌*◌, ◌/◌, ◌%◌, ◌^◌, ◌==◌, Bool, true, false, not}
+use Rattle.std.specs.Prelude.{if◌then◌else◌, nat_le, List, [], ◌∷◌, Some, None, ℤ, pos, neg_ℤ, ◌+ℤ◌}
+use Rattle.std.specs.Prelude.{◌*ℤ◌, unsigned_abs, slice_set, slice_range}
 use Rattle.drum_core.specs.declared.op.Op.{Op}
-use Rattle.drum_core.specs.declared.op.Op.TheVariants.{NoOperation, Stop, Add, ResetAdd, Divide, DivideReset, Multiply, Store, Shift, Branch, LoadDistributor, Read, Punch, BranchOnDigit}
+use Rattle.drum_core.specs.declared.op.Op.TheVariants.{NoOperation, Stop, Add, ResetAdd, Divide}
+use Rattle.drum_core.specs.declared.op.Op.TheVariants.{DivideReset, Multiply, Store, Shift, Branch}
+use Rattle.drum_core.specs.declared.op.Op.TheVariants.{LoadDistributor, Read, Punch, BranchOnDigit}
 use Rattle.drum_core.specs.declared.op.amount.Amount as amounts
 use Rattle.drum_core.specs.declared.op.amount.Amount.TheVariants as amount
 use Rattle.drum_core.specs.declared.op.branch.Branch as branches
@@ -22,7 +26,8 @@ use Rattle.drum_core.specs.Word.{word, signed, number_in}
 use Rattle.drum_machine.specs.declared.card.Card.{Card}
 use Rattle.drum_machine.specs.declared.why.Why as whys
 use Rattle.drum_machine.specs.declared.why.Why.TheVariants as why
-use Rattle.drum_machine.specs.Contents.{Contents, is_minus, upper, lower, lower_word, upper_word, word_at}
+use Rattle.drum_machine.specs.Contents.{Contents, is_minus, upper, lower, lower_word, upper_word}
+use Rattle.drum_machine.specs.Contents.{word_at}
 
 -- An instruction leaves new contents, and the number of the next location or why it stops.
 pub data Outcome : Type 0 where

@@ -1,6 +1,7 @@
 -- What the card machine is fed with: the cards and the waits that are left (how waits are given is
 -- this project's choice).
-use Rattle.std.specs.Prelude.{ℕ, drop, slice_get, min, max, Bool, true, false, if◌then◌else◌, List, [], ◌∷◌, Option, Some, None}
+use Rattle.std.specs.Prelude.{ℕ, drop, slice_get, min, max, Bool, true, false, if◌then◌else◌, List}
+use Rattle.std.specs.Prelude.{[], ◌∷◌, Option, Some, None}
 use Rattle.std.specs.Vec.Iter.{into_iter_items}
 use Rattle.drum_core.specs.declared.op.Op.{Op}
 use Rattle.drum_core.specs.declared.op.Op.TheVariants.{Read, Punch}

@@ -1,5 +1,6 @@
 -- What a machine is at the beginning of a step, and what its calls answer.
-use Rattle.std.specs.Prelude.{◌≡◌, ℕ, Bool, not, ◌&&◌, if◌then◌else◌, List, slice_get, Option, Some, None, Contains}
+use Rattle.std.specs.Prelude.{◌≡◌, ℕ, Bool, not, ◌&&◌, if◌then◌else◌, List, slice_get, Option, Some}
+use Rattle.std.specs.Prelude.{None, Contains}
 use Rattle.drum_core.specs.declared.location.Location.{Location}
 use Rattle.drum_core.specs.declared.op.Op.{Op}
 use Rattle.drum_core.specs.declared.op.Op.TheVariants.{Punch}
@@ -18,7 +19,8 @@ use Rattle.drum_machine.specs.Ending.{own_notes, stops_by}
 use Rattle.drum_machine.specs.Feed.{cards_left, waits_left, wait_for, cards_after, waits_after}
 use Rattle.drum_machine.specs.Keeps.{reads_load}
 use Rattle.drum_machine.specs.Registers.{contents_with}
-use Rattle.drum_machine.specs.Step.{State, Stepped, on, stopped, step, fetched, instruction_in, lacks_card, MayWait}
+use Rattle.drum_machine.specs.Step.{State, Stepped, on, stopped, step, fetched, instruction_in}
+use Rattle.drum_machine.specs.Step.{lacks_card, MayWait}
 use Rattle.drum_machine.specs.Ways.{Way, to, ways}
 use Rattle.drum_machine.specs.Writes.{writes}
 

@@ -26,7 +26,8 @@ counts_in m notes = held.counts_in m.counts notes.marks
 -- the counts after strides
 abbrev pub counts_over : Notes → List ℕ → List Stride → List ℕ
 counts_over notes counts [] = counts
-counts_over notes counts (stride ∷ strides) = counts_over notes (counts_after notes counts stride) strides
+counts_over notes counts (stride ∷ strides) =
+    counts_over notes (counts_after notes counts stride) strides
 
 -- a monitor has seen these strides, which keep to the notes
 pub record HasSeen (loads : ℕ → Option Word) (notes : Notes) (m : Monitor)

@@ -1,5 +1,6 @@
 -- What a machine is set up with beside its deck.
-use Rattle.std.specs.Prelude.{◌≢◌, ℕ, ◌^◌, ◌<◌, ◌==◌, ℤ, unsigned_abs, List, Option, map, find, is_some}
+use Rattle.std.specs.Prelude.{◌≢◌, ℕ, ◌^◌, ◌<◌, ◌==◌, ℤ, unsigned_abs, List, Option, map, find}
+use Rattle.std.specs.Prelude.{is_some}
 use Rattle.std.specs.List.{All, AllPairs}
 use Rattle.std.specs.Option.{option_map}
 use Rattle.drum_core.specs.declared.location.Location.{Location}

@@ -1,9 +1,16 @@
 //! Arithmetic on the accumulator's number and on the numbers of words, as the definitions have it.
 
-ghost use Rattle.std.specs.Prelude.{◌≡◌, ◌+◌, ◌*◌, ◌/◌, ◌%◌, ◌^◌, ◌<◌, ◌≤◌, unsigned_abs, false, ◌+ℤ◌};
-ghost use Rattle.drum_core.specs.Word.{word as word_of, signed as signed_of, number_in as number_of};
-ghost use Rattle.drum_machine.specs.Contents.{upper as upper_of, lower as lower_of, is_minus as minus_of};
-ghost use Rattle.drum_machine.specs.Effect.{amount_of as added_of, product as product_of, differ as differ_of, quotient as quotient_of, rest as rest_of, is_too_large as too_large_of, shifted as shifted_of, places as places_of, digit_at as digit_of};
+ghost use Rattle.std.specs.Prelude.{◌≡◌, ◌+◌, ◌*◌, ◌/◌, ◌%◌, ◌^◌, ◌<◌, ◌≤◌, unsigned_abs, false};
+ghost use Rattle.std.specs.Prelude.{◌+ℤ◌};
+ghost use Rattle.drum_core.specs.Word.{word as word_of, signed as signed_of};
+ghost use Rattle.drum_core.specs.Word.{number_in as number_of};
+ghost use Rattle.drum_machine.specs.Contents.{upper as upper_of, lower as lower_of};
+ghost use Rattle.drum_machine.specs.Contents.{is_minus as minus_of};
+ghost use Rattle.drum_machine.specs.Effect.{amount_of as added_of, product as product_of};
+ghost use Rattle.drum_machine.specs.Effect.{differ as differ_of, quotient as quotient_of};
+ghost use Rattle.drum_machine.specs.Effect.{rest as rest_of, is_too_large as too_large_of};
+ghost use Rattle.drum_machine.specs.Effect.{shifted as shifted_of, places as places_of};
+ghost use Rattle.drum_machine.specs.Effect.{digit_at as digit_of};
 ghost use Rattle.drum_machine.specs.Timing.{digit_sum as digit_sum_of};
 ghost use Rattle.drum_core.specs.declared.op.shift.Shift.TheVariants as shift;
 

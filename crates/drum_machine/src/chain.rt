@@ -4,7 +4,8 @@ ghost use Rattle.std.specs.Prelude.{◌≡◌, ℕ, ◌<◌, ◌≤◌, ◌+◌,
 ghost use Rattle.drum_core.specs.Available.{has_parity};
 ghost use Rattle.drum_core.specs.Moment.{first};
 ghost use Rattle.drum_core.specs.Op.{operand_of, is_operand};
-ghost use Rattle.drum_machine.specs.Timing.{ready, waits_for_operand as waits_for, reached, ended, longest_step};
+ghost use Rattle.drum_machine.specs.Timing.{ready, waits_for_operand as waits_for, reached, ended};
+ghost use Rattle.drum_machine.specs.Timing.{longest_step};
 
 use drum_core::{AtParity, Clockwork, Delay, Location, Op, Seek, Then};
 use drum_times::Entry;

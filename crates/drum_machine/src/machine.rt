@@ -41,7 +41,9 @@ impl Machine {
     ghost use Rattle.drum_machine.specs.Timing.{longest_step, ready as ready_at};
     ghost use Rattle.drum_machine.specs.Step.{State, leaves, fetched, instruction_in};
     ghost use Rattle.drum_machine.specs.Registers.{contents_with, outcome_of};
-    ghost use Rattle.drum_machine.specs.Machine.{held_by, GoesOn, HasStopped, sought_by, used_by, Tells, Becomes, TakesStep, WritesAlone, EndsByAWay, state_in, op_in, punched_by};
+    ghost use Rattle.drum_machine.specs.Machine.{held_by, GoesOn, HasStopped, sought_by, used_by};
+    ghost use Rattle.drum_machine.specs.Machine.{Tells, Becomes, TakesStep, WritesAlone};
+    ghost use Rattle.drum_machine.specs.Machine.{EndsByAWay, state_in, op_in, punched_by};
 
     /// A machine at time 0: it seeks the deck's start; it has the setup's angle, registers, latch
     /// and switches, and no remainder's sign; its drum has the deck's words, elsewhere the setup's,

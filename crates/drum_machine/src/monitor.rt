@@ -1,4 +1,5 @@
-ghost use Rattle.std.specs.Prelude.{◌≡◌, ◌≤◌, ◌∷◌, [], ◌++◌, length, List, Some, None, MatchOption, MatchBool, IsTrue, Contains};
+ghost use Rattle.std.specs.Prelude.{◌≡◌, ◌≤◌, ◌∷◌, [], ◌++◌, length, List, Some, None, MatchOption};
+ghost use Rattle.std.specs.Prelude.{MatchBool, IsTrue, Contains};
 ghost use Rattle.drum_machine.specs.Keeps.{IsAsDeclared};
 ghost use Rattle.drum_core.specs.Instruction.{instruction_of};
 ghost use Rattle.drum_core.specs.Loads.{loads_in};
@@ -60,7 +61,8 @@ impl Monitor {
     ghost use Rattle.drum_machine.specs.Run.{Stride};
     ghost use Rattle.drum_machine.specs.Counts.{after_pass, no_counts, AreWithin};
     ghost use Rattle.drum_machine.specs.CountsIn.{counts_in as counts_of};
-    ghost use Rattle.drum_machine.specs.Monitor.{answer_of, counts_in, counts_over, HasSeen, IsToldOf};
+    ghost use Rattle.drum_machine.specs.Monitor.{answer_of, counts_in, counts_over, HasSeen};
+    ghost use Rattle.drum_machine.specs.Monitor.{IsToldOf};
 
     /// A monitor of a run from this setup. It has answered where the programmed switch isn't as the
     /// notes declare it.
@@ -146,7 +148,8 @@ impl Monitor {
         ensures answered { result ≡ answer_of self.new }
         ensures judged { answer_of self.old ≡ None
             → (times : Op → Entry) (strides : List Stride) (stride : Stride)
-            → HasSeen (loads_in deck.now) notes.now self.old strides → IsToldOf times stride step.now
+            → HasSeen (loads_in deck.now) notes.now self.old strides
+            → IsToldOf times stride step.now
             → MatchOption result
             (HasSeen (loads_in deck.now) notes.now self.new (strides ++ stride ∷ []))
             (λ left. let counts = counts_over notes.now (no_counts notes.now.marks) strides in

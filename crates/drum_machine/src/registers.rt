@@ -40,12 +40,16 @@ impl Registers {
     ghost use Rattle.drum_core.specs.Op.{operand_of, is_operand};
     ghost use Rattle.drum_machine.specs.Step.{is_read};
     ghost use Rattle.drum_machine.specs.declared.card.Card.{Card};
-    ghost use Rattle.drum_machine.specs.Contents.{word_at as word_in, lower_word as lower_in, upper_word as upper_in};
-    ghost use Rattle.drum_machine.specs.Effect.{keeps as keeps_in, stored as stored_in, holds as holds_in, punched as punched_in, goes, effect};
+    ghost use Rattle.drum_machine.specs.Contents.{word_at as word_in, lower_word as lower_in};
+    ghost use Rattle.drum_machine.specs.Contents.{upper_word as upper_in};
+    ghost use Rattle.drum_machine.specs.Effect.{keeps as keeps_in, stored as stored_in};
+    ghost use Rattle.drum_machine.specs.Effect.{holds as holds_in, punched as punched_in, goes};
+    ghost use Rattle.drum_machine.specs.Effect.{effect};
     ghost use Rattle.drum_core.specs.declared.op.Op.TheVariants as Op;
     ghost use Rattle.drum_machine.specs.declared.why.Why.TheVariants as Why;
     ghost use Rattle.drum_machine.specs.Timing.{units_of};
-    ghost use Rattle.drum_machine.specs.Registers.{contents_with, cards_before, outcome_of, HasEffect};
+    ghost use Rattle.drum_machine.specs.Registers.{contents_with, cards_before, outcome_of};
+    ghost use Rattle.drum_machine.specs.Registers.{HasEffect};
 
     /// The lower ten digits of the accumulator as a word.
     fn lower_word(&self) -> Word

@@ -1,4 +1,5 @@
-ghost use Rattle.std.specs.Prelude.{◌≡◌, ◌≢◌, ◌^◌, ◌<◌, ◌↔◌, unsigned_abs, IsTrue, IsSome, IfSome, MatchBool};
+ghost use Rattle.std.specs.Prelude.{◌≡◌, ◌≢◌, ◌^◌, ◌<◌, ◌↔◌, unsigned_abs, IsTrue, IsSome, IfSome};
+ghost use Rattle.std.specs.Prelude.{MatchBool};
 ghost use Rattle.std.specs.List.{Any, All};
 ghost use Rattle.drum_machine.specs.Setup.{HaveOwnLocations, IsSetup, first_loaded, given_to};
 

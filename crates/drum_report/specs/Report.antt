@@ -1,6 +1,7 @@
 -- The report of a walk by card (this project's choice): how often the walk visits each card's
 -- locations and how long it stays there, how often it passes each mark, and its time.
-use Rattle.std.specs.Prelude.{ℕ, ◌-◌, ◌==◌, Bool, false, true, List, [], ◌∷◌, ◌++◌, codes, decimal, filter, flat_map, length, sum_by, Some, None}
+use Rattle.std.specs.Prelude.{ℕ, ◌-◌, ◌==◌, Bool, false, true, List, [], ◌∷◌, ◌++◌, codes, decimal}
+use Rattle.std.specs.Prelude.{filter, flat_map, length, sum_by, Some, None}
 use Rattle.drum_core.specs.declared.deck.Deck.{Deck}
 use Rattle.drum_core.specs.Loads.{card_in, cards_in}
 use Rattle.drum_core.specs.Numeral.{digits_of}

@@ -1,5 +1,6 @@
 -- What the tallies of a walk are, as the code has them, and the lines that they make.
-use Rattle.std.specs.Prelude.{◌≡◌, ℕ, ◌≤◌, List, ◌++◌, codes, decimal, length, slice_get, slice_index, Some}
+use Rattle.std.specs.Prelude.{◌≡◌, ℕ, ◌≤◌, List, ◌++◌, codes, decimal, length, slice_get}
+use Rattle.std.specs.Prelude.{slice_index, Some}
 use Rattle.drum_core.specs.declared.deck.Deck.{Deck}
 use Rattle.drum_core.specs.Numeral.{digits_of}
 use Rattle.drum_times.specs.declared.notes.mark.Mark.{Mark}

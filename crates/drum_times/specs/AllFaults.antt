@@ -1,11 +1,15 @@
 -- All faults of a document, where Refused has its first.
-use Rattle.std.specs.Prelude.{◌≡◌, ℕ, ◌⊎◌, if◌then◌else◌, List, [], ◌∷◌, ◌++◌, map, flat_map, take, codes, pos, Option, Some, None, string_bytes}
+use Rattle.std.specs.Prelude.{◌≡◌, ℕ, ◌⊎◌, if◌then◌else◌, List, [], ◌∷◌, ◌++◌, map, flat_map, take}
+use Rattle.std.specs.Prelude.{codes, pos, Option, Some, None, string_bytes}
 use Rattle.drum_core.specs.declared.location.Location.{Location}
 use Rattle.drum_core.specs.Location.{is_location}
 use Rattle.drum_times.specs.declared.fault.NoteFault.{NoteFault}
-use Rattle.drum_times.specs.declared.fault.NoteFault.TheVariants.{Toml, Memory, Missing, Unknown, Range, Kind, TwoMarks, TwoLists}
-use Rattle.drum_times.specs.Document.{Fault, missing, unknown, range, kind, two_marks, two_lists, in_turn, is_count, count_of}
-use Rattle.drum_times.specs.NotesDocument.{notes_checks, tables_of, tables_at, edge_faults, location_faults}
+use Rattle.drum_times.specs.declared.fault.NoteFault.TheVariants.{Toml, Memory, Missing, Unknown}
+use Rattle.drum_times.specs.declared.fault.NoteFault.TheVariants.{Range, Kind, TwoMarks, TwoLists}
+use Rattle.drum_times.specs.Document.{Fault, missing, unknown, range, kind, two_marks, two_lists}
+use Rattle.drum_times.specs.Document.{in_turn, is_count, count_of}
+use Rattle.drum_times.specs.NotesDocument.{notes_checks, tables_of, tables_at, edge_faults}
+use Rattle.drum_times.specs.NotesDocument.{location_faults}
 use Rattle.drum_times.specs.Refused.{IsDocument}
 use Rattle.toml.specs.Data.{Data, integer, array, table, Members, get_member}
 
@@ -27,8 +31,8 @@ TellEach (told ∷ others) (fault ∷ faults) = Tells told fault × TellEach oth
 TellEach [] (fault ∷ faults) = ⊥
 TellEach (told ∷ others) [] = ⊥
 
--- All faults of bytes, where `faults_of` gives those of a document: that they are none, or those of
--- it.
+-- All faults of bytes, where `faults_of` gives those of a document: if the bytes are no TOML
+-- document, that alone; else the document's.
 abbrev pub AreAllFaults : (Members → List Fault) → List ℕ → List NoteFault → Type 0
 AreAllFaults faults_of bytes faults =
     (((document : Members) → ¬ IsDocument bytes document) × (faults ≡ Toml ∷ []))

@@ -1,5 +1,7 @@
 -- Which instructions the notes allow at a location (this project's choice).
-use Rattle.std.specs.Prelude.{◌≡◌, ℕ, suc, ◌-◌, ◌≤◌, ◌==◌, if◌then◌else◌, Bool, List, [], ◌∷◌, ◌++◌, map, flat_map, Option, Some, None, is_some, ◌+◌, ◌<◌, ◌&&◌, false, IsTrue, length}
+use Rattle.std.specs.Prelude.{◌≡◌, ℕ, suc, ◌-◌, ◌≤◌, ◌==◌, if◌then◌else◌, Bool, List, [], ◌∷◌, ◌++◌}
+use Rattle.std.specs.Prelude.{map, flat_map, Option, Some, None, is_some, ◌+◌, ◌<◌, ◌&&◌, false}
+use Rattle.std.specs.Prelude.{IsTrue, length}
 use Rattle.std.specs.List.{range_with_len, list_any, AllByRecursion}
 use Rattle.drum_core.specs.declared.instruction.Instruction.{Instruction}
 use Rattle.drum_core.specs.declared.word.Word.{Word}

@@ -1,5 +1,6 @@
 -- Where bytes stop being a document.
-use Rattle.std.specs.Prelude.{◌≡◌, ℕ, ◌+◌, ◌≤◌, ◌==◌, ◌&&◌, nat_le, if◌then◌else◌, Bool, List, [], ◌∷◌, Option, Some, None, length, take, count_by}
+use Rattle.std.specs.Prelude.{◌≡◌, ℕ, ◌+◌, ◌≤◌, ◌==◌, ◌&&◌, nat_le, if◌then◌else◌, Bool, List, []}
+use Rattle.std.specs.Prelude.{◌∷◌, Option, Some, None, length, take, count_by}
 use Rattle.drum_times.specs.declared.complaint.Complaint.{Complaint}
 use Rattle.drum_times.specs.Refused.{IsDocument}
 use Rattle.toml.specs.Data.{Members}
@@ -8,25 +9,25 @@ use Rattle.toml.specs.Data.{Members}
 abbrev pub is_feed : ℕ → Bool
 is_feed byte = byte == 10
 
--- the byte goes on with a character of UTF-8
+-- the byte is a further one of a character in UTF-8, not its first
 abbrev pub is_continuation : ℕ → Bool
 is_continuation byte = nat_le 128 byte && nat_le byte 191
 
--- the column behind some bytes, the first of which stands at this column; each line's first is 1
+-- The column behind some bytes, of which the first stands at this column. A line's first is 1.
 abbrev pub column_behind : ℕ → List ℕ → ℕ
 column_behind column [] = column
 column_behind column (byte ∷ bytes) = column_behind
     (if is_feed byte then 1 else if is_continuation byte then column else column + 1) bytes
 
--- the line and the column of the place before which so many bytes stand: 1 and the line feeds
--- before it; 1 and the characters between the last of them and it
+-- The line and the column of the place behind so many bytes. Lines and columns count from 1; a
+-- column counts characters.
 abbrev pub line_at : List ℕ → ℕ → ℕ
 line_at bytes offset = 1 + count_by is_feed (take offset bytes)
 
 abbrev pub column_at : List ℕ → ℕ → ℕ
 column_at bytes offset = column_behind 1 (take offset bytes)
 
--- the complaint is of a place in the bytes, or behind them
+-- the complaint names a place in the bytes, or the one behind them
 pub record IsAtOffset (bytes : List ℕ) (complaint : Complaint) : Type 0 where
   pub offset : ℕ
   pub within : offset ≤ length bytes

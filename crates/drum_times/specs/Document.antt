@@ -1,10 +1,12 @@
 -- What both documents are made of (this project's choice): TOML tables, whose keys are looked at
 -- one after the other. Here are the faults of a table, in their order; a document without a fault
 -- has none.
-use Rattle.std.specs.Prelude.{ℕ, suc, ◌+◌, ◌&&◌, Bool, if◌then◌else◌, nat_le, List, [], ◌∷◌, ◌++◌, flat_map, codes, decimal, pos, negsuc, Option, Some, None, is_some}
+use Rattle.std.specs.Prelude.{ℕ, suc, ◌+◌, ◌&&◌, Bool, if◌then◌else◌, nat_le, List, [], ◌∷◌, ◌++◌}
+use Rattle.std.specs.Prelude.{flat_map, codes, decimal, pos, negsuc, Option, Some, None, is_some}
 use Rattle.std.specs.List.{list_any}
 use Rattle.drum_core.specs.Location.{is_location}
-use Rattle.toml.specs.Data.{Data, string, integer, array, table, Items, no_items, item, Members, no_members, member, get_member, same_key}
+use Rattle.toml.specs.Data.{Data, string, integer, array, table, Items, no_items, item, Members}
+use Rattle.toml.specs.Data.{no_members, member, get_member, same_key}
 
 -- why a document is refused: at a key, by its path, or for two of a kind
 pub data Fault : Type 0 where

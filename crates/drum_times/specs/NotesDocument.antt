@@ -1,12 +1,14 @@
 -- The notes as a document (this project's choice): what they say, and their faults in their order.
-use Rattle.std.specs.Prelude.{◌≡◌, ℕ, ◌+◌, ◌-◌, ◌<◌, ◌==◌, ◌&&◌, Bool, true, false, if◌then◌else◌, List, [], ◌∷◌, ◌++◌, map, codes, Option, Some, None}
+use Rattle.std.specs.Prelude.{◌≡◌, ℕ, ◌+◌, ◌-◌, ◌<◌, ◌==◌, ◌&&◌, Bool, true, false, if◌then◌else◌}
+use Rattle.std.specs.Prelude.{List, [], ◌∷◌, ◌++◌, map, codes, Option, Some, None}
 use Rattle.std.specs.List.{list_any}
 use Rattle.drum_times.specs.declared.notes.mark.Mark.{Mark}
 use Rattle.drum_times.specs.declared.notes.pattern.Pattern.{Pattern}
 use Rattle.drum_times.specs.declared.notes.programmed.Programmed.{Programmed}
 use Rattle.drum_times.specs.declared.notes.programmed.Programmed.TheVariants.{Stop, Run, Any}
 use Rattle.drum_times.specs.Allowed.{Notes, Listed, AreSound}
-use Rattle.drum_times.specs.Document.{Fault, in_turn, two_marks, two_lists, unknown_in, missing_in, whole, location, text, tables, number_at}
+use Rattle.drum_times.specs.Document.{Fault, in_turn, two_marks, two_lists, unknown_in, missing_in}
+use Rattle.drum_times.specs.Document.{whole, location, text, tables, number_at}
 use Rattle.drum_times.specs.TimesDocument.{HasNumber}
 use Rattle.toml.specs.Data.{Data, string, array, table, Items, no_items, item, Members, get_member}
 

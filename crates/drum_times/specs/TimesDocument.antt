@@ -2,7 +2,8 @@
 -- order.
 use Rattle.std.specs.Prelude.{◌≡◌, ℕ, List, [], ◌∷◌, ◌++◌, map, flat_map, codes, pos, Some, None}
 use Rattle.drum_core.specs.declared.op.Op.{Op}
-use Rattle.drum_core.specs.declared.op.Op.TheVariants.{Divide, DivideReset, Multiply, Shift, Read, Punch}
+use Rattle.drum_core.specs.declared.op.Op.TheVariants.{Divide, DivideReset, Multiply, Shift, Read}
+use Rattle.drum_core.specs.declared.op.Op.TheVariants.{Punch}
 use Rattle.drum_core.specs.declared.rotation.parity.Parity.{Parity}
 use Rattle.drum_core.specs.declared.rotation.parity.Parity.TheVariants.{Any, Even, Odd}
 use Rattle.drum_core.specs.Numeral.{digits_of}
@@ -10,7 +11,8 @@ use Rattle.drum_core.specs.Op.{number_of, ops}
 use Rattle.drum_times.specs.declared.entry.Entry.{Entry}
 use Rattle.drum_times.specs.declared.times.read_entry.Form.{Form}
 use Rattle.drum_times.specs.declared.times.read_entry.Form.TheVariants.{Plain, Units, Waits}
-use Rattle.drum_times.specs.Document.{Fault, kind, missing, unknown_in, missing_in, whole, text, number_at}
+use Rattle.drum_times.specs.Document.{Fault, kind, missing, unknown_in, missing_in, whole, text}
+use Rattle.drum_times.specs.Document.{number_at}
 use Rattle.toml.specs.Data.{Data, string, integer, table, Members, get_member}
 
 -- the two digits of an operation

@@ -65,7 +65,8 @@ fn of_each_way(rt: HostRuntime) -> Result<(), Fail> {
     Ok(())
 }
 
-/// A deck of all drum locations that stop, but 0100, which leads to 0300, and 0300, which is listed.
+/// A deck of all drum locations that stop, but for 0100, which leads to 0300, and 0300, which is
+/// listed.
 fn all_but_one(alloc: Global) -> Result<String, AllocError> {
     let mut text = String::from_str(alloc, "START 0100\n")?;
     for number in 0..2000u16 {

@@ -1,8 +1,8 @@
 //! Tests of devices that give or take few bytes, fail or never end: of files, of the joined form on
 //! the input, of both outputs, and of which files are opened at all.
 //!
-//! `devices` are readers and writers that do so, and `shelf` a source of files; other crates of tests
-//! use both. `subjects` has the commands whose texts are known, and `running` runs one.
+//! `devices` are readers and writers that do so, and `shelf` a source of files; other crates of
+//! tests use both. `subjects` has the commands whose texts are known, and `running` runs one.
 #![tactic(auto)]
 
 pub mod devices;

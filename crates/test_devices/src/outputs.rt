@@ -1,4 +1,5 @@
-//! Outputs that fail after any byte, and take few bytes a call or none, for each text that goes out.
+//! Outputs that fail after any byte, and take few bytes a call or none, for each text that goes
+//! out.
 
 use crate::devices::{Full, Tap};
 use crate::running::{AMPLE, Ran, run_over};

@@ -32,11 +32,13 @@ pub struct Entries {
 }
 
 impl Entries {
-    ghost use Rattle.std.specs.Prelude.{ℕ, true, [], ◌∷◌, length, slice_get, Some, None, option_map, IfOk, IfSome, OnOk, OnErr, nat_eq};
+    ghost use Rattle.std.specs.Prelude.{ℕ, true, [], ◌∷◌, length, slice_get, Some, None};
+    ghost use Rattle.std.specs.Prelude.{option_map, IfOk, IfSome, OnOk, OnErr, nat_eq};
     ghost use Rattle.std.specs.Map.{keys_of, values_of};
     ghost use Rattle.indexmap.specs.IndexMap.{get};
     ghost use Rattle.drum_bound.specs.EndOf.{latest_in};
-    ghost use Rattle.drum_bound.specs.Kept.{AreKept, IsEntryOf, Keeps, first_entry, kept_of, pairs_of};
+    ghost use Rattle.drum_bound.specs.Kept.{AreKept, IsEntryOf, Keeps, first_entry, kept_of};
+    ghost use Rattle.drum_bound.specs.Kept.{pairs_of};
 
     /// The start's alone: its key keeps the moment of the start, at this angle.
     pub fn new(

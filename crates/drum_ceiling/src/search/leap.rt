@@ -6,8 +6,8 @@ use crate::slot::Slot;
 #[derive(Clone, Copy, Debug)]
 pub struct Head {
     pub slot: Slot,
-    /// The most word times until a hop ends, by edges without marks, from the longest wait before the
-    /// head is found; that wait at least.
+    /// The most word times until a hop ends, by edges without marks, from the longest wait before
+    /// the head is found; that wait at least.
     pub end: u64,
 }
 

@@ -1,4 +1,5 @@
-ghost use Rattle.std.specs.Prelude.{◌≡◌, ℕ, ◌<◌, ◌≤◌, ◌≢◌, [], length, slice_get, Some, IfOk, IfSome, IfNone, OnOk, Contains, reverse};
+ghost use Rattle.std.specs.Prelude.{◌≡◌, ℕ, ◌<◌, ◌≤◌, ◌≢◌, [], length, slice_get, Some, IfOk};
+ghost use Rattle.std.specs.Prelude.{IfSome, IfNone, OnOk, Contains, reverse};
 ghost use Rattle.drum_flow.specs.declared.graph.progress.Progress.TheVariants.{New, Open, Finished};
 
 use crate::graph::Graph;

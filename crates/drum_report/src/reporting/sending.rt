@@ -5,7 +5,8 @@ ghost use Rattle.drum_core.specs.Loads.{cards_in};
 ghost use Rattle.drum_bound.specs.Visited.{Visited};
 ghost use Rattle.drum_report.specs.Report.{card_line, mark_line};
 ghost use Rattle.drum_lines.specs.Sent.{IsSent, fails_by};
-ghost use Rattle.drum_report.specs.TalliesOf.{AreByLine, ArePasses, told_of_card, told_of_mark, told_of_others};
+ghost use Rattle.drum_report.specs.TalliesOf.{AreByLine, ArePasses, told_of_card, told_of_mark};
+ghost use Rattle.drum_report.specs.TalliesOf.{told_of_others};
 
 use super::tallies::LINES;
 use super::tally::Tally;

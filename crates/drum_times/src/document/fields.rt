@@ -1,4 +1,5 @@
-ghost use Rattle.std.specs.Prelude.{◌≡◌, ◌∷◌, [], ◌++◌, Some, IfOk, IfErr, map, option_map, string_bytes, codes};
+ghost use Rattle.std.specs.Prelude.{◌≡◌, ◌∷◌, [], ◌++◌, Some, IfOk, IfErr, map, option_map};
+ghost use Rattle.std.specs.Prelude.{string_bytes, codes};
 ghost use Rattle.drum_times.specs.Document as document;
 ghost use Rattle.drum_times.specs.Refused.{IsFirst};
 ghost use Rattle.toml.specs.Data.{get_member};

@@ -1,5 +1,7 @@
 //! Arrays of tables, each element of which stands for a value.
-ghost use Rattle.std.specs.Prelude.{◌≡◌, ℕ, ◌+◌, ◌^◌, ◌<◌, List, [], ◌++◌, Option, Some, None, IfOk, IfErr, IsSome, true, length, codes, decimal, string_bytes};
+ghost use Rattle.std.specs.Prelude.{◌≡◌, ℕ, ◌+◌, ◌^◌, ◌<◌, List, [], ◌++◌, Option, Some, None};
+ghost use Rattle.std.specs.Prelude.{IfOk, IfErr, IsSome, true, length, codes, decimal};
+ghost use Rattle.std.specs.Prelude.{string_bytes};
 ghost use Rattle.drum_times.specs.Document as document;
 ghost use Rattle.drum_times.specs.Document.{Fault};
 ghost use Rattle.drum_times.specs.NotesDocument.{AreTables, HasTables, IsTable};

@@ -1,5 +1,6 @@
 //! What may be wrong with a value by itself, whatever its key.
-ghost use Rattle.std.specs.Prelude.{◌≡◌, ℕ, ◌≤◌, ◌&&◌, nat_le, List, ◌∷◌, [], map, pos, IfOk, IfErr};
+ghost use Rattle.std.specs.Prelude.{◌≡◌, ℕ, ◌≤◌, ◌&&◌, nat_le, List, ◌∷◌, [], map, pos, IfOk};
+ghost use Rattle.std.specs.Prelude.{IfErr};
 ghost use Rattle.drum_core.specs.Location.{is_location};
 ghost use Rattle.drum_times.specs.Document as document;
 ghost use Rattle.drum_times.specs.Value.{fault_of, StandsFor};
