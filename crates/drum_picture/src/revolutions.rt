@@ -3,7 +3,7 @@
 use crate::ink::Ink;
 use crate::page::TITLE;
 use crate::parts::Parts;
-use crate::rows::{MOST_ROWS, Rows, drawn_from};
+use crate::rows::{FIRST_ROWS, MOST_ROWS, Rows, drawn_from};
 use crate::spans::{COLUMN, draw_visit, top_of};
 use crate::walk::Walk;
 use drum_times::Times;
@@ -22,7 +22,7 @@ pub(crate) fn draw_revolutions_title(
         let from = again.revolution.saturating_add(1);
         write!(
             text,
-            "its beginning, and from {from} on, of {all} revolutions</text>\n"
+            "first {FIRST_ROWS}, then from {from}, of {all} revolutions</text>\n"
         )
     } else if shown.saturating_mul(50) >= walk.angle.saturating_add(walk.bound) {
         write!(text, "all {all} revolutions</text>\n")

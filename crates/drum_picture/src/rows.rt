@@ -9,7 +9,7 @@ use std::alloc::{AllocError, Global};
 pub const MOST_ROWS: usize = 24;
 
 /// How many of them are the walk's first, where it spends most further on.
-const FIRST_ROWS: usize = 6;
+pub const FIRST_ROWS: usize = 6;
 
 /// How many hops are drawn at most: rows have no more word times.
 pub const MOST_VISITS: usize = 1200;
