@@ -1,4 +1,5 @@
 mod Checks
+mod Common
 pub mod Defaults
 pub mod Firsts
 pub mod Prefixes
@@ -10,6 +11,7 @@ pub mod OneLine
 pub mod Own
 pub mod Progress
 pub mod Refusals
+pub mod Repeated
 pub mod Sounds
 pub mod Steps
 pub mod Takes

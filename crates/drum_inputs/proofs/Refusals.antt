@@ -56,7 +56,8 @@ fault_of_line_one before number text (faults.Repeated n) (faults.PastDrum m) p q
     absurd (p.1.2 (subst IsPastDrum (line_one text q.1.0 p.1.0 q.1.1 p.1.1) q.1.2))
 fault_of_line_one before number text (faults.Repeated n) (faults.Repeated m) p q = ap faults.Repeated (p.0 ∙ sym q.0)
 
-inputs_faults : HasOneFault IsLine AreSound IsFaultOfLine
+-- a line of inputs says one thing, a sound one has no fault, and a faulty one has one
+pub inputs_faults : HasOneFault IsLine AreSound IsFaultOfLine
 inputs_faults = record { one_line = line_one; none_among = no_fault_among; one_fault = fault_of_line_one }
 
 -- a text whose lines are sound has no faulty line

@@ -1,5 +1,6 @@
 -- What inputs hold of which some lines have been taken.
-use Rattle.std.specs.Prelude.{◌≡◌, ℕ, ◌^◌, ◌<◌, ◌↔◌, List, map, true, false, Any, slice_index_or, unsigned_abs}
+use Rattle.std.specs.Prelude.{◌≡◌, ℕ, ◌^◌, ◌<◌, ◌↔◌, List, map, true, false, Any, slice_index_or}
+use Rattle.std.specs.Prelude.{unsigned_abs}
 use Rattle.std.specs.Option.{ForSome}
 use Rattle.drum_core.specs.declared.word.Word.{Word}
 use Rattle.drum_inputs.specs.declared.drum_words.DrumWords.{DrumWords}
@@ -7,7 +8,9 @@ use Rattle.drum_inputs.specs.declared.setting.Setting.{Setting}
 use Rattle.drum_inputs.specs.declared.settings.Settings.{Settings}
 use Rattle.drum_inputs.specs.declared.stating.Stating.{Stating}
 use Rattle.drum_inputs.specs.Inputs.{given_word, read_card}
-use Rattle.drum_inputs.specs.InputsText.{Line, IsLine, AreSound, first_said, angle_in, switches_in, distributor_in, accumulator_in, latch_in, programmed_in, on_overflow_in, given_in, cards_in, waits_in}
+use Rattle.drum_inputs.specs.InputsText.{Line, IsLine, AreSound, first_said, angle_in, switches_in}
+use Rattle.drum_inputs.specs.InputsText.{distributor_in, accumulator_in, latch_in, programmed_in}
+use Rattle.drum_inputs.specs.InputsText.{on_overflow_in, given_in, cards_in, waits_in}
 use Rattle.drum_inputs.specs.Said.{stated}
 
 -- some text states the setting

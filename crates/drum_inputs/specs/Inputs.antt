@@ -6,7 +6,9 @@ use Rattle.drum_core.specs.Word.{word}
 use Rattle.drum_machine.specs.declared.card.Card.{Card}
 use Rattle.drum_machine.specs.Feed.{cards_left, waits_left}
 use Rattle.drum_inputs.specs.declared.inputs.Inputs.{Inputs}
-use Rattle.drum_inputs.specs.InputsText.{Line, first_said, angle_in, switches_in, distributor_in, accumulator_in, latch_in, programmed_in, on_overflow_in, given_in, cards_in, waits_in}
+use Rattle.drum_inputs.specs.InputsText.{Line, first_said, angle_in, switches_in, distributor_in}
+use Rattle.drum_inputs.specs.InputsText.{accumulator_in, latch_in, programmed_in, on_overflow_in}
+use Rattle.drum_inputs.specs.InputsText.{given_in, cards_in, waits_in}
 
 -- a word for a location, and a card, as the machine has them
 abbrev pub given_word : Location × Word → ℕ × Word

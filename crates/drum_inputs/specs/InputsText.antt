@@ -1,6 +1,8 @@
 -- The inputs of a replay (this project's choice): what each line says, which texts are inputs, what
 -- they state, and why another text is refused.
-use Rattle.std.specs.Prelude.{◌≡◌, ℕ, ◌+◌, ◌^◌, ◌<◌, ◌≤◌, List, [], ◌∷◌, ◌++◌, length, flat_map, codes, Any, Bool, true, false, if◌then◌else◌, Option, Some, None, IsSome, ℤ}
+use Rattle.std.specs.Prelude.{◌≡◌, ℕ, ◌+◌, ◌^◌, ◌<◌, ◌≤◌, List, [], ◌∷◌, ◌++◌, length, flat_map}
+use Rattle.std.specs.Prelude.{codes, Any, Bool, true, false, if◌then◌else◌, Option, Some, None}
+use Rattle.std.specs.Prelude.{IsSome, ℤ}
 use Rattle.std.specs.Option.{option_or}
 use Rattle.drum_core.specs.declared.word.Word.{Word}
 use Rattle.drum_core.specs.DeckText as deck

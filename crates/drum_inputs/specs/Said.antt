@@ -4,7 +4,8 @@ use Rattle.drum_inputs.specs.declared.line.Line as read
 use Rattle.drum_inputs.specs.declared.line.Line.TheVariants as lines
 use Rattle.drum_inputs.specs.declared.setting.Setting.{Setting}
 use Rattle.drum_inputs.specs.declared.setting.Setting.TheVariants as settings
-use Rattle.drum_inputs.specs.InputsText.{Line, comment, angle, switches, distributor, accumulator, latch, programmed, on_overflow, words, card, wait}
+use Rattle.drum_inputs.specs.InputsText.{Line, comment, angle, switches, distributor, accumulator}
+use Rattle.drum_inputs.specs.InputsText.{latch, programmed, on_overflow, words, card, wait}
 
 abbrev pub stated : Setting → Line
 stated (settings.Angle n) = angle n

@@ -8,3 +8,14 @@ pub struct Inputs {
     /// What its card machine is fed with.
     pub feed: Feed,
 }
+
+impl Inputs {
+    /// The most lines of a text of inputs.
+    pub const LINES: u16 = 4000;
+
+    /// The most bytes of a line, without its line feed.
+    pub const LINE: usize = 200;
+
+    /// The most bytes of a text.
+    pub const BYTES: usize = Inputs::LINES as usize * (Inputs::LINE + 1);
+}

@@ -1,11 +1,12 @@
 //! Laws of the definitions, each the contract of a function that does nothing.
 
-ghost use Rattle.std.specs.Prelude.{◌≡◌, ◌≢◌, ◌⊎◌, ℕ, ◌<◌, List, All, AllPairs};
-ghost use Rattle.drum_inputs.specs.InputsText.{Line, IsLine, AreInputs, AreSound, IsRefused, given_in};
+ghost use Rattle.std.specs.Prelude.{◌≡◌, ◌≢◌, ◌↔◌, ◌⊎◌, ℕ, ◌<◌, List, [], ◌∷◌, All, AllPairs, Any};
+ghost use Rattle.drum_inputs.specs.InputsText.{Line, IsLine, AreInputs, AreSound, IsRefused};
+ghost use Rattle.drum_inputs.specs.InputsText.{Repeats, given_in};
 ghost use Rattle.drum_inputs.specs.declared.fault.InputFault.{InputFault};
 
-/// Every text is inputs, or it has its fault. (That it is not both, and has no other fault, two of the
-/// laws below say.)
+/// Every text is inputs, or it has its fault. (That it is not both, and has no other fault, two of
+/// the laws below say.)
 pub fn inputs_or_fault()
     ensures { (text : List ℕ) → ((lines : List Line) × AreInputs text lines)
         ⊎ ((fault : InputFault) × IsRefused text fault) }
@@ -29,6 +30,12 @@ pub fn one_meaning()
         → line ≡ other }
     ensures text { (text : List ℕ) (lines others : List Line) → AreInputs text lines
         → AreInputs text others → lines ≡ others }
+{}
+
+/// A line says again what others say exactly where it says again what one of them says.
+pub fn repeats_one()
+    ensures { (lines : List Line) (line : Line)
+        → Repeats lines line ↔ Any (λ earlier. Repeats (earlier ∷ []) line) lines }
 {}
 
 /// Sound lines give a word once at most to each location, and only to drum locations.

@@ -17,4 +17,5 @@ mod stating;
 
 pub use fault::InputFault;
 pub use inputs::Inputs;
-pub use read::read_inputs;
+pub use line::Line as InputLine;
+pub use read::{inputs_of, read_inputs};

@@ -1,4 +1,5 @@
-ghost use Rattle.std.specs.Prelude.{◌≡◌, ◌≢◌, ◌++◌, Bool, List, length, IfSome, IfNone, IsTrue, ◌↔◌};
+ghost use Rattle.std.specs.Prelude.{◌≡◌, ◌≢◌, ℕ, ◌+◌, ◌<◌, ◌≤◌, [], ◌∷◌, ◌++◌, Bool, List, length};
+ghost use Rattle.std.specs.Prelude.{take, IfSome, IfNone, IsTrue, ◌↔◌};
 ghost use Rattle.drum_core.specs.Word.{spaced};
 ghost use Rattle.drum_inputs.specs.InputsText as text;
 ghost use Rattle.drum_inputs.specs.Said.{said};
@@ -7,7 +8,7 @@ use crate::digits::read_wait;
 use crate::key::behind;
 use crate::setting::Setting;
 use drum_core::spaced::read_words;
-use drum_core::{DeckCard, Word};
+use drum_core::{DeckCard, Location, Word};
 use drum_machine::Card;
 
 /// How many words a card has.
@@ -59,6 +60,19 @@ fn read_ten(line: &[u8], mark: &[u8]) -> Option<[Word; WORDS]>
     }
 }
 
+/// Whether two cards of words for drum locations have a location in common.
+fn have_common(card: &DeckCard, other: &DeckCard) -> bool
+    ensures { IsTrue result ↔ ((location : ℕ)
+        × (card.now.address ≤ location)
+        × (location < card.now.address + length (take card.now.len card.now.words))
+        × (other.now.address ≤ location)
+        × (location < other.now.address + length (take other.now.len other.now.words))) }
+{
+    let (first, second) = (usize::from(card.address), usize::from(other.address));
+    let (end, other_end) = (first + card.words().len(), second + other.words().len());
+    first.max(second) < end.min(other_end)
+}
+
 /// The card that a line spells.
 fn read_card(line: &[u8]) -> Option<Card>
     ensures found { IfSome result (λ card. text.IsLine line.now (text.card card.load card.words)) }
@@ -95,6 +109,30 @@ impl Line {
         match read_wait(bytes) {
             Some(wait) => Some(Line::Wait(wait)),
             None => None,
+        }
+    }
+
+    /// Whether it gives a word to a location past the drum.
+    pub fn is_past_drum(&self) -> bool
+        ensures { IsTrue result ↔ text.IsPastDrum (said self.now) }
+    {
+        match self {
+            Line::Words(card) => {
+                usize::from(card.address) + card.words().len() > usize::from(Location::DRUM)
+            }
+            _ => false,
+        }
+    }
+
+    /// Whether it says again what an earlier line says: the same setting, or a word for one of the
+    /// locations that the earlier line gives words.
+    pub fn repeats(&self, earlier: &Line) -> bool
+        ensures { IsTrue result ↔ text.Repeats (said earlier.now ∷ []) (said self.now) }
+    {
+        match (self, earlier) {
+            (Line::Setting(setting), Line::Setting(other)) => setting.is_of(other),
+            (Line::Words(card), Line::Words(other)) => have_common(card, other),
+            _ => false,
         }
     }
 }

@@ -1,6 +1,7 @@
-//! Reading the inputs of a replay from their device, line by line.
+//! Reading the inputs of a replay, from their device or from their text, line by line.
 
-ghost use Rattle.std.specs.Prelude.{◌≡◌, ◌≢◌, ◌+◌, ◌^◌, ◌≤◌, ◌↔◌, ◌⊎◌, List, IsErrOf, IfOk, IfErr, IfSome};
+ghost use Rattle.std.specs.Prelude.{◌≡◌, ◌≢◌, ◌+◌, ◌^◌, ◌≤◌, ◌↔◌, ◌⊎◌, List, IsErrOf, IfOk, IfErr};
+ghost use Rattle.std.specs.Prelude.{IfSome};
 ghost use Rattle.drum_inputs.specs.Inputs.{AreInputsOf};
 ghost use Rattle.drum_inputs.specs.InputsText.{Line, IsTooLong, AreInputs, IsRefused};
 
@@ -9,15 +10,6 @@ use crate::inputs::Inputs;
 use crate::stating::Stating;
 use drum_core::{Input, Lines, WholeError, is_longer, read_whole};
 use std::alloc::Global;
-
-/// The most lines of inputs.
-const LINES: usize = 4000;
-
-/// The most bytes of a line, without its line feed.
-const LINE: usize = 200;
-
-/// The most bytes of inputs.
-const BYTES: usize = LINES * (LINE + 1);
 
 /// Reads the inputs of a replay. The whole text is read first, 804,001 bytes at most, so that a
 /// reader without end is too long.
@@ -49,16 +41,32 @@ pub fn read_inputs<I: Input>(alloc: Global, reader: &mut I) -> Result<Inputs, In
     ensures each { I.called reader.new + I.given reader.old
         ≤ I.called reader.old + I.given reader.new + 1 }
 {
-    let text = match read_whole(alloc, reader, BYTES) {
+    let text = match read_whole(alloc, reader, Inputs::BYTES) {
         Ok(text) => text,
         Err(WholeError::Read) => return Err(InputFault::Read),
         Err(WholeError::Memory) => return Err(InputFault::Memory),
         Err(WholeError::TooLong) => return Err(InputFault::TooLong),
     };
-    if is_longer(&text, LINES, LINE) {
+    inputs_of(alloc, &text)
+}
+
+/// The inputs of a text that is held.
+///
+/// # Errors
+///
+/// Memory; TooLong before any line is looked at; then the first line with a fault, Line before
+/// PastDrum before Repeated.
+pub fn inputs_of(alloc: Global, text: &[u8]) -> Result<Inputs, InputFault>
+    ensures inputs { IfOk result (λ inputs.
+        (lines : List Line) × AreInputs text.now lines × AreInputsOf inputs lines) }
+    ensures refused { IfErr result (λ fault. fault ≢ InputFault.Memory
+        → IsRefused text.now fault) }
+    ensures read { ¬ IsErrOf result InputFault.Read }
+{
+    if is_longer(text, usize::from(Inputs::LINES), Inputs::LINE) {
         return Err(InputFault::TooLong);
     }
-    read_lines(alloc, &text)
+    read_lines(alloc, text)
 }
 
 /// The inputs of a text that isn't too long.

@@ -1,4 +1,5 @@
-ghost use Rattle.std.specs.Prelude.{◌≡◌, ◌≢◌, ◌++◌, if◌then◌else◌, IfSome, IfNone};
+ghost use Rattle.std.specs.Prelude.{◌≡◌, ◌≢◌, [], ◌∷◌, ◌++◌, if◌then◌else◌, IfSome, IfNone};
+ghost use Rattle.std.specs.Prelude.{IsTrue, ◌↔◌};
 ghost use Rattle.drum_core.specs.Word.{spelling};
 ghost use Rattle.drum_inputs.specs.InputsText as text;
 ghost use Rattle.drum_inputs.specs.Said.{stated};
@@ -84,6 +85,22 @@ impl Setting {
         match read_choice(line, b"ONOVERFLOW STOP", b"ONOVERFLOW SENSE") {
             Some(stops) => Some(Setting::OnOverflow(stops)),
             None => None,
+        }
+    }
+
+    /// Whether another one is of the same thing.
+    pub fn is_of(&self, other: &Setting) -> bool
+        ensures { IsTrue result ↔ text.Repeats (stated other.now ∷ []) (stated self.now) }
+    {
+        match (self, other) {
+            (Setting::Angle(_), Setting::Angle(_)) => true,
+            (Setting::Switches(_), Setting::Switches(_)) => true,
+            (Setting::Distributor(_), Setting::Distributor(_)) => true,
+            (Setting::Accumulator(_), Setting::Accumulator(_)) => true,
+            (Setting::Latch(_), Setting::Latch(_)) => true,
+            (Setting::Programmed(_), Setting::Programmed(_)) => true,
+            (Setting::OnOverflow(_), Setting::OnOverflow(_)) => true,
+            _ => false,
         }
     }
 }

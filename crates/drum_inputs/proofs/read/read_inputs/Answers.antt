@@ -9,10 +9,10 @@ returns-in-Err-TooLong-clause-refused g c not_read not_memory =
 
 pub returns-clause-inputs : goal.returns-clause-inputs
 returns-clause-inputs g c =
-    inputs_of_left (g.I.Input.left c.args.reader.now) c.in-Ok.text.items c.deref-2.result.now c.read_lines.result
-    c.deref-2.ensures.value c.in-Ok.ensures.all c.read_lines.ensures.ok
+    inputs_of_left (g.I.Input.left c.args.reader.now) c.in-Ok.text.items c.deref.result.now c.inputs_of.result
+    c.deref.ensures.value c.in-Ok.ensures.all c.inputs_of.ensures.inputs
 
 pub returns-clause-refused : goal.returns-clause-refused
 returns-clause-refused g c =
-    refused_of_left (g.I.Input.left c.args.reader.now) c.in-Ok.text.items c.deref-2.result.now c.read_lines.result
-    c.deref-2.ensures.value c.in-Ok.ensures.all c.read_lines.ensures.err
+    refused_of_left (g.I.Input.left c.args.reader.now) c.in-Ok.text.items c.deref.result.now c.inputs_of.result
+    c.deref.ensures.value c.in-Ok.ensures.all c.inputs_of.ensures.refused
