@@ -1,8 +1,14 @@
 mod Begin
+mod BeginInputs
+mod BothLoad
+mod ByLine
 mod GivenLines
 mod Lines
 mod OneList
+mod OnePlaced
 mod Passed
 mod Placed
+mod PlacedInputs
 mod SoFar
 mod Told
+mod ToldInputs

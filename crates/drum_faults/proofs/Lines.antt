@@ -1,9 +1,18 @@
 -- The lines of all faults: those of a document, and that a fault always has one.
 use Rattle.std.proofs.Common.{◌≡◌, ℕ, List, [], ◌∷◌, ◌++◌, flat_map, Option, Some, None, refl, ◌∙◌, ap}
 use Rattle.std.proofs.Common.{subst, inl, inr, append_assoc, Result, Ok, Err, IfOk}
-use Rattle.std.specs.Prelude.{codes, decimal, string_bytes}
+use Rattle.std.proofs.Common.{◌+◌, ◌<◌, length, get_or, map, take, sym}
+use Rattle.std.proofs.lemmas.Grind.{flat_map-append}
+use Rattle.std.proofs.lemmas.List.{append-nil, map-append, take_more}
+use Rattle.std.specs.Prelude.{codes, decimal, string_bytes, IfSome}
+use Rattle.drum_core.specs.declared.location.Location.{Location}
+use Rattle.drum_lines.specs.declared.fault.Fault.TheVariants.{Loaded}
+use Rattle.drum_core.specs.declared.deck.fault.DeckFault.{DeckFault}
 use Rattle.drum_core.specs.DeckText.{Line, IsDeck}
-use Rattle.drum_lines.specs.FaultText.{deck_text, note_text}
+use Rattle.drum_inputs.specs.declared.fault.InputFault.{InputFault}
+use Rattle.drum_inputs.specs.InputsText as input_lines
+use Rattle.drum_inputs.specs.InputsText.{AreInputs}
+use Rattle.drum_lines.specs.FaultText.{deck_text, fault_text, input_text, note_text}
 use Rattle.drum_times.specs.declared.complaint.Complaint.{Complaint}
 use Rattle.drum_times.specs.declared.fault.NoteFault.{NoteFault}
 use Rattle.drum_times.specs.AllFaults.{AreAllFaults}
@@ -12,10 +21,13 @@ use Rattle.drum_times.specs.Document.{Fault}
 use Rattle.toml.specs.Data.{Members}
 use Rattle.drum_faults.specs.declared.placed_fault.PlacedFault.{PlacedFault}
 use Rattle.drum_faults.specs.DeckFaults.{AreDeckFaults}
-use Rattle.drum_faults.specs.FaultLines.{Named, at_line, earlier_text, slip_text, deck_fault_text, note_fault_text}
-use Rattle.drum_faults.specs.FaultLines.{complaint_text, IsComplaint, AreDocumentLines, AreFaultLines}
+use Rattle.drum_faults.specs.InputFaults.{AreInputFaults}
+use Rattle.drum_faults.specs.FaultLines.{Named, at_line, earlier_text, slip_text, placed_text, deck_fault_text}
+use Rattle.drum_faults.specs.FaultLines.{input_fault_text, note_fault_text, loaded_text, complaint_text, IsComplaint}
+use Rattle.drum_faults.specs.FaultLines.{AreDocumentLines, AreLoadedTwice, AreLinesOfInputs, AreFaultLines}
 use Rattle.drum_faults.specs.NamedTexts.{complaint_said}
 use Rattle.drum_faults.proofs.Begin.{none_is_deck}
+use Rattle.drum_faults.proofs.BeginInputs.{none_is_inputs}
 
 -- what is said of bytes that are no document
 pub said_of : (name bytes : List ℕ) (complaint : Option Complaint) → Complains bytes complaint
@@ -67,6 +79,45 @@ lines_returned (Ok new) items faults_of part text faults complaint old between a
     lines_of_document faults_of part text faults complaint old between (items new) are complains p q
 lines_returned (Err fault) items faults_of part text faults complaint old between are complains p q = tt
 
+-- one location more
+pub loaded_more : (name old text new : List ℕ) (loaded : List Location) (index : ℕ) (location : Location)
+    → index < length loaded → location ≡ get_or loaded index location
+    → text ≡ old ++ flat_map (loaded_text name) (map (λ one. one.number) (take index loaded))
+    → new ≡ text ++ at_line name None ++ fault_text (Loaded location)
+    → new ≡ old ++ flat_map (loaded_text name) (map (λ one. one.number) (take (index + 1) loaded))
+loaded_more name old text new loaded index location less is so_far more =
+    let numbers : List Location → List ℕ = λ ls. map (λ one. one.number) ls in
+    let all : take (index + 1) loaded ≡ take index loaded ++ location ∷ [] =
+    take_more loaded index location less ∙ ap (λ (one : Location). take index loaded ++ one ∷ []) (sym is) in
+    let own : flat_map (loaded_text name) (numbers (take index loaded ++ location ∷ []))
+    ≡ flat_map (loaded_text name) (numbers (take index loaded)) ++ loaded_text name location.number =
+    ap (flat_map (loaded_text name)) (map-append (λ (one : Location). one.number) (take index loaded) (location ∷ []))
+    ∙ flat_map-append (loaded_text name) (numbers (take index loaded)) (location.number ∷ [])
+    ∙ ap (λ (xs : List ℕ). flat_map (loaded_text name) (numbers (take index loaded)) ++ xs)
+    (append-nil (loaded_text name location.number)) in
+    let here : text ++ at_line name None ++ fault_text (Loaded location) ≡ text ++ loaded_text name location.number =
+    simp append_assoc in
+    more ∙ here ∙ ap (λ (xs : List ℕ). xs ++ loaded_text name location.number) so_far
+    ∙ append_assoc old (flat_map (loaded_text name) (numbers (take index loaded))) (loaded_text name location.number)
+    ∙ ap (λ (xs : List ℕ). old ++ xs)
+    (sym own ∙ ap (λ (ls : List Location). flat_map (loaded_text name) (numbers ls)) (sym all))
+
+-- the lines of inputs behind a text, as what a call returns
+pub inputs_returned : {V E : Type 0} (result : Result V E) (items : V → List ℕ) (deck inputs : Named)
+    (faults : List (PlacedFault InputFault)) (loaded old between : List ℕ)
+    → AreInputFaults inputs.bytes faults → AreLoadedTwice deck.bytes inputs.bytes loaded
+    → between ≡ old ++ flat_map (input_fault_text inputs.name) faults
+    → IfOk result (λ new. items new ≡ between ++ flat_map (loaded_text inputs.name) loaded)
+    → IfOk result (λ new. (lines : List ℕ) × AreLinesOfInputs deck (Some inputs) lines × (items new ≡ old ++ lines))
+inputs_returned (Ok new) items deck inputs faults loaded old between are both p q =
+    let own = flat_map (input_fault_text inputs.name) faults in
+    let twice = flat_map (loaded_text inputs.name) loaded in (
+      own ++ twice,
+      (own, (faults, are, refl), (loaded, both, refl)),
+      q ∙ ap (λ (xs : List ℕ). xs ++ twice) p ∙ append_assoc old own twice,
+    )
+inputs_returned (Err fault) items deck inputs faults loaded old between are both p q = tt
+
 -- a text that a call returns is another that equals it
 pub text_returned : {V E : Type 0} (result : Result V E) (items : V → List ℕ) (xs ys : List ℕ) → xs ≡ ys
     → IfOk result (λ new. items new ≡ xs) → IfOk result (λ new. items new ≡ ys)
@@ -98,24 +149,37 @@ place_fills : (name : List ℕ) (line : Option ℕ) → [] ≡ at_line name line
 place_fills name None e = let end = (no_parts name (codes ": ") e).1 in cc end
 place_fills name (Some line) e = let end = (no_parts (name ++ codes ":" ++ decimal line) (codes ": ") e).1 in cc end
 
-deck_none : (name : List ℕ) (faults : List PlacedFault) → [] ≡ flat_map (deck_fault_text name) faults → faults ≡ []
-deck_none name [] e = refl
-deck_none name (placed ∷ others) e =
+-- nothing comes of no faults alone, where each fault has a line
+none_mapped : {A : Type 0} (text : A → List ℕ) → ((x : A) → [] ≡ text x → ⊥) → (xs : List A) → [] ≡ flat_map text xs
+    → xs ≡ []
+none_mapped text fills [] e = refl
+none_mapped text fills (x ∷ xs) e = absurd (fills x (no_parts (text x) (flat_map text xs) e).0)
+
+-- the lines of a fault that has a place are never nothing
+placed_fills : {Fault : Type 0} (line name : List ℕ) (placed : PlacedFault Fault) → [] ≡ placed_text line name placed → ⊥
+placed_fills line name placed e =
     let placed_at = at_line name placed.line in
-    let own = deck_text placed.fault in
     let earlier = earlier_text name placed.earlier in
     let slip = slip_text name placed.line placed.slip in
-    let first = (no_parts (deck_fault_text name placed) (flat_map (deck_fault_text name) others) e).0 in
-    let behind = (no_parts (placed_at ++ own ++ earlier) slip first).0 in
-    let pair = (no_parts (placed_at ++ own) earlier behind).0 in
-    absurd (place_fills name placed.line (no_parts placed_at own pair).0)
+    let behind = (no_parts (placed_at ++ line ++ earlier) slip e).0 in
+    let pair = (no_parts (placed_at ++ line) earlier behind).0 in
+    place_fills name placed.line (no_parts placed_at line pair).0
+
+deck_none : (name : List ℕ) (faults : List (PlacedFault DeckFault)) → [] ≡ flat_map (deck_fault_text name) faults
+    → faults ≡ []
+deck_none name faults e =
+    none_mapped (deck_fault_text name) (λ placed none. placed_fills (deck_text placed.fault) name placed none) faults e
+
+input_none : (name : List ℕ) (faults : List (PlacedFault InputFault)) → [] ≡ flat_map (input_fault_text name) faults
+    → faults ≡ []
+input_none name faults e =
+    none_mapped (input_fault_text name) (λ placed none. placed_fills (input_text placed.fault) name placed none) faults e
 
 notes_none : (name part : List ℕ) (faults : List NoteFault) → [] ≡ flat_map (note_fault_text name part) faults
     → faults ≡ []
-notes_none name part [] e = refl
-notes_none name part (fault ∷ others) e =
-    let first = (no_parts (note_fault_text name part fault) (flat_map (note_fault_text name part) others) e).0 in
-    absurd (place_fills name None (no_parts (at_line name None) (note_text part fault) first).0)
+notes_none name part faults e =
+    none_mapped (note_fault_text name part)
+    (λ fault none. place_fills name None (no_parts (at_line name None) (note_text part fault) none).0) faults e
 
 -- where no lines are, a document has no faults
 pub document_none : (faults_of : Members → List Fault) (part : List ℕ) (text : Named) (lines : List ℕ)
@@ -124,15 +188,27 @@ document_none faults_of part text lines are e =
     let parts = no_parts (flat_map (note_fault_text text.name part) are.faults) are.complaint (e ∙ are.all) in
     subst (AreAllFaults faults_of text.bytes) (notes_none text.name part are.faults parts.0) are.are
 
--- and a deck has none, nor have the documents
-pub all_none : (deck times notes : Named) (all : AreFaultLines deck times notes [])
+-- and inputs have none
+inputs_none : (deck : Named) (inputs : Option Named) (lines : List ℕ) → AreLinesOfInputs deck inputs lines → [] ≡ lines
+    → IfSome inputs (λ text. (stated : List input_lines.Line) × AreInputs text.bytes stated)
+inputs_none deck None lines are e = tt
+inputs_none deck (Some inputs) lines (of_text, (faults, are, own), (loaded, both, all)) e =
+    let parts = no_parts of_text (flat_map (loaded_text inputs.name) loaded) (e ∙ all) in
+    let nothing : faults ≡ [] = input_none inputs.name faults (parts.0 ∙ own) in
+    none_is_inputs inputs.bytes (subst (AreInputFaults inputs.bytes) nothing are)
+
+-- and a deck has none, nor have the documents, nor inputs
+pub all_none : (deck times notes : Named) (inputs : Option Named) (all : AreFaultLines deck times notes inputs [])
     → ((lines : List Line) × IsDeck deck.bytes lines) × ([] ≡ all.of_times) × ([] ≡ all.of_notes)
-all_none deck times notes all =
+    × IfSome inputs (λ text. (stated : List input_lines.Line) × AreInputs text.bytes stated)
+all_none deck times notes inputs all =
     let own = flat_map (deck_fault_text deck.name) all.faults in
-    let last = no_parts (own ++ all.of_times) all.of_notes all.all in
-    let first = no_parts own all.of_times last.0 in (
+    let last = no_parts (own ++ all.of_times ++ all.of_notes) all.of_inputs all.all in
+    let second = no_parts (own ++ all.of_times) all.of_notes last.0 in
+    let first = no_parts own all.of_times second.0 in (
       none_is_deck deck.bytes
           (subst (AreDeckFaults deck.bytes) (deck_none deck.name all.faults first.0) all.are),
       first.1,
-      last.1,
+      second.1,
+      inputs_none deck inputs all.of_inputs all.inputs_are last.1,
     )

@@ -11,7 +11,8 @@ use Rattle.drum_faults.specs.DeckFaults.{IsPlaced}
 use Rattle.drum_faults.specs.DeckSoFar.{Gave}
 use Rattle.drum_faults.specs.Slip.{slip_in}
 use Rattle.drum_faults.specs.declared.slip.Slip.{Slip}
-use Rattle.drum_faults.proofs.GivenLines.{given_at-none, given_of_line, not_given}
+use Rattle.drum_core.proofs.Loads.{not_given}
+use Rattle.drum_faults.proofs.GivenLines.{given_at-none, given_of_line}
 use Rattle.drum_faults.proofs.SoFar.{some_starts}
 
 -- a line that is none of a deck

@@ -9,8 +9,8 @@ use Rattle.drum_core.specs.DeckText.{Line, comment, start, card, card_of, given_
 use Rattle.drum_core.proofs.FaultLaws.{starts-append}
 use Rattle.drum_faults.specs.DeckFaults.{first_start}
 use Rattle.drum_faults.specs.DeckSoFar.{Gave}
-use Rattle.drum_faults.proofs.GivenLines.{card_of-more_in, card_of-more_out, card_of-quiet, given_at-none, not_given}
-use Rattle.drum_faults.proofs.GivenLines.{sound_more, sound_card}
+use Rattle.drum_core.proofs.Loads.{not_given, sound_more, sound_card}
+use Rattle.drum_faults.proofs.GivenLines.{card_of-more_in, card_of-more_out, card_of-quiet, given_at-none}
 
 -- where there is a first start, there is a start
 pub some_starts : (number : ℕ) (lines : List Line) → is_some (first_start number lines) ≡ true

@@ -1,6 +1,15 @@
--- The lines of all faults of three texts (this project's choice).
-use Rattle.std.specs.Prelude.{◌≡◌, ℕ, ◌≤◌, ◌⊎◌, List, [], ◌++◌, length, flat_map, codes, decimal, Option, Some, None}
-use Rattle.drum_lines.specs.FaultText.{deck_text, note_text}
+-- The lines of all faults of a deck, a timing table and notes, and of inputs.
+use Rattle.std.specs.Prelude.{◌≡◌, ℕ, ◌≤◌, ◌⊎◌, List, [], ◌++◌, length, flat_map, codes, decimal}
+use Rattle.std.specs.Prelude.{filter, map, Option, Some, None}
+use Rattle.std.specs.Option.{is_some}
+use Rattle.drum_core.specs.declared.deck.fault.DeckFault.{DeckFault}
+use Rattle.drum_core.specs.DeckText.{IsDeck, loads_of}
+use Rattle.drum_core.specs.DeckText as deck_lines
+use Rattle.drum_core.specs.Numeral.{digits_of}
+use Rattle.drum_inputs.specs.declared.fault.InputFault.{InputFault}
+use Rattle.drum_inputs.specs.InputsText.{AreInputs, given_in}
+use Rattle.drum_inputs.specs.InputsText as input_lines
+use Rattle.drum_lines.specs.FaultText.{deck_text, input_text, note_text}
 use Rattle.drum_times.specs.AllFaults.{AreAllFaults, all_notes_faults}
 use Rattle.drum_times.specs.Complaint.{line_at, column_at}
 use Rattle.drum_times.specs.declared.fault.NoteFault.{NoteFault}
@@ -9,9 +18,11 @@ use Rattle.drum_times.specs.Refused.{IsDocument}
 use Rattle.drum_times.specs.TimesDocument.{times_faults}
 use Rattle.toml.specs.Data.{Members}
 use Rattle.drum_faults.specs.DeckFaults.{AreDeckFaults}
+use Rattle.drum_faults.specs.InputFaults.{AreInputFaults}
 use Rattle.drum_faults.specs.declared.placed_fault.PlacedFault.{PlacedFault}
 use Rattle.drum_faults.specs.declared.slip.Slip.{Slip}
-use Rattle.drum_faults.specs.declared.slip.Slip.TheVariants.{ByteOrderMark, Utf16, CarriageReturn, SmallLetters}
+use Rattle.drum_faults.specs.declared.slip.Slip.TheVariants.{ByteOrderMark, Utf16, CarriageReturn}
+use Rattle.drum_faults.specs.declared.slip.Slip.TheVariants.{SmallLetters}
 
 -- a text, and the name of the file that holds it
 pub record Named : Type 0 where
@@ -39,11 +50,17 @@ abbrev pub slip_text : List ℕ → Option ℕ → Option Slip → List ℕ
 slip_text name line None = []
 slip_text name line (Some slip) = at_line name line ++ slip_said slip
 
--- the lines of a deck's fault: where it stands and its own line, and what explains it
-abbrev pub deck_fault_text : List ℕ → PlacedFault → List ℕ
-deck_fault_text name placed =
-    at_line name placed.line ++ deck_text placed.fault ++ earlier_text name placed.earlier
+-- the lines of a fault that has a place: where it stands and its own line, and what explains it
+abbrev pub placed_text : {Fault : Type 0} → List ℕ → List ℕ → PlacedFault Fault → List ℕ
+placed_text line name placed =
+    at_line name placed.line ++ line ++ earlier_text name placed.earlier
     ++ slip_text name placed.line placed.slip
+
+abbrev pub deck_fault_text : List ℕ → PlacedFault DeckFault → List ℕ
+deck_fault_text name placed = placed_text (deck_text placed.fault) name placed
+
+abbrev pub input_fault_text : List ℕ → PlacedFault InputFault → List ℕ
+input_fault_text name placed = placed_text (input_text placed.fault) name placed
 
 -- the line of a fault of a timing table or of notes
 abbrev pub note_fault_text : List ℕ → List ℕ → NoteFault → List ℕ
@@ -72,12 +89,49 @@ pub record AreDocumentLines (faults_of : Members → List Fault) (part : List �
   pub said : IsComplaint text.name text.bytes complaint
   pub all : lines ≡ flat_map (note_fault_text text.name part) faults ++ complaint
 
--- the lines of all faults of three texts
-pub record AreFaultLines (deck times notes : Named) (lines : List ℕ) : Type 0 where
-  pub faults : List PlacedFault
+-- the lines of all faults of a text of inputs
+abbrev pub AreInputLines : Named → List ℕ → Type 0
+AreInputLines text lines =
+    (faults : List (PlacedFault InputFault)) × AreInputFaults text.bytes faults
+    × (lines ≡ flat_map (input_fault_text text.name) faults)
+
+-- the line of a location that both a deck and inputs in the file of this name load
+abbrev pub loaded_text : List ℕ → ℕ → List ℕ
+loaded_text name location =
+    at_line name None ++ codes "fault 47 inputs loaded " ++ digits_of 4 location ++ codes "\n"
+
+-- the locations that sound inputs give words, and that a sound deck loads too, in order
+abbrev pub loaded_twice : List deck_lines.Line → List input_lines.Line → List ℕ
+loaded_twice cards stated =
+    filter (λ location. is_some (loads_of cards location))
+    (map (λ given. given.0) (given_in stated))
+
+-- These are the locations that both load: none where one of them isn't sound.
+abbrev pub AreLoadedTwice : List ℕ → List ℕ → List ℕ → Type 0
+AreLoadedTwice deck inputs locations =
+    ((cards : List deck_lines.Line) × IsDeck deck cards
+    × ((stated : List input_lines.Line) × AreInputs inputs stated
+    × (locations ≡ loaded_twice cards stated)))
+    ⊎ ((¬ ((cards : List deck_lines.Line) × IsDeck deck cards)
+    ⊎ ¬ ((stated : List input_lines.Line) × AreInputs inputs stated)) × (locations ≡ []))
+
+-- the lines of all faults of inputs behind a deck, where there are any
+abbrev pub AreLinesOfInputs : Named → Option Named → List ℕ → Type 0
+AreLinesOfInputs deck None lines = lines ≡ []
+AreLinesOfInputs deck (Some inputs) lines =
+    (of_text : List ℕ) × AreInputLines inputs of_text
+    × ((loaded : List ℕ) × AreLoadedTwice deck.bytes inputs.bytes loaded
+    × (lines ≡ of_text ++ flat_map (loaded_text inputs.name) loaded))
+
+-- the lines of all faults of a deck, a timing table and notes, and of inputs where there are any
+pub record AreFaultLines (deck times notes : Named) (inputs : Option Named)
+    (lines : List ℕ) : Type 0 where
+  pub faults : List (PlacedFault DeckFault)
   pub are : AreDeckFaults deck.bytes faults
   pub of_times : List ℕ
   pub times_are : AreDocumentLines times_faults (codes "times") times of_times
   pub of_notes : List ℕ
   pub notes_are : AreDocumentLines all_notes_faults (codes "notes") notes of_notes
-  pub all : lines ≡ flat_map (deck_fault_text deck.name) faults ++ of_times ++ of_notes
+  pub of_inputs : List ℕ
+  pub inputs_are : AreLinesOfInputs deck inputs of_inputs
+  pub all : lines ≡ flat_map (deck_fault_text deck.name) faults ++ of_times ++ of_notes ++ of_inputs

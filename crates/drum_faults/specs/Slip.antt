@@ -1,7 +1,8 @@
 -- What was done to a line (this project's choice).
 use Rattle.std.specs.Prelude.{ℕ, List, [], ◌∷◌, if◌then◌else◌, Option, Some, None}
 use Rattle.drum_faults.specs.declared.slip.Slip.{Slip}
-use Rattle.drum_faults.specs.declared.slip.Slip.TheVariants.{ByteOrderMark, Utf16, CarriageReturn, SmallLetters}
+use Rattle.drum_faults.specs.declared.slip.Slip.TheVariants.{ByteOrderMark, Utf16, CarriageReturn}
+use Rattle.drum_faults.specs.declared.slip.Slip.TheVariants.{SmallLetters}
 use Rattle.drum_faults.specs.SlipTests.{begins, ends, has_utf16, has_small_letter}
 
 -- what was done to a line: the first of these that fits

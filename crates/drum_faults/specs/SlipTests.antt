@@ -13,7 +13,8 @@ ends line byte = ends_with (λ a b. a == b) line (byte ∷ [])
 -- It begins with the mark of UTF-16, of either order, or has a byte 0.
 abbrev pub has_utf16 : List ℕ → Bool
 has_utf16 line =
-    begins line (255 ∷ 254 ∷ []) || begins line (254 ∷ 255 ∷ []) || list_any (λ byte. byte == 0) line
+    begins line (255 ∷ 254 ∷ []) || begins line (254 ∷ 255 ∷ [])
+    || list_any (λ byte. byte == 0) line
 
 -- it has a byte from `a` to `z`
 abbrev pub has_small_letter : List ℕ → Bool

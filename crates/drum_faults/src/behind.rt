@@ -1,13 +1,15 @@
 //! A text in memory, with what is said of a fault behind it.
 
-ghost use Rattle.std.specs.Prelude.{◌≡◌, ◌++◌, codes, decimal, flat_map, IfOk};
+ghost use Rattle.std.specs.Prelude.{◌≡◌, ◌++◌, codes, decimal, flat_map, map, IfOk};
 ghost use Rattle.drum_faults.specs.FaultLines.{at_line, earlier_text, slip_said, slip_text};
-ghost use Rattle.drum_faults.specs.FaultLines.{deck_fault_text, note_fault_text, complaint_text};
+ghost use Rattle.drum_faults.specs.FaultLines.{placed_text, deck_fault_text, input_fault_text};
+ghost use Rattle.drum_faults.specs.FaultLines.{note_fault_text, complaint_text, loaded_text};
 ghost use Rattle.drum_lines.specs.FaultText.{fault_text};
 
 use crate::placed_fault::PlacedFault;
 use crate::slip::Slip;
-use drum_core::Writing;
+use drum_core::{DeckFault, Location, Writing};
+use drum_inputs::InputFault;
 use drum_lines::{Fault, write_fault};
 use drum_times::NoteFault;
 use itoa::Buffer;
@@ -90,13 +92,18 @@ fn with_slip(
     }
 }
 
-/// The lines of a fault of a deck.
-fn with_deck_fault(text: Vec<u8>, name: &str, placed: &PlacedFault) -> Result<Vec<u8>, AllocError>
+/// The lines of a fault that has a place.
+fn with_place_of<F>(
+    text: Vec<u8>,
+    name: &str,
+    placed: &PlacedFault<F>,
+    fault: &Fault,
+) -> Result<Vec<u8>, AllocError>
     ensures { IfOk result (λ new.
-        new.items ≡ text.items ++ deck_fault_text name.now placed.now) }
+        new.items ≡ text.items ++ placed_text (fault_text fault.now) name.now placed.now) }
 {
     let text = with_place(text, name, placed.line)?;
-    let text = with_fault(text, &Fault::Deck(placed.fault))?;
+    let text = with_fault(text, fault)?;
     let text = with_earlier(text, name, placed.earlier)?;
     with_slip(text, name, placed.line, placed.slip)
 }
@@ -105,13 +112,43 @@ fn with_deck_fault(text: Vec<u8>, name: &str, placed: &PlacedFault) -> Result<Ve
 pub fn with_deck_faults(
     mut text: Vec<u8>,
     name: &str,
-    faults: &[PlacedFault],
+    faults: &[PlacedFault<DeckFault>],
 ) -> Result<Vec<u8>, AllocError>
     ensures { IfOk result (λ new.
         new.items ≡ text.items ++ flat_map (deck_fault_text name.now) faults.now) }
 {
     for placed in faults {
-        text = with_deck_fault(text, name, placed)?;
+        text = with_place_of(text, name, placed, &Fault::Deck(placed.fault))?;
+    }
+    Ok(text)
+}
+
+/// The lines of faults of inputs.
+pub fn with_input_faults(
+    mut text: Vec<u8>,
+    name: &str,
+    faults: &[PlacedFault<InputFault>],
+) -> Result<Vec<u8>, AllocError>
+    ensures { IfOk result (λ new.
+        new.items ≡ text.items ++ flat_map (input_fault_text name.now) faults.now) }
+{
+    for placed in faults {
+        text = with_place_of(text, name, placed, &Fault::Inputs(placed.fault))?;
+    }
+    Ok(text)
+}
+
+/// The lines of locations that both a deck and inputs load.
+pub fn with_loaded(
+    mut text: Vec<u8>,
+    name: &str,
+    loaded: &[Location],
+) -> Result<Vec<u8>, AllocError>
+    ensures { IfOk result (λ new. new.items ≡ text.items
+        ++ flat_map (loaded_text name.now) (map (λ location. location.number) loaded.now)) }
+{
+    for location in loaded {
+        text = with_placed(text, name, &Fault::Loaded(*location))?;
     }
     Ok(text)
 }

@@ -33,7 +33,7 @@ impl DeckSoFar {
     }
 
     /// Takes the next line, of this number: as a comment where it has a fault, which is the answer.
-    pub fn take(&mut self, bytes: &[u8], number: u16) -> Option<PlacedFault>
+    pub fn take(&mut self, bytes: &[u8], number: u16) -> Option<PlacedFault<DeckFault>>
         ensures sound { IfNone result ((lines : List text.Line) → number ≡ length lines + 1
             → IsOf self.old lines → (line : text.Line) × text.IsLine bytes.now line
             × IsOf self.new (lines ++ line ∷ [])) }
@@ -54,7 +54,7 @@ impl DeckSoFar {
         }
     }
 
-    fn take_start(&mut self, address: u16, number: u16) -> Option<PlacedFault>
+    fn take_start(&mut self, address: u16, number: u16) -> Option<PlacedFault<DeckFault>>
         ensures sound { IfNone result ((lines : List text.Line) → number ≡ length lines + 1
             → IsOf self.old lines → IsOf self.new (lines ++ text.start address ∷ [])) }
         ensures faulty { IfSome result (λ placed. (lines : List text.Line) (bytes : List ℕ)
@@ -82,7 +82,7 @@ impl DeckSoFar {
         None
     }
 
-    fn take_card(&mut self, card: &DeckCard, number: u16) -> Option<PlacedFault>
+    fn take_card(&mut self, card: &DeckCard, number: u16) -> Option<PlacedFault<DeckFault>>
         ensures sound { IfNone result ((lines : List text.Line) → number ≡ length lines + 1
             → IsOf self.old lines → IsOf self.new
             (lines ++ text.card card.now.address (take card.now.len card.now.words) ∷ [])) }

@@ -1,20 +1,16 @@
 //! All faults of a deck's text, line by line.
 
-ghost use Rattle.std.specs.Prelude.{◌≡◌, ℕ, ◌↔◌, [], IsTrue, IfSome, IfNone, IfOk};
+ghost use Rattle.std.specs.Prelude.{◌↔◌, [], IsTrue, IfOk};
 ghost use Rattle.drum_core.specs.DeckText.{IsTooLong};
 ghost use Rattle.drum_core.specs.Lines.{lines_of};
-ghost use Rattle.drum_faults.specs.DeckFaults.{SaysStart, HasStart, IsFirstPast, HaveFaults, AreDeckFaults};
+ghost use Rattle.drum_faults.specs.DeckFaults.{SaysStart, HasStart, HaveDeckFaults};
+ghost use Rattle.drum_faults.specs.DeckFaults.{AreDeckFaults};
 
 use crate::deck_so_far::DeckSoFar;
+use crate::first_past::first_past;
 use crate::placed_fault::PlacedFault;
-use drum_core::{DeckFault, DeckLine, Lines};
+use drum_core::{Deck, DeckFault, DeckLine, Lines};
 use std::alloc::{AllocError, Global};
-
-/// The most lines of a deck.
-const LINES: u16 = 4000;
-
-/// The most bytes of a line, without its line feed.
-const LINE: usize = 100;
 
 /// All faults of a deck's text, in the order of their lines: of each line that has one the fault
 /// that a reader would find first, where lines with faults count as comments; and last `NoStart`,
@@ -24,10 +20,10 @@ const LINE: usize = 100;
 /// # Errors
 ///
 /// Where there is no memory for what the lines give, or for the faults.
-pub fn deck_faults(alloc: Global, text: &[u8]) -> Result<Vec<PlacedFault>, AllocError>
+pub fn deck_faults(alloc: Global, text: &[u8]) -> Result<Vec<PlacedFault<DeckFault>>, AllocError>
     ensures { IfOk result (λ faults. AreDeckFaults text.now faults.items) }
 {
-    if let Some(number) = first_past(text) {
+    if let Some(number) = first_past(text, Deck::LINES, Deck::LINE) {
         let mut faults = Vec::new(alloc);
         faults.push(PlacedFault {
             fault: DeckFault::TooLong,
@@ -47,21 +43,6 @@ pub fn deck_faults(alloc: Global, text: &[u8]) -> Result<Vec<PlacedFault>, Alloc
         })?;
     }
     Ok(faults)
-}
-
-/// The first line of a text, from 1, that is past a limit.
-fn first_past(text: &[u8]) -> Option<u16>
-    ensures found { IfSome result (IsFirstPast text.now) }
-    ensures none { IfNone result (¬ IsTooLong text.now) }
-{
-    let mut number = 0;
-    for line in (Lines { rest: text }) {
-        number += 1;
-        if number > LINES || line.len() > LINE {
-            return Some(number);
-        }
-    }
-    None
 }
 
 /// Whether a line says where to start, on the drum or not.
@@ -84,9 +65,9 @@ fn has_start(text: &[u8]) -> bool
 }
 
 /// The faults of the lines of a text that isn't too long.
-fn line_faults(alloc: Global, text: &[u8]) -> Result<Vec<PlacedFault>, AllocError>
+fn line_faults(alloc: Global, text: &[u8]) -> Result<Vec<PlacedFault<DeckFault>>, AllocError>
     requires { ¬ IsTooLong text.now }
-    ensures { IfOk result (λ faults. HaveFaults [] (lines_of text.now) faults.items) }
+    ensures { IfOk result (λ faults. HaveDeckFaults [] (lines_of text.now) faults.items) }
 {
     let mut so_far = DeckSoFar::new(alloc)?;
     let mut faults = Vec::new(alloc);

@@ -1,7 +1,12 @@
 //! Laws of all faults of texts, each the contract of a function that does nothing, or that calls
 //! other laws.
 
-ghost use Rattle.std.specs.Prelude.{◌≡◌, ℕ, List, [], ◌∷◌};
+ghost use Rattle.std.specs.Prelude.{◌≡◌, ℕ, List, [], ◌∷◌, Option, IfSome};
+ghost use Rattle.drum_core.specs.declared.deck.fault.DeckFault.{DeckFault};
+ghost use Rattle.drum_inputs.specs.declared.fault.InputFault.{InputFault};
+ghost use Rattle.drum_inputs.specs.InputsText.{AreInputs};
+ghost use Rattle.drum_inputs.specs.InputsText as input_lines;
+ghost use Rattle.drum_faults.specs.InputFaults.{AreInputFaults};
 ghost use Rattle.drum_core.specs.declared.op.Op.{Op};
 ghost use Rattle.drum_core.specs.DeckText.{Line, IsDeck, IsRefused};
 ghost use Rattle.drum_faults.specs.DeckFaults.{AreDeckFaults};
@@ -19,7 +24,8 @@ use drum_times::laws::{tells_notes, tells_times};
 /// The first fault that is told is the one that a reader refuses the deck for, and none is told of
 /// a deck alone.
 pub fn deck_faults_begin()
-    ensures first { (text : List ℕ) (placed : PlacedFault) (others : List PlacedFault)
+    ensures first { (text : List ℕ) (placed : PlacedFault DeckFault)
+        (others : List (PlacedFault DeckFault))
         → AreDeckFaults text (placed ∷ others) → IsRefused text placed.fault }
     ensures none { (text : List ℕ) → AreDeckFaults text []
         → (lines : List Line) × IsDeck text lines }
@@ -27,18 +33,33 @@ pub fn deck_faults_begin()
 
 /// A text has one list of faults.
 pub fn one_list_of_faults()
-    ensures { (text : List ℕ) (faults others : List PlacedFault) → AreDeckFaults text faults
-        → AreDeckFaults text others → faults ≡ others }
+    ensures { (text : List ℕ) (faults others : List (PlacedFault DeckFault))
+        → AreDeckFaults text faults → AreDeckFaults text others → faults ≡ others }
 {}
 
-/// Where there is no line, the three texts are a deck, a timing table and notes.
+/// Of inputs likewise: the first fault is the one that a reader refuses them for, none is told of
+/// inputs alone, and a text has one list of faults.
+pub fn input_faults_begin()
+    ensures first { (text : List ℕ) (placed : PlacedFault InputFault)
+        (others : List (PlacedFault InputFault))
+        → AreInputFaults text (placed ∷ others) → input_lines.IsRefused text placed.fault }
+    ensures none { (text : List ℕ) → AreInputFaults text []
+        → (lines : List input_lines.Line) × AreInputs text lines }
+    ensures one { (text : List ℕ) (faults others : List (PlacedFault InputFault))
+        → AreInputFaults text faults → AreInputFaults text others → faults ≡ others }
+{}
+
+/// Where there is no line, the texts are a deck, a timing table, notes, and inputs where there are
+/// any.
 pub fn none_where_sound()
-    ensures { (deck times notes : Named) → AreFaultLines deck times notes []
+    ensures { (deck times notes : Named) (inputs : Option Named)
+        → AreFaultLines deck times notes inputs []
         → ((lines : List Line) × IsDeck deck.bytes lines)
         × ((document : Members) × (meant : Op → Entry) × IsDocument times.bytes document
         × IsTimes document meant)
         × ((document : Members) × (meant : Notes) × IsDocument notes.bytes document
-        × IsNotes document meant) }
+        × IsNotes document meant)
+        × IfSome inputs (λ text. (lines : List input_lines.Line) × AreInputs text.bytes lines) }
 {
     tells_times();
     tells_notes();

@@ -1,13 +1,20 @@
-//! The lines of all faults of three texts.
+//! The lines of all faults of texts.
 
-ghost use Rattle.std.specs.Prelude.{◌≡◌, ℕ, ◌^◌, ◌≤◌, List, ◌++◌, length, codes, IfOk};
+ghost use Rattle.std.specs.Prelude.{◌≡◌, ℕ, ◌^◌, ◌≤◌, List, ◌++◌, length, codes, IfOk, Some};
+ghost use Rattle.std.specs.Prelude.{option_map};
 ghost use Rattle.drum_times.specs.AllFaults as of_notes;
 ghost use Rattle.drum_times.specs.TimesDocument as of_times;
 ghost use Rattle.drum_faults.specs.FaultLines.{AreDocumentLines, AreFaultLines};
+ghost use Rattle.drum_faults.specs.FaultLines.{AreLinesOfInputs};
 ghost use Rattle.drum_faults.specs.NamedTexts.{named, complaint_said};
 
-use crate::behind::{with_deck_faults, with_message, with_notes_faults, with_times_faults};
+use crate::behind::{
+    with_deck_faults, with_input_faults, with_loaded, with_message, with_notes_faults,
+    with_times_faults,
+};
 use crate::faults_of_deck::deck_faults;
+use crate::faults_of_inputs::input_faults;
+use crate::loaded::loaded_twice;
 use crate::named_text::NamedText;
 use drum_times::{Complaint, notes_faults, times_faults, toml_complaint};
 use std::alloc::{AllocError, Global};
@@ -15,8 +22,10 @@ use std::alloc::{AllocError, Global};
 /// The most bytes of all lines: for more no machine has room.
 const LONGEST: usize = 1 << 61;
 
-/// The lines of all faults of a deck, a timing table and notes; empty where they have none. Of a
-/// timing table or notes that are no document, the last line is what `toml` says, and where.
+/// The lines of all faults of a deck, a timing table and notes, and of inputs where there are any;
+/// empty where they have none. Of a timing table or notes that are no document, the last line is
+/// what `toml` says, and where. Of sound inputs the lines are of the locations that a sound deck
+/// loads too.
 ///
 /// # Errors
 ///
@@ -26,15 +35,17 @@ pub fn fault_lines(
     deck: NamedText<'_>,
     times: NamedText<'_>,
     notes: NamedText<'_>,
+    inputs: Option<NamedText<'_>>,
 ) -> Result<Vec<u8>, AllocError>
     ensures lines { IfOk result (λ lines. AreFaultLines (named deck.entry) (named times.entry)
-        (named notes.entry) lines.items) }
+        (named notes.entry) (option_map named inputs.entry) lines.items) }
     ensures short { IfOk result (λ lines. length lines.items ≤ 2 ^ 61) }
 {
     let faults = deck_faults(alloc, deck.bytes)?;
     let text = with_deck_faults(Vec::new(alloc), deck.name, &faults)?;
     let text = with_times(alloc, text, times)?;
     let text = with_notes(alloc, text, notes)?;
+    let text = with_inputs(alloc, text, deck, inputs)?;
     if text.len() > LONGEST {
         return Err(AllocError);
     }
@@ -63,6 +74,40 @@ fn with_notes(alloc: Global, text: Vec<u8>, notes: NamedText<'_>) -> Result<Vec<
     let complaint = toml_complaint(alloc, notes.bytes)?;
     let text = with_notes_faults(text, notes.name, faults)?;
     with_complaint(text, notes.name, complaint)
+}
+
+/// Behind a text the lines of all faults of inputs, where there are any.
+fn with_inputs(
+    alloc: Global,
+    text: Vec<u8>,
+    deck: NamedText<'_>,
+    inputs: Option<NamedText<'_>>,
+) -> Result<Vec<u8>, AllocError>
+    ensures { IfOk result (λ new. (lines : List ℕ)
+        × AreLinesOfInputs (named deck.entry) (option_map named inputs.entry) lines
+        × (new.items ≡ text.items ++ lines)) }
+{
+    match inputs {
+        None => Ok(text),
+        Some(inputs) => with_lines_of(alloc, text, deck, inputs),
+    }
+}
+
+/// Behind a text the lines of all faults of inputs, with those of what the deck loads too.
+fn with_lines_of(
+    alloc: Global,
+    text: Vec<u8>,
+    deck: NamedText<'_>,
+    inputs: NamedText<'_>,
+) -> Result<Vec<u8>, AllocError>
+    ensures { IfOk result (λ new. (lines : List ℕ)
+        × AreLinesOfInputs (named deck.entry) (Some (named inputs.entry)) lines
+        × (new.items ≡ text.items ++ lines)) }
+{
+    let faults = input_faults(alloc, inputs.bytes)?;
+    let text = with_input_faults(text, inputs.name, &faults)?;
+    let loaded = loaded_twice(alloc, deck.bytes, inputs.bytes)?;
+    with_loaded(text, inputs.name, &loaded)
 }
 
 /// Behind a text what `toml` says, if it says anything.

@@ -1,15 +1,14 @@
 use crate::slip::Slip;
-use drum_core::DeckFault;
 
-/// A fault of a deck, and where it stands.
+/// A fault of a deck or of inputs, and where it stands.
 #[derive(Clone, Copy, Debug, PartialEq, Eq)]
-pub struct PlacedFault {
+pub struct PlacedFault<F> {
     /// The fault.
-    pub fault: DeckFault,
+    pub fault: F,
     /// Its line, from 1; a deck without a start has none.
     pub line: Option<u16>,
-    /// The earlier line that gives the location first, or that is the first start.
+    /// The earlier line that says first what this one says again.
     pub earlier: Option<u16>,
-    /// What was done to the line, where it is no line of a deck.
+    /// What was done to the line, where it is no line of its text.
     pub slip: Option<Slip>,
 }

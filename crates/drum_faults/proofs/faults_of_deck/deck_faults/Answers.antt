@@ -1,4 +1,5 @@
 use Rattle.std.proofs.Common.{ap, ◌∙◌, Vec, Global}
+use Rattle.drum_core.specs.declared.deck.fault.DeckFault.{DeckFault}
 use Rattle.drum_faults.specs.declared.placed_fault.PlacedFault.{PlacedFault}
 use Rattle.drum_faults.proofs.Told.{deck_told, startless_told}
 use Rattle.drum_faults.proofs.faults_of_deck.deck_faults.Goals as goal
@@ -9,9 +10,9 @@ returns c = elim c.if-not-has_start.branch [
   | then-not-has_start+in_ok-push-2 w ↦ startless_told c.args.text.now c.in_ok-faults.faults.items
       c.if-not-has_start.faults.items c.has_start.result c.in_default.ensures.none c.in_ok-faults.ensures
       c.has_start.ensures w.if-not-has_start.true
-      (ap (λ (faults : Vec PlacedFault Global). faults.items) w.faults-is ∙ w.in_ok-push-2.ensures.items)
+      (ap (λ (faults : Vec (PlacedFault DeckFault) Global). faults.items) w.faults-is ∙ w.in_ok-push-2.ensures.items)
   | else-not-has_start w ↦ deck_told c.args.text.now c.in_ok-faults.faults.items
       c.if-not-has_start.faults.items c.has_start.result c.in_default.ensures.none c.in_ok-faults.ensures
       c.has_start.ensures w.if-not-has_start.false
-      (ap (λ (faults : Vec PlacedFault Global). faults.items) w.faults-is)
+      (ap (λ (faults : Vec (PlacedFault DeckFault) Global). faults.items) w.faults-is)
 ]

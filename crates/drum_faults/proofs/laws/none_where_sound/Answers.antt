@@ -5,8 +5,8 @@ use Rattle.drum_faults.proofs.Lines.{all_none, document_none}
 use Rattle.drum_faults.proofs.laws.none_where_sound.Goals as goal
 
 pub returns : goal.returns
-returns c = λ deck times notes all.
-    let none = all_none deck times notes all in
+returns c = λ deck times notes inputs all.
+    let none = all_none deck times notes inputs all in
     let no_times = document_none times_faults (codes "times") times all.of_times all.times_are none.1 in
     let no_notes = document_none all_notes_faults (codes "notes") notes all.of_notes all.notes_are none.2 in
     let of_times = c.tells_times.ensures.none times.bytes no_times in
@@ -14,4 +14,5 @@ returns c = λ deck times notes all.
       none.0,
       (of_times.0, of_times.2.0, of_times.1, of_times.2.1),
       (of_notes.0, of_notes.2.0, of_notes.1, of_notes.2.1),
+      none.3,
     )

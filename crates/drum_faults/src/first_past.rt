@@ -1,0 +1,22 @@
+ghost use Rattle.std.specs.Prelude.{◌<◌, ◌^◌, IfSome, IfNone};
+ghost use Rattle.drum_core.specs.Lines.{IsLonger};
+ghost use Rattle.drum_faults.specs.ByLine.{IsFirstPast};
+
+use drum_core::Lines;
+
+/// The first line of a text, from 1, that is past the last one that may be, or longer than a line
+/// may be.
+pub fn first_past(text: &[u8], most: u16, longest: usize) -> Option<u16>
+    requires { most < 2 ^ 15 }
+    ensures found { IfSome result (IsFirstPast most longest text.now) }
+    ensures none { IfNone result (¬ IsLonger most longest text.now) }
+{
+    let mut number = 0;
+    for line in (Lines { rest: text }) {
+        number += 1;
+        if number > most || line.len() > longest {
+            return Some(number);
+        }
+    }
+    None
+}
