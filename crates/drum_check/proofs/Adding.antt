@@ -11,7 +11,7 @@ use Rattle.std.proofs.lemmas.Option.{get_or_from_slice_get, slice_get_within}
 use Rattle.drum_core.specs.declared.location.Location.{Location}
 use Rattle.drum_flow.specs.Executed.{with_new}
 use Rattle.drum_flow.proofs.Additions.{with_new_append}
-use Rattle.drum_check.specs.Findings.{Finding, alters}
+use Rattle.drum_check.specs.Findings.{Finding}
 
 -- one more of those that were added one by one
 pub added_one : {X : Type 0} (f : X → Finding) (before found added : List Finding) (xs : List X) (k : ℕ) (x : X)
@@ -71,13 +71,12 @@ module _ (p : ℕ → Bool) (places : List ℕ) (number end : ℕ) (below : numb
       ∙ with_new_append places (number ∷ []) rest)
 
 -- the words that a location alters, by their numbers
-pub words_altered : (place : ℕ) (before after : List Finding) (words : List Location) (numbers : List ℕ)
+pub words_altered : (tells : ℕ → Finding) (before after : List Finding) (words : List Location) (numbers : List ℕ)
     → map (λ (word : Location). word.number) words ≡ numbers
-    → after ≡ before ++ map (λ (word : Location). alters place word.number) words
-    → after ≡ before ++ map (alters place) numbers
-words_altered place before after words numbers same added =
+    → after ≡ before ++ map (λ (word : Location). tells word.number) words → after ≡ before ++ map tells numbers
+words_altered tells before after words numbers same added =
     added ∙ ap (λ (all : List Finding). before ++ all)
-    (sym (map-map (alters place) (λ (word : Location). word.number) words) ∙ ap (map (alters place)) same)
+    (sym (map-map tells (λ (word : Location). word.number) words) ∙ ap (map tells) same)
 
 -- two lists that were added in turn
 pub added_both : (before between after xs ys : List Finding) → between ≡ before ++ xs → after ≡ between ++ ys

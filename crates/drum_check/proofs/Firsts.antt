@@ -28,6 +28,7 @@ use Rattle.drum_check.specs.Findings.{AreFindings, Finding, not_loaded, not_in_p
 use Rattle.drum_check.specs.Findings.{altered, altered_by, altering, is_fixed, not_there, operations_outside, outside}
 use Rattle.drum_check.specs.Findings.{too_many, unfit}
 use Rattle.drum_check.specs.First.{BeginsWith, IsFoundFirst}
+use Rattle.drum_check.specs.Kept.{kept_of}
 use Rattle.drum_check.proofs.Begins.{begins_behind, begins_flat, begins_left, begins_lowest, begins_mapped, begins_new}
 use Rattle.drum_check.proofs.Fits.{absent_told, alters_none, good_fit, there_untold, unaltering}
 use Rattle.drum_check.proofs.Fixeds.{fixed_only, fixed_so}
@@ -190,7 +191,8 @@ module _ (loads : ℕ → Option Word) (notes : Notes) (start : ℕ) where
         (λ other there is. lowest.lowest other (subst (λ (words : List ℕ). Contains words other) (sym range.2) there)
         (fixed other is)))
 
-    altered_first : (writer word : ℕ) → IsAltered loads notes start writer word → BeginsWith findings (alters writer word)
+    altered_first : (writer word : ℕ) → IsAltered loads notes start writer word
+        → BeginsWith findings (alters writer word (kept_of loads notes writer word))
     altered_first writer word is =
         let same : is.executed ≡ a.executed =
         one_order loads notes start is.executed a.executed is.order a.found.order in
@@ -201,12 +203,13 @@ module _ (loads : ℕ → Option Word) (notes : Notes) (start : ℕ) where
         begins_flat (altered_by notes a.executed) (allowed loads notes writer) before after is.ins word is.first.2
         (λ other there. alters_none loads notes start a.executed a.found other (is.first.4 other there))
         (lowest_added is.ins word is.lowest) in
-        told_second (alters writer word) none
-        (begins_flat (altering loads notes a.executed) a.executed is.before is.behind writer (alters writer word)
+        let told : ℕ → Finding = λ at. alters writer at (kept_of loads notes writer at) in
+        told_second (told word) none
+        (begins_flat (altering loads notes a.executed) a.executed is.before is.behind writer (told word)
         (sym same ∙ is.split)
         (λ other there. unaltering loads notes start a.executed a.found other
         (λ ins has. is.none_before other ins there has))
-        (begins_mapped (alters writer) (altered loads notes a.executed writer) word
+        (begins_mapped told (altered loads notes a.executed writer) word
         (begins_new (flat_map (altered_by notes a.executed) (allowed loads notes writer)) word adds)))
 
     large_first : (product : ℕ) → IsTooLarge loads notes start product → BeginsWith findings (too_large product)
@@ -258,7 +261,8 @@ module _ (loads : ℕ → Option Word) (notes : Notes) (start : ℕ) where
         (not_in_profile location.number op) (there_untold loads notes location.number is.1)
         (begins_mapped (not_in_profile location.number) (operations_outside loads notes location.number) op
         (outside_first location.number op is.2)))
-    refusal_first (Alters writer word) is = altered_first writer.number word.number is
+    refusal_first (Alters writer word) is =
+        (kept_of loads notes writer.number word.number, altered_first writer.number word.number is)
     refusal_first (TooLarge product) is = large_first product is
     refusal_first (Unbounded cycle) is =
         round_first (map (λ (location : Location). location.number) cycle.locations.items) is

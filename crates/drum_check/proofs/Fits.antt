@@ -12,6 +12,7 @@ use Rattle.drum_flow.specs.Executed.{with_new}
 use Rattle.drum_flow.specs.Flow.{AreFound}
 use Rattle.drum_check.specs.Findings.{Finding, not_loaded, not_in_profile, alters}
 use Rattle.drum_check.specs.Findings.{altered_by, altering, is_fixed, not_there, unfit}
+use Rattle.drum_check.specs.Kept.{kept_of}
 use Rattle.drum_check.proofs.Fixeds.{fixed_only}
 use Rattle.drum_check.proofs.Nothing.{all_nothing, none_passes}
 use Rattle.drum_check.proofs.Outsides.{outside_of}
@@ -68,6 +69,6 @@ module _ (loads : ℕ → Option Word) (notes : Notes) (start : ℕ) (executed :
       → ((ins : Instruction) → Contains (allowed loads notes place) ins → ¬ said.Alters loads notes start ins)
       → altering loads notes executed place ≡ []
   unaltering place none =
-      ap (λ (xs : List ℕ). map (alters place) (with_new [] xs))
+      ap (λ (xs : List ℕ). map (λ (word : ℕ). alters place word (kept_of loads notes place word)) (with_new [] xs))
       (all_nothing (altered_by notes executed) (allowed loads notes place)
       (λ ins has. alters_none ins (none ins has)))

@@ -5,8 +5,10 @@ pub mod Begins
 pub mod Firsts
 pub mod Fits
 pub mod Fixeds
+pub mod Lacks
 pub mod Nothing
 pub mod Outsides
+pub mod Pasted
 pub mod Silent
 pub mod Unsaids
 pub mod Whole

@@ -17,6 +17,7 @@ use Rattle.drum_flow.proofs.Lists.{contains_here, contains_none}
 use Rattle.drum_loops.specs.Loops.{IsLeft}
 use Rattle.drum_check.specs.Findings.{AreFindings, Finding, not_loaded, not_in_profile, alters, too_large, closes}
 use Rattle.drum_check.specs.Findings.{altered, altered_by, altering, is_fixed, not_there, operations_outside}
+use Rattle.drum_check.specs.Kept.{kept_of}
 use Rattle.drum_check.specs.Findings.{outside, too_many, unfit, unused, inside_at, AreUnmeant, IsUnsaid, pairs_of}
 use Rattle.drum_check.proofs.Fixeds.{fixed_so}
 use Rattle.drum_check.proofs.Nothing.{before_nothing, both_nothing, each_nothing, in_filter, in_flat_map, none_added, of_nothing}
@@ -121,7 +122,8 @@ module _ (loads : ℕ → Option Word) (notes : Notes) (start : ℕ) (executed :
       (sym (each_nothing (unfit loads notes) a.executed place two.0 (a.found.all place executed))) in
       (both.0, of_nothing (not_in_profile place) (operations_outside loads notes place) both.1) in
       let unaltered : (place : ℕ) → IsExecuted loads notes start place → altered loads notes a.executed place ≡ [] =
-      λ place executed. of_nothing (alters place) (altered loads notes a.executed place)
+      λ place executed. of_nothing (λ (word : ℕ). alters place word (kept_of loads notes place word))
+      (altered loads notes a.executed place)
       (each_nothing (altering loads notes a.executed) a.executed place two.1 (a.found.all place executed)) in
       subst (IsAccepted loads notes start) (sym same_executed) (record {
         admitted = record {

@@ -1,6 +1,7 @@
 -- All that keeps a deck from having a bound under its notes, and what of the notes isn't meant.
 -- `loads` says which word the deck loads into a location.
-use Rattle.std.specs.Prelude.{◌≡◌, ℕ, nat_lt, ◌==◌, if◌then◌else◌, ◌||◌, ◌&&◌, not, Bool, true, false}
+use Rattle.std.specs.Prelude.{◌≡◌, ℕ, nat_lt, ◌==◌, if◌then◌else◌, ◌||◌, ◌&&◌, not, Bool, true}
+use Rattle.std.specs.Prelude.{false}
 use Rattle.std.specs.Prelude.{List, [], ◌∷◌, ◌++◌, ◌⊎◌, map, filter, flat_map, length, slice_get}
 use Rattle.std.specs.Prelude.{Option, Some, None, is_some}
 use Rattle.std.specs.List.{list_any, range_with_len}
@@ -16,12 +17,15 @@ use Rattle.drum_flow.specs.Executed.{successors, with_new}
 use Rattle.drum_flow.specs.Flow.{AreFound}
 use Rattle.drum_loops.specs.Loops.{AreClosing}
 use Rattle.drum_loops.specs.Nested.{IsNested}
+use Rattle.drum_check.specs.declared.kept.Kept.{Kept}
+use Rattle.drum_check.specs.Kept.{kept_of}
 
--- something that was found, by the numbers of its locations, its operation or its product
+-- something that was found, by the numbers of its locations, its operation or its product; and with
+-- what a writer leaves of the word that it alters
 pub data Finding : Type 0 where
   not_loaded : ℕ → Finding
   not_in_profile : ℕ → ℕ → Finding
-  alters : ℕ → ℕ → Finding
+  alters : ℕ → ℕ → Kept → Finding
   too_large : ℕ → Finding
   closes : ℕ × ℕ → Finding
   unused_mark : ℕ × ℕ → Finding
@@ -68,9 +72,11 @@ abbrev pub altered : (ℕ → Option Word) → Notes → List ℕ → ℕ → Li
 altered loads notes executed place =
     with_new [] (flat_map (altered_by notes executed) (allowed loads notes place))
 
--- that they do
+-- that they do, and what they leave of each
 abbrev pub altering : (ℕ → Option Word) → Notes → List ℕ → ℕ → List Finding
-altering loads notes executed place = map (alters place) (altered loads notes executed place)
+altering loads notes executed place =
+    map (λ word. alters place word (kept_of loads notes place word))
+    (altered loads notes executed place)
 
 -- that executed words times counts are past 4,000,000, if they are
 abbrev pub too_many : ℕ → List Finding
@@ -152,8 +158,8 @@ pub record AreUnmeant (loads : ℕ → Option Word) (notes : Notes) (start : ℕ
   pub unsaid : AreThose (IsUnsaid loads notes start executed) (pairs_of notes.marks) pairs
   pub all : unmeant ≡ unused loads notes executed ++ map (inside_at notes.marks) pairs
 
--- Something that may be meant as it is: that a mark's loop stands inside another one's, of which the
--- notes don't say so. It may be a count of the whole run.
+-- Something that may be meant as it is: that a mark's loop stands inside another one's, and the
+-- notes don't say so. The mark may count the whole run.
 abbrev pub may_be_meant : Finding → Bool
 may_be_meant (inside inner outer) = true
 may_be_meant _ = false

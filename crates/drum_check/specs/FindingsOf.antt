@@ -15,7 +15,7 @@ use Rattle.drum_check.specs.Findings.{closes, unused_mark, unused_list, inside}
 abbrev pub seen : held.Finding → Finding
 seen (finding.NotLoaded location) = not_loaded location.number
 seen (finding.NotInProfile location op) = not_in_profile location.number op
-seen (finding.Alters writer word) = alters writer.number word.number
+seen (finding.Alters writer word kept) = alters writer.number word.number kept
 seen (finding.TooLarge product) = too_large product
 seen (finding.Loop edge) = closes (edge_of edge)
 seen (finding.UnusedMark edge) = unused_mark (edge_of edge)

@@ -9,7 +9,7 @@ abbrev pub finding_text : Finding → List ℕ
 finding_text (not_loaded place) = codes "notloaded " ++ digits_of 4 place ++ codes "\n"
 finding_text (not_in_profile place op) =
     codes "notinprofile " ++ digits_of 4 place ++ codes " " ++ digits_of 2 op ++ codes "\n"
-finding_text (alters writer word) =
+finding_text (alters writer word kept) =
     codes "alters " ++ digits_of 4 writer ++ codes " " ++ digits_of 4 word ++ codes "\n"
 finding_text (too_large product) = codes "toolarge " ++ decimal product ++ codes "\n"
 finding_text (closes edge) =

@@ -4,6 +4,7 @@ use Rattle.std.specs.Prelude.{◌≡◌, ℕ, List, ◌∷◌}
 use Rattle.drum_flow.specs.declared.refusal.Refusal.{Refusal}
 use Rattle.drum_flow.specs.declared.refusal.Refusal.TheVariants.{Memory, NotLoaded, NotInProfile}
 use Rattle.drum_flow.specs.declared.refusal.Refusal.TheVariants.{Alters, Unbounded, TooLarge}
+use Rattle.drum_check.specs.declared.kept.Kept.{Kept}
 use Rattle.drum_check.specs.Findings.{Finding, not_loaded, not_in_profile, alters, too_large}
 use Rattle.drum_check.specs.Findings.{closes}
 
@@ -14,7 +15,8 @@ abbrev pub IsFoundFirst : Refusal → List Finding → Type 0
 IsFoundFirst (NotLoaded location) found = BeginsWith found (not_loaded location.number)
 IsFoundFirst (NotInProfile location op) found =
     BeginsWith found (not_in_profile location.number op)
-IsFoundFirst (Alters writer word) found = BeginsWith found (alters writer.number word.number)
+IsFoundFirst (Alters writer word) found =
+    (kept : Kept) × BeginsWith found (alters writer.number word.number kept)
 IsFoundFirst (TooLarge product) found = BeginsWith found (too_large product)
 IsFoundFirst (Unbounded cycle) found = (edge : ℕ × ℕ) × BeginsWith found (closes edge)
 IsFoundFirst Memory found = Unit {0}

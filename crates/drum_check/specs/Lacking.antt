@@ -1,29 +1,85 @@
 -- The notes that are lacking, as TOML: a mark for each edge that closes a loop, and a list for each
--- word that is altered. What has to be thought about is left empty, and no notes are read before it
--- is filled in.
-use Rattle.std.specs.Prelude.{ℕ, List, [], ◌∷◌, ◌++◌, codes, decimal, flat_map}
+-- word that is altered, with as much of its own instruction as all of its writers leave. What has
+-- to be thought about is left empty, and no notes are read before it is filled in.
+use Rattle.std.specs.Prelude.{ℕ, ◌==◌, if◌then◌else◌, List, [], ◌∷◌, ◌++◌, codes, decimal, map}
+use Rattle.std.specs.Prelude.{flat_map, Option, Some, None, is_some}
+use Rattle.std.specs.List.{list_all}
+use Rattle.drum_core.specs.declared.word.Word.{Word}
+use Rattle.drum_core.specs.Word.{spelling}
 use Rattle.drum_flow.specs.Executed.{with_new}
+use Rattle.drum_check.specs.declared.kept.Kept.{Kept}
 use Rattle.drum_check.specs.Findings.{Finding, alters, closes}
 use Rattle.drum_check.specs.FindingsText.{findings_text}
 
 -- the word that a finding says is altered
 abbrev pub altered_word : Finding → List ℕ
-altered_word (alters writer word) = word ∷ []
+altered_word (alters writer word kept) = word ∷ []
 altered_word _ = []
 
--- each of them once, in order
-abbrev pub words_altered : List Finding → List ℕ
-words_altered findings = with_new [] (flat_map altered_word findings)
+-- what a finding says that a writer of the word leaves of it
+abbrev pub leaves : ℕ → Finding → List Kept
+leaves word (alters writer other kept) = if other == word then kept ∷ [] else []
+leaves word _ = []
+
+-- a part that all of some writers leave
+abbrev pub stays : (Kept → Option ℕ) → List Kept → Option ℕ
+stays part [] = None
+stays part (kept ∷ others) =
+    if list_all (λ other. is_some (part other)) others then part kept else None
+
+-- the word as it is loaded, which is the same for all of its writers
+abbrev pub loaded_by : List Kept → Option Word
+loaded_by [] = None
+loaded_by (kept ∷ others) = kept.loaded
+
+-- what they all leave
+abbrev pub kept_by_all : List Kept → Kept
+kept_by_all all = record {
+  op = stays (λ kept. kept.op) all;
+  d = stays (λ kept. kept.d) all;
+  i = stays (λ kept. kept.i) all;
+  loaded = loaded_by all;
+}
+
+-- a word that is altered, with what all of its writers leave of it
+abbrev pub lacking_list : List Finding → ℕ → ℕ × Kept
+lacking_list findings word = (word, kept_by_all (flat_map (leaves word) findings))
+
+-- those of all words, each once, in order
+abbrev pub words_altered : List Finding → List (ℕ × Kept)
+words_altered findings =
+    map (lacking_list findings) (with_new [] (flat_map altered_word findings))
 
 abbrev pub mark_text : ℕ × ℕ → List ℕ
 mark_text edge =
     codes "[[mark]]\nmost =\nfrom = " ++ decimal edge.0 ++ codes "\nto = " ++ decimal edge.1
     ++ codes "\n"
 
-abbrev pub list_text : ℕ → List ℕ
-list_text place =
-    codes "[[list]]\nlocation = " ++ decimal place
-    ++ codes "\npattern = [{ op = , d_from = , d_to = , i = }]\n"
+-- a part that stays; what has to be thought about is left empty
+abbrev pub part_text : Option ℕ → List ℕ
+part_text None = []
+part_text (Some n) = decimal n
+
+-- what is behind the last part: a space, if it stays
+abbrev pub gap : Option ℕ → List ℕ
+gap None = []
+gap (Some n) = codes " "
+
+abbrev pub pattern_text : Kept → List ℕ
+pattern_text kept =
+    codes "pattern = [{ op = " ++ part_text kept.op ++ codes ", d_from = " ++ part_text kept.d
+    ++ codes ", d_to = " ++ part_text kept.d ++ codes ", i = " ++ part_text kept.i
+    ++ gap kept.i ++ codes "}]"
+
+-- the end of the line of a pattern: the word as it is loaded, as a comment, if it is loaded
+abbrev pub comment_text : Option Word → List ℕ
+comment_text None = codes "\n"
+comment_text (Some word) = codes " # loaded: " ++ spelling word ++ codes "\n"
+
+abbrev pub list_text : ℕ × Kept → List ℕ
+list_text lack =
+    codes "[[list]]\nlocation = " ++ decimal lack.0 ++ codes "\n" ++ pattern_text lack.1
+    ++ comment_text lack.1.loaded
 
 -- the mark that a finding asks for
 abbrev pub mark_for : Finding → List ℕ

@@ -1,7 +1,12 @@
 -- The words that lack a list, as they are held.
-use Rattle.std.specs.Prelude.{ℕ, List}
-use Rattle.drum_flow.specs.Found.{places_of}
+use Rattle.std.specs.Prelude.{ℕ, List, map}
+use Rattle.drum_check.specs.declared.kept.Kept.{Kept}
+use Rattle.drum_check.specs.declared.lacking.Lack.{Lack}
 use Rattle.drum_check.specs.declared.lacking.Lacking.{Lacking}
 
-abbrev pub words_in : Lacking → List ℕ
-words_in lacking = places_of lacking.words
+-- a word by its number, with what is kept of it
+abbrev pub pair_of : Lack → ℕ × Kept
+pair_of lack = (lack.word.number, lack.kept)
+
+abbrev pub words_in : Lacking → List (ℕ × Kept)
+words_in lacking = map pair_of lacking.words.items

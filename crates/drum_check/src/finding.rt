@@ -1,3 +1,4 @@
+use crate::kept::Kept;
 use drum_core::Location;
 use drum_loops::Edge;
 
@@ -10,8 +11,13 @@ pub enum Finding {
     /// An operation that is allowed at an executed location, of these two digits, is outside the
     /// profile.
     NotInProfile(Location, u8),
-    /// An instruction at an executed location alters an executed word that isn't listed.
-    Alters { writer: Location, word: Location },
+    /// An instruction at an executed location alters an executed word that isn't listed, and leaves
+    /// so much of it.
+    Alters {
+        writer: Location,
+        word: Location,
+        kept: Kept,
+    },
     /// Executed words times counts, the product of `most + 1` over the marks, is past 4,000,000.
     TooLarge(u128),
     /// An edge free of marks closes a loop of edges that are free of marks.
@@ -20,9 +26,12 @@ pub enum Finding {
     UnusedMark(Edge),
     /// A location that isn't executed has a list.
     UnusedList(Location),
-    /// The loop that a mark's edge closes stands inside the one that another mark's edge closes, and
-    /// the notes don't say that the one mark stands inside the other.
-    Inside { inner: Edge, outer: Edge },
+    /// The loop that a mark's edge closes stands inside the one that another mark's edge closes,
+    /// and the notes don't say that the one mark stands inside the other.
+    Inside {
+        inner: Edge,
+        outer: Edge,
+    },
 }
 
 impl Finding {

@@ -3,6 +3,7 @@ ghost use Rattle.std.specs.Prelude.{◌≤◌, vec_len};
 use crate::altered::altered_at;
 use crate::edges::{has_edge, is_executed};
 use crate::finding::Finding;
+use crate::kept::Kept;
 use crate::operations::operations_outside;
 use crate::unsaid::{are_unsaid, unsaid_marks};
 use drum_core::{Deck, Location};
@@ -40,6 +41,7 @@ impl Findings {
     ghost use Rattle.drum_check.specs.Findings.{astray, idle, may_be_meant, unused};
     ghost use Rattle.drum_check.specs.Findings.{not_in_profile, alters, closes, AreFindings};
     ghost use Rattle.drum_check.specs.FindingsOf.{AreFixed, seen, found_in};
+    ghost use Rattle.drum_check.specs.Kept.{kept_of};
 
     /// None yet.
     fn none(alloc: Global) -> Findings
@@ -88,15 +90,23 @@ impl Findings {
         Ok(())
     }
 
-    /// Adds words that the instructions of a location alter.
-    fn add_words(&mut self, writer: Location, words: &[Location]) -> Result<(), AllocError>
+    /// Adds words that the instructions of a location alter, each with what they leave of it.
+    fn add_words(
+        &mut self,
+        flow: &Flow<'_>,
+        writer: Location,
+        words: &[Location],
+    ) -> Result<(), AllocError>
         ensures { OnOk result (found_in self.new ≡ found_in self.old
-            ++ map (λ word. alters writer.number word.number) words.now) }
+            ++ map (λ word. alters writer.number word.number
+            (kept_of (loads_in flow.now.deck.now) flow.now.notes.now writer.number
+            word.number)) words.now) }
     {
         for word in words {
             self.add(Finding::Alters {
                 writer,
                 word: *word,
+                kept: Kept::of(flow.deck(), flow.notes(), writer, *word),
             })?;
         }
         Ok(())
@@ -142,7 +152,7 @@ impl Findings {
             location.number) }
     {
         let altered = altered_at(alloc, flow, fixed, location)?;
-        self.add_words(location, altered.locations())
+        self.add_words(flow, location, altered.locations())
     }
 
     /// Adds what is wrong with each executed location by itself.

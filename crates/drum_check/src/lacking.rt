@@ -1,26 +1,35 @@
-ghost use Rattle.std.specs.Prelude.{◌≡◌, OnOk};
-ghost use Rattle.drum_flow.specs.Executed.{with_new};
-ghost use Rattle.drum_flow.specs.Found.{places_of};
-ghost use Rattle.drum_check.specs.FindingsOf.{seen};
-ghost use Rattle.drum_check.specs.Lacking.{altered_word};
+ghost use Rattle.std.specs.Prelude.{◌≤◌, vec_len};
 
 use crate::finding::Finding;
 use crate::findings::Findings;
+use crate::kept::Kept;
+use drum_core::Location;
 use drum_flow::executed::Executed;
 use std::alloc::{AllocError, Global};
 
+/// A word that lacks a list, with what all of its writers leave of it.
+#[derive(Clone, Copy, Debug)]
+pub(crate) struct Lack {
+    pub(crate) word: Location,
+    pub(crate) kept: Kept,
+}
+
 /// The words that lack a list: those that are altered, each once, in the order in which they were
-/// found.
+/// found; each with as much of its own instruction as all of its writers leave.
 #[derive(Debug, Drop)]
 pub struct Lacking {
-    pub(crate) words: Executed,
+    pub(crate) words: Vec<Lack>,
+    ghost few: { vec_len words ≤ 2004 },
 }
 
 impl Lacking {
-    ghost use Rattle.std.specs.Prelude.{IfOk};
-    ghost use Rattle.drum_check.specs.FindingsOf.{found_in};
+    ghost use Rattle.std.specs.Prelude.{◌≡◌, ◌++◌, [], ◌∷◌, ℕ, List, map, IfOk, OnOk};
+    ghost use Rattle.drum_flow.specs.Found.{places_of};
+    ghost use Rattle.drum_check.specs.Findings as said;
+    ghost use Rattle.drum_check.specs.Findings.{alters};
+    ghost use Rattle.drum_check.specs.FindingsOf.{found_in, seen};
     ghost use Rattle.drum_check.specs.Lacking.{words_altered};
-    ghost use Rattle.drum_check.specs.LackingOf.{words_in};
+    ghost use Rattle.drum_check.specs.LackingOf.{pair_of, words_in};
 
     /// Those of what was found.
     ///
@@ -31,21 +40,57 @@ impl Lacking {
         ensures { IfOk result (λ lacking. words_in lacking
             ≡ words_altered (found_in findings.now)) }
     {
-        let mut words = Executed::none(alloc);
+        let mut places = Executed::none(alloc);
+        let mut words = Vec::new(alloc);
         for finding in &findings.all {
-            add_word_of(&mut words, finding)?;
+            Lacking::add(&mut places, &mut words, finding)?;
         }
         Ok(Lacking { words })
     }
-}
 
-/// Adds the word that a finding says is altered, unless it is there.
-fn add_word_of(words: &mut Executed, finding: &Finding) -> Result<(), AllocError>
-    ensures { OnOk result (places_of words.new
-        ≡ with_new (places_of words.old) (altered_word (seen finding.now))) }
-{
-    match *finding {
-        Finding::Alters { word, .. } => words.add(word),
-        _ => Ok(()),
+    /// Adds the word that a finding says is altered, with what is kept of it; of one that is there,
+    /// what this writer leaves too stays. The words stand in these places.
+    fn add(
+        places: &mut Executed,
+        words: &mut Vec<Lack>,
+        finding: &Finding,
+    ) -> Result<(), AllocError>
+        requires same { places_of places.old ≡ map (λ lack. lack.word.number) words.old.items }
+        ensures same { OnOk result (places_of places.new
+            ≡ map (λ lack. lack.word.number) words.new.items) }
+        ensures added { (before : List said.Finding)
+            → map pair_of words.old.items ≡ words_altered before
+            → OnOk result (map pair_of words.new.items
+            ≡ words_altered (before ++ seen finding.now ∷ [])) }
+    {
+        match *finding {
+            Finding::Alters { word, kept, .. } => Lacking::add_word(places, words, word, kept),
+            _ => Ok(()),
+        }
+    }
+
+    /// Adds a word, with what a writer leaves of it.
+    fn add_word(
+        places: &mut Executed,
+        words: &mut Vec<Lack>,
+        word: Location,
+        kept: Kept,
+    ) -> Result<(), AllocError>
+        requires same { places_of places.old ≡ map (λ lack. lack.word.number) words.old.items }
+        ensures same { OnOk result (places_of places.new
+            ≡ map (λ lack. lack.word.number) words.new.items) }
+        ensures added { (before : List said.Finding) (writer : ℕ)
+            → map pair_of words.old.items ≡ words_altered before
+            → OnOk result (map pair_of words.new.items
+            ≡ words_altered (before ++ alters writer word.number kept ∷ [])) }
+    {
+        if let Some(index) = places.index_of(word) {
+            let left = words[index].kept.meet(kept);
+            words[index] = Lack { word, kept: left };
+            return Ok(());
+        }
+        places.add(word)?;
+        words.push(Lack { word, kept })?;
+        Ok(())
     }
 }

@@ -4,14 +4,15 @@
 //! A `finding` is one of these things. `operations` are those of a location that are outside the
 //! profile, `altered` the words that its instructions alter, `edges` tells whether a mark's edge is
 //! there, `unsaid` finds the marks that don't say inside which other they stand, and `findings`
-//! gathers what is found. `listing` writes a line for each, and `pasting` the notes that are
-//! `lacking` behind them.
+//! gathers what is found, with what is `kept` of a word that is altered. `listing` writes a line
+//! for each, and `pasting` the notes that are `lacking` behind them.
 #![tactic(auto)]
 
 mod altered;
 mod edges;
 mod finding;
 mod findings;
+mod kept;
 mod lacking;
 pub mod laws;
 mod listing;
@@ -21,5 +22,6 @@ mod unsaid;
 
 pub use finding::Finding;
 pub use findings::Findings;
+pub use kept::Kept;
 pub use lacking::Lacking;
 pub use pasting::list_findings;

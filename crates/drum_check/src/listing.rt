@@ -134,7 +134,11 @@ fn send_finding<O: Output>(
         Finding::NotInProfile(location, op) => {
             send_behind(writer, sent, b"notinprofile ", location, &two_digits(op))
         }
-        Finding::Alters { writer: from, word } => {
+        Finding::Alters {
+            writer: from,
+            word,
+            ..
+        } => {
             let digits = four_digits(word.number());
             send_behind(writer, sent, b"alters ", from, &digits)
         }

@@ -1,19 +1,21 @@
 //! What was found, written out: a line each, and then the notes that are lacking, to be pasted.
 
-ghost use Rattle.std.specs.Prelude.{◌≡◌, ◌+◌, ◌^◌, ◌≤◌, IfOk, flat_map};
+ghost use Rattle.std.specs.Prelude.{◌≡◌, ◌+◌, ◌^◌, ◌≤◌, ◌++◌, codes, decimal, IfOk, flat_map};
+ghost use Rattle.std.specs.Prelude.{length};
 ghost use Rattle.drum_lines.specs.Sent.{IsSent, IsWritten, fails_by};
 ghost use Rattle.drum_loops.specs.Loops.{edge_of};
 ghost use Rattle.drum_check.specs.FindingsOf.{seen, found_in};
-ghost use Rattle.drum_check.specs.Lacking.{check_text, list_text, mark_for, mark_text};
-ghost use Rattle.drum_check.specs.Lacking.{words_altered};
-ghost use Rattle.drum_check.specs.LackingOf.{words_in};
+ghost use Rattle.drum_check.specs.Lacking.{check_text, comment_text, gap, list_text, mark_for};
+ghost use Rattle.drum_check.specs.Lacking.{mark_text, part_text, pattern_text, words_altered};
+ghost use Rattle.drum_check.specs.LackingOf.{pair_of, words_in};
 
 use crate::finding::Finding;
 use crate::findings::Findings;
-use crate::lacking::Lacking;
+use crate::kept::Kept;
+use crate::lacking::{Lack, Lacking};
 use crate::listing::send_findings;
-use drum_core::{Location, Output};
-use drum_lines::{WriteFault, send};
+use drum_core::{Location, Output, Word};
+use drum_lines::{WriteFault, send, spelling_of};
 use drum_loops::Edge;
 use itoa::Buffer;
 
@@ -80,8 +82,41 @@ fn send_marks<O: Output>(
     Ok(sent)
 }
 
-/// Writes the list of a location, for its patterns to be filled in.
-fn send_list<O: Output>(
+/// The digits of a part that stays; none where it has to be thought about.
+fn part_of(buffer: &mut Buffer, part: Option<u16>) -> &[u8]
+    ensures text { result.now ≡ part_text part }
+    ensures short { length result.now ≤ 40 }
+{
+    match part {
+        Some(number) => buffer.format(number).as_bytes(),
+        None => b"",
+    }
+}
+
+/// The digits of an operation that stays.
+fn op_of(buffer: &mut Buffer, op: Option<u8>) -> &[u8]
+    ensures text { result.now ≡ part_text op }
+    ensures short { length result.now ≤ 40 }
+{
+    match op {
+        Some(number) => buffer.format(number).as_bytes(),
+        None => b"",
+    }
+}
+
+/// What is behind the last part.
+fn gap_behind(part: Option<u16>) -> &'static [u8]
+    ensures text { result.now ≡ gap part }
+    ensures short { length result.now ≤ 40 }
+{
+    match part {
+        Some(_) => b" ",
+        None => b"",
+    }
+}
+
+/// Writes the location of a list.
+fn send_head<O: Output>(
     writer: &mut O,
     sent: usize,
     location: Location,
@@ -89,18 +124,84 @@ fn send_list<O: Output>(
     requires called { O.called writer.old ≤ 2 ^ 62 + 2 ^ 60 }
     requires few { sent ≤ 2 ^ 60 }
     ensures sent { IsSent (O.written writer.old) (O.written writer.new) sent result
-        (list_text location.number) }
+        (codes "[[list]]\nlocation = " ++ decimal location.number ++ codes "\n") }
     ensures failures { O.failed writer.new ≡ O.failed writer.old + fails_by result }
-    ensures calls { O.called writer.new ≤ O.called writer.old + 120 }
-    ensures few { IfOk result (λ total. total ≤ sent + 120) }
+    ensures calls { O.called writer.new ≤ O.called writer.old + 100 }
+    ensures few { IfOk result (λ total. total ≤ sent + 100) }
 {
     let mut number = Buffer::new();
     let pieces: [&[u8]; 3] = [
         b"[[list]]\nlocation = ",
         number.format(location.number()).as_bytes(),
-        b"\npattern = [{ op = , d_from = , d_to = , i = }]\n",
+        b"\n",
     ];
     send(writer, sent, &pieces)
+}
+
+/// Writes the pattern of a list, with the parts that stay.
+fn send_pattern<O: Output>(writer: &mut O, sent: usize, kept: &Kept) -> Result<usize, WriteFault>
+    requires called { O.called writer.old ≤ 2 ^ 62 + 2 ^ 61 }
+    requires few { sent ≤ 2 ^ 61 }
+    ensures sent { IsSent (O.written writer.old) (O.written writer.new) sent result
+        (pattern_text kept.now) }
+    ensures failures { O.failed writer.new ≡ O.failed writer.old + fails_by result }
+    ensures calls { O.called writer.new ≤ O.called writer.old + 300 }
+    ensures few { IfOk result (λ total. total ≤ sent + 300) }
+{
+    let mut op = Buffer::new();
+    let mut data = Buffer::new();
+    let mut next = Buffer::new();
+    let address = part_of(&mut data, kept.d);
+    let pieces: [&[u8]; 10] = [
+        b"pattern = [{ op = ",
+        op_of(&mut op, kept.op),
+        b", d_from = ",
+        address,
+        b", d_to = ",
+        address,
+        b", i = ",
+        part_of(&mut next, kept.i),
+        gap_behind(kept.i),
+        b"}]",
+    ];
+    send(writer, sent, &pieces)
+}
+
+/// Writes the end of the line of a pattern: the word as it is loaded, as a comment, if it is.
+fn send_comment<O: Output>(
+    writer: &mut O,
+    sent: usize,
+    loaded: Option<Word>,
+) -> Result<usize, WriteFault>
+    requires called { O.called writer.old ≤ 2 ^ 62 + 2 ^ 61 }
+    requires few { sent ≤ 2 ^ 61 }
+    ensures sent { IsSent (O.written writer.old) (O.written writer.new) sent result
+        (comment_text loaded) }
+    ensures failures { O.failed writer.new ≡ O.failed writer.old + fails_by result }
+    ensures calls { O.called writer.new ≤ O.called writer.old + 100 }
+    ensures few { IfOk result (λ total. total ≤ sent + 100) }
+{
+    let Some(word) = loaded else {
+        return send(writer, sent, &[b"\n"]);
+    };
+    let spelled = spelling_of(word);
+    let pieces: [&[u8]; 3] = [b" # loaded: ", &spelled, b"\n"];
+    send(writer, sent, &pieces)
+}
+
+/// Writes the list of a word, for the rest of its pattern to be filled in.
+fn send_list<O: Output>(writer: &mut O, sent: usize, lack: &Lack) -> Result<usize, WriteFault>
+    requires called { O.called writer.old ≤ 2 ^ 62 + 2 ^ 60 }
+    requires few { sent ≤ 2 ^ 60 }
+    ensures sent { IsSent (O.written writer.old) (O.written writer.new) sent result
+        (list_text (pair_of lack.now)) }
+    ensures failures { O.failed writer.new ≡ O.failed writer.old + fails_by result }
+    ensures calls { O.called writer.new ≤ O.called writer.old + 500 }
+    ensures few { IfOk result (λ total. total ≤ sent + 500) }
+{
+    let sent = send_head(writer, sent, lack.word)?;
+    let sent = send_pattern(writer, sent, &lack.kept)?;
+    send_comment(writer, sent, lack.kept.loaded)
 }
 
 /// Writes the lists that are lacking.
@@ -116,8 +217,8 @@ fn send_lists<O: Output>(
     ensures failures { O.failed writer.new ≡ O.failed writer.old + fails_by result }
 {
     let mut sent = begun;
-    for location in lacking.words.locations() {
-        sent = send_list(writer, sent, *location)?;
+    for lack in &lacking.words {
+        sent = send_list(writer, sent, lack)?;
     }
     Ok(sent)
 }

@@ -2,6 +2,7 @@ use Rattle.std.proofs.Common.{List, ℕ, flat_map, Ok, Err, subst}
 use Rattle.std.proofs.lemmas.Result.{err_from_is_err_and}
 use Rattle.drum_lines.proofs.Sending.{all_three, cut_middle, written_cut, written_whole}
 use Rattle.drum_lines.specs.Sent.{IsSent}
+use Rattle.drum_check.specs.declared.kept.Kept.{Kept}
 use Rattle.drum_check.specs.FindingsOf.{found_in}
 use Rattle.drum_check.specs.FindingsText.{findings_text}
 use Rattle.drum_check.specs.Lacking.{check_text, list_text, mark_for, words_altered}
@@ -30,7 +31,7 @@ returns-in_err-send_lists-clause-written g c =
     let p = err_from_is_err_and c.from_residual-in_err-send_lists.result
     c.from_residual-in_err-send_lists.ensures.1 in
     let last : IsSent second new more (Err fault) (flat_map list_text (words_altered found)) =
-    subst (λ (words : List ℕ). IsSent second new more (Err fault) (flat_map list_text words)) c.requires.right
+    subst (λ (words : List (ℕ × Kept)). IsSent second new more (Err fault) (flat_map list_text words)) c.requires.right
     c.in_err-send_lists.ensures.sent in
     rw (p.1, p.2) (written_cut old new fault (check_text found)
     (all_three old new first second c.in_ok-sent.sent more (Err fault) (findings_text found)
@@ -47,7 +48,7 @@ returns-clause-written g c =
     let more = c.in_ok-sent-2.sent in
     let total = c.in_ok-send_lists.field-0 in
     let last : IsSent second new more (Ok total) (flat_map list_text (words_altered found)) =
-    subst (λ (words : List ℕ). IsSent second new more (Ok total) (flat_map list_text words)) c.requires.right
+    subst (λ (words : List (ℕ × Kept)). IsSent second new more (Ok total) (flat_map list_text words)) c.requires.right
     c.in_ok-send_lists.ensures.sent in
     written_whole old new total (check_text found)
     (all_three old new first second c.in_ok-sent.sent more (Ok total) (findings_text found)

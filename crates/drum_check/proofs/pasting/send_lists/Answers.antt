@@ -1,52 +1,69 @@
-use Rattle.std.proofs.Common.{◌≡◌, ℕ, get_or, Some, Ok, Err, sym, subst, arith}
-use Rattle.std.specs.Prelude.{slice_get}
-use Rattle.std.proofs.lemmas.Option.{get_or_from_slice_get, slice_get_within}
+use Rattle.std.proofs.Common.{◌≡◌, ℕ, ◌<◌, ◌≤◌, List, length, flat_map, get_or, Ok, Err, ap, sym, ◌∙◌, subst}
+use Rattle.std.proofs.Common.{arith}
+use Rattle.std.proofs.lemmas.List.{take_all}
+use Rattle.std.proofs.lemmas.List.Folds.{flat_map-map}
 use Rattle.std.proofs.lemmas.Result.{err_from_is_err_and}
-use Rattle.drum_flow.proofs.Alterations.{number_at}
 use Rattle.drum_lines.specs.Sent.{IsSent}
 use Rattle.drum_lines.proofs.Sending.{sent_cut, sent_more}
+use Rattle.drum_check.specs.declared.lacking.Lack.{Lack}
+use Rattle.drum_check.specs.LackingOf.{pair_of, words_in}
 use Rattle.drum_check.specs.Lacking.{list_text}
-use Rattle.drum_check.specs.LackingOf.{words_in}
 use Rattle.drum_check.proofs.pasting.send_lists.Goals as goal
+
+abbrev line : Lack → List ℕ
+line lack = list_text (pair_of lack)
 
 pub returns-in_err-sent-clause-sent : goal.returns-in_err-sent-clause-sent
 returns-in_err-sent-clause-sent g c =
-    let words = words_in c.args.lacking.now in
-    let index = c.loop-location.location-index in
-    let location = c.location-item.result in
+    let items = c.args.lacking.now.words.items in
+    let index = c.loop-lack.lack-index in
     let old = g.O.Output.written c.args.writer.now in
-    let between = g.O.Output.written c.loop-location.writer in
+    let between = g.O.Output.written c.loop-lack.writer in
     let new = g.O.Output.written c.send_list.new.writer in
     let fault = c.in_err-sent.field-0.0 in
     let p = err_from_is_err_and c.from_residual.result c.from_residual.ensures.1 in
-    let at : slice_get words index ≡ Some location.number =
-    number_at c.locations-location-items.result.now words index location c.locations-location-items.ensures.all
-    c.loop-location-test.true c.location-item.is in
-    let here : IsSent between new c.loop-location.sent (Err fault) (list_text (get_or words index 0)) =
-    subst (λ (place : ℕ). IsSent between new c.loop-location.sent (Err fault) (list_text place))
-    (sym (get_or_from_slice_get words index location.number 0 at)) c.in_err-sent.ensures.sent in
-    rw (p.1, p.2) (sent_cut list_text words index 0 (slice_get_within words index location.number at) old between new
-    c.args.begun c.loop-location.sent fault c.loop-location.invariant.so_far here)
+    let text : flat_map line items ≡ flat_map list_text (words_in c.args.lacking.now) =
+    sym (flat_map-map list_text pair_of items) in
+    let lack = c.lack-item.result in
+    let same = c.deref-lack-items.ensures.value in
+    let within : index < length items = omega (arith, c.loop-lack-test.true, ap (λ (xs : List Lack). length xs) same) in
+    let here : IsSent between new c.loop-lack.sent (Err fault) (line (get_or items index lack)) =
+    subst (IsSent between new c.loop-lack.sent (Err fault))
+    (ap line (c.lack-item.is ∙ ap (λ (xs : List Lack). get_or xs index lack) same)) c.in_err-sent.ensures.sent in
+    rw (p.1, p.2) (subst (IsSent old new c.args.begun (Err fault)) text
+    (sent_cut line items index lack within old between new c.args.begun c.loop-lack.sent fault
+    c.loop-lack.invariant.so_far here))
 
-pub loop-location-preserved : goal.loop-location-preserved
-loop-location-preserved g c =
-    let words = words_in c.args.lacking.now in
-    let index = c.loop-location.location-index in
-    let location = c.location-item.result in
+pub returns-clause-sent : goal.returns-clause-sent
+returns-clause-sent g c =
+    let items = c.args.lacking.now.words.items in
     let old = g.O.Output.written c.args.writer.now in
-    let between = g.O.Output.written c.loop-location.writer in
+    let new = g.O.Output.written c.loop-lack.writer in
+    let index = c.loop-lack.lack-index in
+    let past : length items ≤ index = omega
+    (arith, c.loop-lack-test.false, ap (λ (xs : List Lack). length xs) c.deref-lack-items.ensures.value) in
+    subst (IsSent old new c.args.begun (Ok c.loop-lack.sent)) (sym (flat_map-map list_text pair_of items))
+    (subst (λ (xs : List Lack). IsSent old new c.args.begun (Ok c.loop-lack.sent) (flat_map line xs))
+    (take_all index items past) c.loop-lack.invariant.so_far)
+
+pub loop-lack-preserved : goal.loop-lack-preserved
+loop-lack-preserved g c =
+    let items = c.args.lacking.now.words.items in
+    let index = c.loop-lack.lack-index in
+    let lack = c.lack-item.result in
+    let old = g.O.Output.written c.args.writer.now in
+    let between = g.O.Output.written c.loop-lack.writer in
     let new = g.O.Output.written c.send_list.new.writer in
-    let at : slice_get words index ≡ Some location.number =
-    number_at c.locations-location-items.result.now words index location c.locations-location-items.ensures.all
-    c.loop-location-test.true c.location-item.is in
-    let here : IsSent between new c.loop-location.sent (Ok c.in_ok-sent.sent) (list_text (get_or words index 0)) =
-    subst (λ (place : ℕ). IsSent between new c.loop-location.sent (Ok c.in_ok-sent.sent) (list_text place))
-    (sym (get_or_from_slice_get words index location.number 0 at)) c.in_ok-sent.ensures.sent in
+    let same = c.deref-lack-items.ensures.value in
+    let within : index < length items = omega (arith, c.loop-lack-test.true, ap (λ (xs : List Lack). length xs) same) in
+    let here : IsSent between new c.loop-lack.sent (Ok c.in_ok-sent.sent) (line (get_or items index lack)) =
+    subst (IsSent between new c.loop-lack.sent (Ok c.in_ok-sent.sent))
+    (ap line (c.lack-item.is ∙ ap (λ (xs : List Lack). get_or xs index lack) same)) c.in_ok-sent.ensures.sent in
     record {
       so_far =
-          sent_more list_text words index 0 (slice_get_within words index location.number at) old between new
-          c.args.begun c.loop-location.sent c.in_ok-sent.sent c.loop-location.invariant.so_far here;
-      few = omega (arith, c.loop-location.invariant.few, c.in_ok-sent.ensures.few);
-      calls = omega (arith, c.loop-location.invariant.calls, c.in_ok-sent.ensures.calls);
-      failures = omega (arith, c.loop-location.invariant.failures, c.in_ok-sent.ensures.failures);
+          sent_more line items index lack within old between new c.args.begun c.loop-lack.sent c.in_ok-sent.sent
+          c.loop-lack.invariant.so_far here;
+      few = omega (arith, c.loop-lack.invariant.few, c.in_ok-sent.ensures.few);
+      calls = omega (arith, c.loop-lack.invariant.calls, c.in_ok-sent.ensures.calls);
+      failures = omega (arith, c.loop-lack.invariant.failures, c.in_ok-sent.ensures.failures);
     }

@@ -1,0 +1,43 @@
+-- What a writer leaves of an instruction that it alters.
+use Rattle.std.specs.Prelude.{ℕ, ◌==◌, if◌then◌else◌, Option, Some, None}
+use Rattle.std.specs.Option.{option_and}
+use Rattle.drum_core.specs.declared.instruction.Instruction.{Instruction}
+use Rattle.drum_core.specs.declared.word.Word.{Word}
+use Rattle.drum_core.specs.Instruction.{instruction_of}
+use Rattle.drum_times.specs.Allowed.{Notes, is_listed}
+use Rattle.drum_check.specs.declared.kept.Kept.{Kept}
+
+-- nothing of it; `loaded` is the word as it is loaded
+abbrev pub nothing_kept : Option Word → Kept
+nothing_kept loaded = record { op = None; d = None; i = None; loaded = loaded }
+
+-- What an operation that writes a word leaves of the instruction there: 22 all but the data
+-- address, 23 all but the address of the next instruction, any other nothing.
+abbrev pub left_by : ℕ → Instruction → Option Word → Kept
+left_by op ins loaded =
+    if op == 22 then record { op = Some ins.op; d = None; i = Some ins.i; loaded = loaded }
+    else if op == 23 then record { op = Some ins.op; d = Some ins.d; i = None; loaded = loaded }
+    else nothing_kept loaded
+
+-- what the word of a writer leaves of a word, where both are loaded
+abbrev pub left_in : Option Word → Option Word → Kept
+left_in None loaded = nothing_kept loaded
+left_in (Some writer) None = nothing_kept None
+left_in (Some writer) (Some word) =
+    left_by (instruction_of writer).op (instruction_of word) (Some word)
+
+-- What the writer at one location leaves of the instruction that is loaded at another; of a writer
+-- that has a list, and of what isn't loaded, nothing is sure to stay.
+abbrev pub kept_of : (ℕ → Option Word) → Notes → ℕ → ℕ → Kept
+kept_of loads notes writer word =
+    if is_listed notes writer then nothing_kept (loads word)
+    else left_in (loads writer) (loads word)
+
+-- what two writers of a word both leave of it
+abbrev pub both_leave : Kept → Kept → Kept
+both_leave one other = record {
+  op = option_and other.op one.op;
+  d = option_and other.d one.d;
+  i = option_and other.i one.i;
+  loaded = one.loaded;
+}

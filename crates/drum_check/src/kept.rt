@@ -1,0 +1,92 @@
+ghost use Rattle.std.specs.Prelude.{◌≡◌};
+ghost use Rattle.drum_core.specs.Loads.{loads_in};
+ghost use Rattle.drum_check.specs.Kept as said;
+
+use drum_core::{Deck, Instruction, Location, Word};
+use drum_flow::place::is_listed;
+use drum_times::Notes;
+
+/// What is left of a word's own instruction by what writes it: each part that none of the writers
+/// changes, and `None` for one that may be changed.
+#[derive(Clone, Copy, Debug, PartialEq, Eq)]
+pub struct Kept {
+    /// The operation's two digits.
+    pub op: Option<u8>,
+    /// The data address.
+    pub d: Option<u16>,
+    /// The address of the next instruction.
+    pub i: Option<u16>,
+    /// The word as it is loaded; `None` where it isn't.
+    pub loaded: Option<Word>,
+}
+
+impl Kept {
+    /// Nothing of a word that is loaded so.
+    fn nothing(loaded: Option<Word>) -> Kept
+        ensures { result ≡ said.nothing_kept loaded }
+    {
+        Kept {
+            op: None,
+            d: None,
+            i: None,
+            loaded,
+        }
+    }
+
+    /// What an operation that writes a word leaves of the instruction there.
+    fn left_by(op: u8, instruction: Instruction, loaded: Option<Word>) -> Kept
+        ensures { result ≡ said.left_by op instruction loaded }
+    {
+        match op {
+            22 => Kept {
+                op: Some(instruction.op),
+                d: None,
+                i: Some(instruction.i),
+                loaded,
+            },
+            23 => Kept {
+                op: Some(instruction.op),
+                d: Some(instruction.d),
+                i: None,
+                loaded,
+            },
+            _ => Kept::nothing(loaded),
+        }
+    }
+
+    /// What the word of a writer leaves of a word, where both are loaded.
+    fn left_in(writer: Option<Word>, loaded: Option<Word>) -> Kept
+        ensures { result ≡ said.left_in writer loaded }
+    {
+        match (writer, loaded) {
+            (Some(writer), Some(word)) => {
+                Kept::left_by(Instruction::of(writer).op, Instruction::of(word), loaded)
+            }
+            _ => Kept::nothing(loaded),
+        }
+    }
+
+    /// What the writer at one location leaves of the instruction that is loaded at another. Of a
+    /// writer that has a list, and of what isn't loaded, nothing is sure to stay.
+    pub fn of(deck: &Deck, notes: &Notes, writer: Location, word: Location) -> Kept
+        ensures { result ≡ said.kept_of (loads_in deck.now) notes.now writer.number word.number }
+    {
+        let loaded = deck.word(word);
+        if is_listed(notes, writer) {
+            return Kept::nothing(loaded);
+        }
+        Kept::left_in(deck.word(writer), loaded)
+    }
+
+    /// What is left of a word that another one writes too.
+    pub(crate) fn meet(self, other: Kept) -> Kept
+        ensures { result ≡ said.both_leave self other }
+    {
+        Kept {
+            op: other.op.and(self.op),
+            d: other.d.and(self.d),
+            i: other.i.and(self.i),
+            loaded: self.loaded,
+        }
+    }
+}
