@@ -15,7 +15,7 @@ use Rattle.clap.specs.Takes.{is_given}
 use Rattle.clap.specs.Walk.{Row, Rule, Text, answers_to, finished, first_of, nothing_held, rows_after, settled}
 use Rattle.clap.specs.Walk.{stop_after, walk, walk_from}
 use Rattle.clap.proofs.OnLiterals.{clap_on_literals}
-use Rattle.drum_command.specs.Line.{Verb, drum650, file_rule, is_whole}
+use Rattle.drum_command.specs.Line.{File, Verb, drum650, file_rule, is_there, is_whole}
 use Rattle.drum_command.specs.Line as line
 use Rattle.drum_command.proofs.Own.{and_both, and_of, find_passes}
 use Rattle.drum_command.proofs.Full.{are_full, is_file_or_request, is_full, rows_after-full}
@@ -29,7 +29,7 @@ unfolding clap_on_literals
 drum650_is_free = refl
 
 -- the arguments of a built command with these files
-abbrev pub leaf_rules : List Text → List Rule
+abbrev pub leaf_rules : List File → List Rule
 leaf_rules files = filled_from 1 (map file_rule files ++ help_rule ∷ [])
 
 -- a command as it is built
@@ -47,7 +47,7 @@ leaves = leaf line.bound ∷ leaf line.check ∷ leaf line.report ∷ leaf line.
 
 -- ---- one command
 
-rules_pass : (files : List Text) (i : ℕ)
+rules_pass : (files : List File) (i : ℕ)
     → list_all is_file_or_request (filled_from i (map file_rule files ++ help_rule ∷ [])) ≡ true
 rules_pass [] i = refl
 rules_pass (file ∷ files) i = rules_pass files _
@@ -56,16 +56,22 @@ rules_pass (file ∷ files) i = rules_pass files _
 abbrev is_missing : List Row → Rule → Bool
 is_missing rows rule = rule.required && not (is_given rule.id rows)
 
-given_from : (given missing : Bool) → (not given || missing) ≡ false → (given ≡ true) × (missing ≡ false)
-given_from true missing none = (refl, none)
-given_from false missing none = cc
+given_from : (needed given missing : Bool) → ((needed && not given) || missing) ≡ false
+    → ((not needed || given) ≡ true) × (missing ≡ false)
+given_from true true missing none = (refl, none)
+given_from true false missing none = cc
+given_from false given missing none = (refl, none)
 
-all_given : (files : List Text) (i : ℕ) (rows : List Row)
+-- a file is given, if it has to be named
+abbrev is_given_if_needed : List Row → File → Bool
+is_given_if_needed rows file = not file.needed || is_given file.name rows
+
+all_given : (files : List File) (i : ℕ) (rows : List Row)
     → list_any (is_missing rows) (filled_from i (map file_rule files ++ help_rule ∷ [])) ≡ false
-    → list_all (λ file. is_given file rows) files ≡ true
+    → list_all (is_given_if_needed rows) files ≡ true
 all_given [] i rows none = refl
 all_given (file ∷ files) i rows none =
-    let parts = given_from (is_given file rows) _ none in
+    let parts = given_from file.needed (is_given file.name rows) _ none in
     and_of _ _ parts.0 (all_given files _ rows parts.1)
 
 -- a file that is given has a value
@@ -86,13 +92,17 @@ given_is_some rows file full given = go (find named rows) (find_passes named is_
     go None passes there = cc
     go (Some row) passes there = value row.values (and_both _ _ passes).1
 
-all_some : (rows : List Row) (files : List Text) → are_full rows ≡ true
-    → list_all (λ file. is_given file rows) files ≡ true
-    → list_all (λ file. is_some (first_of file rows)) files ≡ true
+there_if_needed : (rows : List Row) (name : Text) (needed : Bool) → are_full rows ≡ true
+    → (not needed || is_given name rows) ≡ true → (not needed || is_some (first_of name rows)) ≡ true
+there_if_needed rows name true full given = given_is_some rows name full given
+there_if_needed rows name false full given = refl
+
+all_some : (rows : List Row) (files : List File) → are_full rows ≡ true
+    → list_all (is_given_if_needed rows) files ≡ true → list_all (is_there rows) files ≡ true
 all_some rows [] full given = refl
 all_some rows (file ∷ files) full given =
     let parts = and_both _ _ given in
-    and_of _ _ (given_is_some rows file full parts.0) (all_some rows files full parts.1)
+    and_of _ _ (there_if_needed rows file.name file.needed full parts.0) (all_some rows files full parts.1)
 
 or_else_none : (first second : Kinds) → or_else first second ≡ [] → (first ≡ []) × (second ≡ [])
 or_else_none [] second none = (refl, none)
@@ -102,9 +112,9 @@ none_missing : (missing : Bool) → check_kinds false false missing ≡ [] → m
 none_missing true none = cc
 none_missing false none = refl
 
--- the words of a command that have no fault give all of its files
+-- the words of a command that have no fault give all files that it has to name
 leaf_has_files : (verb : Verb) (words : List Text) → level_fault (leaf verb) [] nothing_held words false [] ≡ []
-    → list_all (λ file. is_some (first_of file (rows_after (leaf verb).rules [] words))) verb.files ≡ true
+    → list_all (is_there (rows_after (leaf verb).rules [] words)) verb.files ≡ true
 leaf_has_files verb words none =
     let rules : List Rule = leaf_rules verb.files in
     let rows = rows_after rules [] words in

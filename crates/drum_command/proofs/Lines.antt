@@ -1,7 +1,6 @@
 -- Words that name a command's files are taken, and found in their order.
-use Rattle.std.proofs.Common.{◌≡◌, ◌∙◌, ◌&&◌, ℕ, Bool, true, false, not, ap, refl, arith, map, List, [], ◌∷◌, Some}
-use Rattle.std.proofs.Common.{None}
-use Rattle.std.specs.Prelude.{fold}
+use Rattle.std.proofs.Common.{◌≡◌, ◌∙◌, ◌&&◌, ℕ, Bool, true, false, ap, refl, map, List, [], ◌∷◌, None}
+use Rattle.std.specs.Prelude.{codes, fold}
 use Rattle.std.specs.List.{list_all}
 use Rattle.std.specs.Str.{bytes_eq}
 use Rattle.clap.specs.Lexer.{strip_byte}
@@ -10,8 +9,9 @@ use Rattle.clap.specs.Takes.{default_passes, is_valid, level_passes, settle_pass
 use Rattle.clap.specs.Takes.{walk_passes, word_passes}
 use Rattle.clap.specs.Walk.{Held, Rule, Text, Walk, arg_by_index, finished, first_of, idle, nothing_held, rows_after}
 use Rattle.clap.specs.Walk.{to_positional, value, walk_from, walked, word_met}
-use Rattle.drum_command.specs.Line.{NamesFilesOf, Verb, begins_with_hyphen, common_files, run_files}
-use Rattle.drum_command.proofs.Own.{and_both, and_of}
+use Rattle.drum_command.specs.Line.{File, NamesFilesOf, Verb, begins_with_hyphen, check_files, common_files}
+use Rattle.drum_command.specs.Line.{needed, run_files, said_of}
+use Rattle.drum_command.proofs.Own.{and_of}
 use Rattle.drum_command.proofs.Accepted.{leaf, leaf_rules}
 
 -- ---- one word
@@ -93,16 +93,17 @@ end_passes s w = settle_passes s.rules s.args_override_self w.held
 -- the words are taken, and give the command its files
 pub record GivesFiles (verb : Verb) (words : List Text) : Type 0 where
   pub passes : level_passes (leaf verb) [] nothing_held words false ≡ true
-  pub files : map (λ file. first_of file (rows_after (leaf verb).rules [] words)) verb.files ≡ map Some words
+  pub files : map (λ file. first_of file.name (rows_after (leaf verb).rules [] words)) verb.files
+      ≡ said_of verb.files words
 
 gives_files : (verb : Verb) (words : List Text) (last : Walk) → LeadAll (leaf verb) (walk_from nothing_held) words last
     → end_passes (leaf verb) last ≡ true
-    → map (λ file. first_of file (finished (leaf_rules verb.files) last.held)) verb.files ≡ map Some words
+    → map (λ file. first_of file.name (finished (leaf_rules verb.files) last.held)) verb.files ≡ said_of verb.files words
     → GivesFiles verb words
 gives_files verb words last lead passes found = record {
   passes = and_of _ _ lead.passes (ap (end_passes (leaf verb)) lead.walked ∙ passes);
   files =
-      ap (λ (w : Walk). map (λ file. first_of file (finished (leaf_rules verb.files) w.held)) verb.files) lead.walked
+      ap (λ (w : Walk). map (λ file. first_of file.name (finished (leaf_rules verb.files) w.held)) verb.files) lead.walked
       ∙ found;
 }
 
@@ -112,74 +113,94 @@ after_file s w word = to_positional s.rules (arg_by_index s.rules w.position) wo
 
 -- ---- three files, and four
 
--- words that name as many files as there are here give them
-abbrev pub AreGiven : List Text → Type 0
+-- a file that has to be named is named
+no_file : (true ≡ false) → ⊥
+no_file same = cc
+
+-- words that name these files give them
+abbrev pub AreGiven : List File → Type 0
 AreGiven files = (name : Text) (words : List Text) → NamesFilesOf (record { name = name; files = files }) words
     → GivesFiles (record { name = name; files = files }) words
 
-not_true : (b : Bool) → not b ≡ true → b ≡ false
-not_true true free = cc
-not_true false free = refl
+-- the command of this name, with the files that every command has, and others behind them
+abbrev behind : Text → List File → Verb
+behind name others = record {
+  name = name;
+  files = needed (codes "DECK") ∷ needed (codes "TIMES") ∷ needed (codes "NOTES") ∷ others;
+}
 
-three_given : (name a b c : Text) → begins_with_hyphen a ≡ false → begins_with_hyphen b ≡ false
-    → begins_with_hyphen c ≡ false
-    → GivesFiles (record { name = name; files = common_files }) (a ∷ b ∷ c ∷ [])
-three_given name a b c first second third =
-    let verb : Verb = record { name = name; files = common_files } in
-    let s = leaf verb in
-    let start = walk_from nothing_held in
-    let one = after_file s start a in
-    let two = after_file s one b in
-    let last = after_file s two c in
-    let free_start : IsIdle start = record { stopped = refl; waiting = refl; trailing = refl } in
-    let free_one : IsIdle one = record { stopped = refl; waiting = refl; trailing = refl } in
-    let free_two : IsIdle two = record { stopped = refl; waiting = refl; trailing = refl } in
-    gives_files verb (a ∷ b ∷ c ∷ []) last
-    (lead_more s start one last a (b ∷ c ∷ []) (leads s start a free_start first refl)
-    (lead_more s one two last b (c ∷ []) (leads s one b free_one second refl)
-    (lead_more s two last last c [] (leads s two c free_two third refl) (lead_none s last)))) refl refl
+abbrev inputs_if : Bool → File
+inputs_if needed = record { name = codes "INPUTS"; needed = needed }
 
-pub common_given : AreGiven common_files
-common_given name [] names = absurd (omega (arith, names.0))
-common_given name (a ∷ []) names = absurd (omega (arith, names.0))
-common_given name (a ∷ b ∷ []) names = absurd (omega (arith, names.0))
-common_given name (a ∷ b ∷ c ∷ []) names =
-    let first = and_both _ _ names.1 in
-    let second = and_both _ _ first.1 in
-    let third = and_both _ _ second.1 in
-    three_given name a b c (not_true _ first.0) (not_true _ second.0) (not_true _ third.0)
-common_given name (a ∷ b ∷ c ∷ d ∷ rest) names = absurd (omega (arith, names.0))
+-- the walk after the names of the files that every command has
+abbrev after_three : Shape → Text → Text → Text → Walk
+after_three s a b c = after_file s (after_file s (after_file s (walk_from nothing_held) a) b) c
 
-four_given : (name a b c d : Text) → begins_with_hyphen a ≡ false → begins_with_hyphen b ≡ false
-    → begins_with_hyphen c ≡ false
-    → begins_with_hyphen d ≡ false → GivesFiles (record { name = name; files = run_files }) (a ∷ b ∷ c ∷ d ∷ [])
-four_given name a b c d first second third fourth =
-    let verb : Verb = record { name = name; files = run_files } in
-    let s = leaf verb in
+-- where the names of the files that every command has lead, and further words
+lead_three : (name : Text) (others : List File) (a b c : Text) (words : List Text) (last : Walk)
+    → begins_with_hyphen a ≡ false → begins_with_hyphen b ≡ false → begins_with_hyphen c ≡ false
+    → LeadAll (leaf (behind name others)) (after_three (leaf (behind name others)) a b c) words last
+    → LeadAll (leaf (behind name others)) (walk_from nothing_held) (a ∷ b ∷ c ∷ words) last
+lead_three name others a b c words last first second third rest =
+    let s = leaf (behind name others) in
     let start = walk_from nothing_held in
     let one = after_file s start a in
     let two = after_file s one b in
     let three = after_file s two c in
-    let last = after_file s three d in
     let free_start : IsIdle start = record { stopped = refl; waiting = refl; trailing = refl } in
     let free_one : IsIdle one = record { stopped = refl; waiting = refl; trailing = refl } in
     let free_two : IsIdle two = record { stopped = refl; waiting = refl; trailing = refl } in
-    let free_three : IsIdle three = record { stopped = refl; waiting = refl; trailing = refl } in
-    gives_files verb (a ∷ b ∷ c ∷ d ∷ []) last
-    (lead_more s start one last a (b ∷ c ∷ d ∷ []) (leads s start a free_start first refl)
-    (lead_more s one two last b (c ∷ d ∷ []) (leads s one b free_one second refl)
-    (lead_more s two three last c (d ∷ []) (leads s two c free_two third refl)
-    (lead_more s three last last d [] (leads s three d free_three fourth refl) (lead_none s last))))) refl refl
+    lead_more s start one last a (b ∷ c ∷ words) (leads s start a free_start first refl)
+    (lead_more s one two last b (c ∷ words) (leads s one b free_one second refl)
+    (lead_more s two three last c words (leads s two c free_two third refl) rest))
+
+-- and where four lead
+lead_four : (name : Text) (needed : Bool) (a b c d : Text) → begins_with_hyphen a ≡ false → begins_with_hyphen b ≡ false
+    → begins_with_hyphen c ≡ false → begins_with_hyphen d ≡ false
+    → LeadAll (leaf (behind name (inputs_if needed ∷ []))) (walk_from nothing_held) (a ∷ b ∷ c ∷ d ∷ [])
+    (after_file (leaf (behind name (inputs_if needed ∷ [])))
+    (after_three (leaf (behind name (inputs_if needed ∷ []))) a b c) d)
+lead_four name needed a b c d first second third fourth =
+    let s = leaf (behind name (inputs_if needed ∷ [])) in
+    let three = after_three s a b c in
+    let last = after_file s three d in
+    let free : IsIdle three = record { stopped = refl; waiting = refl; trailing = refl } in
+    lead_three name (inputs_if needed ∷ []) a b c (d ∷ []) last first second third
+    (lead_more s three last last d [] (leads s three d free fourth refl) (lead_none s last))
+
+pub common_given : AreGiven common_files
+common_given name [] names = absurd (no_file names.0)
+common_given name (a ∷ []) names = absurd (no_file names.1.0)
+common_given name (a ∷ b ∷ []) names = absurd (no_file names.1.1.0)
+common_given name (a ∷ b ∷ c ∷ []) names =
+    let s = leaf (behind name []) in
+    let last = after_three s a b c in
+    gives_files (behind name []) (a ∷ b ∷ c ∷ []) last
+    (lead_three name [] a b c [] last names.0 names.1.0 names.1.1.0 (lead_none s last)) refl refl
+common_given name (a ∷ b ∷ c ∷ d ∷ rest) names = absurd names.1.1.1
 
 pub run_given : AreGiven run_files
-run_given name [] names = absurd (omega (arith, names.0))
-run_given name (a ∷ []) names = absurd (omega (arith, names.0))
-run_given name (a ∷ b ∷ []) names = absurd (omega (arith, names.0))
-run_given name (a ∷ b ∷ c ∷ []) names = absurd (omega (arith, names.0))
+run_given name [] names = absurd (no_file names.0)
+run_given name (a ∷ []) names = absurd (no_file names.1.0)
+run_given name (a ∷ b ∷ []) names = absurd (no_file names.1.1.0)
+run_given name (a ∷ b ∷ c ∷ []) names = absurd (no_file names.1.1.1.0)
 run_given name (a ∷ b ∷ c ∷ d ∷ []) names =
-    let first = and_both _ _ names.1 in
-    let second = and_both _ _ first.1 in
-    let third = and_both _ _ second.1 in
-    let fourth = and_both _ _ third.1 in
-    four_given name a b c d (not_true _ first.0) (not_true _ second.0) (not_true _ third.0) (not_true _ fourth.0)
-run_given name (a ∷ b ∷ c ∷ d ∷ e ∷ rest) names = absurd (omega (arith, names.0))
+    let s = leaf (behind name (inputs_if true ∷ [])) in
+    gives_files (behind name (inputs_if true ∷ [])) (a ∷ b ∷ c ∷ d ∷ []) (after_file s (after_three s a b c) d)
+    (lead_four name true a b c d names.0 names.1.0 names.1.1.0 names.1.1.1.0) refl refl
+run_given name (a ∷ b ∷ c ∷ d ∷ e ∷ rest) names = absurd names.1.1.1.1
+
+pub check_given : AreGiven check_files
+check_given name [] names = absurd (no_file names.0)
+check_given name (a ∷ []) names = absurd (no_file names.1.0)
+check_given name (a ∷ b ∷ []) names = absurd (no_file names.1.1.0)
+check_given name (a ∷ b ∷ c ∷ []) names =
+    let s = leaf (behind name (inputs_if false ∷ [])) in
+    let last = after_three s a b c in
+    gives_files (behind name (inputs_if false ∷ [])) (a ∷ b ∷ c ∷ []) last
+    (lead_three name (inputs_if false ∷ []) a b c [] last names.0 names.1.0 names.1.1.0 (lead_none s last)) refl refl
+check_given name (a ∷ b ∷ c ∷ d ∷ []) names =
+    let s = leaf (behind name (inputs_if false ∷ [])) in
+    gives_files (behind name (inputs_if false ∷ [])) (a ∷ b ∷ c ∷ d ∷ []) (after_file s (after_three s a b c) d)
+    (lead_four name false a b c d names.0 names.1.0 names.1.1.0 names.1.1.1.0) refl refl
+check_given name (a ∷ b ∷ c ∷ d ∷ e ∷ rest) names = absurd names.1.1.1.1

@@ -11,12 +11,13 @@ use Rattle.clap.specs.Walk.{Names, Text, Walk, answers_to, finished, first_of, n
 use Rattle.clap.specs.Walk.{walk_from, walked}
 use Rattle.clap.proofs.OnLiterals.{clap_on_literals}
 use Rattle.clap.proofs.WalkLemmas.{walk_stopped}
-use Rattle.drum_command.specs.Line.{IsLineOf, NamesFilesOf, Verb, drum650, files_of, said_by_words, said_in, verbs}
+use Rattle.drum_command.specs.Line.{File, IsLineOf, NamesFilesOf, Verb, drum650, files_of, said_by_words, said_in}
+use Rattle.drum_command.specs.Line.{said_of, verbs}
 use Rattle.drum_command.specs.Line as line
 use Rattle.drum_command.proofs.Own.{and_of}
 use Rattle.drum_command.proofs.Accepted.{drum650_is_simple, leaf, leaves}
 use Rattle.drum_command.proofs.Verbs.{all_verbs}
-use Rattle.drum_command.proofs.Lines.{AreGiven, GivesFiles, common_given, run_given}
+use Rattle.drum_command.proofs.Lines.{AreGiven, GivesFiles, check_given, common_given, run_given}
 
 abbrev top : Shape
 top = (built drum650).top
@@ -113,20 +114,20 @@ line_taken verb words named gives =
     (and_of _ _ (whole_passes verb words named) (ap top_passes end ∙ checked)))
 
 line_said : (verb : Verb) (words : List Text) → IsNamed verb → GivesFiles verb words
-    → said_by_words (verb.name ∷ words) ≡ Some (verb.name, map Some words)
+    → said_by_words (verb.name ∷ words) ≡ Some (verb.name, said_of verb.files words)
 line_said verb words named gives =
     let found = ap (λ (w : Walk). entered (built drum650) w.stopped) (whole_walk verb words named)
     ∙ ap (option_map (λ s. rows_at s words)) named.found in
     let rows = rows_after (leaf verb).rules [] words in
     ap (option_map said_in) found
-    ∙ ap (λ (files : List Text). Some (verb.name, map (λ file. first_of file rows) files)) named.files
+    ∙ ap (λ (files : List File). Some (verb.name, map (λ file. first_of file.name rows) files)) named.files
     ∙ ap (λ (files : List (Option Text)). Some (verb.name, files)) gives.files
 
 -- words that name the command's files are taken, and said to be those
 abbrev pub IsLine : Verb → Type 0
 IsLine verb = (words : List Text) → NamesFilesOf verb words
     → (takes drum650 (verb.name ∷ words) ≡ true)
-    × (said_by_words (verb.name ∷ words) ≡ Some (verb.name, map Some words))
+    × (said_by_words (verb.name ∷ words) ≡ Some (verb.name, said_of verb.files words))
 
 is_line : (verb : Verb) → IsNamed verb → AreGiven verb.files → IsLine verb
 is_line verb named given words names =
@@ -135,7 +136,7 @@ is_line verb named given words names =
 
 pub all_lines : All IsLine verbs
 all_lines = all_verbs IsLine (is_line line.bound bound_is_named common_given)
-    (is_line line.check check_is_named common_given)
+    (is_line line.check check_is_named check_given)
     (is_line line.report report_is_named common_given) (is_line line.walk walk_is_named common_given)
     (is_line line.waits waits_is_named common_given) (is_line line.draw draw_is_named common_given)
     (is_line line.ceiling ceiling_is_named common_given)
@@ -143,7 +144,7 @@ all_lines = all_verbs IsLine (is_line line.bound bound_is_named common_given)
 
 -- the same of words that are the line of a command
 pub line_of : (words files : List Text) (verb : Verb) → IsLine verb → IsLineOf verb files words
-    → (takes drum650 words ≡ true) × (said_by_words words ≡ Some (verb.name, map Some files))
+    → (takes drum650 words ≡ true) × (said_by_words words ≡ Some (verb.name, said_of verb.files files))
 line_of words files verb line is =
     let told = line files is.1 in
     (ap (takes drum650) is.0 ∙ told.0, ap said_by_words is.0 ∙ told.1)

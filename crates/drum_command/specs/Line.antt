@@ -1,6 +1,6 @@
 -- The command line: which commands there are, which files each names, and what words say.
-use Rattle.std.specs.Prelude.{◌≡◌, ◌==◌, ◌&&◌, Bool, true, false, List, [], ◌∷◌, map, Option, Some}
-use Rattle.std.specs.Prelude.{codes, find, is_some, length, not, option_map}
+use Rattle.std.specs.Prelude.{◌≡◌, ◌==◌, ◌&&◌, ◌||◌, Bool, true, false, List, [], ◌∷◌, ◌++◌, map}
+use Rattle.std.specs.Prelude.{Option, Some, None, codes, find, is_some, not, option_map}
 use Rattle.std.specs.List.{list_all, list_any}
 use Rattle.std.specs.Option.{option_map_or}
 use Rattle.std.specs.Str.{bytes_eq}
@@ -9,27 +9,45 @@ use Rattle.clap.specs.Simple.{new_shape}
 use Rattle.clap.specs.Walk.{is_empty}
 use Rattle.clap.specs.declared.builder.action.ArgAction.TheVariants.{Set}
 use Rattle.drum_command.specs.declared.command.Command.{Command}
-use Rattle.drum_command.specs.declared.command.Command.TheVariants.{Bound, Check, Report, Walk, Waits, Draw, Ceiling, Replay, Trace}
+use Rattle.drum_command.specs.declared.command.Command.TheVariants.{Bound, Check, Report, Walk}
+use Rattle.drum_command.specs.declared.command.Command.TheVariants.{Waits, Draw, Ceiling, Replay}
+use Rattle.drum_command.specs.declared.command.Command.TheVariants.{Trace}
 use Rattle.drum_command.specs.declared.command.Files.{Files}
 
--- a command: its name, and what the files that it names are called, in their order
+-- a file that a command names: what it is called, and whether it has to be named
+pub record File : Type 0 where
+  pub name : Text
+  pub needed : Bool
+
+-- a command: its name, and its files in their order
 pub record Verb : Type 0 where
   pub name : Text
-  pub files : List Text
+  pub files : List File
+
+abbrev pub needed : Text → File
+needed name = record { name = name; needed = true }
 
 -- the files that every command works on
-abbrev pub common_files : List Text
-common_files = codes "DECK" ∷ codes "TIMES" ∷ codes "NOTES" ∷ []
+abbrev pub common_files : List File
+common_files = needed (codes "DECK") ∷ needed (codes "TIMES") ∷ needed (codes "NOTES") ∷ []
 
--- and those of a command that lets the deck run
-abbrev pub run_files : List Text
-run_files = codes "DECK" ∷ codes "TIMES" ∷ codes "NOTES" ∷ codes "INPUTS" ∷ []
+-- those of a command that lets the deck run
+abbrev pub run_files : List File
+run_files =
+    needed (codes "DECK") ∷ needed (codes "TIMES") ∷ needed (codes "NOTES")
+    ∷ needed (codes "INPUTS") ∷ []
+
+-- and those of a command that looks at inputs where they are named
+abbrev pub check_files : List File
+check_files =
+    needed (codes "DECK") ∷ needed (codes "TIMES") ∷ needed (codes "NOTES")
+    ∷ record { name = codes "INPUTS"; needed = false } ∷ []
 
 abbrev pub bound : Verb
 bound = record { name = codes "bound"; files = common_files }
 
 abbrev pub check : Verb
-check = record { name = codes "check"; files = common_files }
+check = record { name = codes "check"; files = check_files }
 
 abbrev pub report : Verb
 report = record { name = codes "report"; files = common_files }
@@ -58,9 +76,9 @@ verbs = bound ∷ check ∷ report ∷ walk ∷ waits ∷ draw ∷ ceiling ∷ r
 
 -- ---- the same, as clap's arguments and commands
 
--- a file, which has to be named
-abbrev pub file_rule : Text → Rule
-file_rule file = record (new_rule file) { action = Some Set; required = true }
+-- a file
+abbrev pub file_rule : File → Rule
+file_rule file = record (new_rule file.name) { action = Some Set; required = file.needed }
 
 -- a command, with its files
 abbrev pub verb_shape : Verb → Shape
@@ -83,13 +101,13 @@ drum650 = program (map verb_shape verbs)
 
 -- ---- what is said
 
--- what the files of the command of this name are called
-abbrev pub files_of : Text → List Text
+-- the files of the command of this name
+abbrev pub files_of : Text → List File
 files_of name = option_map_or (λ verb. verb.files) (find (λ verb. bytes_eq verb.name name) verbs) []
 
 -- a command's name with the files that clap found, in the order of the command's files
 abbrev pub said_in : Text × List Row → Text × List (Option Text)
-said_in found = (found.0, map (λ file. first_of file found.1) (files_of found.0))
+said_in found = (found.0, map (λ file. first_of file.name found.1) (files_of found.0))
 
 -- what clap finds that the words say: the name of a command, and its files
 abbrev pub said_by_words : List Text → Option (Text × List (Option Text))
@@ -105,7 +123,8 @@ with_inputs files inputs = files.deck.now ∷ files.times.now ∷ files.notes.no
 -- what a command says: its name, and its files in their order
 abbrev pub said_by : Command → Text × List (Option Text)
 said_by (Bound files) = (codes "bound", map Some (common files))
-said_by (Check files) = (codes "check", map Some (common files))
+said_by (Check files inputs) =
+    (codes "check", map Some (common files) ++ option_map (λ name. name.now) inputs ∷ [])
 said_by (Report files) = (codes "report", map Some (common files))
 said_by (Walk files) = (codes "walk", map Some (common files))
 said_by (Waits files) = (codes "waits", map Some (common files))
@@ -114,10 +133,14 @@ said_by (Ceiling files) = (codes "ceiling", map Some (common files))
 said_by (Replay files inputs) = (codes "replay", map Some (with_inputs files inputs.now))
 said_by (Trace files inputs) = (codes "trace", map Some (with_inputs files inputs.now))
 
--- clap found the name of a command, and all of its files
+-- a file was found, if it has to be named
+abbrev pub is_there : List Row → File → Bool
+is_there rows file = not file.needed || is_some (first_of file.name rows)
+
+-- clap found the name of a command, and all files that it has to name
 abbrev pub is_whole : Text × List Row → Bool
 is_whole found = list_any (λ verb. bytes_eq verb.name found.0) verbs
-    && list_all (λ file. is_some (first_of file found.1)) (files_of found.0)
+    && list_all (is_there found.1) (files_of found.0)
 
 -- ---- lines as they are meant to be written
 
@@ -126,10 +149,23 @@ abbrev pub begins_with_hyphen : Text → Bool
 begins_with_hyphen [] = false
 begins_with_hyphen (c ∷ rest) = c == 45
 
--- the words name files, as many as the command has, and none is taken for an option
+-- the words name files in their order, all that have to be named, and no word is one too many or is
+-- taken for an option
+abbrev pub NameFiles : List File → List Text → Type 0
+NameFiles [] [] = Unit {0}
+NameFiles [] (word ∷ words) = ⊥
+NameFiles (file ∷ files) [] = (file.needed ≡ false) × NameFiles files []
+NameFiles (file ∷ files) (word ∷ words) =
+    (begins_with_hyphen word ≡ false) × NameFiles files words
+
 abbrev pub NamesFilesOf : Verb → List Text → Type 0
-NamesFilesOf verb words = (length words ≡ length verb.files)
-    × (list_all (λ word. not (begins_with_hyphen word)) words ≡ true)
+NamesFilesOf verb words = NameFiles verb.files words
+
+-- what the words say of the files: their names, and nothing of one that isn't named
+abbrev pub said_of : List File → List Text → List (Option Text)
+said_of [] words = []
+said_of (file ∷ files) [] = None ∷ said_of files []
+said_of (file ∷ files) (word ∷ words) = Some word ∷ said_of files words
 
 -- the words are the command's name and its files
 abbrev pub IsLineOf : Verb → List Text → List Text → Type 0

@@ -16,8 +16,9 @@ pub struct Files<'a> {
 pub enum Command<'a> {
     /// The most word times that any run takes that keeps to the notes.
     Bound(Files<'a>),
-    /// All that keeps the deck from having a bound under the notes.
-    Check(Files<'a>),
+    /// All that keeps the deck from having a bound under the notes; and what is wrong with the
+    /// inputs of the last file, if it is named.
+    Check(Files<'a>, Option<&'a str>),
     /// Where the worst walk spends the word times of the bound, by card.
     Report(Files<'a>),
     /// The worst walk itself, visit by visit.

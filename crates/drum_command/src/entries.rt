@@ -10,6 +10,8 @@ pub(crate) struct FileWord {
     pub(crate) name: &'static str,
     /// What it is.
     pub(crate) help: &'static str,
+    /// Whether it has to be named.
+    pub(crate) needed: bool,
 }
 
 /// A command: its name, what the help says of it, and the files that it names.
@@ -26,21 +28,32 @@ pub(crate) struct Entry {
 pub(crate) const DECK: FileWord = FileWord {
     name: "DECK",
     help: "The deck: cards for the drum of an IBM 650, one on each line",
+    needed: true,
 };
 
 pub(crate) const TIMES: FileWord = FileWord {
     name: "TIMES",
     help: "The timing table: TOML, how many word times each operation takes",
+    needed: true,
 };
 
 pub(crate) const NOTES: FileWord = FileWord {
     name: "NOTES",
     help: "The notes: TOML, bounds on loops, and what altered words may become",
+    needed: true,
 };
 
 pub(crate) const INPUTS: FileWord = FileWord {
     name: "INPUTS",
     help: "The inputs: what the replayed run finds in the machine, and the cards that it reads",
+    needed: true,
+};
+
+/// The inputs of a run, for a command that may do without them.
+const INPUTS_TOO: FileWord = FileWord {
+    name: "INPUTS",
+    help: "The inputs of a replay, to be looked at too",
+    needed: false,
 };
 
 /// The files that every command works on.
@@ -48,6 +61,9 @@ const COMMON_FILES: &[FileWord] = &[DECK, TIMES, NOTES];
 
 /// The files of a command that lets the deck run.
 const RUN_FILES: &[FileWord] = &[DECK, TIMES, NOTES, INPUTS];
+
+/// The files of a command that looks at inputs where they are named.
+const CHECK_FILES: &[FileWord] = &[DECK, TIMES, NOTES, INPUTS_TOO];
 
 /// Each command that there is.
 pub(crate) fn entries() -> &'static [Entry]
@@ -63,8 +79,8 @@ pub(crate) fn entries() -> &'static [Entry]
         Entry {
             name: "check",
             about: "Prints all that keeps the deck from a bound, and what the notes lack",
-            example: "Example: drum650 check deck.txt times.toml notes.toml",
-            files: COMMON_FILES,
+            example: "Example: drum650 check deck.txt times.toml notes.toml inputs.txt",
+            files: CHECK_FILES,
         },
         Entry {
             name: "report",

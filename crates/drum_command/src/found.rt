@@ -3,7 +3,8 @@ ghost use Rattle.std.specs.Prelude.{◌≡◌, true, false, Some, is_some, map, 
 ghost use Rattle.std.specs.List.{list_all};
 ghost use Rattle.std.specs.Option.{option_map_or};
 ghost use Rattle.clap.specs.Words.{first_of, found_of, rows_of, subcommand_rows_of};
-ghost use Rattle.drum_command.specs.Line.{common, common_files, is_whole, said_by, said_in};
+ghost use Rattle.drum_command.specs.Line.{common, common_files, is_there, is_whole};
+ghost use Rattle.drum_command.specs.Line.{said_by, said_in};
 
 use crate::command::{Command, Files};
 use crate::entries::{DECK, FileWord, INPUTS, NOTES, TIMES};
@@ -27,7 +28,7 @@ fn command_of<'a>(name: &str, found: &ArgMatches<'a>) -> Command<'a>
 {
     match name {
         "bound" => Command::Bound(files_in(found)),
-        "check" => Command::Check(files_in(found)),
+        "check" => Command::Check(files_in(found), file_if_named(found, INPUTS)),
         "report" => Command::Report(files_in(found)),
         "walk" => Command::Walk(files_in(found)),
         "waits" => Command::Waits(files_in(found)),
@@ -41,9 +42,8 @@ fn command_of<'a>(name: &str, found: &ArgMatches<'a>) -> Command<'a>
 
 /// The files that every command works on.
 fn files_in<'a>(found: &ArgMatches<'a>) -> Files<'a>
-    requires { list_all (λ file. is_some (first_of file (rows_of (found_of found.now))))
-        common_files ≡ true }
-    ensures { map (λ file. first_of file (rows_of (found_of found.now))) common_files
+    requires { list_all (is_there (rows_of (found_of found.now))) common_files ≡ true }
+    ensures { map (λ file. first_of file.name (rows_of (found_of found.now))) common_files
         ≡ map Some (common result) }
 {
     Files {
@@ -53,12 +53,20 @@ fn files_in<'a>(found: &ArgMatches<'a>) -> Files<'a>
     }
 }
 
+/// What was found for the file, if anything was.
+fn file_if_named<'a>(found: &ArgMatches<'a>, file: FileWord) -> Option<&'a str>
+    ensures { first_of file.name.now (rows_of (found_of found.now))
+        ≡ option_map (λ text. text.now) result }
+{
+    found.get_str(file.name)
+}
+
 /// What was found for the file.
 fn file_in<'a>(found: &ArgMatches<'a>, file: FileWord) -> &'a str
     requires { is_some (first_of file.name.now (rows_of (found_of found.now))) ≡ true }
     ensures { first_of file.name.now (rows_of (found_of found.now)) ≡ Some result.now }
 {
-    let Some(text) = found.get_str(file.name) else {
+    let Some(text) = file_if_named(found, file) else {
         unreachable!()
     };
     text

@@ -1,19 +1,19 @@
 //! Laws of the definitions, each the contract of a function that does nothing.
 
-ghost use Rattle.std.specs.Prelude.{◌≡◌, ◌∷◌, [], All, Contains, List, Some, codes, map, true};
+ghost use Rattle.std.specs.Prelude.{◌≡◌, ◌∷◌, [], All, Contains, List, Some, codes, true};
 ghost use Rattle.clap.specs.Words.{Text, fault_of, takes};
-ghost use Rattle.drum_command.specs.Line.{NamesFilesOf, drum650, said_by_words, verbs};
+ghost use Rattle.drum_command.specs.Line.{NamesFilesOf, drum650, said_by_words, said_of, verbs};
 
 use clap::error::ErrorKind;
 
-/// Each command's name, with as many words as the command has files, none of which begins with a
-/// hyphen, is a line that is taken. It says that command, with the words as its files in their
-/// order.
+/// Each command's name, with a word for each of its files, or for each that has to be named, is a
+/// line that is taken, if no word begins with a hyphen. It says that command, with the words as its
+/// files in their order.
 pub fn each_line_is_taken()
     ensures taken { All (λ verb. (words : List Text) → NamesFilesOf verb words
         → takes drum650 (verb.name ∷ words) ≡ true) verbs }
     ensures said { All (λ verb. (words : List Text) → NamesFilesOf verb words
-        → said_by_words (verb.name ∷ words) ≡ Some (verb.name, map Some words)) verbs }
+        → said_by_words (verb.name ∷ words) ≡ Some (verb.name, said_of verb.files words)) verbs }
 {}
 
 /// Help is shown of the program and of each command, by `--help` and by `-h`.

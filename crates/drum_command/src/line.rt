@@ -2,7 +2,7 @@
 ghost use Rattle.std.specs.Prelude.{◌≡◌, IfOk, false};
 ghost use Rattle.clap.specs.Words.{app_of, rule_of, shape_of};
 ghost use Rattle.clap.specs.declared.builder.command.Command.TheViews.{out-Command};
-ghost use Rattle.drum_command.specs.Entry.{verb_of};
+ghost use Rattle.drum_command.specs.Entry.{file_of, verb_of};
 ghost use Rattle.drum_command.specs.Line.{drum650, file_rule, verb_shape};
 
 use crate::entries::{Entry, FileWord, entries};
@@ -68,13 +68,13 @@ fn subcommand<'a>(alloc: Global, entry: Entry) -> Result<clap::Command<'a>, Allo
     Ok(command)
 }
 
-/// A file, which has to be named. It is found by where it stands.
+/// A file, which is found by where it stands.
 fn argument<'a>(alloc: Global, file: FileWord) -> Arg<'a>
     ensures local { result.global ≡ false }
-    ensures rule { rule_of result ≡ file_rule file.name.now }
+    ensures rule { rule_of result ≡ file_rule (file_of file) }
 {
     Arg::new(alloc, file.name)
-        .required(true)
+        .required(file.needed)
         .action(ArgAction::Set)
         .help(file.help)
 }

@@ -1,8 +1,9 @@
 //! Reading a command line.
-ghost use Rattle.std.specs.Prelude.{◌≡◌, true, Some, [], All, IfErr, IfOk, List, MatchResult, map};
+ghost use Rattle.std.specs.Prelude.{◌≡◌, true, Some, [], All, IfErr, IfOk, List, MatchResult};
 ghost use Rattle.clap.specs.Walk.{texts};
 ghost use Rattle.clap.specs.Words.{Text, fault_of, takes};
-ghost use Rattle.drum_command.specs.Line.{IsLineOf, drum650, said_by, said_by_words, verbs};
+ghost use Rattle.drum_command.specs.Line.{IsLineOf, drum650, said_by, said_by_words, said_of};
+ghost use Rattle.drum_command.specs.Line.{verbs};
 ghost use Rattle.drum_command.specs.Refusal.{FitsAmong, IsShort};
 
 use crate::command::Command;
@@ -20,7 +21,7 @@ pub fn read_words<'a>(alloc: Global, words: &'a [&'a str]) -> Result<Command<'a>
     // A command's name with its files, none of which begins with a hyphen, is that command with
     // these files, unless there is no memory.
     ensures lines { (files : List Text) → All (λ verb. IsLineOf verb files (texts words.entry.now)
-        → MatchResult result (λ command. said_by command ≡ (verb.name, map Some files))
+        → MatchResult result (λ command. said_by command ≡ (verb.name, said_of verb.files files))
         (λ refused. refused ≡ Refused.Memory)) verbs }
     // Whatever the words, the command is the one that clap finds in them, with the files that it
     // finds.

@@ -4,6 +4,7 @@ use Rattle.std.proofs.lemmas.Simd.{map-map}
 use Rattle.clap.specs.Words.{App, Rule, Text, with_rule}
 use Rattle.clap.specs.Simple.{new_shape}
 use Rattle.drum_command.specs.declared.entries.FileWord.{FileWord}
+use Rattle.drum_command.specs.Entry.{file_of}
 use Rattle.drum_command.specs.Line.{file_rule}
 use Rattle.drum_command.proofs.Own.{map-take_more}
 use Rattle.drum_command.proofs.line.subcommand.Goals as goal
@@ -12,7 +13,7 @@ abbrev with_rules : Text → List Rule → App
 with_rules name rules = record { top = record (new_shape name) { rules = rules }; subs = [] }
 
 abbrev rule_for : FileWord → Rule
-rule_for file = file_rule file.name.now
+rule_for file = file_rule (file_of file)
 
 pub loop-file-preserved : goal.loop-file-preserved
 loop-file-preserved c =
@@ -31,4 +32,4 @@ returns-clause-shape c =
     let all : take c.loop-file.file-index files ≡ files = take_all c.loop-file.file-index files (omega arith) in
     ap (λ (a : App). a.top) c.loop-file.invariant.1
     ∙ ap (λ (rules : List Rule). record (new_shape c.args.entry.name.now) { rules = rules })
-    (ap (map rule_for) all ∙ sym (map-map file_rule (λ (file : FileWord). file.name.now) files))
+    (ap (map rule_for) all ∙ sym (map-map file_rule file_of files))
