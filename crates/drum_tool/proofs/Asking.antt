@@ -150,29 +150,29 @@ pub looked_faulty : (one : Named) (others : List Named) (told : Fault) (before a
     → AsksFor before after (AreLookedAtUpTo (one ∷ others) told)
 looked_faulty one others told before after asks = asks_as before after _ _ (λ asked is. inl is) asks
 
--- another file comes last
-well_then : (files : List Named) (one : Named) (first later : List Asked) → AreLookedAt files first
-    → IsLookedAt one.part one.name None later → AreLookedAt (files ++ one ∷ []) (first ++ later)
-well_then [] one first later are is =
-    (later, [], ap (λ (asked : List Asked). asked ++ later) are ∙ sym (append-nil later), is, refl)
-well_then (file ∷ files) one first later are is = (
+-- other files come behind
+well_then : (files others : List Named) (first later : List Asked) → AreLookedAt files first → AreLookedAt others later
+    → AreLookedAt (files ++ others) (first ++ later)
+well_then [] others first later are is =
+    subst (λ (asked : List Asked). AreLookedAt others (asked ++ later)) (sym are) is
+well_then (file ∷ files) others first later are is = (
   are.0,
   are.1 ++ later,
   ap (λ (asked : List Asked). asked ++ later) are.2 ∙ append_assoc are.0 are.1 later,
   are.3,
-  well_then files one are.1 later are.4 is,
+  well_then files others are.1 later are.4 is,
 )
 
-upto_then : (files : List Named) (one : Named) (told : Fault) (first later : List Asked) → AreLookedAt files first
-    → IsLookedAt one.part one.name (Some told) later → AreLookedAtUpTo (files ++ one ∷ []) told (first ++ later)
-upto_then [] one told first later are is =
-    inl (subst (λ (asked : List Asked). IsLookedAt one.part one.name (Some told) (asked ++ later)) (sym are) is)
-upto_then (file ∷ files) one told first later are is = inr (
+upto_then : (files others : List Named) (told : Fault) (first later : List Asked) → AreLookedAt files first
+    → AreLookedAtUpTo others told later → AreLookedAtUpTo (files ++ others) told (first ++ later)
+upto_then [] others told first later are is =
+    subst (λ (asked : List Asked). AreLookedAtUpTo others told (asked ++ later)) (sym are) is
+upto_then (file ∷ files) others told first later are is = inr (
   are.0,
   are.1 ++ later,
   ap (λ (asked : List Asked). asked ++ later) are.2 ∙ append_assoc are.0 are.1 later,
   are.3,
-  upto_then files one told are.1 later are.4 is,
+  upto_then files others told are.1 later are.4 is,
 )
 
 upto_more : (files others : List Named) (told : Fault) (asked : List Asked) → AreLookedAtUpTo files told asked
@@ -182,20 +182,19 @@ upto_more (file ∷ files) others told asked (inl is) = inl is
 upto_more (file ∷ files) others told asked (inr are) =
     inr (are.0, are.1, are.2, are.3, upto_more files others told are.1 are.4)
 
-module _ (files : List Named) (one : Named) (before between after : Option (List Asked)) where
-  pub all_well : AsksFor before between (AreLookedAt files)
-      → AsksFor between after (IsLookedAt one.part one.name None)
-      → AsksFor before after (AreLookedAt (files ++ one ∷ []))
-  all_well first later = asks_then before between after _ _ _ (well_then files one) first later
+module _ (files others : List Named) (before between after : Option (List Asked)) where
+  pub all_well : AsksFor before between (AreLookedAt files) → AsksFor between after (AreLookedAt others)
+      → AsksFor before after (AreLookedAt (files ++ others))
+  all_well first later = asks_then before between after _ _ _ (well_then files others) first later
 
   pub last_faulty : (told : Fault) → AsksFor before between (AreLookedAt files)
-      → AsksFor between after (IsLookedAt one.part one.name (Some told))
-      → AsksFor before after (AreLookedAtUpTo (files ++ one ∷ []) told)
-  last_faulty told first later = asks_then before between after _ _ _ (upto_then files one told) first later
+      → AsksFor between after (AreLookedAtUpTo others told)
+      → AsksFor before after (AreLookedAtUpTo (files ++ others) told)
+  last_faulty told first later = asks_then before between after _ _ _ (upto_then files others told) first later
 
   pub earlier_faulty : (told : Fault) → AsksFor before after (AreLookedAtUpTo files told)
-      → AsksFor before after (AreLookedAtUpTo (files ++ one ∷ []) told)
-  earlier_faulty told asks = asks_as before after _ _ (upto_more files (one ∷ []) told) asks
+      → AsksFor before after (AreLookedAtUpTo (files ++ others) told)
+  earlier_faulty told asks = asks_as before after _ _ (upto_more files others told) asks
 
 -- where files are told, the first of them are
 pub first_told : (told_of : FilesTold) (held : Held) (files others : List Named)

@@ -12,4 +12,5 @@ pub mod OneVerdict
 pub mod Replies
 pub mod ToldOf
 pub mod Traced
+pub mod Unread
 pub mod Worded

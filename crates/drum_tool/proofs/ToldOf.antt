@@ -91,7 +91,7 @@ of_files told_of held deck times notes (Bound files) failures reply told said an
       )
       | inr line ↦ inr line
     ]
-of_files told_of held deck times notes (Check files) failures reply told said answers =
+of_files told_of held deck times notes (Check files inputs) failures reply told said answers =
     absurd (let bad : 99 ≡ 98 = same_first _ _ said in omega (arith, bad))
 of_files told_of held deck times notes (Report files) failures reply told said answers =
     absurd (let bad : 114 ≡ 98 = same_first _ _ said in omega (arith, bad))

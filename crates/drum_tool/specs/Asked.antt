@@ -1,8 +1,12 @@
 -- What is asked of a source: which files, in which order, and how they are read (this project's
 -- choice).
-use Rattle.std.specs.Prelude.{◌≡◌, ◌≢◌, ℕ, ◌+◌, ◌≤◌, List, [], ◌∷◌, ◌++◌, Option, Some, None, Result, Ok, Err, ◌⊎◌}
+use Rattle.std.specs.Prelude.{◌≡◌, ◌≢◌, ℕ, ◌+◌, ◌≤◌, List, [], ◌∷◌, ◌++◌, Option, Some, None}
+use Rattle.std.specs.Prelude.{Result, Ok, Err, ◌⊎◌, option_map}
+use Rattle.std.specs.Borrow.{Bor}
 use Rattle.drum_command.specs.declared.command.Command.{Command}
-use Rattle.drum_command.specs.declared.command.Command.TheVariants.{Bound, Check, Report, Walk, Waits, Draw, Ceiling, Replay, Trace}
+use Rattle.drum_command.specs.declared.command.Command.TheVariants.{Bound, Check, Report, Walk}
+use Rattle.drum_command.specs.declared.command.Command.TheVariants.{Waits, Draw, Ceiling, Replay}
+use Rattle.drum_command.specs.declared.command.Command.TheVariants.{Trace}
 use Rattle.drum_command.specs.declared.command.Files.{Files}
 use Rattle.drum_core.specs.declared.deck.fault.DeckFault.TheVariants as of_deck
 use Rattle.drum_inputs.specs.declared.fault.InputFault.TheVariants as of_inputs
@@ -115,9 +119,21 @@ named_in files = named files.deck.now files.times.now files.notes.now
 abbrev pub all_named_in : Files → List ℕ → List Named
 all_named_in files inputs = named_in files ++ in_file part.Inputs inputs ∷ []
 
+-- a name, if there is one
+abbrev pub name_in : Option (Bor (List ℕ)) → Option (List ℕ)
+name_in name = option_map (λ name. name.now) name
+
+-- the file of inputs, if one is named
+abbrev pub inputs_named : Option (List ℕ) → List Named
+inputs_named None = []
+inputs_named (Some inputs) = in_file part.Inputs inputs ∷ []
+
+abbrev pub named_with : Files → Option (List ℕ) → List Named
+named_with files inputs = named_in files ++ inputs_named inputs
+
 abbrev pub files_of : Command → List Named
 files_of (Bound files) = named_in files
-files_of (Check files) = named_in files
+files_of (Check files inputs) = named_with files (name_in inputs)
 files_of (Report files) = named_in files
 files_of (Walk files) = named_in files
 files_of (Waits files) = named_in files

@@ -1,11 +1,12 @@
 -- What a check of texts comes to, as it is held.
-use Rattle.std.specs.Prelude.{◌≡◌, ◌≢◌, ◌≤◌, ◌^◌, ℕ, List, [], length}
+use Rattle.std.specs.Prelude.{◌≡◌, ◌≢◌, ◌≤◌, ◌^◌, ℕ, List, [], length, Option, Some, None}
 use Rattle.drum_core.specs.Loads.{loads_in, start_in}
 use Rattle.drum_check.specs.Findings.{AreFindings}
 use Rattle.drum_check.specs.FindingsOf.{found_in}
 use Rattle.drum_check.specs.Lacking.{words_altered}
 use Rattle.drum_check.specs.LackingOf.{words_in}
 use Rattle.drum_command.specs.declared.command.Files.{Files}
+use Rattle.drum_faults.specs.FaultLines.{Named}
 use Rattle.drum_tool.specs.declared.checking.Checked.{Checked}
 use Rattle.drum_tool.specs.declared.checking.Checked.TheVariants.{Faulty, Sound}
 use Rattle.drum_tool.specs.declared.documents.Documents.{Documents}
@@ -21,12 +22,17 @@ texts_in texts = record {
   notes = texts.notes.items;
 }
 
+-- a text of inputs with its file's name, if there is one
+abbrev pub inputs_in : Option (List ℕ) → Option (List ℕ) → Option Named
+inputs_in (Some name) (Some bytes) = Some (record { name = name; bytes = bytes })
+inputs_in _ _ = None
+
 -- The lines of the texts' faults, if they have any; else what is found of the documents that they
 -- say.
-abbrev pub IsChecked : Files → Texts → Checked → Type 0
-IsChecked files texts (Faulty lines) =
-    (lines.items ≢ []) × AreLinesOfFaults files texts lines.items
-IsChecked files texts (Sound findings lacking) =
+abbrev pub IsChecked : Files → Texts → Option Named → Checked → Type 0
+IsChecked files texts inputs (Faulty lines) =
+    (lines.items ≢ []) × AreLinesOfFaults files texts inputs lines.items
+IsChecked files texts inputs (Sound findings lacking) =
     (documents : Documents) × Say texts documents
     × AreFindings (loads_in documents.deck) documents.notes (start_in documents.deck)
     (found_in findings)

@@ -83,11 +83,12 @@ Lead times s waits [] now left = (s ≡ now) × (waits ≡ left)
 Lead times s waits (stride ∷ strides) now left =
     IsStride times s stride × (stride.wait ≡ wait_with times (op_in stride.origin) waits)
     × Goes stride.outcome
-    (λ next. Lead times next (waits_with (op_in stride.origin) stride.origin waits) strides now left)
+    (λ next. Lead times next (waits_with (op_in stride.origin) stride.origin waits) strides
+    now left)
 
 -- These strides were followed from a state with waits, and the notes were kept to.
-pub record IsFollowing (g : Setting) (s : State) (waits : List ℕ) (bound : ℕ) (strides : List Stride)
-    (following : Following) : Type 0 where
+pub record IsFollowing (g : Setting) (s : State) (waits : List ℕ) (bound : ℕ)
+    (strides : List Stride) (following : Following) : Type 0 where
   pub lead : Lead g.times s waits strides (state_of following) (waits_of following)
   pub seen : HasSeen g.loads g.notes following.monitor strides
   pub silent : answer_of following.monitor ≡ None

@@ -1,6 +1,7 @@
 -- The joined form (this project's choice): a deck, a timing table and notes in one text, told apart
 -- by lines.
-use Rattle.std.specs.Prelude.{◌≡◌, ℕ, ◌<◌, ◌≤◌, List, [], ◌++◌, codes, length, Contains, ◌⊎◌, Result, IsErrOf}
+use Rattle.std.specs.Prelude.{◌≡◌, ℕ, ◌<◌, ◌≤◌, List, [], ◌++◌, codes, length, Contains, ◌⊎◌}
+use Rattle.std.specs.Prelude.{Result, IsErrOf}
 use Rattle.drum_core.specs.Lines.{lines_of}
 use Rattle.drum_tool.specs.declared.documents.Documents.{Documents}
 use Rattle.drum_lines.specs.declared.fault.Fault.{Fault}

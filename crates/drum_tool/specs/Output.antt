@@ -40,9 +40,9 @@ abbrev pub ended_with : {A E : Type 0} → Result A E → Status → Status
 ended_with (Ok done) status = status
 ended_with (Err fault) status = Failed
 
--- A result goes to standard output, and a complaint or a list of faults to standard error, where a
--- write that fails changes nothing. Of a text that is given up standard output gets a prefix. The other device gets
--- nothing.
+-- A result goes to standard output. A complaint or a list of faults goes to standard error, and the
+-- status is the same if it can't be written there. Of a text that is given up standard output gets
+-- a prefix. The other device gets nothing.
 abbrev pub Tells : Reply → Device → Device → Device → Device → Status → Type 0
 Tells (says text done) out out' err err' status =
     GetsResult out out' text done status × (err' ≡ err)

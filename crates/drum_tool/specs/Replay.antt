@@ -52,7 +52,8 @@ pub record IsReplayed (g : Setting) (given : Given) (strides : List Stride) : Ty
   pub fed : AreFed g.times given.waits strides
 
 -- The run keeps to the notes in these strides, and takes this one after them.
-pub record IsUnderWay (g : Setting) (given : Given) (strides : List Stride) (last : Stride) : Type 0 where
+pub record IsUnderWay (g : Setting) (given : Given) (strides : List Stride)
+    (last : Stride) : Type 0 where
   pub declared : IsAsDeclared g.notes.programmed given.setup.programmed
   pub replayed : IsReplayed g given (strides ++ last ∷ [])
   pub kept : AreKept g.loads g.notes (no_counts g.notes.marks) strides

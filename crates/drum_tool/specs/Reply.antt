@@ -1,5 +1,6 @@
 -- What the program has to say, and when it says it (this project's choice).
-use Rattle.std.specs.Prelude.{◌≡◌, ◌≢◌, ℕ, ◌+◌, if◌then◌else◌, List, [], ◌∷◌, ◌++◌, Option, Some, None, ◌⊎◌}
+use Rattle.std.specs.Prelude.{◌≡◌, ◌≢◌, ℕ, ◌+◌, if◌then◌else◌, List, [], ◌++◌, Option, Some}
+use Rattle.std.specs.Prelude.{None, ◌⊎◌}
 use Rattle.std.specs.List.{list_all}
 use Rattle.drum_core.specs.Loads.{loads_in, start_in}
 use Rattle.drum_times.specs.Entries.{entry_in}
@@ -14,7 +15,9 @@ use Rattle.drum_check.specs.Findings.{AreFindings, Finding, may_be_meant}
 use Rattle.drum_check.specs.Lacking.{check_text}
 use Rattle.drum_command.specs.declared.command.Command.{Command}
 use Rattle.drum_command.specs.declared.command.Files.{Files}
-use Rattle.drum_command.specs.declared.command.Command.TheVariants.{Bound, Check, Report, Walk, Waits, Draw, Ceiling, Replay, Trace}
+use Rattle.drum_command.specs.declared.command.Command.TheVariants.{Bound, Check, Report, Walk}
+use Rattle.drum_command.specs.declared.command.Command.TheVariants.{Waits, Draw, Ceiling, Replay}
+use Rattle.drum_command.specs.declared.command.Command.TheVariants.{Trace}
 use Rattle.drum_faults.specs.FaultLines as printed
 use Rattle.drum_inputs.specs.declared.inputs.Inputs.{Inputs}
 use Rattle.drum_tool.specs.declared.documents.Documents.{Documents}
@@ -38,13 +41,16 @@ use Rattle.drum_listing.specs.WaitsText.{waits_text}
 use Rattle.drum_listing.specs.WalkText.{walk_text}
 use Rattle.drum_tool.specs.Asked.{Asked, Looks, Named}
 use Rattle.drum_flow.specs.Bounded.{IsDeckAccepted}
-use Rattle.drum_tool.specs.Documents.{IsAnalysisFault, IsBound, IsCeiling, IsCeilingFault, IsLimit, IsWorstWalk, Say, Texts}
+use Rattle.drum_tool.specs.Documents.{IsAnalysisFault, IsBound, IsCeiling, IsCeilingFault, IsLimit}
+use Rattle.drum_tool.specs.Documents.{IsWorstWalk, Say, Texts}
 use Rattle.drum_tool.specs.Documents.{setting_of}
 use Rattle.drum_tool.specs.Files.{AreHeld, AreInputsHeld, AreNoInputsHeld, AreNotHeld, Held}
 use Rattle.drum_tool.specs.Given.{given}
 use Rattle.drum_tool.specs.Joined.{Gives, GivesNone}
-use Rattle.drum_tool.specs.TextsHeld.{AreNoTextsHeld, AreTextsHeld}
-use Rattle.drum_tool.specs.Replay.{Given, HasOwnWords, IsReplay, IsReplayFault, IsTraced, IsTracedInPart, IsTraceFault}
+use Rattle.drum_tool.specs.Asked.{name_in}
+use Rattle.drum_tool.specs.TextsHeld.{AreNoneHeld, AreTextsHeld, IsInputsText}
+use Rattle.drum_tool.specs.Replay.{Given, HasOwnWords, IsReplay, IsReplayFault, IsTraced}
+use Rattle.drum_tool.specs.Replay.{IsTracedInPart, IsTraceFault}
 
 -- A text, for standard output or for standard error, and how the program ends; the lines of all
 -- faults of texts, for standard error; or a text that is given up, since a write of it fails.
@@ -179,17 +185,19 @@ SaysFindings documents reply =
 abbrev pub in_file_of : List ℕ → List ℕ → printed.Named
 in_file_of name bytes = record { name = name; bytes = bytes }
 
--- these are the lines of all faults of three texts, in the files of these names
-abbrev pub AreLinesOfFaults : Files → Texts → List ℕ → Type 0
-AreLinesOfFaults files texts lines =
+-- these are the lines of all faults of three texts, in the files of these names, and of inputs,
+-- where there are any
+abbrev pub AreLinesOfFaults : Files → Texts → Option printed.Named → List ℕ → Type 0
+AreLinesOfFaults files texts inputs lines =
     printed.AreFaultLines (in_file_of files.deck.now texts.deck)
-    (in_file_of files.times.now texts.times) (in_file_of files.notes.now texts.notes) lines
+    (in_file_of files.times.now texts.times) (in_file_of files.notes.now texts.notes) inputs lines
 
 -- All faults of texts, if they have any; else all that keeps the deck that they say from having a
 -- bound.
-abbrev pub SaysCheck : Files → Texts → Reply → Type 0
-SaysCheck files texts reply =
-    ((lines : List ℕ) × (lines ≢ []) × AreLinesOfFaults files texts lines × (reply ≡ lists lines))
+abbrev pub SaysCheck : Files → Texts → Option printed.Named → Reply → Type 0
+SaysCheck files texts inputs reply =
+    ((lines : List ℕ) × (lines ≢ []) × AreLinesOfFaults files texts inputs lines
+    × (reply ≡ lists lines))
     ⊎ ((documents : Documents) × Say texts documents × SaysFindings documents reply)
 
 -- memory is wanting (which is tested, not said)
@@ -206,8 +214,8 @@ SaysVerdict documents given reply =
     (verdict : Verdict) × IsReplay (setting_of documents) given verdict
     × (reply ≡ verdict_reply verdict)
 
--- the strides of a run that is limited so, and its verdict; or its first strides alone, where a write
--- fails
+-- the strides of a run that is limited so, and its verdict; or its first strides alone, where a
+-- write fails
 abbrev pub SaysStrides : Setting → limits.Limit → ℕ → Given → Reply → Type 0
 SaysStrides g by most given reply =
     ((strides : List Stride) × (verdict : Verdict) × IsTraced g given most strides verdict
@@ -289,16 +297,19 @@ AnswersCeilingOfFiles held =
     AnswersBy IsCeilingFault SaysCeiling (AreHeld held) (AreNotHeld held)
 
 -- why texts in files aren't checked: they can't be had, or memory is wanting
-abbrev pub IsCheckFaultOfFiles : Held → Fault → Type 0
-IsCheckFaultOfFiles held fault =
-    AreNoTextsHeld held fault
-    ⊎ (((texts : Texts) × AreTextsHeld held texts) × IsWanting fault)
+abbrev pub IsCheckFaultOfFiles : Option (List ℕ) → Held → Fault → Type 0
+IsCheckFaultOfFiles name held fault =
+    AreNoneHeld held name fault
+    ⊎ (((texts : Texts) × AreTextsHeld held texts
+    × ((inputs : Option printed.Named) × IsInputsText held name inputs)) × IsWanting fault)
 
 -- the reply to a check of texts in files, where so many reads failed
-abbrev pub AnswersCheckOfFiles : Files → Held → ℕ → Reply → Type 0
-AnswersCheckOfFiles files held failures reply =
-    ((texts : Texts) × AreTextsHeld held texts × (failures ≡ 0) × SaysCheck files texts reply)
-    ⊎ ((fault : Fault) × IsCheckFaultOfFiles held fault
+abbrev pub AnswersCheckOfFiles : Files → Option (List ℕ) → Held → ℕ → Reply → Type 0
+AnswersCheckOfFiles files name held failures reply =
+    ((texts : Texts) × AreTextsHeld held texts
+    × ((inputs : Option printed.Named) × IsInputsText held name inputs
+    × (failures ≡ 0) × SaysCheck files texts inputs reply))
+    ⊎ ((fault : Fault) × IsCheckFaultOfFiles name held fault
     × (failures ≡ reads_failed fault) × (reply ≡ fault_reply fault))
 
 abbrev pub AnswersRunOfFiles : (Documents → Given → Fault → Type 0)
@@ -325,7 +336,8 @@ IsRunFaultOfFiles Refuses held =
 -- the reply to a command, where the files of its parts hold this and so many reads failed
 abbrev pub AnswersCommand : Held → Command → ℕ → Reply → Type 0
 AnswersCommand held (Bound files) = AnswersOnFiles SaysBound held
-AnswersCommand held (Check files) = AnswersCheckOfFiles files held
+AnswersCommand held (Check files inputs) =
+    AnswersCheckOfFiles files (name_in inputs) held
 AnswersCommand held (Report files) = AnswersOnFiles SaysReport held
 AnswersCommand held (Walk files) = AnswersOnFiles SaysWalk held
 AnswersCommand held (Waits files) = AnswersOnFiles SaysWaits held

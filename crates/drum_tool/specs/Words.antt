@@ -10,7 +10,8 @@ use Rattle.drum_lines.specs.declared.fault.Fault.TheVariants as fault
 use Rattle.drum_lines.specs.declared.status.Status.TheVariants as status
 use Rattle.drum_tool.specs.Asked.{Asked, AsksFor, files_of}
 use Rattle.drum_tool.specs.Files.{AreTold, FilesTold, Held}
-use Rattle.drum_tool.specs.Reply.{Reply, says, complains, fault_reply, AnswersCommand, AnswersJoined, LooksAsTold}
+use Rattle.drum_tool.specs.Reply.{Reply, says, complains, fault_reply, AnswersCommand}
+use Rattle.drum_tool.specs.Reply.{AnswersJoined, LooksAsTold}
 
 -- the reply to words that name no command: help, or what is wrong with them
 abbrev pub refused_reply : Refused → Reply

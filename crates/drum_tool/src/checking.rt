@@ -1,7 +1,9 @@
 //! A check of texts: all of their faults, or all that keeps the deck that they say from a bound.
 
-ghost use Rattle.std.specs.Prelude.{IfOk, IfErr, ◌≤◌, ◌^◌, length};
-ghost use Rattle.drum_tool.specs.Checked.{AreLacking, IsChecked, IsShort, texts_in};
+ghost use Rattle.std.specs.Prelude.{◌≡◌, IfOk, IfErr, ◌≤◌, ◌^◌, length, option_map};
+ghost use Rattle.drum_faults.specs.NamedTexts.{named};
+ghost use Rattle.drum_tool.specs.Checked.{AreLacking, IsChecked, IsShort, inputs_in, texts_in};
+ghost use Rattle.drum_tool.specs.Asked.{name_in};
 ghost use Rattle.drum_tool.specs.Reply.{AreLinesOfFaults, IsWanting};
 
 use crate::documents::Documents;
@@ -22,9 +24,14 @@ pub enum Checked {
 }
 
 /// The lines of all faults of texts, in the files of these names.
-fn lines_of(alloc: Global, files: Files<'_>, texts: &Texts) -> Result<Vec<u8>, Fault>
-    ensures lines { IfOk result (λ lines.
-        AreLinesOfFaults files.entry (texts_in texts.now) lines.items) }
+fn lines_of(
+    alloc: Global,
+    files: Files<'_>,
+    texts: &Texts,
+    inputs: Option<NamedText<'_>>,
+) -> Result<Vec<u8>, Fault>
+    ensures lines { IfOk result (λ lines. AreLinesOfFaults files.entry (texts_in texts.now)
+        (option_map named inputs.entry) lines.items) }
     ensures short { IfOk result (λ lines. length lines.items ≤ 2 ^ 61) }
     ensures wanting { IfErr result IsWanting }
 {
@@ -40,25 +47,43 @@ fn lines_of(alloc: Global, files: Files<'_>, texts: &Texts) -> Result<Vec<u8>, F
         name: files.notes,
         bytes: &texts.notes,
     };
-    match fault_lines(alloc, deck, times, notes) {
+    match fault_lines(alloc, deck, times, notes, inputs) {
         Ok(lines) => Ok(lines),
         Err(_) => Err(Fault::Memory),
     }
 }
 
-/// All that is wrong with texts, in the files of these names: each of their faults; or, where they
-/// have none, all that keeps the deck from having a bound under its notes.
+/// A text of inputs with the name of its file, if there is one.
+pub fn named_inputs<'a>(name: Option<&'a str>, text: &'a Option<Vec<u8>>) -> Option<NamedText<'a>>
+    ensures { option_map named result ≡ inputs_in (name_in name.entry)
+        (option_map (λ bytes. bytes.items) text.now) }
+{
+    match (name, text) {
+        (Some(name), Some(bytes)) => Some(NamedText { name, bytes }),
+        _ => None,
+    }
+}
+
+/// All that is wrong with texts, in the files of these names, and with inputs, where there are any:
+/// each of their faults; or, where they have none, all that keeps the deck from having a bound
+/// under its notes.
 ///
 /// # Errors
 ///
 /// Where memory is wanting.
-pub fn check(alloc: Global, files: Files<'_>, texts: &Texts) -> Result<Checked, Fault>
-    ensures checked { IfOk result (IsChecked files.entry (texts_in texts.now)) }
+pub fn check(
+    alloc: Global,
+    files: Files<'_>,
+    texts: &Texts,
+    inputs: Option<NamedText<'_>>,
+) -> Result<Checked, Fault>
+    ensures checked { IfOk result
+        (IsChecked files.entry (texts_in texts.now) (option_map named inputs.entry)) }
     ensures lacking { IfOk result AreLacking }
     ensures short { IfOk result IsShort }
     ensures wanting { IfErr result IsWanting }
 {
-    let lines = lines_of(alloc, files, texts)?;
+    let lines = lines_of(alloc, files, texts, inputs)?;
     if !lines.is_empty() {
         return Ok(Checked::Faulty(lines));
     }

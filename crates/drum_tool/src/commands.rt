@@ -1,19 +1,22 @@
 //! What each command does, with files.
 
-ghost use Rattle.std.specs.Prelude.{◌≡◌, ◌+◌, ◌^◌, ◌≤◌, ℕ, List, Option, IfOk, IfErr, length, string_bytes};
+ghost use Rattle.std.specs.Prelude.{◌≡◌, ◌+◌, ◌^◌, ◌≤◌, ℕ, Option, IfOk, IfErr, length};
+ghost use Rattle.std.specs.Prelude.{option_map, string_bytes};
 ghost use Rattle.drum_bound.specs.AnalysisOf.{angle_of, bound_of, visits_of};
 ghost use Rattle.drum_times.specs.Entries.{entry_in};
 ghost use Rattle.drum_lines.specs.FaultStatus.{failed_by};
 ghost use Rattle.drum_listing.specs.WaitsOf.{AreWaits};
 ghost use Rattle.drum_tool.specs.Begun.{IsTraceBegun};
-ghost use Rattle.drum_tool.specs.Checked.{AreLacking, IsChecked, IsShort};
+ghost use Rattle.drum_faults.specs.FaultLines.{Named};
+ghost use Rattle.drum_tool.specs.Checked.{AreLacking, IsChecked, IsShort, inputs_in, texts_in};
 ghost use Rattle.drum_tool.specs.Documents as said;
 ghost use Rattle.drum_tool.specs.Documents.{IsBound, IsCeiling, IsWorstWalk};
-ghost use Rattle.drum_tool.specs.Asked.{AsksFor, Looks, LooksFor, all_named_in, fault_in, files_of, named_in};
+ghost use Rattle.drum_tool.specs.Asked.{AsksFor, Looks, LooksFor, all_named_in, fault_in, files_of};
+ghost use Rattle.drum_tool.specs.Asked.{name_in, named_in, named_with};
 ghost use Rattle.drum_tool.specs.Files.{AreHeld, AreInputsHeld, AreTold, Held};
 ghost use Rattle.drum_tool.specs.Output.{Tells, device};
 ghost use Rattle.drum_tool.specs.Replay.{Given, IsTraceFault};
-ghost use Rattle.drum_tool.specs.TextsHeld.{AreTextsHeld};
+ghost use Rattle.drum_tool.specs.TextsHeld.{AreNoneHeld, AreTextsHeld, IsInputsText};
 ghost use Rattle.drum_tool.specs.Reply.{
   AnswersCommand,
   AnswersOnFiles,
@@ -35,7 +38,7 @@ ghost use Rattle.drum_tool.specs.Reply.{
   verdict_reply,
 };
 
-use crate::checking::{Checked, check};
+use crate::checking::{Checked, check, named_inputs};
 use crate::documents::Documents;
 use crate::files::inputs_of;
 use crate::replaying::{Begun, replay};
@@ -44,7 +47,7 @@ use crate::telling::{
     complain, tell_bound, tell_ceiling, tell_faults, tell_findings, tell_report, tell_text,
     tell_trace, tell_verdict, tell_waits, tell_walk,
 };
-use crate::texts::Texts;
+use crate::texts::{Texts, inputs_text};
 use crate::tracing::begin_trace;
 use drum_bound::{Analysis, Refusal};
 use drum_ceiling::Ceiling;
@@ -165,23 +168,57 @@ fn ceiling<S: Source>(
     Ok((documents, ceiling))
 }
 
+/// The texts in files, and that of inputs where a file of inputs is named.
+fn texts_with_inputs<S: Source>(
+    alloc: Global,
+    source: &mut S,
+    files: Files<'_>,
+    name: Option<&str>,
+) -> Result<(Texts, Option<Vec<u8>>), Fault>
+    requires { S.failed source.old ≤ 2 ^ 61 }
+    ensures texts { IfOk result (λ done. (held : Held)
+        → AreTold (S.files source.old) held (named_with files.entry (name_in name.entry))
+        → AreTextsHeld held (texts_in done.0)) }
+    ensures inputs { IfOk result (λ done. (held : Held)
+        → AreTold (S.files source.old) held (named_with files.entry (name_in name.entry))
+        → IsInputsText held (name_in name.entry)
+        (inputs_in (name_in name.entry) (option_map (λ bytes. bytes.items) done.1))) }
+    ensures fault { IfErr result (λ fault. (held : Held)
+        → AreTold (S.files source.old) held (named_with files.entry (name_in name.entry))
+        → AreNoneHeld held (name_in name.entry) fault) }
+    ensures counted { S.failed source.new ≡ S.failed source.old + failed_by result }
+    ensures asked { AsksFor (S.asked source.old) (S.asked source.new)
+        (LooksFor (named_with files.entry (name_in name.entry)) result) }
+{
+    let texts = Texts::of_files(alloc, source, files)?;
+    let inputs = inputs_text(alloc, source, name)?;
+    Ok((texts, inputs))
+}
+
 /// What a check of texts in files comes to.
-fn checked<S: Source>(alloc: Global, source: &mut S, files: Files<'_>) -> Result<Checked, Fault>
+fn checked<S: Source>(
+    alloc: Global,
+    source: &mut S,
+    files: Files<'_>,
+    name: Option<&str>,
+) -> Result<Checked, Fault>
     requires { S.failed source.old ≤ 2 ^ 61 }
     ensures checked { IfOk result (λ checked. (held : Held)
-        → AreTold (S.files source.old) held (named_in files.entry)
-        → (texts : said.Texts) × AreTextsHeld held texts × IsChecked files.entry texts checked) }
+        → AreTold (S.files source.old) held (named_with files.entry (name_in name.entry))
+        → (texts : said.Texts) × AreTextsHeld held texts
+        × ((inputs : Option Named) × IsInputsText held (name_in name.entry) inputs
+        × IsChecked files.entry texts inputs checked)) }
     ensures lacking { IfOk result AreLacking }
     ensures short { IfOk result IsShort }
     ensures fault { IfErr result (λ fault. (held : Held)
-        → AreTold (S.files source.old) held (named_in files.entry)
-        → IsCheckFaultOfFiles held fault) }
+        → AreTold (S.files source.old) held (named_with files.entry (name_in name.entry))
+        → IsCheckFaultOfFiles (name_in name.entry) held fault) }
     ensures counted { S.failed source.new ≡ S.failed source.old + failed_by result }
     ensures asked { AsksFor (S.asked source.old) (S.asked source.new)
-        (Looks (named_in files.entry) (fault_in result)) }
+        (Looks (named_with files.entry (name_in name.entry)) (fault_in result)) }
 {
-    let texts = Texts::of_files(alloc, source, files)?;
-    check(alloc, files, &texts)
+    let (texts, inputs) = texts_with_inputs(alloc, source, files, name)?;
+    check(alloc, files, &texts, named_inputs(name, &inputs))
 }
 
 /// A picture of the worst walk of an analysis.
@@ -323,7 +360,7 @@ pub fn obey<S: Source, O: Output, E: Output>(
             Ok((_, bound)) => tell_bound(out, bound),
             Err(fault) => complain(err, fault),
         },
-        Command::Check(files) => match checked(alloc, source, files) {
+        Command::Check(files, inputs) => match checked(alloc, source, files, inputs) {
             Ok(Checked::Faulty(lines)) => tell_faults(err, &lines),
             Ok(Checked::Sound(findings, lacking)) => tell_findings(out, &findings, &lacking),
             Err(fault) => complain(err, fault),

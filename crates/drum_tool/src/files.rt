@@ -1,9 +1,13 @@
 //! Files read, each to its limit, and checked one after the other.
 
-ghost use Rattle.std.specs.Prelude.{◌≡◌, ◌+◌, ◌^◌, ◌≤◌, ◌↔◌, ℕ, List, Option, Some, IfOk, IfErr, IfSome, IsErrOf};
+ghost use Rattle.std.specs.Prelude.{◌≡◌, ◌+◌, ◌^◌, ◌≤◌, ◌↔◌, ℕ, List, Option, Some, IfOk, IfErr};
+ghost use Rattle.std.specs.Prelude.{IfSome, IsErrOf};
 ghost use Rattle.drum_lines.specs.FaultStatus.{failed_by};
-ghost use Rattle.drum_tool.specs.Asked.{AsksFor, IsLookedAt, IsOfText, IsRead, LooksFor, fault_in, most_of, named_in, reading};
-ghost use Rattle.drum_tool.specs.Files.{AreHeld, AreNotHeld, AreTold, Held, Holds, HoldsDeck, HoldsInputs, HoldsNoDeck, HoldsNoInputs, HoldsNone, HoldsNoNotes, HoldsNotes, HoldsNoTimes, HoldsTimes, behind};
+ghost use Rattle.drum_tool.specs.Asked.{AsksFor, IsLookedAt, IsOfText, IsRead, LooksFor, fault_in};
+ghost use Rattle.drum_tool.specs.Asked.{most_of, named_in, reading};
+ghost use Rattle.drum_tool.specs.Files.{AreHeld, AreNotHeld, AreTold, Held, Holds, HoldsDeck};
+ghost use Rattle.drum_tool.specs.Files.{HoldsInputs, HoldsNoDeck, HoldsNoInputs, HoldsNone};
+ghost use Rattle.drum_tool.specs.Files.{HoldsNoNotes, HoldsNotes, HoldsNoTimes, HoldsTimes, behind};
 
 use crate::documents::Documents;
 use crate::source::Source;

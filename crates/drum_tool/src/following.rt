@@ -1,6 +1,7 @@
 //! A replayed run, followed step by step until it stops or leaves the notes.
 
-ghost use Rattle.std.specs.Prelude.{◌≡◌, ℕ, ◌+◌, ◌^◌, ◌<◌, ◌≤◌, List, MatchOption, None, [], ◌∷◌, ◌++◌};
+ghost use Rattle.std.specs.Prelude.{◌≡◌, ℕ, ◌+◌, ◌^◌, ◌<◌, ◌≤◌, List, MatchOption, None, [], ◌∷◌};
+ghost use Rattle.std.specs.Prelude.{◌++◌};
 ghost use Rattle.drum_times.specs.Entries.{entry_in};
 ghost use Rattle.drum_machine.specs.Feed.{cards_left};
 ghost use Rattle.drum_machine.specs.Machine.{GoesOn, held_by};

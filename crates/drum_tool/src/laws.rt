@@ -1,6 +1,7 @@
 //! Laws of the definitions, each the contract of a function that does nothing.
 
-ghost use Rattle.std.specs.Prelude.{◌≡◌, ◌≢◌, ◌≤◌, ◌⊎◌, ℕ, List, [], ◌∷◌, Option, Some, codes, length, take};
+ghost use Rattle.std.specs.Prelude.{◌≡◌, ◌≢◌, ◌≤◌, ◌⊎◌, ℕ, List, [], ◌∷◌, Option, Some, codes};
+ghost use Rattle.std.specs.Prelude.{length, take};
 ghost use Rattle.clap.specs.Words.{Text, fault_of};
 ghost use Rattle.drum_command.specs.Line.{drum650};
 ghost use Rattle.drum_command.specs.declared.refused.Refused.{Refused};

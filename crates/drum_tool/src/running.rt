@@ -1,11 +1,13 @@
 //! The program, over its words and devices.
 
-ghost use Rattle.std.specs.Prelude.{◌≡◌, ◌+◌, ◌^◌, ◌<◌, ◌≤◌, ◌⊎◌, ℕ, List, Option, Some, IfOk, IfErr, IfSome, IsErrOf, length};
+ghost use Rattle.std.specs.Prelude.{◌≡◌, ◌+◌, ◌^◌, ◌<◌, ◌≤◌, ◌⊎◌, ℕ, List, Some, IfOk};
+ghost use Rattle.std.specs.Prelude.{IfErr, IfSome, IsErrOf, length};
 ghost use Rattle.clap.specs.Walk.{texts};
 ghost use Rattle.drum_lines.specs.FaultStatus.{failed_by, reads_failed};
 ghost use Rattle.drum_tool.specs.Joined.{IsPastLimit};
 ghost use Rattle.drum_tool.specs.Output.{Tells, device};
-ghost use Rattle.drum_tool.specs.Reply.{AnswersJoined, ReadsAll, Reply, TellsOfReads, bound_reply, fault_reply};
+ghost use Rattle.drum_tool.specs.Reply.{AnswersJoined, ReadsAll, Reply, TellsOfReads, bound_reply};
+ghost use Rattle.drum_tool.specs.Reply.{fault_reply};
 ghost use Rattle.drum_command.specs.Refusal.{IsShort};
 ghost use Rattle.drum_tool.specs.Words.{Answers, Asks, refused_reply};
 

@@ -1,4 +1,5 @@
-ghost use Rattle.std.specs.Prelude.{◌≡◌, ◌+◌, ◌^◌, ◌≤◌, ℕ, List, [], ◌∷◌, Option, IfSome, option_map};
+ghost use Rattle.std.specs.Prelude.{◌≡◌, ◌+◌, ◌^◌, ◌≤◌, ℕ, List, [], ◌∷◌, Option, IfSome};
+ghost use Rattle.std.specs.Prelude.{option_map};
 ghost use Rattle.drum_tool.specs.Asked.{Asked, AsksFor, reading, returned, sought};
 ghost use Rattle.drum_tool.specs.Files.{FilesTold, IsFetched, behind};
 

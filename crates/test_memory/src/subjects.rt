@@ -9,7 +9,8 @@ use test_texts::{
     BACK, BOTH_ROADS, BRANCH_BACK, LOOPS, NESTED, NOTES, ROADS, TIMES, TWO_ROADS, TWO_WORDS,
 };
 
-/// A deck with what its notes say, and the texts about it, by the timing table that the tests share.
+/// A deck with what its notes say, and the texts about it, by the timing table that the tests
+/// share.
 #[derive(Debug)]
 pub(crate) struct Subject {
     pub(crate) deck: &'static str,
@@ -21,8 +22,8 @@ pub(crate) struct Subject {
 }
 
 /// The subjects. Their answers are worked out by hand. Of a walk, moment `m` is the drum's angle
-/// `m + 1`, since it begins at angle 1; a location comes at its number, 69 and 24 are ready 3 later,
-/// seek their data and take 3, 45 takes 2 + 1, 00 and 01 take 1.
+/// `m + 1`, since it begins at angle 1; a location comes at its number, 69 and 24 are ready 3
+/// later, seek their data and take 3, 45 takes 2 + 1, 00 and 01 take 1.
 pub(crate) const SUBJECTS: [Subject; 4] = [
     Subject {
         deck: TWO_WORDS,

@@ -3,7 +3,8 @@ use Rattle.std.proofs.lemmas.Result.{err_from_is_err_and}
 use Rattle.drum_lines.specs.declared.part.Part.TheVariants as part
 use Rattle.drum_tool.specs.Asked.{in_file, named_in}
 use Rattle.drum_tool.specs.Files.{FilesTold}
-use Rattle.drum_tool.proofs.Asking.{all_well, earlier_faulty, first_told, last_faulty}
+use Rattle.drum_tool.proofs.Asking.{all_well, earlier_faulty, first_told, last_faulty, looked_faulty}
+use Rattle.drum_tool.proofs.Asking.{looked_last}
 use Rattle.drum_tool.proofs.commands.documents_with_inputs.Goals as goal
 
 pub returns-in_err-documents-clause-fault : goal.returns-in_err-documents-clause-fault
@@ -38,7 +39,7 @@ returns-in_err-documents-clause-asked g c =
     let inputs = in_file part.Inputs c.args.inputs.now in
     let s = g.S.Source.asked c.args.source.now in
     let s1 = g.S.Source.asked c.of_files.new.source in
-    rw (p.1, p.2) (earlier_faulty files inputs s s s1 c.in_err-documents.field-0.0 c.in_err-documents.ensures.asked)
+    rw (p.1, p.2) (earlier_faulty files (inputs ∷ []) s s s1 c.in_err-documents.field-0.0 c.in_err-documents.ensures.asked)
 
 pub returns-in_err-inputs-clause-asked : goal.returns-in_err-inputs-clause-asked
 returns-in_err-inputs-clause-asked g c =
@@ -48,8 +49,9 @@ returns-in_err-inputs-clause-asked g c =
     let s = g.S.Source.asked c.args.source.now in
     let s1 = g.S.Source.asked c.of_files.new.source in
     let s2 = g.S.Source.asked c.inputs_of.new.source in
-    rw (p.1, p.2) (last_faulty files inputs s s1 s2 c.in_err-inputs.field-0.0
-    c.in_ok-documents.ensures.asked c.in_err-inputs.ensures.asked)
+    let told = c.in_err-inputs.field-0.0 in
+    rw (p.1, p.2) (last_faulty files (inputs ∷ []) s s1 s2 told c.in_ok-documents.ensures.asked
+    (looked_faulty inputs [] told s1 s2 c.in_err-inputs.ensures.asked))
 
 pub returns-clause-asked : goal.returns-clause-asked
 returns-clause-asked g c =
@@ -58,4 +60,5 @@ returns-clause-asked g c =
     let s = g.S.Source.asked c.args.source.now in
     let s1 = g.S.Source.asked c.of_files.new.source in
     let s2 = g.S.Source.asked c.inputs_of.new.source in
-    all_well files inputs s s1 s2 c.in_ok-documents.ensures.asked c.in_ok-inputs.ensures.asked
+    all_well files (inputs ∷ []) s s1 s2 c.in_ok-documents.ensures.asked
+    (looked_last inputs s1 s2 c.in_ok-inputs.ensures.asked)

@@ -1,4 +1,4 @@
-use Rattle.std.proofs.Common.{ℕ, List, inl, inr, refl, sym, subst}
+use Rattle.std.proofs.Common.{ℕ, List, inl, inr, refl, subst}
 use Rattle.std.specs.Prelude.{string_bytes}
 use Rattle.drum_bound.specs.AnalysisOf.{angle_of, bound_of, visits_of}
 use Rattle.drum_check.specs.FindingsOf.{found_in}
@@ -11,7 +11,7 @@ use Rattle.drum_tool.specs.Checked.{IsChecked}
 use Rattle.drum_tool.specs.Output.{GetsComplaint, GetsResult, device}
 use Rattle.drum_tool.specs.Reply.{bound_reply, ceiling_reply, fault_reply, findings_reply, picture_reply, report_reply}
 use Rattle.drum_tool.specs.Reply.{lists, verdict_reply, waits_reply, walk_reply}
-use Rattle.drum_tool.specs.Asked.{all_named_in, named_in}
+use Rattle.drum_tool.specs.Asked.{all_named_in, name_in, named_in, named_with}
 use Rattle.drum_tool.proofs.Asking.{no_line, no_line_of_lists, no_line_of_trace, told_fault, told_well}
 use Rattle.drum_tool.proofs.Replies.{Replied, counted, fault_of_reads, lists_of_no_read, result_of_no_read, trace_of_no_read}
 use Rattle.drum_tool.proofs.commands.obey.Goals as goal
@@ -57,11 +57,11 @@ returns-in-Ok-Faulty-clause-told g c =
             lists_of_no_read _,
             rw c.in-Check.is (λ held told.
                 let is = c.in-Ok-Faulty.ensures.checked held told in
-                let faulty : IsChecked c.in-Check.files is.0 (Faulty c.in-Ok-Faulty.lines) =
-                subst (λ (one : Checked). IsChecked c.in-Check.files is.0 one) c.in-Ok-Faulty.field-0-is is.2 in
-                inl (is.0, is.1, refl, inl (lines, faulty.0, faulty.1, refl))),
+                let faulty : IsChecked c.in-Check.files is.0 is.2.0 (Faulty c.in-Ok-Faulty.lines) =
+                subst (λ (one : Checked). IsChecked c.in-Check.files is.0 is.2.0 one) c.in-Ok-Faulty.field-0-is is.2.2 in
+                inl (is.0, is.1, (is.2.0, is.2.1, refl, inl (lines, faulty.0, faulty.1, refl)))),
           )),
-      rw c.in-Check.is (told_well (named_in c.in-Check.files) (g.S.Source.asked c.args.source.now)
+      rw c.in-Check.is (told_well (named_with c.in-Check.files (name_in c.in-Check.inputs)) (g.S.Source.asked c.args.source.now)
           (g.S.Source.asked c.checked.new.source) reply (no_line_of_lists _) c.in-Ok-Faulty.ensures.asked),
     )
 
@@ -77,11 +77,11 @@ returns-in-Ok-Sound-clause-told g c =
             result_of_no_read _ _,
             rw c.in-Check.is (λ held told.
                 let is = c.in-Ok-Sound.ensures.checked held told in
-                let sound : IsChecked c.in-Check.files is.0 (Sound c.in-Ok-Sound.findings c.in-Ok-Sound.lacking) =
-                subst (λ (one : Checked). IsChecked c.in-Check.files is.0 one) c.in-Ok-Sound.field-0-is is.2 in
-                inl (is.0, is.1, refl, inr (sound.0, sound.1, (found, sound.2, refl)))),
+                let sound : IsChecked c.in-Check.files is.0 is.2.0 (Sound c.in-Ok-Sound.findings c.in-Ok-Sound.lacking) =
+                subst (λ (one : Checked). IsChecked c.in-Check.files is.0 is.2.0 one) c.in-Ok-Sound.field-0-is is.2.2 in
+                inl (is.0, is.1, (is.2.0, is.2.1, refl, inr (sound.0, sound.1, (found, sound.2, refl))))),
           )),
-      rw c.in-Check.is (told_well (named_in c.in-Check.files) (g.S.Source.asked c.args.source.now)
+      rw c.in-Check.is (told_well (named_with c.in-Check.files (name_in c.in-Check.inputs)) (g.S.Source.asked c.args.source.now)
           (g.S.Source.asked c.checked.new.source) reply (no_line _ _) c.in-Ok-Sound.ensures.asked),
     )
 
@@ -94,7 +94,7 @@ returns-in-Check-clause-told g c =
           counted (Replied (g.S.Source.files c.args.source.now) c.args.command (fault_reply fault)) _ _ failures
           (reads_failed fault) c.in-Err-checked.ensures.counted count
           (fault_of_reads fault, rw c.in-Check.is (λ held told. inr (fault, c.in-Err-checked.ensures.fault held told, refl, refl)))),
-      rw c.in-Check.is (told_fault (named_in c.in-Check.files) (g.S.Source.asked c.args.source.now)
+      rw c.in-Check.is (told_fault (named_with c.in-Check.files (name_in c.in-Check.inputs)) (g.S.Source.asked c.args.source.now)
           (g.S.Source.asked c.checked.new.source) fault c.in-Err-checked.ensures.asked),
     )
 

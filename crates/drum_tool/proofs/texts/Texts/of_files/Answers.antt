@@ -46,7 +46,6 @@ returns-clause-held g c held told =
     ∙ ap (λ (files : FilesTold). files 1 c.args.files.notes.now) c.in_ok-deck.ensures.behind in
     record {
       deck = c.in_ok-deck.ensures.bytes (held part.Deck) told.0;
-      short = c.in_ok-deck.ensures.short;
       times = c.in_ok-times.ensures.bytes (held part.Times) (times ∙ told.1.0);
       notes = c.in_ok-notes.ensures.bytes (held part.Notes) (notes ∙ told.1.1.0);
     }
@@ -58,7 +57,7 @@ returns-in_err-deck-clause-asked g c =
     let times = in_file part.Times c.args.files.times.now in
     let notes = in_file part.Notes c.args.files.notes.now in
     let s = g.S.Source.asked c.args.source.now in
-    let s1 = g.S.Source.asked c.deck_bytes.new.source in
+    let s1 = g.S.Source.asked c.read_text.new.source in
     rw (p.1, p.2) (looked_faulty deck (times ∷ notes ∷ []) c.in_err-deck.field-0.0 s s1 c.in_err-deck.ensures.asked)
 
 pub returns-in_err-times-clause-asked : goal.returns-in_err-times-clause-asked
@@ -68,7 +67,7 @@ returns-in_err-times-clause-asked g c =
     let times = in_file part.Times c.args.files.times.now in
     let notes = in_file part.Notes c.args.files.notes.now in
     let s = g.S.Source.asked c.args.source.now in
-    let s1 = g.S.Source.asked c.deck_bytes.new.source in
+    let s1 = g.S.Source.asked c.read_text.new.source in
     let s2 = g.S.Source.asked c.read_part.new.source in
     let told = c.in_err-times.field-0.0 in
     rw (p.1, p.2) (looked_first deck (times ∷ notes ∷ []) told s s1 s2 c.in_ok-deck.ensures.asked
@@ -81,7 +80,7 @@ returns-in_err-notes-clause-asked g c =
     let times = in_file part.Times c.args.files.times.now in
     let notes = in_file part.Notes c.args.files.notes.now in
     let s = g.S.Source.asked c.args.source.now in
-    let s1 = g.S.Source.asked c.deck_bytes.new.source in
+    let s1 = g.S.Source.asked c.read_text.new.source in
     let s2 = g.S.Source.asked c.read_part.new.source in
     let s3 = g.S.Source.asked c.read_part-2.new.source in
     let told = c.in_err-notes.field-0.0 in
@@ -95,7 +94,7 @@ returns-clause-asked g c =
     let times = in_file part.Times c.args.files.times.now in
     let notes = in_file part.Notes c.args.files.notes.now in
     let s = g.S.Source.asked c.args.source.now in
-    let s1 = g.S.Source.asked c.deck_bytes.new.source in
+    let s1 = g.S.Source.asked c.read_text.new.source in
     let s2 = g.S.Source.asked c.read_part.new.source in
     let s3 = g.S.Source.asked c.read_part-2.new.source in
     looked_well deck (times ∷ notes ∷ []) s s1 s3 c.in_ok-deck.ensures.asked
