@@ -63,6 +63,30 @@ EXAMPLES = [
     ),
 ]
 
+# Decks to hold an emulator to: what each shows, its name, and its notes where it has notes of its
+# own. The trace of each stands beside it.
+EMULATOR = "emulator"
+SHORT_RUNS = [
+    ("operations that add", "adding", None),
+    ("products and quotients", "multiplying", None),
+    ("stores and loads", "storing", None),
+    ("shifts", "shifting", None),
+    ("both ways of a branch", "branching", None),
+    ("positions of the distributor", "positions", None),
+    ("cards and waits", "cards", "cards.toml"),
+    ("instructions at 8000 to 8003", "addresses", "addresses.toml"),
+    ("a quotient that is too long", "quotient", None),
+    ("an overflow that stops", "overflow", None),
+    ("a digit that is neither 8 nor 9", "digit", None),
+    ("an operand that can't be used", "operand", None),
+    ("a next location that is none", "next", None),
+    ("a reader without cards", "empty-reader", None),
+]
+EXAMPLES += [
+    Example(title, EMULATOR, name + ".deck", notes or "notes.toml", {name + ".inputs": {}})
+    for title, name, notes in SHORT_RUNS
+]
+
 
 def files_of(example):
     """The names of an example's deck and notes, from the repository's top on."""

@@ -294,15 +294,15 @@ def machine_of(deck, times, inputs):
 
 
 class Walks:
-    """The walks of a deck with its notes, under the programmed switch at STOP and with no load
-    cards."""
+    """The walks of a deck with its notes, under the programmed switch at STOP."""
 
     def __init__(self, deck, times, notes):
         self.words, self.start = deck_of(read_text(deck))
         self.times = times
         with open(notes, "rb") as file:
             notes = tomllib.load(file)
-        assert (notes["programmed"], notes["load_cards"]) == ("stop", "none")
+        assert notes["programmed"] == "stop"
+        self.has_load_cards = notes["load_cards"] == "any"
         self.marks = notes.get("mark", [])
         self.lists = {one["location"]: one["pattern"] for one in notes.get("list", [])}
 
@@ -319,7 +319,7 @@ class Walks:
         if not suits(op, d):
             return {"early"}
         ways = {"early", i} if op == 70 else {"late"} if op == 1 else {i}
-        if op in (44, 45, 46, 47) or op >= 90:
+        if op in (44, 45, 46, 47) or op >= 90 or op == 70 and self.has_load_cards:
             ways.add(d)
         if op >= 90 or op in MAY_STOP_LATE:
             ways.add("late")
@@ -404,7 +404,7 @@ def trace(machine, walks, limit):
         lines += machine.step_lines(step, place, word)
         if not walks.allows(place, word):
             left = "unlisted %04d %s" % (place, word_text(word))
-        elif machine.has_read_load:
+        elif machine.has_read_load and not walks.has_load_cards:
             left = "loadcard"
         elif why:
             return lines + ["kept used %d %s stop %s" % (machine.used, limit, why)]
