@@ -9,7 +9,9 @@ FILES = ["deck", "times", "notes", "inputs"]
 # Two of a replay and of a trace, since they look at a file more than the others.
 OF_THREE = ["bound", "check", "report", "walk", "waits", "draw", "ceiling"]
 LINES = [[]] + [[command] + FILES[:3] for command in OF_THREE]
-LINES += 2 * [[command] + FILES for command in ("replay", "trace")]
+LINES += 2 * [[command] + FILES for command in ("replay", "trace")] + [["check"] + FILES]
+# A check, and one that looks at inputs too.
+CHECKS = ("check", "check of inputs")
 # Words that are put among those of a line.
 WORDS = OF_THREE + ["replay", "trace", "--help", "-h", "-", "", "none", "--fast"] + FILES
 
@@ -246,7 +248,8 @@ class Case:
         self.words, self.files, self.text = words, files, text
 
     def asked(self):
-        """The command and its files' texts, where the words are one over files that there are."""
+        """The command and its files' texts, where the words are one over files that there are; of a
+        check also whether it looks at inputs."""
         if not self.words:
             files = files_of_joined(self.text, self.files["inputs"])
             return files and ("joined", files)
@@ -255,6 +258,8 @@ class Case:
             return None
         if any(name not in self.files for name in names):
             return None
+        if command == "check":
+            command = CHECKS[len(names) == len(FILES)]
         named = {part: self.files[name] for part, name in zip(FILES, names)}
         return command, dict(self.files, **named)
 

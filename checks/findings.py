@@ -17,11 +17,12 @@ class Flow:
     """The flow graph of a deck under its notes, whatever stands at its locations."""
 
     def __init__(self, files):
-        self.words = {
-            place: parts_of(word)
+        self.loaded = {
+            place: word
             for _, first, words in cards_of(files["deck"])
             for place, word in enumerate(words, first)
         }
+        self.words = {place: parts_of(word) for place, word in self.loaded.items()}
         self.notes = document_of(files["notes"])
         self.profile = set(entries_of(files["times"]))
         self.lists = {one["location"]: one["pattern"] for one in self.notes.get("list", [])}
@@ -113,10 +114,28 @@ class Flow:
         """The notes that are lacking, as TOML, where these edges were told for the loops."""
         for edge in told:
             yield from ["[[mark]]", "most =", "from = %d" % edge[0], "to = %d" % edge[1]]
-        altered = [line.split(" ")[2] for place in self.order for line in self.altering(place)]
-        for word in dict.fromkeys(altered):
-            yield from ["[[list]]", "location = %d" % int(word)]
-            yield "pattern = [{ op = , d_from = , d_to = , i = }]"
+        writers = {}
+        for place in self.order:
+            for line in self.altering(place):
+                writers.setdefault(int(line.split(" ")[2]), []).append(place)
+        for word in writers:
+            yield from ["[[list]]", "location = %d" % word, self.pattern(word, writers[word])]
+
+    def pattern(self, word, writers):
+        """A word's own instruction, without what a writer changes: a 22 without a list the data
+        address, such a 23 the address of the next instruction, any other all of it."""
+        changed = {22: {"d"}, 23: {"i"}}
+        free = set()
+        for place in writers:
+            op = self.words[place][0] if place in self.words and place not in self.lists else None
+            free |= changed.get(op, {"op", "d", "i"})
+        if word not in self.words:
+            return "pattern = [{ op = , d_from = , d_to = , i = }]"
+        own = dict(zip(["op", "d", "i"], self.words[word]))
+        op, d, i = ("" if part in free else own[part] for part in ["op", "d", "i"])
+        gap = "" if "i" in free else " "
+        text = "pattern = [{ op = %s, d_from = %s, d_to = %s, i = %s%s}]" % (op, d, d, i, gap)
+        return text + " # loaded: %s" % self.loaded[word]
 
     def free_edges(self):
         """The edges without a mark, in order."""

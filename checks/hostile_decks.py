@@ -238,7 +238,7 @@ def of_checks():
     )
     deck = b"START 0000\n" + b"".join(card(here, 0, 0, here + 1) for here in range(1000, 1999))
     deck += card(1999, 1, 0, 1999)
-    last = b"pattern = [{ op = , d_from = , d_to = , i = }]\n"
+    last = b"pattern = [{ op = , d_from = , d_to = , i = }] # loaded: +0100001999\n"
     holds = has_lines(1000 * 1000 + 3 * 1000, last)
     parts = {"deck": deck, "notes": NOTES + halves, "holds": holds}
     yield Case("check of 1,000,000 words that are altered", last, "check", **parts)
@@ -251,6 +251,10 @@ def of_checks():
     yield Case("check of 3999 locations given twice", line, "check", deck=twice, lists=7999)
     slips = b"start 0000\r\n" * 4000
     yield Case("check of 4000 lines of small letters", line, "check", deck=slips, lists=8001)
+    # Each line of inputs is looked for among all that stand before it.
+    again = b"ANGLE 00\n" + b"*\n" * 1999 + b"ANGLE 01\n" * 2000
+    line = b"the first is here\n"
+    yield Case("check of an angle that is given 2001 times", line, "check", inputs=again, lists=4000)
 
 
 def of_outputs():

@@ -3,7 +3,7 @@ checks/damaged-inputs holds to it the cases of checks/damage.py."""
 
 from collections import namedtuple
 
-from damage import FILES, files_of_joined, joined
+from damage import CHECKS, FILES, files_of_joined, joined
 from faults import fault_of, has_its_form, is_accepted, names_what_is_there
 from findings import is_check, is_first_of, is_unmeant
 from results import (
@@ -65,7 +65,7 @@ def status_of_check(text):
 def result_of(asked, status, text):
     """What a result tells that was asked for; None where it is none."""
     command, files = asked
-    if command == "check":
+    if command in CHECKS:
         is_told = status == status_of_check(text) and is_check(text, files)
         return Told("check") if is_told else None
     if command == "replay":
@@ -88,7 +88,7 @@ def result_of(asked, status, text):
 
 def is_list(asked, ran):
     """Whether a run told the faults of texts, each with its file's name in front."""
-    is_refused = asked and asked[0] == "check" and ran.status == REFUSED and ran.out == b""
+    is_refused = asked and asked[0] in CHECKS and ran.status == REFUSED and ran.out == b""
     return is_refused and not ran.err.startswith(b"fault ")
 
 
@@ -99,7 +99,7 @@ def told_of(asked, ran):
         out, err = ran.out.decode(), ran.err.decode()
     except UnicodeDecodeError:
         return None
-    is_checked = asked and asked[0] == "check" and ran.status == REFUSED and out
+    is_checked = asked and asked[0] in CHECKS and ran.status == REFUSED and out
     if ran.status in (DONE, LEFT) or is_checked:
         if asked:
             return result_of(asked, ran.status, out)
@@ -108,7 +108,7 @@ def told_of(asked, ran):
         return None if asked else Told("usage")
     fault = fault_of(err, ran.status)
     if is_list(asked, ran):
-        fault = (listed_faults(err, asked[1]) or [None])[0]
+        fault = (listed_faults(err, asked[1], asked[0] == CHECKS[1]) or [None])[0]
     kind = "unopened" if fault and fault.ending == "open" else "refused"
     return fault and Told(kind, fault=fault)
 
@@ -204,7 +204,10 @@ def agrees(asked, ran, told, run):
         walked = [ran if name == command else other(name) for name in WALKED]
         is_one = all(ends_alike(one, bound) for one in walked)
         return is_one and are_counted(*walked, files)
-    if command == "check":
+    if command in CHECKS:
+        if command == CHECKS[1] and told.fault:
+            replay = told_of(("replay", files), other("replay"))
+            return replay is not None and told.fault == replay.fault
         return is_said_first(ran, told, bound, files)
     if command == "ceiling":
         return is_no_lower(told, bound, files)
@@ -227,7 +230,7 @@ def agrees(asked, ran, told, run):
 def writes_where_its_status_says(ran, asked):
     """Whether a run wrote to the one output that goes with its status, and nothing to the other. A
     check that finds nothing writes nothing, and what it finds ends with the status of a fault."""
-    if asked and asked[0] == "check" and ran.err == b"":
+    if asked and asked[0] in CHECKS and ran.err == b"":
         return ran.status in (DONE, REFUSED) and (ran.out != b"" or ran.status == DONE)
     is_line = {DONE: ran.out, LEFT: ran.out, REFUSED: ran.err, FAILED: ran.err}
     written = is_line.get(ran.status, b"")
@@ -267,7 +270,7 @@ def judged(case, ran, run):
     command, files = asked
     if told.fault:
         hold("names what is there", names_what_is_there(told.fault, files))
-    for part in FILES[: 4 if command in ("replay", "trace") else 3]:
+    for part in FILES[: 4 if command in ("replay", "trace", CHECKS[1]) else 3]:
         is_taken = is_accepted(told.fault, part)
         hold("takes what has its form", not is_taken or has_its_form(part, files[part]))
     hold("agrees with other commands", agrees(asked, ran, told, run))

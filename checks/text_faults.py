@@ -1,5 +1,5 @@
-"""All faults of texts, as `check` tells them: those of a deck worked out from its text, and of a
-timing table and notes, line by line, whether they may be told."""
+"""All faults of texts, as `check` tells them: those of a deck and of inputs worked out from their
+texts, and of a timing table and notes, line by line, whether they may be told."""
 
 import re
 
@@ -78,16 +78,69 @@ def deck_lines(text, name):
     return deck.told + ([] if deck.has_start else ["%s: fault 5 deck nostart" % name])
 
 
+# What each line of inputs is, by its form, and what it is a setting of.
+SETTINGS = {
+    "ANGLE": rb"ANGLE [0-4][0-9]",
+    "SWITCHES": rb"SWITCHES [+-][0-9]{10}",
+    "DISTRIBUTOR": rb"DISTRIBUTOR [+-][0-9]{10}",
+    "ACCUMULATOR": rb"ACCUMULATOR [+-][0-9]{20}",
+    "LATCH": rb"LATCH (?:ON|OFF)",
+    "PROGRAMMED": rb"PROGRAMMED (?:STOP|RUN)",
+    "ONOVERFLOW": rb"ONOVERFLOW (?:STOP|SENSE)",
+}
+FED = re.compile(rb"(?:CARD|LOAD)(?: [+-][0-9]{10}){10}")
+WAIT = re.compile(rb"WAIT ([0-9]{1,7})")
+
+# The most bytes of a line of inputs.
+INPUT_LINE = 200
+
+
+def said_by(line):
+    """What a line of inputs says, once at most each: settings by name, drum locations by number;
+    None where it is no line of inputs."""
+    card, wait = CARD.fullmatch(line), WAIT.fullmatch(line)
+    if card:
+        first = int(card.group(1))
+        return list(range(first, first + card.group(2).count(b" ")))
+    if line.startswith(b"*") or FED.fullmatch(line) or wait and int(wait.group(1)) <= 1000000:
+        return []
+    return next(([key] for key, form in SETTINGS.items() if re.fullmatch(form, line)), None)
+
+
+def inputs_lines(text, name):
+    """The lines of all faults of a text of inputs, in the file of this name."""
+    lines, said, told = lines_of(text), {}, []
+    for number, line in enumerate(lines, 1):
+        if number > LINES or len(line) > INPUT_LINE:
+            return ["%s:%d: fault 46 inputs toolong" % (name, number)]
+    for number, line in enumerate(lines, 1):
+        here = said_by(line)
+        if here is None:
+            told.append("%s:%d: fault 43 inputs line %d" % (name, number, number))
+            told += ["%s:%d: %s" % (name, number, slip) for slip in [slip_of(line)] if slip]
+        elif any(isinstance(one, int) and one >= 2000 for one in here):
+            told.append("%s:%d: fault 45 inputs pastdrum %d" % (name, number, number))
+        elif any(one in said for one in here):
+            told.append("%s:%d: fault 44 inputs repeated %d" % (name, number, number))
+            first = min(said[one] for one in here if one in said)
+            told.append("%s:%d: the first is here" % (name, first))
+        else:
+            said.update(dict.fromkeys(here, number))
+    return told
+
+
 # What stands in front of a line of a document's fault, and of what `toml` says.
 FRONT = re.compile("(?:%s): (?=fault )" % "|".join(FILES))
 SAID = re.compile("(?:%s):([0-9]+):[0-9]+: .*\n" % "|".join(FILES))
+# What stands in front of a line of a fault of inputs.
+LINED = re.compile("(?:%s):[0-9]+: fault " % "|".join(FILES))
 
 
 def fault_at(text, place):
     """The fault whose line begins at a place of a text, and where it ends: at the first line feed
     behind which another line begins, since a key may have line feeds."""
     end = text.find("\n", place) + 1
-    while end and text[end:] and not (FRONT.match(text, end) or SAID.match(text, end)):
+    while end and text[end:] and not any(one.match(text, end) for one in (FRONT, SAID, LINED)):
         end = text.find("\n", end) + 1
     return fault_of(text[place:end], REFUSED), end
 
@@ -112,18 +165,48 @@ def document_faults(text, place, part, files):
     return faults, place
 
 
-def listed_faults(text, files):
+def told_lines(text, place, files, part, lines_by):
+    """The lines that stand at a place of a text of all that is wrong with a part, in the file of
+    whichever name it is."""
+    of_names = ["".join(line + "\n" for line in lines_by(files[part], name)) for name in FILES]
+    return next((lines for lines in of_names if lines and text.startswith(lines, place)), of_names[0])
+
+
+def loaded_lines(files, name):
+    """The lines of what sound inputs and a sound deck both load."""
+    loaded = {place for line in lines_of(files["deck"]) for place in said_by(line) or []}
+    given = (place for line in lines_of(files["inputs"]) for place in said_by(line) or [])
+    return ["%s: fault 47 inputs loaded %04d" % (name, place) for place in given if place in loaded]
+
+
+def inputs_told(text, place, files, is_deck_sound):
+    """The lines that stand at a place of a text of all that is wrong with inputs."""
+    told = told_lines(text, place, files, "inputs", inputs_lines)
+    if told or not is_deck_sound:
+        return told
+    return told_lines(text, place, files, "inputs", lambda _, name: loaded_lines(files, name))
+
+
+def listed_faults(text, files, has_inputs):
     """The faults that a check tells of texts; None where they may not be told so."""
-    decks = [deck_lines(files["deck"], name) for name in FILES]
-    lines = next((one for one in decks if one and text.startswith(one[0] + "\n")), decks[0])
-    told = "".join(line + "\n" for line in lines)
-    if not text.startswith(told):
+    of_deck = told_lines(text, 0, files, "deck", deck_lines)
+    if not text.startswith(of_deck):
         return None
-    own = [line.split(" ", 1)[1] + "\n" for line in lines if ": fault " in line]
-    faults, place = [fault_of(line, REFUSED) for line in own], len(told)
+    faults, place = own_faults(of_deck), len(of_deck)
     for part in ["times", "notes"]:
         more, place = document_faults(text, place, part, files)
         if more is None:
             return None
         faults += more
-    return faults if faults and place == len(text) else None
+    of_inputs = inputs_told(text, place, files, not of_deck) if has_inputs else ""
+    faults += own_faults(of_inputs)
+    return faults if faults and text[place:] == of_inputs else None
+
+
+def own_faults(lines):
+    """The faults of lines that stand behind their files' names."""
+    return [
+        fault_of(line.split(" ", 1)[1] + "\n", REFUSED)
+        for line in lines.splitlines()
+        if ": fault " in line
+    ]
