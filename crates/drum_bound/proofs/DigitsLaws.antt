@@ -9,7 +9,7 @@ use Rattle.drum_machine.specs.Counts.{after_pass, AreWithin}
 use Rattle.drum_flow.specs.Accepted.{counts_of}
 use Rattle.drum_flow.specs.Passes.{leading, leading-<}
 use Rattle.drum_bound.specs.Digits.{digits}
-use Rattle.drum_bound.specs.Table.{number_of}
+use Rattle.drum_bound.specs.Table.{counts_for, number_of}
 
 -- there is one list of counts at least
 pub counts_some : (marks : List Mark) → 1 ≤ counts_of marks
@@ -78,6 +78,23 @@ number_injective (mark ∷ marks) (x ∷ a) (y ∷ b) within_a within_b same =
     let firsts : x ≡ y = parts.1 in
     let others : a ≡ b = number_injective marks a b within_a.1 within_b.1 parts.0 in
     ap (λ (first : ℕ). first ∷ a) firsts ∙ ap (λ (rest : List ℕ). y ∷ rest) others
+
+-- counts within the limits are those that this number stands for
+pub counts_for_number : (marks : List Mark) (counts : List ℕ) → AreWithin marks counts
+    → counts_for marks (number_of marks counts) ≡ counts
+counts_for_number [] [] within = refl
+counts_for_number [] (count ∷ counts) within = absurd within
+counts_for_number (mark ∷ marks) [] within = absurd within
+counts_for_number (mark ∷ marks) (count ∷ counts) within =
+    let many = mark.most + 1 in
+    let others = number_of marks counts in
+    let turned : count + many * others ≡ others * many + count = omega arith in
+    let below : count < many = omega (arith, within.0) in
+    ap (λ (n : ℕ). n % many ∷ counts_for marks (n / many)) turned
+    ∙ ap (λ (first : ℕ). first ∷ counts_for marks ((others * many + count) / many))
+    (mod-mul-add others many count below)
+    ∙ ap (λ (n : ℕ). count ∷ counts_for marks n) (div-mul-add others many count below)
+    ∙ ap (λ (rest : List ℕ). count ∷ rest) (counts_for_number marks counts within.1)
 
 -- a hop along an edge that no mark stands on changes no count
 pub unmarked_stays : (marks : List Mark) (from onto : ℕ) (counts : List ℕ) → mark_on marks from onto ≡ None

@@ -1,5 +1,5 @@
 -- The table of worst times (this project's choice).
-use Rattle.std.specs.Prelude.{◌≡◌, ℕ, ◌+◌, ◌*◌, ◌%◌, ◌≤◌, List, [], ◌∷◌, Contains}
+use Rattle.std.specs.Prelude.{◌≡◌, ℕ, ◌+◌, ◌*◌, ◌/◌, ◌%◌, ◌≤◌, List, [], ◌∷◌, Contains}
 use Rattle.drum_times.specs.declared.notes.mark.Mark.{Mark}
 use Rattle.drum_machine.specs.Counts.{after_pass, no_counts}
 use Rattle.drum_machine.specs.Ways.{Way, early, to, late}
@@ -10,6 +10,12 @@ abbrev pub number_of : List Mark → List ℕ → ℕ
 number_of [] counts = 0
 number_of (mark ∷ marks) [] = 0
 number_of (mark ∷ marks) (count ∷ counts) = count + (mark.most + 1) * number_of marks counts
+
+-- the counts that a number stands for
+abbrev pub counts_for : List Mark → ℕ → List ℕ
+counts_for [] number = []
+counts_for (mark ∷ marks) number =
+    number % (mark.most + 1) ∷ counts_for marks (number / (mark.most + 1))
 
 -- a hop goes on to a location with this property
 abbrev pub GoesOn : Way → (ℕ → Type 0) → Type 0

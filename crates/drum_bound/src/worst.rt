@@ -1,6 +1,8 @@
 //! The entries of the table of worst times.
 
 use drum_core::Location;
+use drum_machine::Counts;
+use drum_times::Mark;
 
 /// An entry of the table of worst times: the most word times that can be used when a search begins
 /// at a place, with marks passed so often.
@@ -15,4 +17,26 @@ pub struct Worst {
     pub counts: u32,
     /// The word times.
     pub time: u64,
+}
+
+impl Worst {
+    ghost use Rattle.std.specs.Prelude.{◌≡◌, ◌≤◌, length};
+    ghost use Rattle.drum_machine.specs.CountsIn.{counts_in};
+    ghost use Rattle.drum_bound.specs.Table.{counts_for};
+
+    /// The counts of the marks, one for each: how often it has been passed since the last pass of a
+    /// mark that it stands inside of. The marks are those of the notes.
+    pub fn passes(&self, marks: &[Mark]) -> Counts
+        requires { length marks.now ≤ 8 }
+        ensures { counts_in result marks.now ≡ counts_for marks.now self.now.counts }
+    {
+        let mut passes = [0; Mark::MOST];
+        let mut rest = self.counts;
+        for place in 0..marks.len() {
+            let many = marks[place].most as u32 + 1;
+            passes[place] = (rest % many) as u16;
+            rest /= many;
+        }
+        Counts { passes }
+    }
 }
