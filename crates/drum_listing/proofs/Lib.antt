@@ -7,6 +7,8 @@ pub mod NextAngles
 pub mod OneListing
 pub mod SameKinds
 pub mod Strides
+mod TableLines
+mod TableRows
 mod WaitChecks
 pub mod WaitLines
 pub mod WaitRows

@@ -368,7 +368,7 @@ module _ {S : Type 0} (times : Op → Entry) (angle : ℕ) (walk : List Visit) (
 
 -- ---- the order in which they are sorted
 
-not_below : (a a' b b' : ℕ) → is_lt (ordering_then (nat_cmp a a') (nat_cmp b b')) ≡ false
+pub not_below : (a a' b b' : ℕ) → is_lt (ordering_then (nat_cmp a a') (nat_cmp b b')) ≡ false
     → (a' < a) ⊎ ((a ≡ a') × (b' ≤ b))
 not_below a a' b b' = go (nat_lt a a') (a == a') (nat_lt b b') (b == b') refl refl refl
   where

@@ -4,6 +4,8 @@ pub mod MomentsText
 pub mod Page
 pub mod Pieces
 pub mod StepOf
+pub mod TableOf
+pub mod TableText
 pub mod Told
 pub mod TraceText
 pub mod Waits

@@ -9,32 +9,32 @@ use Rattle.drum_listing.specs.Pieces.{times_text}
 use Rattle.drum_listing.specs.Told.{seen_told}
 use Rattle.drum_listing.specs.WalkText.{hop_text, visit_line}
 use Rattle.drum_listing.proofs.Lines.{visit_told}
-use Rattle.drum_listing.proofs.visit_line.send_visit.Goals as goal
+use Rattle.drum_listing.proofs.visit_line.VisitLineLine.send.Goals as goal
 
 pub returns-in_err-sent-clause-sent : goal.returns-in_err-sent-clause-sent
 returns-in_err-sent-clause-sent g c =
-    let times = entry_in c.args.times.now in
+    let times = entry_in c.args.self.now.times.now in
     let hop = seen_told c.of-told.result in
     let moments = c.of-moments.result in
     let old = g.O.Output.written c.args.writer.now in
     let new = g.O.Output.written c.send_hop.new.writer in
     let fault = c.in_err-sent.field-0.0 in
     let p = err_from_is_err_and c.from_residual.result c.from_residual.ensures.1 in
-    rw (p.1, p.2) (subst (λ (visit : Visited). IsSent old new c.args.sent (Err fault) (visit_line times c.args.angle visit))
+    rw (p.1, p.2) (subst (λ (visit : Visited). IsSent old new c.args.sent (Err fault) (visit_line times c.args.self.now.angle visit))
     c.of-told.ensures.same
-    (subst (IsSent old new c.args.sent (Err fault)) (visit_told times c.args.angle hop moments c.of-moments.ensures)
+    (subst (IsSent old new c.args.sent (Err fault)) (visit_told times c.args.self.now.angle hop moments c.of-moments.ensures)
     (IsSent-cut old new c.args.sent fault (hop_text hop ++ codes " begun " ++ decimal hop.begun) (times_text moments hop.ended (codes "\n")) c.in_err-sent.ensures.sent)))
 
 pub returns-clause-sent : goal.returns-clause-sent
 returns-clause-sent g c =
-    let times = entry_in c.args.times.now in
+    let times = entry_in c.args.self.now.times.now in
     let hop = seen_told c.of-told.result in
     let moments = c.of-moments.result in
     let old = g.O.Output.written c.args.writer.now in
     let between = g.O.Output.written c.send_hop.new.writer in
     let new = g.O.Output.written c.send_times.new.writer in
-    subst (λ (visit : Visited). IsSent old new c.args.sent c.send_times.result (visit_line times c.args.angle visit))
+    subst (λ (visit : Visited). IsSent old new c.args.sent c.send_times.result (visit_line times c.args.self.now.angle visit))
     c.of-told.ensures.same
-    (subst (IsSent old new c.args.sent c.send_times.result) (visit_told times c.args.angle hop moments c.of-moments.ensures)
+    (subst (IsSent old new c.args.sent c.send_times.result) (visit_told times c.args.self.now.angle hop moments c.of-moments.ensures)
     (IsSent-then old between new c.args.sent c.in_ok-sent.sent c.send_times.result (hop_text hop ++ codes " begun " ++ decimal hop.begun)
     (times_text moments hop.ended (codes "\n")) c.in_ok-sent.ensures.sent c.send_times.ensures.sent))

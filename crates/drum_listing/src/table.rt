@@ -1,0 +1,44 @@
+//! The table of worst times of an analysis, in order.
+
+ghost use Rattle.std.specs.Prelude.{◌≤◌, vec_len};
+
+mod line;
+mod listing;
+
+use drum_bound::{Analysis, Worst};
+pub use listing::list_table;
+use std::alloc::{AllocError, Global};
+
+/// The most entries that are held, far more than any analysis has.
+const LIMIT: usize = 1 << 40;
+
+/// The table of worst times, by location and, of one location, by the number of the counts.
+#[derive(Debug, Drop)]
+pub struct Table {
+    rows: Vec<Worst>,
+    ghost few: { vec_len rows ≤ 1099511627776 },
+}
+
+impl Table {
+    ghost use Rattle.std.specs.Prelude.{IfOk};
+    ghost use Rattle.drum_bound.specs.AnalysisOf.{rows_of};
+    ghost use Rattle.drum_listing.specs.TableOf.{rows_in};
+    ghost use Rattle.drum_listing.specs.TableText.{AreInOrder};
+
+    /// The table of an analysis.
+    ///
+    /// # Errors
+    ///
+    /// Where memory is wanting.
+    pub fn of(alloc: Global, analysis: &Analysis) -> Result<Table, AllocError>
+        ensures { IfOk result (λ table. AreInOrder (rows_of analysis.now) (rows_in table)) }
+    {
+        let entries = analysis.table();
+        if entries.len() > LIMIT {
+            return Err(AllocError);
+        }
+        let mut rows = entries.to_vec(alloc)?;
+        rows.sort_unstable_by_key(|row| (row.place.number(), row.counts));
+        Ok(Table { rows })
+    }
+}

@@ -1,0 +1,55 @@
+//! The lines of the table of worst times.
+
+ghost use Rattle.std.specs.Prelude.{◌≡◌, ◌+◌, ◌^◌, ◌≤◌, IfOk, flat_map, length};
+ghost use Rattle.drum_bound.specs.RowOf.{row_in};
+ghost use Rattle.drum_lines.specs.Sent.{IsSent, IsWritten, fails_by};
+ghost use Rattle.drum_listing.specs.TableOf.{rows_in};
+ghost use Rattle.drum_listing.specs.TableText.{row_line, table_text};
+
+use super::Table;
+use super::line::RowLine;
+use crate::page::Page;
+use crate::passing::pass_line;
+use drum_bound::Worst;
+use drum_core::Output;
+use drum_lines::{WriteFault, send};
+use drum_times::Mark;
+
+/// Writes the lines of entries, many at a time.
+fn send_rows<O: Output>(writer: &mut O, rows: &[Worst], marks: &[Mark]) -> Result<usize, WriteFault>
+    requires called { O.called writer.old ≤ 2 ^ 62 }
+    requires few { length rows.now ≤ 2 ^ 40 }
+    requires eight { length marks.now ≤ 8 }
+    ensures sent { IsSent (O.written writer.old) (O.written writer.new) 0 result
+        (flat_map (λ row. row_line marks.now (row_in row)) rows.now) }
+    ensures failures { O.failed writer.new ≡ O.failed writer.old + fails_by result }
+{
+    let mut sent = 0;
+    let mut page = Page::new();
+    for row in rows {
+        sent = pass_line(writer, sent, &mut page, &RowLine::of(row, marks))?;
+    }
+    send(writer, sent, &[page.bytes()])
+}
+
+/// Writes the table of worst times, a line for each entry, in order. The marks are those of the
+/// notes of the analysis. It takes no memory.
+///
+/// # Errors
+///
+/// Where a write fails, or takes none of some bytes: then a prefix of the text has gone out, of so
+/// many bytes as it says.
+pub fn list_table<O: Output>(
+    table: &Table,
+    marks: &[Mark],
+    writer: &mut O,
+) -> Result<(), WriteFault>
+    requires called { O.called writer.old ≤ 2 ^ 62 }
+    requires eight { length marks.now ≤ 8 }
+    ensures written { IsWritten (O.written writer.old) (O.written writer.new) result
+        (table_text marks.now (rows_in table.now)) }
+    ensures failures { O.failed writer.new ≡ O.failed writer.old + fails_by result }
+{
+    send_rows(writer, &table.rows, marks)?;
+    Ok(())
+}
