@@ -1,0 +1,118 @@
+-- Definitions evaluated, with answers that were worked out apart from them: a deck of three words that goes round. The
+-- second adds or subtracts, and may stop for an overflow; the third writes it, and goes on at the first.
+use Rattle.std.proofs.Common.{◌≡◌, ℕ, ◌<◌, ◌≤◌, ◌^◌, false, true, List, [], ◌∷◌, ◌++◌, map, refl, arith, None, Option, Some}
+use Rattle.std.specs.Prelude.{codes, ◌==◌, if◌then◌else◌}
+use Rattle.std.specs.Fmt.{digits}
+use Rattle.drum_core.specs.declared.location.Location.{Location}
+use Rattle.drum_core.specs.declared.word.Word.{Word}
+use Rattle.drum_core.specs.Location.{IsLocation}
+use Rattle.drum_core.specs.Word.{word}
+use Rattle.drum_times.specs.declared.notes.mark.Mark.{Mark}
+use Rattle.drum_times.specs.declared.notes.pattern.Pattern.{Pattern}
+use Rattle.drum_times.specs.declared.notes.programmed.Programmed.TheVariants as switch
+use Rattle.drum_times.specs.Allowed.{Notes}
+use Rattle.drum_graph.specs.Graph.{Node, node}
+use Rattle.drum_graph.specs.GraphText.{graph_text}
+
+abbrev loads : ℕ → Option Word
+loads n =
+    if n == 100 then Some (word false 6501200110)
+    else if n == 110 then Some (word false 1501200120)
+    else if n == 120 then Some (word false 2001100100) else None
+
+parts : (16 < 100) × (120 ≤ 120) × (120 < 10 ^ 4)
+parts = (omega arith, omega arith, omega arith)
+
+abbrev subtracting : Pattern
+subtracting = record {
+  op = 16;
+  d_from = 120;
+  d_to = 120;
+  i = 120;
+  two = parts.0;
+  ordered = parts.1;
+  four = parts.2;
+  next_four = parts.2;
+}
+
+are_there : IsLocation 100 × IsLocation 110 × IsLocation 120
+are_there = ((omega arith, λ past. omega arith), (omega arith, λ past. omega arith), (omega arith, λ past. omega arith))
+
+abbrev first : Location
+first = record { number = 100; exists = are_there.0 }
+
+abbrev second : Location
+second = record { number = 110; exists = are_there.1 }
+
+abbrev third : Location
+third = record { number = 120; exists = are_there.2 }
+
+few : (3 ≤ 9999) × (10 ≤ 9999)
+few = (omega arith, omega arith)
+
+-- the one mark stands on an edge that isn't there, the other on the edge that leads back
+abbrev marks : List Mark
+marks =
+    record { from = first; onto = third; most = 3; inside = None; four_digits = few.0 }
+    ∷ record { from = third; onto = first; most = 10; inside = None; four_digits = few.1 } ∷ []
+
+abbrev notes : Notes
+notes = record {
+  programmed = switch.Stop;
+  load_cards = false;
+  marks = marks;
+  lists = record { location = 110; patterns = subtracting ∷ [] } ∷ [];
+}
+
+abbrev nodes : List Node
+nodes =
+    record {
+      place = 100;
+      operations = 65 ∷ [];
+      is_listed = false;
+      may_stop = false;
+      nexts = 110 ∷ [];
+      written = [];
+    }
+    ∷ record {
+      place = 110;
+      operations = 15 ∷ 16 ∷ [];
+      is_listed = true;
+      may_stop = true;
+      nexts = 120 ∷ [];
+      written = [];
+    }
+    ∷ record {
+      place = 120;
+      operations = 20 ∷ [];
+      is_listed = false;
+      may_stop = false;
+      nexts = 100 ∷ [];
+      written = 110 ∷ [];
+    }
+    ∷ []
+
+the_nodes : map (node loads notes (100 ∷ 110 ∷ 120 ∷ [])) (100 ∷ 110 ∷ 120 ∷ []) ≡ nodes
+the_nodes = refl
+
+the_text : graph_text marks 100 nodes
+    ≡ codes "digraph deck {\n"
+    ++ codes "node [shape=box]\n"
+    ++ codes "start [shape=point]\n"
+    ++ codes "start -> 0100\n"
+    ++ codes "0100 [label=\"0100 65\"]\n"
+    ++ codes "0100 -> 0110\n"
+    ++ codes "0110 [label=\"0110 15 16\" style=dashed peripheries=2]\n"
+    ++ codes "0110 -> 0120\n"
+    ++ codes "0120 [label=\"0120 20\"]\n"
+    ++ codes "0120 -> 0100 [label=\"mark 2 most 10\" penwidth=3]\n"
+    ++ codes "0120 -> 0110 [style=dotted]\n"
+    ++ codes "}\n"
+unfolding digits
+the_text = refl
+
+-- a location that is neither loaded nor listed has its location alone, and ends
+of_nothing : graph_text [] 1999 (map (node loads notes (1999 ∷ [])) (1999 ∷ []))
+    ≡ codes "digraph deck {\nnode [shape=box]\nstart [shape=point]\nstart -> 1999\n"
+    ++ codes "1999 [label=\"1999\"]\n}\n"
+of_nothing = refl

@@ -1,0 +1,7 @@
+pub mod Among
+mod Checks
+pub mod Nodes
+pub mod PatternOperations
+pub mod Stopping
+pub mod Texts
+pub mod Words

@@ -1,0 +1,67 @@
+-- Texts of a graph, piece by piece.
+use Rattle.std.proofs.Common.{◌≡◌, ℕ, ◌<◌, List, ◌++◌, length, get_or, ap, sym, append_assoc, Option, Some, None}
+use Rattle.std.proofs.Common.{Result, Ok, Err, subst}
+use Rattle.std.proofs.lemmas.Option.{get_or_from_slice_get, slice_get-get_or, slice_get_within}
+use Rattle.drum_core.specs.declared.location.Location.{Location}
+use Rattle.drum_flow.proofs.Alterations.{number_at}
+use Rattle.drum_flow.proofs.Founds.{numbers}
+use Rattle.drum_lines.specs.declared.failed_write.WriteFault.{WriteFault}
+use Rattle.drum_lines.specs.Sent.{IsSent}
+use Rattle.drum_lines.proofs.Sending.{IsSent-cut, IsSent-then}
+use Rattle.drum_times.specs.declared.notes.mark.Mark.{Mark}
+use Rattle.drum_graph.specs.GraphText.{most_at}
+
+-- the name of a box, its label and its style, piece by piece
+pub box_pieces : (name between operations mark dash border behind : List ℕ)
+    → ((name ++ between ++ name) ++ operations) ++ (mark ++ dash ++ border ++ behind)
+    ≡ name ++ between ++ (name ++ operations) ++ mark ++ dash ++ border ++ behind
+box_pieces name between operations mark dash border behind = simp append_assoc
+
+-- numbers in a text
+pub two_numbers : (IsTold : List ℕ → Type 0) (between behind first first' second second' : List ℕ) → first ≡ first'
+    → second ≡ second' → IsTold (first ++ (between ++ (second ++ behind)))
+    → IsTold (first' ++ (between ++ (second' ++ behind)))
+two_numbers IsTold between behind first first' second second' p q told =
+    subst (λ (xs : List ℕ). IsTold (first' ++ (between ++ (xs ++ behind)))) q
+    (subst (λ (xs : List ℕ). IsTold (xs ++ (between ++ (second ++ behind)))) p told)
+
+-- the label of a mark, piece by piece
+pub mark_pieces : (before number between most behind end : List ℕ)
+    → before ++ (number ++ (between ++ (most ++ (behind ++ end))))
+    ≡ before ++ number ++ between ++ most ++ behind ++ end
+mark_pieces before number between most behind end = sym (simp append_assoc)
+
+-- the most of a mark, by its place
+pub most_told : (marks : List Mark) (place : ℕ) (mark : Mark) → place < length marks
+    → (get_or marks place mark).most ≡ most_at marks place
+most_told marks place mark inside =
+    sym (ap (λ (one : Option Mark). elim one [ None ↦ 0 | Some m ↦ m.most ]) (slice_get-get_or marks place mark inside))
+
+-- a location among others, by its number, and its text
+pub numbered : (text : ℕ → List ℕ) (locations : List Location) (places : List ℕ) (k : ℕ) (location : Location)
+    → numbers locations ≡ places
+    → k < length locations → location ≡ get_or locations k location
+    → (k < length places) × (text location.number ≡ text (get_or places k location.number))
+numbered text locations places k location same inside here =
+    let at = number_at locations places k location same inside here in (
+      slice_get_within places k location.number at,
+      ap text (sym (get_or_from_slice_get places k location.number location.number at)),
+    )
+
+-- Three texts one behind the other, of which the first or the second is cut, or at most the third.
+module _ (old new : Option (List ℕ)) (begun : ℕ) (xs ys zs : List ℕ) where
+  pub first_cut : (fault : WriteFault) → IsSent old new begun (Err fault) xs
+      → IsSent old new begun (Err fault) (xs ++ ys ++ zs)
+  first_cut fault p = IsSent-cut old new begun fault (xs ++ ys) zs (IsSent-cut old new begun fault xs ys p)
+
+  pub second_cut : (first : Option (List ℕ)) (sent : ℕ) (fault : WriteFault) → IsSent old first begun (Ok sent) xs
+      → IsSent first new sent (Err fault) ys → IsSent old new begun (Err fault) (xs ++ ys ++ zs)
+  second_cut first sent fault p q =
+      IsSent-cut old new begun fault (xs ++ ys) zs (IsSent-then old first new begun sent (Err fault) xs ys p q)
+
+  pub all_sent : (first second : Option (List ℕ)) (sent more : ℕ) (result : Result ℕ WriteFault)
+      → IsSent old first begun (Ok sent) xs → IsSent first second sent (Ok more) ys → IsSent second new more result zs
+      → IsSent old new begun result (xs ++ ys ++ zs)
+  all_sent first second sent more result p q r =
+      IsSent-then old second new begun more result (xs ++ ys) zs
+      (IsSent-then old first second begun sent (Ok more) xs ys p q) r

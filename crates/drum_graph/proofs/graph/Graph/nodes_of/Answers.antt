@@ -1,0 +1,60 @@
+use Rattle.std.proofs.Common.{◌≡◌, List, [], ◌∷◌, ◌++◌, ℕ, map, length, ap, ◌∙◌, Some, arith, length-append}
+use Rattle.std.specs.Prelude.{slice_get}
+use Rattle.std.proofs.lemmas.List.{length-map, map-append}
+use Rattle.drum_core.specs.declared.location.Location.{Location}
+use Rattle.drum_core.specs.Loads.{loads_in}
+use Rattle.drum_flow.specs.Flow.{executed_in}
+use Rattle.drum_flow.proofs.Alterations.{all_taken, number_at}
+use Rattle.drum_graph.specs.declared.node.Node as held
+use Rattle.drum_graph.specs.Graph.{node}
+use Rattle.drum_graph.specs.GraphOf.{node_of}
+use Rattle.drum_graph.proofs.Nodes.{node_more}
+use Rattle.drum_graph.proofs.graph.Graph.nodes_of.Goals as goal
+
+pub loop-location-preserved : goal.loop-location-preserved
+loop-location-preserved c =
+    let flow = c.args.flow.now in
+    let executed = executed_in flow in
+    let k = c.loop-location.location-index in
+    let location = c.location-item.result in
+    let before = c.loop-location.nodes.items in
+    let one = c.in_ok-of.field-0 in
+    let here : slice_get executed k ≡ Some location.number =
+    number_at c.executed-location-items.result.now executed k location c.executed-location-items.ensures.all
+    c.loop-location-test.true c.location-item.is in
+    let added : map node_of c.push.new.self.items ≡ map node_of before ++ node_of one ∷ [] =
+    ap (map node_of) c.in_ok-push.ensures.items ∙ map-append node_of before (one ∷ []) in
+    record {
+      so_far =
+          node_more (node (loads_in flow.deck.now) flow.notes.now executed) (map node_of before)
+          (map node_of c.push.new.self.items) executed k location.number (node_of one) here
+          c.loop-location.invariant.so_far c.in_ok-of.ensures added;
+      few =
+          omega (
+            arith,
+            c.loop-location.invariant.few,
+            ap (λ (xs : List held.Node). length xs) c.in_ok-push.ensures.items,
+            length-append before (one ∷ []),
+          );
+    }
+
+pub returns-clause-all : goal.returns-clause-all
+returns-clause-all c =
+    let flow = c.args.flow.now in
+    c.loop-location.invariant.so_far
+    ∙ ap (map (node (loads_in flow.deck.now) flow.notes.now (executed_in flow)))
+    (all_taken c.executed-location-items.result.now (executed_in flow) c.loop-location.location-index
+    c.executed-location-items.ensures.all c.loop-location-test.false)
+
+pub returns-clause-few : goal.returns-clause-few
+returns-clause-few c =
+    let locations = c.executed-location-items.result.now in
+    omega (
+      arith,
+      c.loop-location.invariant.few,
+      c.loop-location.auto.location-index-end,
+      c.executed-location-items.ensures.few,
+      ap (λ (places : List ℕ). length places) c.executed-location-items.ensures.all,
+      length-map locations (λ (location : Location). location.number),
+      c.loop-location.nodes.ok.0,
+    )

@@ -1,0 +1,72 @@
+-- What is drawn of a deck's flow graph under its notes. `loads` says which word the deck loads into
+-- a location.
+use Rattle.std.specs.Prelude.{◌≡◌, ℕ, ◌==◌, Bool, true, false, List, [], map, filter, flat_map}
+use Rattle.std.specs.Prelude.{Option}
+use Rattle.std.specs.List.{list_any}
+use Rattle.drum_core.specs.declared.instruction.Instruction.{Instruction}
+use Rattle.drum_core.specs.declared.word.Word.{Word}
+use Rattle.drum_times.specs.Allowed as lists
+use Rattle.drum_times.specs.Allowed.{Notes, allowed}
+use Rattle.drum_machine.specs.Ways.{Way, early, to, late}
+use Rattle.drum_machine.specs.Writes.{writes}
+use Rattle.drum_flow.specs.Executed.{successors, with_new}
+use Rattle.drum_flow.specs.Flow.{AreFound}
+use Rattle.drum_flow.specs.Hops.{hops}
+
+-- what is drawn of an executed word
+pub record Node : Type 0 where
+  pub place : ℕ
+  pub operations : List ℕ
+  pub is_listed : Bool
+  pub may_stop : Bool
+  pub nexts : List ℕ
+  pub written : List ℕ
+
+-- the operations that are allowed at a location, each once
+abbrev pub operations : (ℕ → Option Word) → Notes → ℕ → List ℕ
+operations loads notes place = with_new [] (map (λ ins. ins.op) (allowed loads notes place))
+
+-- whether a way goes on nowhere
+abbrev pub stops : Way → Bool
+stops early = true
+stops (to next) = false
+stops late = true
+
+-- whether some instruction of a location may stop the run
+abbrev pub may_stop : (ℕ → Option Word) → Notes → ℕ → Bool
+may_stop loads notes place = list_any (λ hop. stops hop.way) (hops loads notes place)
+
+-- where the instructions of a location go on, each location once
+abbrev pub nexts : (ℕ → Option Word) → Notes → ℕ → List ℕ
+nexts loads notes place = with_new [] (successors loads notes place)
+
+-- whether a location is one of these
+abbrev pub is_among : List ℕ → ℕ → Bool
+is_among executed place = list_any (λ one. one == place) executed
+
+-- the executed words that an instruction writes
+abbrev pub written_by : List ℕ → Instruction → List ℕ
+written_by executed ins = filter (is_among executed) (writes ins)
+
+-- those that the instructions of a location write, each once
+abbrev pub written : (ℕ → Option Word) → Notes → List ℕ → ℕ → List ℕ
+written loads notes executed place =
+    with_new [] (flat_map (written_by executed) (allowed loads notes place))
+
+-- what is drawn of a location, where these are executed
+abbrev pub node : (ℕ → Option Word) → Notes → List ℕ → ℕ → Node
+node loads notes executed place = record {
+  place = place;
+  operations = operations loads notes place;
+  is_listed = lists.is_listed notes place;
+  may_stop = may_stop loads notes place;
+  nexts = nexts loads notes place;
+  written = written loads notes executed place;
+}
+
+-- These are the nodes of a deck's flow graph, in the order of discovery.
+pub record AreNodes (loads : ℕ → Option Word) (notes : Notes) (start : ℕ)
+    (nodes : List Node) : Type 0 where
+  pub executed : List ℕ
+  pub found : AreFound loads notes start executed
+  pub all : nodes ≡ map (node loads notes executed) executed

@@ -1,0 +1,33 @@
+-- A flow graph, as it is held.
+use Rattle.std.specs.Prelude.{ℕ, Bool, List, map}
+use Rattle.std.specs.List.{list_any}
+use Rattle.drum_core.specs.declared.instruction.Instruction.{Instruction}
+use Rattle.drum_times.specs.Allowed.{Notes}
+use Rattle.drum_machine.specs.Ways.{ways}
+use Rattle.drum_flow.specs.Found.{places_of}
+use Rattle.drum_graph.specs.declared.graph.Graph.{Graph}
+use Rattle.drum_graph.specs.declared.node.Node as held
+use Rattle.drum_graph.specs.Graph.{Node, stops}
+
+-- what is drawn of a word, by its numbers
+abbrev pub node_of : held.Node → Node
+node_of node = record {
+  place = node.location.number;
+  operations = node.operations.items;
+  is_listed = node.is_listed;
+  may_stop = node.may_stop;
+  nexts = places_of node.nexts;
+  written = places_of node.written;
+}
+
+-- all of them, in order
+abbrev pub nodes_in : Graph → List Node
+nodes_in graph = map node_of graph.nodes.items
+
+-- where the deck starts
+abbrev pub start_of : Graph → ℕ
+start_of graph = graph.start.number
+
+-- whether an instruction may stop the run
+abbrev pub has_stop_by : Notes → Instruction → Bool
+has_stop_by notes ins = list_any stops (ways notes ins)

@@ -1,0 +1,3 @@
+pub mod Graph
+pub mod GraphOf
+pub mod GraphText

@@ -1,0 +1,123 @@
+//! The line of the box of an executed word.
+
+ghost use Rattle.std.specs.Prelude.{◌≡◌, ◌+◌, ◌^◌, ◌≤◌, ◌++◌, codes, IfOk, flat_map, length};
+ghost use Rattle.drum_core.specs.Numeral.{digits_of};
+ghost use Rattle.drum_lines.specs.Sent.{IsSent, fails_by};
+ghost use Rattle.drum_graph.specs.GraphOf.{node_of};
+ghost use Rattle.drum_graph.specs.GraphText.{box_text, border_text, dash_text, operation_text};
+
+use crate::node::Node;
+use drum_core::{Location, Output};
+use drum_lines::{WriteFault, four_digits, send, two_digits};
+
+/// Writes the name of a word's box, and how its label begins, behind so many bytes, and tells how
+/// many have gone out then.
+fn send_name<O: Output>(
+    writer: &mut O,
+    sent: usize,
+    location: Location,
+) -> Result<usize, WriteFault>
+    requires called { O.called writer.old ≤ 2 ^ 62 + 2 ^ 60 }
+    requires few { sent ≤ 2 ^ 60 }
+    ensures sent { IsSent (O.written writer.old) (O.written writer.new) sent result
+        (digits_of 4 location.number ++ codes " [label=\"" ++ digits_of 4 location.number) }
+    ensures failures { O.failed writer.new ≡ O.failed writer.old + fails_by result }
+    ensures calls { O.called writer.new ≤ O.called writer.old + 30 }
+    ensures few { IfOk result (λ total. total ≤ sent + 30) }
+{
+    let digits = four_digits(location.number());
+    let pieces: [&[u8]; 3] = [&digits, b" [label=\"", &digits];
+    send(writer, sent, &pieces)
+}
+
+/// Writes an operation of a label.
+fn send_operation<O: Output>(writer: &mut O, sent: usize, op: u8) -> Result<usize, WriteFault>
+    requires called { O.called writer.old ≤ 2 ^ 62 + 2 ^ 60 }
+    requires few { sent ≤ 2 ^ 60 }
+    ensures sent { IsSent (O.written writer.old) (O.written writer.new) sent result
+        (operation_text op) }
+    ensures failures { O.failed writer.new ≡ O.failed writer.old + fails_by result }
+    ensures calls { O.called writer.new ≤ O.called writer.old + 10 }
+    ensures few { IfOk result (λ total. total ≤ sent + 10) }
+{
+    let digits = two_digits(op);
+    let pieces: [&[u8]; 2] = [b" ", &digits];
+    send(writer, sent, &pieces)
+}
+
+/// Writes the operations of a label.
+fn send_operations<O: Output>(
+    writer: &mut O,
+    begun: usize,
+    operations: &[u8],
+) -> Result<usize, WriteFault>
+    requires called { O.called writer.old ≤ 2 ^ 62 + 2 ^ 50 }
+    requires begun { begun ≤ 2 ^ 50 }
+    requires few { length operations.now ≤ 100 }
+    ensures sent { IsSent (O.written writer.old) (O.written writer.new) begun result
+        (flat_map operation_text operations.now) }
+    ensures failures { O.failed writer.new ≡ O.failed writer.old + fails_by result }
+    ensures calls { O.called writer.new ≤ O.called writer.old + 1000 }
+    ensures few { IfOk result (λ total. total ≤ begun + 1000) }
+{
+    let mut sent = begun;
+    for op in operations {
+        sent = send_operation(writer, sent, *op)?;
+    }
+    Ok(sent)
+}
+
+/// How the box of a word is drawn that has a list.
+fn dashes(is_listed: bool) -> &'static [u8]
+    ensures text { result.now ≡ dash_text is_listed }
+    ensures short { length result.now ≤ 20 }
+{
+    if is_listed { b" style=dashed" } else { b"" }
+}
+
+/// How the border of a word is drawn that may stop the run.
+fn borders(may_stop: bool) -> &'static [u8]
+    ensures text { result.now ≡ border_text may_stop }
+    ensures short { length result.now ≤ 20 }
+{
+    if may_stop { b" peripheries=2" } else { b"" }
+}
+
+/// Writes the end of a label, and how the box is drawn.
+fn send_style<O: Output>(writer: &mut O, sent: usize, node: &Node) -> Result<usize, WriteFault>
+    requires called { O.called writer.old ≤ 2 ^ 62 + 2 ^ 60 }
+    requires few { sent ≤ 2 ^ 60 }
+    ensures sent { IsSent (O.written writer.old) (O.written writer.new) sent result
+        (codes "\"" ++ dash_text node.now.is_listed ++ border_text node.now.may_stop
+        ++ codes "]\n") }
+    ensures failures { O.failed writer.new ≡ O.failed writer.old + fails_by result }
+    ensures calls { O.called writer.new ≤ O.called writer.old + 50 }
+    ensures few { IfOk result (λ total. total ≤ sent + 50) }
+{
+    let pieces: [&[u8]; 4] = [
+        b"\"",
+        dashes(node.is_listed),
+        borders(node.may_stop),
+        b"]\n",
+    ];
+    send(writer, sent, &pieces)
+}
+
+/// Writes the line of a word's box.
+pub(crate) fn send_box<O: Output>(
+    writer: &mut O,
+    sent: usize,
+    node: &Node,
+) -> Result<usize, WriteFault>
+    requires called { O.called writer.old ≤ 2 ^ 62 + 2 ^ 40 }
+    requires few { sent ≤ 2 ^ 40 }
+    ensures sent { IsSent (O.written writer.old) (O.written writer.new) sent result
+        (box_text (node_of node.now)) }
+    ensures failures { O.failed writer.new ≡ O.failed writer.old + fails_by result }
+    ensures calls { O.called writer.new ≤ O.called writer.old + 1080 }
+    ensures few { IfOk result (λ total. total ≤ sent + 1080) }
+{
+    let sent = send_name(writer, sent, node.location)?;
+    let sent = send_operations(writer, sent, &node.operations)?;
+    send_style(writer, sent, node)
+}

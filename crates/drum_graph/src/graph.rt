@@ -1,0 +1,55 @@
+ghost use Rattle.std.specs.Prelude.{◌≤◌, vec_len};
+
+use crate::node::Node;
+use drum_core::{Deck, Location};
+use drum_flow::{Flow, discover};
+use drum_times::Notes;
+use std::alloc::{AllocError, Global};
+
+/// What is drawn of the flow graph of a deck: its executed words, in the order of discovery, and
+/// where it starts.
+#[derive(Debug, Drop)]
+pub struct Graph {
+    pub(crate) nodes: Vec<Node>,
+    pub(crate) start: Location,
+    ghost few: { vec_len nodes ≤ 2004 },
+}
+
+impl Graph {
+    ghost use Rattle.std.specs.Prelude.{◌≡◌, IfOk, map};
+    ghost use Rattle.drum_core.specs.Loads.{loads_in, start_in};
+    ghost use Rattle.drum_flow.specs.Flow.{executed_in};
+    ghost use Rattle.drum_graph.specs.Graph.{AreNodes, node};
+    ghost use Rattle.drum_graph.specs.GraphOf.{node_of, nodes_in, start_of};
+
+    /// What is drawn of each executed word, in the order of discovery.
+    fn nodes_of(alloc: Global, flow: &Flow<'_>) -> Result<Vec<Node>, AllocError>
+        ensures all { IfOk result (λ nodes. map node_of nodes.items
+            ≡ map (node (loads_in flow.now.deck.now) flow.now.notes.now (executed_in flow.now))
+            (executed_in flow.now)) }
+        ensures few { IfOk result (λ nodes. vec_len nodes ≤ 2004) }
+    {
+        let mut nodes = Vec::new(alloc);
+        for location in flow.executed() {
+            nodes.push(Node::of(alloc, flow, *location)?)?;
+        }
+        Ok(nodes)
+    }
+
+    /// The flow graph of a deck under its notes, whatever is wrong with them.
+    ///
+    /// # Errors
+    ///
+    /// Where memory is wanting.
+    pub fn of(alloc: Global, deck: &Deck, notes: &Notes) -> Result<Graph, AllocError>
+        ensures nodes { IfOk result (λ graph. AreNodes (loads_in deck.now) notes.now
+            (start_in deck.now) (nodes_in graph)) }
+        ensures start { IfOk result (λ graph. start_of graph ≡ start_in deck.now) }
+    {
+        let flow = discover(alloc, deck, notes)?;
+        Ok(Graph {
+            nodes: Graph::nodes_of(alloc, &flow)?,
+            start: deck.start(),
+        })
+    }
+}

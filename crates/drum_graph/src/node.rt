@@ -1,0 +1,64 @@
+ghost use Rattle.std.specs.Prelude.{◌≤◌, vec_len};
+
+use crate::operations::operations_at;
+use crate::stops::may_stop;
+use crate::written::written_at;
+use drum_core::{Deck, Location};
+use drum_flow::Flow;
+use drum_flow::executed::Executed;
+use drum_flow::place::is_listed;
+use drum_times::Notes;
+use std::alloc::{AllocError, Global};
+
+/// What is drawn of an executed word: which operations are allowed there, each once, whether it has
+/// a list, whether one of its instructions may stop the run, where they go on, and which executed
+/// words they write.
+#[derive(Debug, Drop)]
+pub(crate) struct Node {
+    pub(crate) location: Location,
+    pub(crate) operations: Vec<u8>,
+    pub(crate) is_listed: bool,
+    pub(crate) may_stop: bool,
+    pub(crate) nexts: Executed,
+    pub(crate) written: Executed,
+    ghost few: { vec_len operations ≤ 100 },
+}
+
+impl Node {
+    ghost use Rattle.std.specs.Prelude.{◌≡◌, IfOk};
+    ghost use Rattle.drum_core.specs.Loads.{loads_in};
+    ghost use Rattle.drum_flow.specs.Flow.{executed_in};
+    ghost use Rattle.drum_flow.specs.Found.{places_of};
+    ghost use Rattle.drum_graph.specs.Graph as said;
+    ghost use Rattle.drum_graph.specs.GraphOf.{node_of};
+
+    /// The locations where the instructions of a location go on, each once.
+    fn nexts_at(
+        alloc: Global,
+        deck: &Deck,
+        notes: &Notes,
+        location: Location,
+    ) -> Result<Executed, AllocError>
+        ensures { IfOk result (λ nexts. places_of nexts
+            ≡ said.nexts (loads_in deck.now) notes.now location.number) }
+    {
+        let mut nexts = Executed::none(alloc);
+        nexts.add_successors(deck, notes, location)?;
+        Ok(nexts)
+    }
+
+    /// What is drawn of a location of a flow graph.
+    pub(crate) fn of(alloc: Global, flow: &Flow<'_>, location: Location) -> Result<Node, AllocError>
+        ensures { IfOk result (λ node. node_of node ≡ said.node (loads_in flow.now.deck.now)
+            flow.now.notes.now (executed_in flow.now) location.number) }
+    {
+        Ok(Node {
+            location,
+            operations: operations_at(alloc, flow.deck(), flow.notes(), location)?,
+            is_listed: is_listed(flow.notes(), location),
+            may_stop: may_stop(flow.deck(), flow.notes(), location),
+            nexts: Node::nexts_at(alloc, flow.deck(), flow.notes(), location)?,
+            written: written_at(alloc, flow, location)?,
+        })
+    }
+}

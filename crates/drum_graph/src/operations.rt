@@ -1,0 +1,40 @@
+//! The operations that are allowed at a location.
+
+ghost use Rattle.std.specs.Prelude.{◌≡◌, ◌≤◌, [], ◌∷◌, IfOk, OnOk, vec_len};
+ghost use Rattle.drum_core.specs.Loads.{loads_in};
+ghost use Rattle.drum_flow.specs.Executed.{with_new};
+ghost use Rattle.drum_graph.specs.Graph as said;
+
+use drum_core::{Deck, Location};
+use drum_flow::patterns::Patterns;
+use drum_times::Notes;
+use std::alloc::{AllocError, Global};
+
+/// Adds an operation, unless it is there.
+fn add_operation(operations: &mut Vec<u8>, op: u8) -> Result<(), AllocError>
+    ensures { OnOk result (operations.new.items ≡ with_new operations.old.items (op ∷ [])) }
+{
+    if operations.contains(&op) {
+        return Ok(());
+    }
+    operations.push(op)?;
+    Ok(())
+}
+
+/// The operations that are allowed at a location, each once, in order. There are 100 at most.
+pub fn operations_at(
+    alloc: Global,
+    deck: &Deck,
+    notes: &Notes,
+    location: Location,
+) -> Result<Vec<u8>, AllocError>
+    ensures all { IfOk result (λ operations. operations.items
+        ≡ said.operations (loads_in deck.now) notes.now location.number) }
+    ensures few { IfOk result (λ operations. vec_len operations ≤ 100) }
+{
+    let mut operations = Vec::new(alloc);
+    for pattern in Patterns::at(deck, notes, location) {
+        add_operation(&mut operations, pattern.op)?;
+    }
+    Ok(operations)
+}
