@@ -1,5 +1,5 @@
 -- Where the deck with its notes is accepted, nothing is found.
-use Rattle.std.proofs.Common.{◌≡◌, ℕ, ◌≤◌, Bool, List, [], ◌∷◌, ◌++◌, map, refl, ap, sym, ◌∙◌, subst}
+use Rattle.std.proofs.Common.{◌≡◌, ℕ, ◌≤◌, Bool, List, [], ◌∷◌, ◌++◌, refl, ap, sym, ◌∙◌, subst}
 use Rattle.std.proofs.Common.{Option}
 use Rattle.std.specs.Prelude.{Contains, cond, flat_map}
 use Rattle.std.proofs.lemmas.Bool.{le-ltb}
@@ -11,10 +11,11 @@ use Rattle.drum_flow.proofs.Acceptances.{one_order}
 use Rattle.drum_flow.proofs.Lists.{contains_here}
 use Rattle.drum_flow.proofs.Orders.{lead_push}
 use Rattle.drum_loops.specs.Loops.{IsLeft, LeadBy}
-use Rattle.drum_check.specs.Findings.{AreFindings, Finding, too_large, closes}
+use Rattle.drum_check.specs.Findings.{AreFindings, Finding, too_large}
 use Rattle.drum_check.specs.Findings.{altering, too_many, unfit, AreUnmeant}
 use Rattle.drum_check.proofs.Fits.{good_fit, unaltering}
 use Rattle.drum_check.proofs.Nothing.{all_nothing}
+use Rattle.drum_check.proofs.Tellings.{none_told}
 
 -- edges that lead back close a list of edges free of marks
 round_back : (loads : ℕ → Option Word) (notes : Notes) (edges : List (ℕ × ℕ)) (first node last : ℕ) (through : List ℕ)
@@ -38,8 +39,8 @@ module _ (loads : ℕ → Option Word) (notes : Notes) (start : ℕ) (executed :
       (λ ins has written. accepted.admitted.unaltered place ins written.0 (a.found.only place there) has written.1
       written.2)
 
-  no_edge : (edges : List (ℕ × ℕ)) → a.edges ≡ edges → map closes edges ≡ []
-  no_edge [] same = refl
+  no_edge : (edges : List (ℕ × ℕ)) → a.edges ≡ edges → a.edges ≡ []
+  no_edge [] same = same
   no_edge (edge ∷ edges) same =
       let there : Contains a.edges (edge.0, edge.1) =
       subst (λ (all : List (ℕ × ℕ)). Contains all edge) (sym same) (contains_here edge edges) in
@@ -59,12 +60,13 @@ module _ (loads : ℕ → Option Word) (notes : Notes) (start : ℕ) (executed :
       let rest : List Finding = a.unmeant in
       let nothing_else : findings ≡ a.unmeant = a.all
       ∙ ap (λ (xs : List Finding). xs ++ flat_map (altering loads notes a.executed) a.executed
-      ++ too_many (product_of a.executed notes.marks) ++ map closes a.edges ++ rest)
+      ++ too_many (product_of a.executed notes.marks) ++ a.loops ++ rest)
       (all_nothing (unfit loads notes) a.executed nothing_unfit)
-      ∙ ap (λ (xs : List Finding). xs ++ too_many (product_of a.executed notes.marks) ++ map closes a.edges ++ rest)
+      ∙ ap (λ (xs : List Finding). xs ++ too_many (product_of a.executed notes.marks) ++ a.loops ++ rest)
       (all_nothing (altering loads notes a.executed) a.executed nothing_altered)
-      ∙ ap (λ (b : Bool). cond b (too_large (product_of a.executed notes.marks) ∷ []) [] ++ map closes a.edges ++ rest)
+      ∙ ap (λ (b : Bool). cond b (too_large (product_of a.executed notes.marks) ∷ []) [] ++ a.loops ++ rest)
       (le-ltb 4000000 (product_of a.executed notes.marks) small)
-      ∙ ap (λ (xs : List Finding). xs ++ rest) (no_edge a.edges refl) in
+      ∙ ap (λ (xs : List Finding). xs ++ rest)
+      (none_told loads notes start a.executed a.edges a.loops (no_edge a.edges refl) a.told) in
       subst (λ (all : List Finding). AreUnmeant loads notes start executed all) (sym nothing_else)
       (subst (λ (places : List ℕ). AreUnmeant loads notes start places a.unmeant) same a.are_unmeant)

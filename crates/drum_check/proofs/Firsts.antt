@@ -28,6 +28,7 @@ use Rattle.drum_check.specs.Findings.{AreFindings, Finding, not_loaded, not_in_p
 use Rattle.drum_check.specs.Findings.{altered, altered_by, altering, is_fixed, not_there, operations_outside, outside}
 use Rattle.drum_check.specs.Findings.{too_many, unfit}
 use Rattle.drum_check.specs.First.{BeginsWith, IsFoundFirst}
+use Rattle.drum_check.specs.Insides.{AreLoops}
 use Rattle.drum_check.specs.Kept.{kept_of}
 use Rattle.drum_check.proofs.Begins.{begins_behind, begins_flat, begins_left, begins_lowest, begins_mapped, begins_new}
 use Rattle.drum_check.proofs.Fits.{absent_told, alters_none, good_fit, there_untold, unaltering}
@@ -35,6 +36,7 @@ use Rattle.drum_check.proofs.Fixeds.{fixed_only, fixed_so}
 use Rattle.drum_check.proofs.Nothing.{all_nothing}
 use Rattle.drum_check.proofs.Outsides.{inside_none, outside_of}
 use Rattle.drum_check.proofs.Silent.{round_left}
+use Rattle.drum_check.proofs.Tellings.{first_told}
 use Rattle.drum_check.proofs.WriteRanges.{writes_range}
 
 -- a member of the first so many stands among these
@@ -93,35 +95,35 @@ module _ (loads : ℕ → Option Word) (notes : Notes) (start : ℕ) where
     told_first : (x : Finding) → BeginsWith first_part x → BeginsWith findings x
     told_first x begins =
         subst (λ (all : List Finding). BeginsWith all x) (sym a.all)
-        (begins_left (first_part ++ second_part ++ third_part ++ map closes a.edges)
+        (begins_left (first_part ++ second_part ++ third_part ++ a.loops)
         a.unmeant x
-        (begins_left (first_part ++ second_part ++ third_part) (map closes a.edges) x
+        (begins_left (first_part ++ second_part ++ third_part) a.loops x
         (begins_left (first_part ++ second_part) third_part x (begins_left first_part second_part x begins))))
 
     told_second : (x : Finding) → first_part ≡ [] → BeginsWith second_part x → BeginsWith findings x
     told_second x none begins =
         subst (λ (all : List Finding). BeginsWith all x) (sym a.all)
-        (begins_left (first_part ++ second_part ++ third_part ++ map closes a.edges)
+        (begins_left (first_part ++ second_part ++ third_part ++ a.loops)
         a.unmeant x
-        (begins_left (first_part ++ second_part ++ third_part) (map closes a.edges) x
+        (begins_left (first_part ++ second_part ++ third_part) a.loops x
         (begins_left (first_part ++ second_part) third_part x (begins_behind first_part second_part x none begins))))
 
     told_third : (x : Finding) → first_part ≡ [] → second_part ≡ [] → BeginsWith third_part x → BeginsWith findings x
     told_third x none nor begins =
         subst (λ (all : List Finding). BeginsWith all x) (sym a.all)
-        (begins_left (first_part ++ second_part ++ third_part ++ map closes a.edges)
+        (begins_left (first_part ++ second_part ++ third_part ++ a.loops)
         a.unmeant x
-        (begins_left (first_part ++ second_part ++ third_part) (map closes a.edges) x
+        (begins_left (first_part ++ second_part ++ third_part) a.loops x
         (begins_behind (first_part ++ second_part) third_part x
         (ap (λ (xs : List Finding). xs ++ second_part) none ∙ nor) begins)))
 
     told_fourth : (x : Finding) → first_part ≡ [] → second_part ≡ [] → third_part ≡ []
-        → BeginsWith (map closes a.edges) x → BeginsWith findings x
+        → BeginsWith a.loops x → BeginsWith findings x
     told_fourth x none nor neither begins =
         subst (λ (all : List Finding). BeginsWith all x) (sym a.all)
-        (begins_left (first_part ++ second_part ++ third_part ++ map closes a.edges)
+        (begins_left (first_part ++ second_part ++ third_part ++ a.loops)
         a.unmeant x
-        (begins_behind (first_part ++ second_part ++ third_part) (map closes a.edges) x
+        (begins_behind (first_part ++ second_part ++ third_part) a.loops x
         (ap (λ (xs : List Finding). xs ++ second_part ++ third_part) none
         ∙ ap (λ (xs : List Finding). xs ++ third_part) nor ∙ neither) begins))
 
@@ -227,7 +229,7 @@ module _ (loads : ℕ → Option Word) (notes : Notes) (start : ℕ) where
         )
 
     round_first : (cycle : List ℕ) → IsUnbounded loads notes start cycle
-        → (edge : ℕ × ℕ) × BeginsWith findings (closes edge)
+        → (edge : ℕ × ℕ) × (number : Option ℕ) × BeginsWith findings (closes edge number)
     round_first cycle is = go a.edges refl
       where
         small : third_part ≡ []
@@ -242,11 +244,14 @@ module _ (loads : ℕ → Option Word) (notes : Notes) (start : ℕ) where
             (subst (λ (all : List ℕ). Contains all place) (sym same) (contains_here place places)))
             (round_left loads notes a.edges place place places none round)
 
-        go : (edges : List (ℕ × ℕ)) → a.edges ≡ edges → (edge : ℕ × ℕ) × BeginsWith findings (closes edge)
+        go : (edges : List (ℕ × ℕ)) → a.edges ≡ edges
+            → (edge : ℕ × ℕ) × (number : Option ℕ) × BeginsWith findings (closes edge number)
         go [] none = absurd (closed cycle refl none is.round.closed)
         go (edge ∷ edges) same =
             let parts = sound_parts is.round.sound in
-            (edge, told_fourth (closes edge) parts.0 parts.1 small (map closes edges, ap (map closes) same))
+            let first = first_told loads notes start a.executed edge edges a.loops
+            (subst (λ (all : List (ℕ × ℕ)). AreLoops loads notes start a.executed all a.loops) same a.told) in
+            (edge, first.0, told_fourth (closes edge first.0) parts.0 parts.1 small first.1)
 
     pub refusal_first : (refusal : Refusal) → IsRefusal loads notes start refusal → IsFoundFirst refusal findings
     refusal_first (NotLoaded location) is =

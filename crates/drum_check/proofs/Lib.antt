@@ -7,9 +7,12 @@ pub mod Fits
 pub mod Fixeds
 pub mod Lacks
 pub mod Nothing
+pub mod Numbered
 pub mod Outsides
 pub mod Pasted
+pub mod Rearranged
 pub mod Silent
+pub mod Tellings
 pub mod Unsaids
 pub mod Whole
 pub mod Words

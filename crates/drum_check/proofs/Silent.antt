@@ -15,13 +15,14 @@ use Rattle.drum_flow.specs.Hops.{IsExecuted}
 use Rattle.drum_flow.proofs.Acceptances.{one_order}
 use Rattle.drum_flow.proofs.Lists.{contains_here, contains_none}
 use Rattle.drum_loops.specs.Loops.{IsLeft}
-use Rattle.drum_check.specs.Findings.{AreFindings, Finding, not_loaded, not_in_profile, alters, too_large, closes}
+use Rattle.drum_check.specs.Findings.{AreFindings, Finding, not_loaded, not_in_profile, alters, too_large}
 use Rattle.drum_check.specs.Findings.{altered, altered_by, altering, is_fixed, not_there, operations_outside}
 use Rattle.drum_check.specs.Kept.{kept_of}
 use Rattle.drum_check.specs.Findings.{outside, too_many, unfit, unused, inside_at, AreUnmeant, IsUnsaid, pairs_of}
 use Rattle.drum_check.proofs.Fixeds.{fixed_so}
 use Rattle.drum_check.proofs.Nothing.{before_nothing, both_nothing, each_nothing, in_filter, in_flat_map, none_added, of_nothing}
 use Rattle.drum_check.proofs.Outsides.{outside_of}
+use Rattle.drum_check.proofs.Tellings.{told_none}
 use Rattle.drum_check.proofs.Unsaids.{those_one}
 
 -- edges that are left where there are none that close loops
@@ -95,7 +96,7 @@ module _ (loads : ℕ → Option Word) (notes : Notes) (start : ℕ) (executed :
   -- what keeps the deck from a bound
   abbrev in_the_way : List Finding
   in_the_way = flat_map (unfit loads notes) a.executed ++ flat_map (altering loads notes a.executed) a.executed
-      ++ too_many (product_of a.executed notes.marks) ++ map closes a.edges
+      ++ too_many (product_of a.executed notes.marks) ++ a.loops
 
   none_in_the_way : in_the_way ≡ []
   none_in_the_way =
@@ -108,13 +109,13 @@ module _ (loads : ℕ → Option Word) (notes : Notes) (start : ℕ) (executed :
   silent_accepted =
       let parts = both_nothing (flat_map (unfit loads notes) a.executed
       ++ flat_map (altering loads notes a.executed) a.executed ++ too_many (product_of a.executed notes.marks))
-      (map closes a.edges) (sym none_in_the_way) in
+      a.loops (sym none_in_the_way) in
       let three = both_nothing (flat_map (unfit loads notes) a.executed
       ++ flat_map (altering loads notes a.executed) a.executed) (too_many (product_of a.executed notes.marks))
       (sym parts.0) in
       let two = both_nothing (flat_map (unfit loads notes) a.executed)
       (flat_map (altering loads notes a.executed) a.executed) (sym three.0) in
-      let no_edges : a.edges ≡ [] = of_nothing closes a.edges parts.1 in
+      let no_edges : a.edges ≡ [] = told_none loads notes start a.executed a.edges a.loops a.told parts.1 in
       let fit : (place : ℕ) → IsExecuted loads notes start place
       → (not_there loads notes place ≡ []) × (operations_outside loads notes place ≡ []) = λ place executed.
       let both = both_nothing (not_there loads notes place)

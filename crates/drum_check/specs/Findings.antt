@@ -1,10 +1,9 @@
 -- All that keeps a deck from having a bound under its notes, and what of the notes isn't meant.
 -- `loads` says which word the deck loads into a location.
-use Rattle.std.specs.Prelude.{◌≡◌, ℕ, nat_lt, ◌==◌, if◌then◌else◌, ◌||◌, ◌&&◌, not, Bool, true}
-use Rattle.std.specs.Prelude.{false}
-use Rattle.std.specs.Prelude.{List, [], ◌∷◌, ◌++◌, ◌⊎◌, map, filter, flat_map, length, slice_get}
+use Rattle.std.specs.Prelude.{◌≡◌, ℕ, nat_lt, if◌then◌else◌, ◌||◌, ◌&&◌, not, Bool, true, false}
+use Rattle.std.specs.Prelude.{List, [], ◌∷◌, ◌++◌, map, filter, flat_map, length, slice_get}
 use Rattle.std.specs.Prelude.{Option, Some, None, is_some}
-use Rattle.std.specs.List.{list_any, range_with_len}
+use Rattle.std.specs.List.{range_with_len}
 use Rattle.drum_core.specs.declared.instruction.Instruction.{Instruction}
 use Rattle.drum_core.specs.declared.word.Word.{Word}
 use Rattle.drum_core.specs.Op.{op_of}
@@ -13,24 +12,15 @@ use Rattle.drum_times.specs.Allowed.{Notes, is_listed, allowed}
 use Rattle.drum_machine.specs.Counts.{is_inside}
 use Rattle.drum_machine.specs.Writes.{writes}
 use Rattle.drum_flow.specs.Accepted.{product_of}
-use Rattle.drum_flow.specs.Executed.{successors, with_new}
+use Rattle.drum_flow.specs.Executed.{with_new}
 use Rattle.drum_flow.specs.Flow.{AreFound}
 use Rattle.drum_loops.specs.Loops.{AreClosing}
 use Rattle.drum_loops.specs.Nested.{IsNested}
-use Rattle.drum_check.specs.declared.kept.Kept.{Kept}
+pub use Rattle.drum_check.specs.Among.{is_among, has_edge, AreThose}
+pub use Rattle.drum_check.specs.Finding.{Finding, not_loaded, not_in_profile, alters, too_large}
+pub use Rattle.drum_check.specs.Finding.{closes, unused_mark, unused_list, inside}
+use Rattle.drum_check.specs.Insides.{AreLoops}
 use Rattle.drum_check.specs.Kept.{kept_of}
-
--- something that was found, by the numbers of its locations, its operation or its product; and with
--- what a writer leaves of the word that it alters
-pub data Finding : Type 0 where
-  not_loaded : ℕ → Finding
-  not_in_profile : ℕ → ℕ → Finding
-  alters : ℕ → ℕ → Kept → Finding
-  too_large : ℕ → Finding
-  closes : ℕ × ℕ → Finding
-  unused_mark : ℕ × ℕ → Finding
-  unused_list : ℕ → Finding
-  inside : ℕ × ℕ → ℕ × ℕ → Finding
 
 -- whether a location is loaded or listed
 abbrev pub is_there : (ℕ → Option Word) → Notes → ℕ → Bool
@@ -55,10 +45,6 @@ unfit loads notes place =
     not_there loads notes place
     ++ map (not_in_profile place) (operations_outside loads notes place)
 
--- whether a location is one of these
-abbrev pub is_among : List ℕ → ℕ → Bool
-is_among executed place = list_any (λ one. one == place) executed
-
 -- whether a location is one of the executed ones without a list
 abbrev pub is_fixed : Notes → List ℕ → ℕ → Bool
 is_fixed notes executed place = is_among executed place && not (is_listed notes place)
@@ -81,11 +67,6 @@ altering loads notes executed place =
 -- that executed words times counts are past 4,000,000, if they are
 abbrev pub too_many : ℕ → List Finding
 too_many product = if nat_lt 4000000 product then too_large product ∷ [] else []
-
--- whether some instruction of an executed location goes on from the one to the other
-abbrev pub has_edge : (ℕ → Option Word) → Notes → List ℕ → ℕ → ℕ → Bool
-has_edge loads notes executed from onto =
-    is_among executed from && is_among (successors loads notes from) onto
 
 -- a mark on an edge that isn't there
 abbrev pub astray : (ℕ → Option Word) → Notes → List ℕ → Mark → List Finding
@@ -133,13 +114,6 @@ pub record IsUnsaid (loads : ℕ → Option Word) (notes : Notes) (start : ℕ) 
       (edge_at notes.marks places.0)
   pub unsaid : is_inside notes.marks places.0 places.1 ≡ false
 
--- these are those of a list that have a property, in order
-abbrev pub AreThose : {X : Type 0} → (X → Type 0) → List X → List X → Type 0
-AreThose IsOne [] those = those ≡ []
-AreThose {X} IsOne (x ∷ xs) those =
-    (IsOne x × ((others : List X) × (those ≡ x ∷ others) × AreThose IsOne xs others))
-    ⊎ (¬ IsOne x × AreThose IsOne xs those)
-
 -- all pairs of places of marks, by the first and then by the second
 abbrev pub pairs_of : List Mark → List (ℕ × ℕ)
 pairs_of marks =
@@ -165,16 +139,18 @@ may_be_meant (inside inner outer) = true
 may_be_meant _ = false
 
 -- These are all the findings: of each executed location, in the order of discovery, what is wrong
--- with it, then what each alters, then the size, the edges that close loops, and last what of the
--- notes isn't meant.
+-- with it, then what each alters, then the size, the loops of the edges that close them, and last
+-- what of the notes isn't meant.
 pub record AreFindings (loads : ℕ → Option Word) (notes : Notes) (start : ℕ)
     (findings : List Finding) : Type 0 where
   pub executed : List ℕ
   pub found : AreFound loads notes start executed
   pub edges : List (ℕ × ℕ)
   pub closing : AreClosing loads notes start edges
+  pub loops : List Finding
+  pub told : AreLoops loads notes start executed edges loops
   pub unmeant : List Finding
   pub are_unmeant : AreUnmeant loads notes start executed unmeant
   pub all : findings ≡ flat_map (unfit loads notes) executed
       ++ flat_map (altering loads notes executed) executed
-      ++ too_many (product_of executed notes.marks) ++ map closes edges ++ unmeant
+      ++ too_many (product_of executed notes.marks) ++ loops ++ unmeant

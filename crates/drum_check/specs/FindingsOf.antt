@@ -1,15 +1,16 @@
 -- What was found, as it is held.
-use Rattle.std.specs.Prelude.{List, map}
+use Rattle.std.specs.Prelude.{ℕ, List, map}
 use Rattle.drum_flow.specs.declared.fixed.Fixed.{Fixed}
 use Rattle.drum_flow.specs.declared.flow_graph.Flow.{Flow}
 use Rattle.drum_flow.specs.Fixed.{AreFlagged}
-use Rattle.drum_flow.specs.Flow.{executed_in, notes_of}
+use Rattle.drum_flow.specs.Flow.{executed_in, notes_of, of_flow}
 use Rattle.drum_loops.specs.Loops.{edge_of}
 use Rattle.drum_check.specs.declared.finding.Finding as held
 use Rattle.drum_check.specs.declared.finding.Finding.TheVariants as finding
 use Rattle.drum_check.specs.declared.findings.Findings.{Findings}
 use Rattle.drum_check.specs.Findings.{Finding, not_loaded, not_in_profile, alters, too_large}
 use Rattle.drum_check.specs.Findings.{closes, unused_mark, unused_list, inside}
+use Rattle.drum_check.specs.Insides.{StandsInside}
 
 -- a finding by its numbers
 abbrev pub seen : held.Finding → Finding
@@ -17,7 +18,7 @@ seen (finding.NotLoaded location) = not_loaded location.number
 seen (finding.NotInProfile location op) = not_in_profile location.number op
 seen (finding.Alters writer word kept) = alters writer.number word.number kept
 seen (finding.TooLarge product) = too_large product
-seen (finding.Loop edge) = closes (edge_of edge)
+seen (finding.Loop edge number) = closes (edge_of edge) number
 seen (finding.UnusedMark edge) = unused_mark (edge_of edge)
 seen (finding.UnusedList location) = unused_list location.number
 seen (finding.Inside inner outer) = inside (edge_of inner) (edge_of outer)
@@ -29,3 +30,7 @@ found_in findings = map seen findings.all.items
 -- the flags are those of the flow graph's executed locations without a list
 abbrev pub AreFixed : Flow → Fixed → Type 0
 AreFixed flow fixed = AreFlagged (executed_in flow) (notes_of flow) fixed.flags.items
+
+-- the loop of the inner edge stands inside that of the outer one, in a flow graph
+abbrev pub IsInsideIn : Flow → ℕ × ℕ → ℕ × ℕ → Type 0
+IsInsideIn flow outer inner = of_flow StandsInside flow (executed_in flow) outer inner

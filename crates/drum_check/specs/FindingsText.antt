@@ -12,7 +12,7 @@ finding_text (not_in_profile place op) =
 finding_text (alters writer word kept) =
     codes "alters " ++ digits_of 4 writer ++ codes " " ++ digits_of 4 word ++ codes "\n"
 finding_text (too_large product) = codes "toolarge " ++ decimal product ++ codes "\n"
-finding_text (closes edge) =
+finding_text (closes edge number) =
     codes "loop " ++ digits_of 4 edge.0 ++ codes " " ++ digits_of 4 edge.1 ++ codes "\n"
 finding_text (unused_mark edge) =
     codes "unused mark " ++ digits_of 4 edge.0 ++ codes " " ++ digits_of 4 edge.1 ++ codes "\n"

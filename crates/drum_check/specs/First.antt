@@ -1,6 +1,6 @@
 -- What is found first of a deck that the analysis refuses: just what refuses it; where edges free
 -- of marks lead round, an edge that closes a loop.
-use Rattle.std.specs.Prelude.{◌≡◌, ℕ, List, ◌∷◌}
+use Rattle.std.specs.Prelude.{◌≡◌, ℕ, List, ◌∷◌, Option}
 use Rattle.drum_flow.specs.declared.refusal.Refusal.{Refusal}
 use Rattle.drum_flow.specs.declared.refusal.Refusal.TheVariants.{Memory, NotLoaded, NotInProfile}
 use Rattle.drum_flow.specs.declared.refusal.Refusal.TheVariants.{Alters, Unbounded, TooLarge}
@@ -18,5 +18,6 @@ IsFoundFirst (NotInProfile location op) found =
 IsFoundFirst (Alters writer word) found =
     (kept : Kept) × BeginsWith found (alters writer.number word.number kept)
 IsFoundFirst (TooLarge product) found = BeginsWith found (too_large product)
-IsFoundFirst (Unbounded cycle) found = (edge : ℕ × ℕ) × BeginsWith found (closes edge)
+IsFoundFirst (Unbounded cycle) found =
+    (edge : ℕ × ℕ) × (number : Option ℕ) × BeginsWith found (closes edge number)
 IsFoundFirst Memory found = Unit {0}

@@ -1,6 +1,7 @@
--- The notes that are lacking, as TOML: a mark for each edge that closes a loop, and a list for each
--- word that is altered, with as much of its own instruction as all of its writers leave. What has
--- to be thought about is left empty, and no notes are read before it is filled in.
+-- The notes that are lacking, as TOML: a mark for each edge that closes a loop, with the number of
+-- the mark inside which it stands, and a list for each word that is altered, with as much of its
+-- own instruction as all of its writers leave. What has to be thought about is left empty, and no
+-- notes are read before it is filled in.
 use Rattle.std.specs.Prelude.{ℕ, ◌==◌, if◌then◌else◌, List, [], ◌∷◌, ◌++◌, codes, decimal, map}
 use Rattle.std.specs.Prelude.{flat_map, Option, Some, None, is_some}
 use Rattle.std.specs.List.{list_all}
@@ -50,10 +51,20 @@ abbrev pub words_altered : List Finding → List (ℕ × Kept)
 words_altered findings =
     map (lacking_list findings) (with_new [] (flat_map altered_word findings))
 
-abbrev pub mark_text : ℕ × ℕ → List ℕ
-mark_text edge =
+-- the line that says inside which other mark a mark stands, by that one's number, if it does; and
+-- what it changes, since that isn't sure to be meant
+abbrev pub inside_text : Option ℕ → List ℕ
+inside_text None = []
+inside_text (Some number) =
+    codes "inside = " ++ decimal number ++ codes " # without this line, most is of the whole run\n"
+
+abbrev pub edge_text : ℕ × ℕ → List ℕ
+edge_text edge =
     codes "[[mark]]\nmost =\nfrom = " ++ decimal edge.0 ++ codes "\nto = " ++ decimal edge.1
     ++ codes "\n"
+
+abbrev pub mark_text : ℕ × ℕ → Option ℕ → List ℕ
+mark_text edge number = edge_text edge ++ inside_text number
 
 -- a part that stays; what has to be thought about is left empty
 abbrev pub part_text : Option ℕ → List ℕ
@@ -83,7 +94,7 @@ list_text lack =
 
 -- the mark that a finding asks for
 abbrev pub mark_for : Finding → List ℕ
-mark_for (closes edge) = mark_text edge
+mark_for (closes edge number) = mark_text edge number
 mark_for _ = []
 
 -- what a check prints: a line for each finding, and what is lacking, the marks first

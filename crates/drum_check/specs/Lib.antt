@@ -1,7 +1,10 @@
+pub mod Among
+pub mod Finding
 pub mod Findings
 pub mod FindingsOf
 pub mod FindingsText
 pub mod First
+pub mod Insides
 pub mod Kept
 pub mod Lacking
 pub mod LackingOf

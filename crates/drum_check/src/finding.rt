@@ -20,8 +20,14 @@ pub enum Finding {
     },
     /// Executed words times counts, the product of `most + 1` over the marks, is past 4,000,000.
     TooLarge(u128),
-    /// An edge free of marks closes a loop of edges that are free of marks.
-    Loop(Edge),
+    /// An edge free of marks closes a loop of edges that are free of marks. A mark on it is to say
+    /// that it stands inside the mark of this number, if there is one. The first mark has number 1;
+    /// those on the edges that close loops stand behind those of the notes, in the order in which
+    /// they are found.
+    Loop {
+        edge: Edge,
+        inside: Option<usize>,
+    },
     /// A mark stands on an edge that the flow graph doesn't have.
     UnusedMark(Edge),
     /// A location that isn't executed has a list.

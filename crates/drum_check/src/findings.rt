@@ -4,6 +4,7 @@ use crate::altered::altered_at;
 use crate::edges::{has_edge, is_executed};
 use crate::finding::Finding;
 use crate::kept::Kept;
+use crate::loops::unmarked_loops;
 use crate::operations::operations_outside;
 use crate::unsaid::{are_unsaid, unsaid_marks};
 use drum_core::{Deck, Location};
@@ -11,7 +12,7 @@ use drum_flow::counts::counts_of;
 use drum_flow::fixed::Fixed;
 use drum_flow::place::{is_listed, is_there};
 use drum_flow::{Flow, discover};
-use drum_loops::{Edge, closing_edges};
+use drum_loops::Edge;
 use drum_times::{Mark, Notes};
 use std::alloc::{AllocError, Global};
 
@@ -36,10 +37,9 @@ impl Findings {
     ghost use Rattle.drum_core.specs.Loads.{loads_in, start_in};
     ghost use Rattle.drum_flow.specs.Accepted.{product_of};
     ghost use Rattle.drum_flow.specs.Flow.{executed_in, of_flow, AreFound};
-    ghost use Rattle.drum_loops.specs.Loops.{edge_of};
     ghost use Rattle.drum_check.specs.Findings.{not_there, unfit, altering, too_many};
     ghost use Rattle.drum_check.specs.Findings.{astray, idle, may_be_meant, unused};
-    ghost use Rattle.drum_check.specs.Findings.{not_in_profile, alters, closes, AreFindings};
+    ghost use Rattle.drum_check.specs.Findings.{not_in_profile, alters, AreFindings};
     ghost use Rattle.drum_check.specs.FindingsOf.{AreFixed, seen, found_in};
     ghost use Rattle.drum_check.specs.Kept.{kept_of};
 
@@ -112,13 +112,12 @@ impl Findings {
         Ok(())
     }
 
-    /// Adds edges that close loops.
-    fn add_edges(&mut self, edges: &[Edge]) -> Result<(), AllocError>
-        ensures { OnOk result (found_in self.new ≡ found_in self.old
-            ++ map (λ edge. closes (edge_of edge)) edges.now) }
+    /// Adds what was found elsewhere.
+    fn add_all(&mut self, findings: &[Finding]) -> Result<(), AllocError>
+        ensures { OnOk result (found_in self.new ≡ found_in self.old ++ map seen findings.now) }
     {
-        for edge in edges {
-            self.add(Finding::Loop(*edge))?;
+        for finding in findings {
+            self.add(*finding)?;
         }
         Ok(())
     }
@@ -266,21 +265,12 @@ impl Findings {
         self.add_all_idle(flow, 8000, 8004)
     }
 
-    /// Adds the marks that don't say inside which other one they stand.
-    fn add_unsaid(&mut self, unsaid: &[Finding]) -> Result<(), AllocError>
-        ensures { OnOk result (found_in self.new ≡ found_in self.old ++ map seen unsaid.now) }
-    {
-        for finding in unsaid {
-            self.add(*finding)?;
-        }
-        Ok(())
-    }
-
     /// All that keeps the deck from having a bound under these notes: first what is wrong with
     /// each executed location by itself, in the order of discovery, then what the instructions of
-    /// each alter, then the size, and then the edges that close loops; and last what of the notes
-    /// isn't meant: the marks and the lists that nothing comes to, each mark in order and each list
-    /// by its location, and the marks that don't say inside which other one they stand.
+    /// each alter, then the size, and then the edges that close loops, those first whose loop
+    /// stands inside the fewest others; and last what of the notes isn't meant: the marks and the
+    /// lists that nothing comes to, each mark in order and each list by its location, and the marks
+    /// that don't say inside which other one they stand.
     ///
     /// # Errors
     ///
@@ -291,15 +281,15 @@ impl Findings {
     {
         let flow = discover(alloc, deck, notes)?;
         let fixed = Fixed::of(alloc, flow.executed(), notes)?;
-        let edges = closing_edges(alloc, &flow)?;
+        let loops = unmarked_loops(alloc, &flow)?;
         let unsaid = unsaid_marks(alloc, &flow)?;
         let mut findings = Findings::none(alloc);
         findings.add_all_unfit(alloc, &flow)?;
         findings.add_all_altering(alloc, &flow, &fixed)?;
         findings.add_size(&flow)?;
-        findings.add_edges(&edges)?;
+        findings.add_all(&loops)?;
         findings.add_unused(alloc, &flow)?;
-        findings.add_unsaid(&unsaid)?;
+        findings.add_all(&unsaid)?;
         Ok(findings)
     }
 

@@ -3,9 +3,11 @@
 //!
 //! A `finding` is one of these things. `operations` are those of a location that are outside the
 //! profile, `altered` the words that its instructions alter, `edges` tells whether a mark's edge is
-//! there, `unsaid` finds the marks that don't say inside which other they stand, and `findings`
-//! gathers what is found, with what is `kept` of a word that is altered. `listing` writes a line
-//! for each, and `pasting` the notes that are `lacking` behind them.
+//! there, `nested` inside which loops of others that of an edge stands, `loops` finds the loops
+//! that lack a mark, with the mark inside which one on each stands, `unsaid` the marks that don't
+//! say inside which other they stand, and `findings` gathers what is found, with what is `kept` of
+//! a word that is altered. `listing` writes a line for each, and `pasting` the notes that are
+//! `lacking` behind them.
 #![tactic(auto)]
 
 mod altered;
@@ -16,6 +18,8 @@ mod kept;
 mod lacking;
 pub mod laws;
 mod listing;
+mod loops;
+mod nested;
 mod operations;
 mod pasting;
 mod unsaid;

@@ -143,7 +143,7 @@ fn send_finding<O: Output>(
             send_behind(writer, sent, b"alters ", from, &digits)
         }
         Finding::TooLarge(product) => send_number(writer, sent, b"toolarge ", product),
-        Finding::Loop(edge) => {
+        Finding::Loop { edge, .. } => {
             let digits = four_digits(edge.onto.number());
             send_behind(writer, sent, b"loop ", edge.from, &digits)
         }

@@ -5,8 +5,9 @@ ghost use Rattle.std.specs.Prelude.{length};
 ghost use Rattle.drum_lines.specs.Sent.{IsSent, IsWritten, fails_by};
 ghost use Rattle.drum_loops.specs.Loops.{edge_of};
 ghost use Rattle.drum_check.specs.FindingsOf.{seen, found_in};
-ghost use Rattle.drum_check.specs.Lacking.{check_text, comment_text, gap, list_text, mark_for};
-ghost use Rattle.drum_check.specs.Lacking.{mark_text, part_text, pattern_text, words_altered};
+ghost use Rattle.drum_check.specs.Lacking.{check_text, comment_text, edge_text, gap, inside_text};
+ghost use Rattle.drum_check.specs.Lacking.{list_text, mark_for, mark_text, part_text, pattern_text};
+ghost use Rattle.drum_check.specs.Lacking.{words_altered};
 ghost use Rattle.drum_check.specs.LackingOf.{pair_of, words_in};
 
 use crate::finding::Finding;
@@ -20,11 +21,11 @@ use drum_loops::Edge;
 use itoa::Buffer;
 
 /// Writes the mark of an edge, behind so many bytes, and tells how many have gone out then.
-fn send_mark<O: Output>(writer: &mut O, sent: usize, edge: &Edge) -> Result<usize, WriteFault>
+fn send_edge<O: Output>(writer: &mut O, sent: usize, edge: Edge) -> Result<usize, WriteFault>
     requires called { O.called writer.old ≤ 2 ^ 62 + 2 ^ 60 }
     requires few { sent ≤ 2 ^ 60 }
     ensures sent { IsSent (O.written writer.old) (O.written writer.new) sent result
-        (mark_text (edge_of edge.now)) }
+        (edge_text (edge_of edge)) }
     ensures failures { O.failed writer.new ≡ O.failed writer.old + fails_by result }
     ensures calls { O.called writer.new ≤ O.called writer.old + 100 }
     ensures few { IfOk result (λ total. total ≤ sent + 100) }
@@ -41,6 +42,51 @@ fn send_mark<O: Output>(writer: &mut O, sent: usize, edge: &Edge) -> Result<usiz
     send(writer, sent, &pieces)
 }
 
+/// Writes the line that says inside which other mark a mark stands, if it does.
+fn send_inside<O: Output>(
+    writer: &mut O,
+    sent: usize,
+    inside: Option<usize>,
+) -> Result<usize, WriteFault>
+    requires called { O.called writer.old ≤ 2 ^ 62 + 2 ^ 61 }
+    requires few { sent ≤ 2 ^ 61 }
+    ensures sent { IsSent (O.written writer.old) (O.written writer.new) sent result
+        (inside_text inside) }
+    ensures failures { O.failed writer.new ≡ O.failed writer.old + fails_by result }
+    ensures calls { O.called writer.new ≤ O.called writer.old + 100 }
+    ensures few { IfOk result (λ total. total ≤ sent + 100) }
+{
+    let Some(mark) = inside else {
+        return Ok(sent);
+    };
+    let mut number = Buffer::new();
+    let pieces: [&[u8]; 3] = [
+        b"inside = ",
+        number.format(mark).as_bytes(),
+        b" # without this line, most is of the whole run\n",
+    ];
+    send(writer, sent, &pieces)
+}
+
+/// Writes the mark of an edge, with the mark inside which it stands, if it does.
+fn send_mark<O: Output>(
+    writer: &mut O,
+    sent: usize,
+    edge: Edge,
+    inside: Option<usize>,
+) -> Result<usize, WriteFault>
+    requires called { O.called writer.old ≤ 2 ^ 62 + 2 ^ 60 }
+    requires few { sent ≤ 2 ^ 60 }
+    ensures sent { IsSent (O.written writer.old) (O.written writer.new) sent result
+        (mark_text (edge_of edge) inside) }
+    ensures failures { O.failed writer.new ≡ O.failed writer.old + fails_by result }
+    ensures calls { O.called writer.new ≤ O.called writer.old + 200 }
+    ensures few { IfOk result (λ total. total ≤ sent + 200) }
+{
+    let sent = send_edge(writer, sent, edge)?;
+    send_inside(writer, sent, inside)
+}
+
 /// Writes the mark that a finding asks for, if it does.
 fn send_mark_for<O: Output>(
     writer: &mut O,
@@ -52,11 +98,11 @@ fn send_mark_for<O: Output>(
     ensures sent { IsSent (O.written writer.old) (O.written writer.new) sent result
         (mark_for (seen finding.now)) }
     ensures failures { O.failed writer.new ≡ O.failed writer.old + fails_by result }
-    ensures calls { O.called writer.new ≤ O.called writer.old + 100 }
-    ensures few { IfOk result (λ total. total ≤ sent + 100) }
+    ensures calls { O.called writer.new ≤ O.called writer.old + 200 }
+    ensures few { IfOk result (λ total. total ≤ sent + 200) }
 {
-    match finding {
-        Finding::Loop(edge) => send_mark(writer, sent, edge),
+    match *finding {
+        Finding::Loop { edge, inside } => send_mark(writer, sent, edge, inside),
         _ => Ok(sent),
     }
 }
@@ -224,8 +270,8 @@ fn send_lists<O: Output>(
 }
 
 /// Writes what was found, a line each, and then the notes that are lacking, as TOML: a mark for
-/// each edge that closes a loop, and a list for each word that is altered. What is lacking is that
-/// of what was found. It takes no memory.
+/// each edge that closes a loop, with the number of the mark inside which it stands, and a list for
+/// each word that is altered. What is lacking is that of what was found. It takes no memory.
 ///
 /// # Errors
 ///

@@ -1,14 +1,21 @@
-use Rattle.std.proofs.Common.{ℕ, List, ◌++◌, ap, ◌∙◌, subst}
-use Rattle.std.specs.Prelude.{codes, decimal}
-use Rattle.drum_lines.specs.Sent.{IsSent}
-use Rattle.drum_lines.proofs.Sending.{two_texts}
+use Rattle.std.proofs.lemmas.Result.{err_from_is_err_and}
+use Rattle.drum_lines.proofs.Sending.{IsSent-cut, IsSent-then}
+use Rattle.drum_loops.specs.Loops.{edge_of}
+use Rattle.drum_check.specs.Lacking.{edge_text, inside_text}
 use Rattle.drum_check.proofs.pasting.send_mark.Goals as goal
+
+pub returns-in_err-sent-clause-sent : goal.returns-in_err-sent-clause-sent
+returns-in_err-sent-clause-sent g c =
+    let old = g.O.Output.written c.args.writer.now in
+    let new = g.O.Output.written c.send_edge.new.writer in
+    let p = err_from_is_err_and c.from_residual.result c.from_residual.ensures.1 in
+    rw (p.1, p.2) (IsSent-cut old new c.args.sent c.in_err-sent.field-0.0 (edge_text (edge_of c.args.edge))
+    (inside_text c.args.inside) c.in_err-sent.ensures.sent)
 
 pub returns-clause-sent : goal.returns-clause-sent
 returns-clause-sent g c =
-    let edge = c.args.edge.now in
-    subst (λ (numbers : List ℕ). IsSent (g.O.Output.written c.args.writer.now) (g.O.Output.written c.send.new.output)
-    c.args.sent c.send.result (codes "[[mark]]\nmost =\nfrom = " ++ numbers))
-    (two_texts (codes "\nto = ") c.as_bytes.result.now (decimal edge.from.number) c.as_bytes-2.result.now
-    (decimal edge.onto.number) (c.as_bytes.ensures.value ∙ c.format.ensures.text ∙ ap decimal c.number.ensures)
-    (c.as_bytes-2.ensures.value ∙ c.format-2.ensures.text ∙ ap decimal c.number-2.ensures)) c.send.ensures.sent
+    let old = g.O.Output.written c.args.writer.now in
+    let first = g.O.Output.written c.send_edge.new.writer in
+    let new = g.O.Output.written c.send_inside.new.writer in
+    IsSent-then old first new c.args.sent c.in_ok-sent.sent c.send_inside.result (edge_text (edge_of c.args.edge))
+    (inside_text c.args.inside) c.in_ok-sent.ensures.sent c.send_inside.ensures.sent

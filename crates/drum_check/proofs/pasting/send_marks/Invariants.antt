@@ -10,7 +10,7 @@ abbrev pub invariant-loop-finding : goal.invariant-loop-finding
 invariant-loop-finding g l = record {
   so_far : IsSent (g.O.Output.written l.fn.writer) (g.O.Output.written l.writer) l.fn.begun (Ok l.sent)
       (flat_map (λ (finding : Finding). mark_for (seen finding)) (take l.finding-index l.findings.all.items));
-  few : l.sent ≤ l.fn.begun + 100 * l.finding-index;
-  calls : g.O.Output.called l.writer ≤ g.O.Output.called l.fn.writer + 100 * l.finding-index;
+  few : l.sent ≤ l.fn.begun + 200 * l.finding-index;
+  calls : g.O.Output.called l.writer ≤ g.O.Output.called l.fn.writer + 200 * l.finding-index;
   failures : g.O.Output.failed l.writer ≡ g.O.Output.failed l.fn.writer;
 }

@@ -1,15 +1,12 @@
 use Rattle.std.proofs.Common.{◌≡◌, List, ◌++◌, flat_map, map, refl, ap, sym, ◌∙◌}
 use Rattle.std.proofs.lemmas.List.{append_assoc}
-use Rattle.std.proofs.lemmas.Simd.{map-map}
 use Rattle.drum_core.specs.declared.deck.Deck.{Deck}
 use Rattle.drum_core.specs.Loads.{loads_in, start_in}
 use Rattle.drum_times.specs.Allowed.{Notes}
 use Rattle.drum_flow.specs.Accepted.{product_of}
 use Rattle.drum_flow.specs.Flow.{executed_in, AreFound}
 use Rattle.drum_flow.proofs.Acceptances.{moved}
-use Rattle.drum_loops.specs.declared.edge.Edge.{Edge}
-use Rattle.drum_loops.specs.Loops.{edge_of}
-use Rattle.drum_check.specs.Findings.{AreFindings, Finding, altering, closes, inside_at, too_many, unfit, unused}
+use Rattle.drum_check.specs.Findings.{AreFindings, Finding, altering, inside_at, too_many, unfit, unused}
 use Rattle.drum_check.specs.FindingsOf.{found_in, seen}
 use Rattle.drum_check.proofs.Whole.{in_turn}
 use Rattle.drum_check.proofs.findings.Findings.of.Goals as goal
@@ -20,35 +17,36 @@ returns c =
     let loads = loads_in flow.deck.now in
     let notes = flow.notes.now in
     let executed = executed_in flow in
-    let edges = c.in_ok-edges.edges.items in
-    let told : map (λ (edge : Edge). closes (edge_of edge)) c.deref.result.now ≡ map closes (map edge_of edges) =
-    ap (map (λ (edge : Edge). closes (edge_of edge))) c.deref.ensures.value ∙ sym (map-map closes edge_of edges) in
+    let loops = c.in_ok-loops.ensures in
+    let told : map seen c.deref.result.now ≡ map seen c.in_ok-loops.loops.items = ap (map seen) c.deref.ensures.value in
     let sized = found_in c.add_size.new.self in
     let unused_told = found_in c.add_unused.new.self in
     let unsaid = c.in_ok-unsaid.ensures in
     let meant : List Finding = map (inside_at notes.marks) unsaid.0 in
     let told_so : map seen c.deref-2.result.now ≡ meant = ap (map seen) c.deref-2.ensures.value ∙ unsaid.2 in
-    let last : found_in c.add_unsaid.new.self ≡ found_in c.add_edges.new.self ++ (unused loads notes executed ++ meant) =
-    c.in_ok-add_unsaid.ensures ∙ ap (λ (all : List Finding). unused_told ++ all) told_so
+    let last : found_in c.add_all-2.new.self ≡ found_in c.add_all.new.self ++ (unused loads notes executed ++ meant) =
+    c.in_ok-add_all-2.ensures ∙ ap (λ (all : List Finding). unused_told ++ all) told_so
     ∙ ap (λ (all : List Finding). all ++ meant) c.in_ok-add_unused.ensures
-    ∙ append_assoc (found_in c.add_edges.new.self) (unused loads notes executed) meant in
-    let whole : AreFindings loads notes (start_in flow.deck.now) (found_in c.add_unsaid.new.self) = record {
+    ∙ append_assoc (found_in c.add_all.new.self) (unused loads notes executed) meant in
+    let whole : AreFindings loads notes (start_in flow.deck.now) (found_in c.add_all-2.new.self) = record {
       executed = executed;
       found = moved (λ (deck : Deck) (ns : Notes). AreFound (loads_in deck) ns (start_in deck) executed)
           c.args.deck.now flow.deck.now c.args.notes.now notes (sym c.in_ok-flow.ensures.deck)
           (sym c.in_ok-flow.ensures.notes) c.in_ok-flow.ensures.found;
-      edges = map edge_of edges;
-      closing = c.in_ok-edges.ensures;
+      edges = loops.0;
+      closing = loops.1;
+      loops = map seen c.in_ok-loops.loops.items;
+      told = loops.2;
       unmeant = unused loads notes executed ++ meant;
       are_unmeant = record { pairs = unsaid.0; unsaid = unsaid.1; all = refl };
       all = in_turn (found_in c.none-findings.result) (found_in c.add_all_unfit.new.self)
-          (found_in c.add_all_altering.new.self) sized (found_in c.add_edges.new.self) (found_in c.add_unsaid.new.self)
+          (found_in c.add_all_altering.new.self) sized (found_in c.add_all.new.self) (found_in c.add_all-2.new.self)
           (flat_map (unfit loads notes) executed) (flat_map (altering loads notes executed) executed)
-          (too_many (product_of executed notes.marks)) (map closes (map edge_of edges))
+          (too_many (product_of executed notes.marks)) (map seen c.in_ok-loops.loops.items)
           (unused loads notes executed ++ meant)
           c.none-findings.ensures
           c.in_ok-add_all_unfit.ensures c.in_ok-add_all_altering.ensures c.in_ok-add_size.ensures
-          (c.in_ok-add_edges.ensures ∙ ap (λ (all : List Finding). sized ++ all) told) last;
+          (c.in_ok-add_all.ensures ∙ ap (λ (all : List Finding). sized ++ all) told) last;
     } in
-    moved (λ (deck : Deck) (ns : Notes). AreFindings (loads_in deck) ns (start_in deck) (found_in c.add_unsaid.new.self))
+    moved (λ (deck : Deck) (ns : Notes). AreFindings (loads_in deck) ns (start_in deck) (found_in c.add_all-2.new.self))
     flow.deck.now c.args.deck.now notes c.args.notes.now c.in_ok-flow.ensures.deck c.in_ok-flow.ensures.notes whole

@@ -1,7 +1,7 @@
 use Rattle.std.proofs.Common.{◌≡◌, ◌++◌, map, take}
 use Rattle.drum_check.specs.FindingsOf.{found_in, seen}
-use Rattle.drum_check.proofs.findings.Findings.add_unsaid.Given as goal
+use Rattle.drum_check.proofs.findings.Findings.add_all.Given as goal
 
 -- the findings so far were added
 abbrev pub invariant-loop-finding : goal.invariant-loop-finding
-invariant-loop-finding l = found_in l.self ≡ found_in l.fn.self ++ map seen (take l.finding-index l.unsaid)
+invariant-loop-finding l = found_in l.self ≡ found_in l.fn.self ++ map seen (take l.finding-index l.findings)

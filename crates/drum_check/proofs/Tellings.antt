@@ -1,0 +1,54 @@
+-- Loops that are told one after the other, and where none is told.
+use Rattle.std.proofs.Common.{◌≡◌, ℕ, List, [], ◌∷◌, ◌++◌, map, refl, ap, sym, ◌∙◌, subst, inl, inr, append_assoc, Option, None}
+use Rattle.std.proofs.lemmas.List.{append-nil}
+use Rattle.drum_core.specs.declared.word.Word.{Word}
+use Rattle.drum_times.specs.Allowed.{Notes}
+use Rattle.drum_check.specs.Finding.{Finding, closes}
+use Rattle.drum_check.specs.First.{BeginsWith}
+use Rattle.drum_check.specs.Insides.{AreLoops, AreToldInside, IsLastNumber}
+
+-- one loop more
+pub told_more : (IsInside : ℕ × ℕ → ℕ × ℕ → Type 0) (before edges : List (ℕ × ℕ)) (loops : List Finding)
+    (edge : ℕ × ℕ) (number : Option ℕ) → AreToldInside IsInside before edges loops
+    → IsLastNumber (λ outer. IsInside outer edge) (before ++ edges) number
+    → AreToldInside IsInside before (edges ++ edge ∷ []) (loops ++ closes edge number ∷ [])
+told_more IsInside before [] loops edge number none last = (
+  number,
+  [],
+  subst (λ (all : List (ℕ × ℕ)). IsLastNumber (λ outer. IsInside outer edge) all number) (append-nil before) last,
+  ap (λ (all : List Finding). all ++ closes edge number ∷ []) none,
+  refl,
+)
+told_more IsInside before (first ∷ edges) loops edge number told last = (
+  told.0,
+  told.1 ++ closes edge number ∷ [],
+  told.2,
+  ap (λ (all : List Finding). all ++ closes edge number ∷ []) told.3,
+  told_more IsInside (before ++ first ∷ []) edges told.1 edge number told.4
+      (subst (λ (all : List (ℕ × ℕ)). IsLastNumber (λ outer. IsInside outer edge) all number)
+      (sym (append_assoc before (first ∷ []) edges)) last),
+)
+
+module _ (loads : ℕ → Option Word) (notes : Notes) (start : ℕ) (executed : List ℕ) where
+  -- no edges close loops, and none is told
+  pub none_told : (edges : List (ℕ × ℕ)) (loops : List Finding) → edges ≡ []
+      → AreLoops loads notes start executed edges loops → loops ≡ []
+  none_told [] loops none (inl told) = told.2
+  none_told [] loops none (inr told) = told.1
+  none_told (edge ∷ edges) loops none told = cc
+
+  -- the first of them is told first
+  pub first_told : (edge : ℕ × ℕ) (edges : List (ℕ × ℕ)) (loops : List Finding)
+      → AreLoops loads notes start executed (edge ∷ edges) loops
+      → (number : Option ℕ) × BeginsWith loops (closes edge number)
+  first_told edge edges loops (inl told) = (told.2.0, (told.2.1, told.2.3))
+  first_told edge edges loops (inr told) = (None, (map (λ (one : ℕ × ℕ). closes one None) edges, told.1))
+
+  -- where none is told no edges close loops
+  pub told_none : (edges : List (ℕ × ℕ)) (loops : List Finding) → AreLoops loads notes start executed edges loops
+      → loops ≡ [] → edges ≡ []
+  told_none [] loops told none = refl
+  told_none (edge ∷ edges) loops told none =
+      let first = first_told edge edges loops told in
+      let clash : ◌≡◌ {A = List Finding} (closes edge first.0 ∷ first.1.0) [] = sym first.1.1 ∙ none in
+      cc

@@ -1,0 +1,43 @@
+use Rattle.std.proofs.Common.{◌≡◌, ◌∷◌, [], ◌++◌, ℕ, ◌+◌, List, map, take, ap, sym, ◌∙◌, subst, append_assoc}
+use Rattle.std.proofs.lemmas.List.{map_push}
+use Rattle.drum_loops.specs.Loops.{edge_of}
+use Rattle.drum_check.specs.Finding.{closes}
+use Rattle.drum_check.specs.FindingsOf.{seen, IsInsideIn}
+use Rattle.drum_check.specs.Insides.{marked_edges, AreToldInside, IsLastNumber}
+use Rattle.drum_check.proofs.Numbered.{edges_more}
+use Rattle.drum_check.proofs.Tellings.{told_more}
+use Rattle.drum_check.proofs.loops.told_inside.Goals as goal
+
+pub loop-edge-preserved : goal.loop-edge-preserved
+loop-edge-preserved c =
+    let edges = c.args.edges.now in
+    let k = c.loop-edge.edge-index in
+    let edge = c.edge-item.result in
+    let marks : List (ℕ × ℕ) = marked_edges c.args.flow.now.notes.now.marks in
+    let number = c.in_ok-inside.inside in
+    let loops = c.loop-edge.loops.items in
+    let before = c.loop-edge.before.items in
+    let more : map edge_of (take (k + 1) edges) ≡ map edge_of (take k edges) ++ edge_of edge ∷ [] =
+    edges_more edge_of edges k edge c.loop-edge-test.true c.edge-item.is in
+    let stand : map edge_of c.deref.result.now ≡ marks ++ map edge_of (take k edges) =
+    ap (map edge_of) c.deref.ensures.value ∙ c.loop-edge.invariant.before in
+    let last : IsLastNumber (λ outer. IsInsideIn c.args.flow.now outer (edge_of edge))
+    (marks ++ map edge_of (take k edges)) number =
+    subst (λ (all : List (ℕ × ℕ)). IsLastNumber (λ outer. IsInsideIn c.args.flow.now outer (edge_of edge)) all number)
+    stand c.in_ok-inside.ensures in
+    let grown : map seen c.push.new.self.items ≡ map seen loops ++ closes (edge_of edge) number ∷ [] =
+    ap (map seen) c.in_ok-push.ensures.items ∙ map_push seen loops _ in
+    record {
+      before =
+          ap (map edge_of) c.in_ok-push-2.ensures.items ∙ map_push edge_of before edge
+          ∙ ap (λ (all : List (ℕ × ℕ)). all ++ edge_of edge ∷ []) c.loop-edge.invariant.before
+          ∙ append_assoc marks (map edge_of (take k edges)) (edge_of edge ∷ [])
+          ∙ ap (λ (all : List (ℕ × ℕ)). marks ++ all) (sym more);
+      told =
+          subst (λ (all : List (ℕ × ℕ)). AreToldInside (IsInsideIn c.args.flow.now) marks all (map seen c.push.new.self.items))
+          (sym more)
+          (subst (AreToldInside (IsInsideIn c.args.flow.now) marks (map edge_of (take k edges) ++ edge_of edge ∷ []))
+          (sym grown)
+          (told_more (IsInsideIn c.args.flow.now) marks (map edge_of (take k edges)) (map seen loops) (edge_of edge) number
+          c.loop-edge.invariant.told last));
+    }

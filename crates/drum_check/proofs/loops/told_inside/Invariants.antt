@@ -1,0 +1,14 @@
+use Rattle.std.proofs.Common.{◌≡◌, ◌++◌, map, take}
+use Rattle.drum_loops.specs.Loops.{edge_of}
+use Rattle.drum_check.specs.FindingsOf.{seen, IsInsideIn}
+use Rattle.drum_check.specs.Insides.{marked_edges, AreToldInside}
+use Rattle.drum_check.proofs.loops.told_inside.Given as goal
+
+-- the loops of the edges so far are told, and these edges stand behind those of the marks
+abbrev pub invariant-loop-edge : goal.invariant-loop-edge
+invariant-loop-edge l = record {
+  before : map edge_of l.before.items
+      ≡ marked_edges l.flow.notes.now.marks ++ map edge_of (take l.edge-index l.edges);
+  told : AreToldInside (IsInsideIn l.flow) (marked_edges l.flow.notes.now.marks)
+      (map edge_of (take l.edge-index l.edges)) (map seen l.loops.items);
+}
