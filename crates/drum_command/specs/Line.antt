@@ -10,8 +10,8 @@ use Rattle.clap.specs.Walk.{is_empty}
 use Rattle.clap.specs.declared.builder.action.ArgAction.TheVariants.{Set}
 use Rattle.drum_command.specs.declared.command.Command.{Command}
 use Rattle.drum_command.specs.declared.command.Command.TheVariants.{Bound, Check, Report, Walk}
-use Rattle.drum_command.specs.declared.command.Command.TheVariants.{Waits, Draw, Ceiling, Replay}
-use Rattle.drum_command.specs.declared.command.Command.TheVariants.{Trace}
+use Rattle.drum_command.specs.declared.command.Command.TheVariants.{Waits, Table, Graph, Draw}
+use Rattle.drum_command.specs.declared.command.Command.TheVariants.{Ceiling, Replay, Trace}
 use Rattle.drum_command.specs.declared.command.Files.{Files}
 
 -- a file that a command names: what it is called, and whether it has to be named
@@ -58,6 +58,12 @@ walk = record { name = codes "walk"; files = common_files }
 abbrev pub waits : Verb
 waits = record { name = codes "waits"; files = common_files }
 
+abbrev pub table : Verb
+table = record { name = codes "table"; files = common_files }
+
+abbrev pub graph : Verb
+graph = record { name = codes "graph"; files = common_files }
+
 abbrev pub draw : Verb
 draw = record { name = codes "draw"; files = common_files }
 
@@ -72,7 +78,7 @@ trace = record { name = codes "trace"; files = run_files }
 
 -- the commands that there are
 abbrev pub verbs : List Verb
-verbs = bound ∷ check ∷ report ∷ walk ∷ waits ∷ draw ∷ ceiling ∷ replay ∷ trace ∷ []
+verbs = bound ∷ check ∷ report ∷ walk ∷ waits ∷ table ∷ graph ∷ draw ∷ ceiling ∷ replay ∷ trace ∷ []
 
 -- ---- the same, as clap's arguments and commands
 
@@ -128,6 +134,8 @@ said_by (Check files inputs) =
 said_by (Report files) = (codes "report", map Some (common files))
 said_by (Walk files) = (codes "walk", map Some (common files))
 said_by (Waits files) = (codes "waits", map Some (common files))
+said_by (Table files) = (codes "table", map Some (common files))
+said_by (Graph files) = (codes "graph", map Some (common files))
 said_by (Draw files) = (codes "draw", map Some (common files))
 said_by (Ceiling files) = (codes "ceiling", map Some (common files))
 said_by (Replay files inputs) = (codes "replay", map Some (with_inputs files inputs.now))

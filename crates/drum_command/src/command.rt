@@ -25,7 +25,11 @@ pub enum Command<'a> {
     Walk(Files<'a>),
     /// Where the worst walk waits, and for what, by instruction.
     Waits(Files<'a>),
-    /// A picture of it.
+    /// The table of worst times: when a location is come to at the latest, with counts of marks.
+    Table(Files<'a>),
+    /// The flow graph, of whatever the deck and the notes are.
+    Graph(Files<'a>),
+    /// A picture of the worst walk.
     Draw(Files<'a>),
     /// A number of word times that no run which keeps to the notes passes, however much the notes
     /// let the deck's loops run.

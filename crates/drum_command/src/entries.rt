@@ -101,6 +101,18 @@ pub(crate) fn entries() -> &'static [Entry]
             files: COMMON_FILES,
         },
         Entry {
+            name: "table",
+            about: "Prints when each location is come to at the latest, by the marks' counts",
+            example: "Example: drum650 table deck.txt times.toml notes.toml",
+            files: COMMON_FILES,
+        },
+        Entry {
+            name: "graph",
+            about: "Prints the flow graph, in the language DOT",
+            example: "Example: drum650 graph deck.txt times.toml notes.toml | dot -Tsvg > g.svg",
+            files: COMMON_FILES,
+        },
+        Entry {
             name: "draw",
             about: "Prints a picture, in SVG, of the drum and of the worst walk",
             example: "Example: drum650 draw deck.txt times.toml notes.toml > picture.svg",

@@ -32,6 +32,8 @@ fn command_of<'a>(name: &str, found: &ArgMatches<'a>) -> Command<'a>
         "report" => Command::Report(files_in(found)),
         "walk" => Command::Walk(files_in(found)),
         "waits" => Command::Waits(files_in(found)),
+        "table" => Command::Table(files_in(found)),
+        "graph" => Command::Graph(files_in(found)),
         "draw" => Command::Draw(files_in(found)),
         "ceiling" => Command::Ceiling(files_in(found)),
         "replay" => Command::Replay(files_in(found), file_in(found, INPUTS)),

@@ -3,7 +3,8 @@ use Rattle.std.proofs.Common.{◌≡◌, ℕ, true, List, [], ◌∷◌, Option,
 use Rattle.std.specs.Prelude.{codes}
 use Rattle.clap.specs.Words.{Text, takes}
 use Rattle.drum_command.specs.declared.command.Command.{Command}
-use Rattle.drum_command.specs.declared.command.Command.TheVariants.{Bound, Check, Report, Walk, Waits, Draw, Ceiling, Replay, Trace}
+use Rattle.drum_command.specs.declared.command.Command.TheVariants.{Bound, Check, Report, Walk, Waits, Table, Graph, Draw}
+use Rattle.drum_command.specs.declared.command.Command.TheVariants.{Ceiling, Replay, Trace}
 use Rattle.drum_command.specs.declared.refused.Refused.{Refused}
 use Rattle.drum_command.specs.Line.{drum650, said_by}
 use Rattle.drum_tool.specs.declared.documents.Documents.{Documents}
@@ -99,6 +100,10 @@ of_files told_of held deck times notes (Walk files) failures reply told said ans
     absurd (let bad : 119 ≡ 98 = same_first _ _ said in omega (arith, bad))
 of_files told_of held deck times notes (Waits files) failures reply told said answers =
     absurd (let bad : 119 ≡ 98 = same_first _ _ said in omega (arith, bad))
+of_files told_of held deck times notes (Table files) failures reply told said answers =
+    absurd (let bad : 116 ≡ 98 = same_first _ _ said in omega (arith, bad))
+of_files told_of held deck times notes (Graph files) failures reply told said answers =
+    absurd (let bad : 103 ≡ 98 = same_first _ _ said in omega (arith, bad))
 of_files told_of held deck times notes (Draw files) failures reply told said answers =
     absurd (let bad : 100 ≡ 98 = same_first _ _ said in omega (arith, bad))
 of_files told_of held deck times notes (Ceiling files) failures reply told said answers =

@@ -5,8 +5,8 @@ use Rattle.std.specs.Prelude.{Result, Ok, Err, ◌⊎◌, option_map}
 use Rattle.std.specs.Borrow.{Bor}
 use Rattle.drum_command.specs.declared.command.Command.{Command}
 use Rattle.drum_command.specs.declared.command.Command.TheVariants.{Bound, Check, Report, Walk}
-use Rattle.drum_command.specs.declared.command.Command.TheVariants.{Waits, Draw, Ceiling, Replay}
-use Rattle.drum_command.specs.declared.command.Command.TheVariants.{Trace}
+use Rattle.drum_command.specs.declared.command.Command.TheVariants.{Waits, Table, Graph, Draw}
+use Rattle.drum_command.specs.declared.command.Command.TheVariants.{Ceiling, Replay, Trace}
 use Rattle.drum_command.specs.declared.command.Files.{Files}
 use Rattle.drum_core.specs.declared.deck.fault.DeckFault.TheVariants as of_deck
 use Rattle.drum_inputs.specs.declared.fault.InputFault.TheVariants as of_inputs
@@ -137,6 +137,8 @@ files_of (Check files inputs) = named_with files (name_in inputs)
 files_of (Report files) = named_in files
 files_of (Walk files) = named_in files
 files_of (Waits files) = named_in files
+files_of (Table files) = named_in files
+files_of (Graph files) = named_in files
 files_of (Draw files) = named_in files
 files_of (Ceiling files) = named_in files
 files_of (Replay files inputs) = all_named_in files inputs.now

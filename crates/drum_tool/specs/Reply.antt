@@ -9,6 +9,7 @@ use Rattle.drum_flow.specs.declared.refusal.Refusal.TheVariants as refusal
 use Rattle.drum_flow.specs.Walk.{Setting}
 use Rattle.drum_lines.specs.declared.limit.Limit as limits
 use Rattle.drum_lines.specs.declared.limit.Limit.TheVariants as limit
+use Rattle.drum_bound.specs.Table.{IsTable, Row}
 use Rattle.drum_bound.specs.Visited.{Visited}
 use Rattle.drum_ceiling.specs.declared.answer.Ceiling as ceilings
 use Rattle.drum_check.specs.Findings.{AreFindings, Finding, may_be_meant}
@@ -16,8 +17,8 @@ use Rattle.drum_check.specs.Lacking.{check_text}
 use Rattle.drum_command.specs.declared.command.Command.{Command}
 use Rattle.drum_command.specs.declared.command.Files.{Files}
 use Rattle.drum_command.specs.declared.command.Command.TheVariants.{Bound, Check, Report, Walk}
-use Rattle.drum_command.specs.declared.command.Command.TheVariants.{Waits, Draw, Ceiling, Replay}
-use Rattle.drum_command.specs.declared.command.Command.TheVariants.{Trace}
+use Rattle.drum_command.specs.declared.command.Command.TheVariants.{Waits, Table, Graph, Draw}
+use Rattle.drum_command.specs.declared.command.Command.TheVariants.{Ceiling, Replay, Trace}
 use Rattle.drum_faults.specs.FaultLines as printed
 use Rattle.drum_inputs.specs.declared.inputs.Inputs.{Inputs}
 use Rattle.drum_tool.specs.declared.documents.Documents.{Documents}
@@ -35,6 +36,9 @@ use Rattle.drum_lines.specs.Status.{status_of}
 use Rattle.drum_lines.specs.VerdictText.{verdict_text}
 use Rattle.drum_report.specs.CeilingText.{ceiling_text}
 use Rattle.drum_report.specs.Report.{report_text}
+use Rattle.drum_graph.specs.Graph.{AreNodes, Node}
+use Rattle.drum_graph.specs.GraphText.{graph_text}
+use Rattle.drum_listing.specs.TableText.{AreInOrder, table_text}
 use Rattle.drum_listing.specs.TraceText.{stride_lines}
 use Rattle.drum_listing.specs.Waits.{AreDearestFirst}
 use Rattle.drum_listing.specs.WaitsText.{waits_text}
@@ -62,8 +66,8 @@ pub data Reply : Type 0 where
 
 -- ---- what is said
 
--- a bound, a report of a walk, a walk from an angle, the kinds of its hops, a picture, a ceiling,
--- and the line of a fault
+-- a bound, a report of a walk, a walk from an angle, the kinds of its hops, a table, a flow graph,
+-- a picture, a ceiling, and the line of a fault
 abbrev pub bound_reply : ℕ → Reply
 bound_reply bound = says (bound_text bound) Done
 
@@ -77,6 +81,13 @@ walk_reply documents angle walk bound =
 abbrev pub waits_reply : Documents → ℕ → List Visited → List Visited → ℕ → Reply
 waits_reply documents angle walk firsts bound =
     says (waits_text (entry_in documents.times) angle walk firsts bound) Done
+
+abbrev pub table_reply : Documents → List Row → Reply
+table_reply documents rows = says (table_text documents.notes.marks rows) Done
+
+abbrev pub graph_reply : Documents → List Node → Reply
+graph_reply documents nodes =
+    says (graph_text documents.notes.marks (start_in documents.deck) nodes) Done
 
 abbrev pub picture_reply : List ℕ → Reply
 picture_reply picture = says picture Done
@@ -160,6 +171,19 @@ SaysWaits documents reply =
     × (angle : ℕ) × (walk : List Visited) × IsWorstWalk documents bound angle walk
     × (firsts : List Visited) × AreDearestFirst walk firsts
     × (reply ≡ waits_reply documents angle walk firsts bound)
+
+-- the table of worst times, in order
+abbrev pub SaysTable : Documents → Reply → Type 0
+SaysTable documents reply =
+    (rows : List Row) × IsTable (setting_of documents) rows
+    × (sorted : List Row) × AreInOrder rows sorted × (reply ≡ table_reply documents sorted)
+
+-- the flow graph, whatever keeps the deck from having a bound under its notes
+abbrev pub SaysGraph : Documents → Reply → Type 0
+SaysGraph documents reply =
+    (nodes : List Node)
+    × AreNodes (loads_in documents.deck) documents.notes (start_in documents.deck) nodes
+    × (reply ≡ graph_reply documents nodes)
 
 -- a picture, where the deck with its notes is accepted; which one isn't said
 abbrev pub SaysPicture : Documents → Reply → Type 0
@@ -296,6 +320,11 @@ abbrev pub AnswersCeilingOfFiles : Held → ℕ → Reply → Type 0
 AnswersCeilingOfFiles held =
     AnswersBy IsCeilingFault SaysCeiling (AreHeld held) (AreNotHeld held)
 
+-- the same, where nothing refuses them but want of memory
+abbrev pub AnswersGraphOfFiles : Held → ℕ → Reply → Type 0
+AnswersGraphOfFiles held =
+    AnswersBy (λ documents. IsWanting) SaysGraph (AreHeld held) (AreNotHeld held)
+
 -- why texts in files aren't checked: they can't be had, or memory is wanting
 abbrev pub IsCheckFaultOfFiles : Option (List ℕ) → Held → Fault → Type 0
 IsCheckFaultOfFiles name held fault =
@@ -325,6 +354,9 @@ IsFaultOfFiles held = IsFault (AreHeld held) (AreNotHeld held)
 abbrev pub IsCeilingFaultOfFiles : Held → Fault → Type 0
 IsCeilingFaultOfFiles held = IsFaultBy IsCeilingFault (AreHeld held) (AreNotHeld held)
 
+abbrev pub IsGraphFaultOfFiles : Held → Fault → Type 0
+IsGraphFaultOfFiles held = IsFaultBy (λ documents. IsWanting) (AreHeld held) (AreNotHeld held)
+
 abbrev pub IsFaultBeforeOfFiles : Held → Fault → Type 0
 IsFaultBeforeOfFiles held = IsFaultBefore (AreHeld held) (AreNotHeld held) (AreNoInputsHeld held)
 
@@ -341,6 +373,8 @@ AnswersCommand held (Check files inputs) =
 AnswersCommand held (Report files) = AnswersOnFiles SaysReport held
 AnswersCommand held (Walk files) = AnswersOnFiles SaysWalk held
 AnswersCommand held (Waits files) = AnswersOnFiles SaysWaits held
+AnswersCommand held (Table files) = AnswersOnFiles SaysTable held
+AnswersCommand held (Graph files) = AnswersGraphOfFiles held
 AnswersCommand held (Draw files) = AnswersOnFiles SaysPicture held
 AnswersCommand held (Ceiling files) = AnswersCeilingOfFiles held
 AnswersCommand held (Replay files inputs) = AnswersRunOfFiles IsReplayRefused SaysVerdict held

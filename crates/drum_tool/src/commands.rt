@@ -1,16 +1,22 @@
 //! What each command does, with files.
 
-ghost use Rattle.std.specs.Prelude.{◌≡◌, ◌+◌, ◌^◌, ◌≤◌, ℕ, Option, IfOk, IfErr, length};
+ghost use Rattle.std.specs.Prelude.{◌≡◌, ◌+◌, ◌^◌, ◌≤◌, ℕ, List, Option, IfOk, IfErr, length};
 ghost use Rattle.std.specs.Prelude.{option_map, string_bytes};
-ghost use Rattle.drum_bound.specs.AnalysisOf.{angle_of, bound_of, visits_of};
+ghost use Rattle.drum_core.specs.Loads.{loads_in, start_in};
+ghost use Rattle.drum_bound.specs.AnalysisOf.{angle_of, bound_of, rows_of, visits_of};
+ghost use Rattle.drum_bound.specs.Table.{IsTable, Row};
 ghost use Rattle.drum_times.specs.Entries.{entry_in};
 ghost use Rattle.drum_lines.specs.FaultStatus.{failed_by};
+ghost use Rattle.drum_graph.specs.Graph.{AreNodes};
+ghost use Rattle.drum_graph.specs.GraphOf.{nodes_in, start_of};
+ghost use Rattle.drum_listing.specs.TableOf.{rows_in};
+ghost use Rattle.drum_listing.specs.TableText.{AreInOrder};
 ghost use Rattle.drum_listing.specs.WaitsOf.{AreWaits};
 ghost use Rattle.drum_tool.specs.Begun.{IsTraceBegun};
 ghost use Rattle.drum_faults.specs.FaultLines.{Named};
 ghost use Rattle.drum_tool.specs.Checked.{AreLacking, IsChecked, IsShort, inputs_in, texts_in};
 ghost use Rattle.drum_tool.specs.Documents as said;
-ghost use Rattle.drum_tool.specs.Documents.{IsBound, IsCeiling, IsWorstWalk};
+ghost use Rattle.drum_tool.specs.Documents.{IsBound, IsCeiling, IsWorstWalk, setting_of};
 ghost use Rattle.drum_tool.specs.Asked.{AsksFor, Looks, LooksFor, all_named_in, fault_in, files_of};
 ghost use Rattle.drum_tool.specs.Asked.{name_in, named_in, named_with};
 ghost use Rattle.drum_tool.specs.Files.{AreHeld, AreInputsHeld, AreTold, Held};
@@ -25,6 +31,7 @@ ghost use Rattle.drum_tool.specs.Reply.{
   IsCheckFaultOfFiles,
   IsFaultBeforeOfFiles,
   IsFaultOfFiles,
+  IsGraphFaultOfFiles,
   IsReplayRefused,
   IsRunFaultOfFiles,
   LooksAsTold,
@@ -44,8 +51,8 @@ use crate::files::inputs_of;
 use crate::replaying::{Begun, replay};
 use crate::source::Source;
 use crate::telling::{
-    complain, tell_bound, tell_ceiling, tell_faults, tell_findings, tell_report, tell_text,
-    tell_trace, tell_verdict, tell_waits, tell_walk,
+    complain, tell_bound, tell_ceiling, tell_faults, tell_findings, tell_graph, tell_report,
+    tell_table, tell_text, tell_trace, tell_verdict, tell_waits, tell_walk,
 };
 use crate::texts::{Texts, inputs_text};
 use crate::tracing::begin_trace;
@@ -53,9 +60,10 @@ use drum_bound::{Analysis, Refusal};
 use drum_ceiling::Ceiling;
 use drum_command::{Command, Files};
 use drum_core::Output;
+use drum_graph::Graph;
 use drum_inputs::Inputs;
 use drum_lines::{Fault, Limit, Status, Verdict};
-use drum_listing::Waits;
+use drum_listing::{Table, Waits};
 use drum_picture::picture;
 use std::alloc::Global;
 
@@ -74,6 +82,7 @@ fn analysis<S: Source>(
     ensures bound { IfOk result (λ done. IsBound done.0 (bound_of done.1)) }
     ensures walk { IfOk result (λ done.
         IsWorstWalk done.0 (bound_of done.1) (angle_of done.1) (visits_of done.1)) }
+    ensures table { IfOk result (λ done. IsTable (setting_of done.0) (rows_of done.1)) }
     ensures fault { IfErr result (λ fault. (held : Held)
         → AreTold (S.files source.old) held (named_in files.entry)
         → IsFaultOfFiles held fault) }
@@ -144,6 +153,64 @@ fn waits<S: Source>(
     let (documents, analysis): (Documents, Analysis) = analysis(alloc, source, files)?;
     let waits = rows(alloc, &documents, &analysis)?;
     Ok((documents, analysis, waits))
+}
+
+/// The table of an analysis, in order.
+fn in_order(alloc: Global, analysis: &Analysis) -> Result<Table, Fault>
+    ensures table { IfOk result (λ table. AreInOrder (rows_of analysis.now) (rows_in table)) }
+    ensures wanting { IfErr result (λ fault. fault ≡ Fault.Refused Refusal.Memory) }
+{
+    match Table::of(alloc, analysis) {
+        Ok(table) => Ok(table),
+        Err(_) => Err(Fault::Refused(Refusal::Memory)),
+    }
+}
+
+/// The documents in files, and their table of worst times, in order.
+fn table<S: Source>(
+    alloc: Global,
+    source: &mut S,
+    files: Files<'_>,
+) -> Result<(Documents, Table), Fault>
+    requires { S.failed source.old ≤ 2 ^ 61 }
+    ensures held { IfOk result (λ done. (held : Held)
+        → AreTold (S.files source.old) held (named_in files.entry) → AreHeld held done.0) }
+    ensures table { IfOk result (λ done. (rows : List Row) × IsTable (setting_of done.0) rows
+        × AreInOrder rows (rows_in done.1)) }
+    ensures fault { IfErr result (λ fault. (held : Held)
+        → AreTold (S.files source.old) held (named_in files.entry)
+        → IsFaultOfFiles held fault) }
+    ensures counted { S.failed source.new ≡ S.failed source.old + failed_by result }
+    ensures asked { AsksFor (S.asked source.old) (S.asked source.new)
+        (Looks (named_in files.entry) (fault_in result)) }
+{
+    let (documents, analysis): (Documents, Analysis) = analysis(alloc, source, files)?;
+    let table = in_order(alloc, &analysis)?;
+    Ok((documents, table))
+}
+
+/// The documents in files, and their flow graph.
+fn graph<S: Source>(
+    alloc: Global,
+    source: &mut S,
+    files: Files<'_>,
+) -> Result<(Documents, Graph), Fault>
+    requires { S.failed source.old ≤ 2 ^ 61 }
+    ensures held { IfOk result (λ done. (held : Held)
+        → AreTold (S.files source.old) held (named_in files.entry) → AreHeld held done.0) }
+    ensures nodes { IfOk result (λ done. AreNodes (loads_in done.0.deck) done.0.notes
+        (start_in done.0.deck) (nodes_in done.1)) }
+    ensures start { IfOk result (λ done. start_of done.1 ≡ start_in done.0.deck) }
+    ensures fault { IfErr result (λ fault. (held : Held)
+        → AreTold (S.files source.old) held (named_in files.entry)
+        → IsGraphFaultOfFiles held fault) }
+    ensures counted { S.failed source.new ≡ S.failed source.old + failed_by result }
+    ensures asked { AsksFor (S.asked source.old) (S.asked source.new)
+        (Looks (named_in files.entry) (fault_in result)) }
+{
+    let documents = Documents::of_files(alloc, source, files)?;
+    let graph = documents.graph(alloc)?;
+    Ok((documents, graph))
 }
 
 /// The documents in files, and their ceiling.
@@ -375,6 +442,14 @@ pub fn obey<S: Source, O: Output, E: Output>(
         },
         Command::Waits(files) => match waits(alloc, source, files) {
             Ok((documents, analysis, waits)) => tell_waits(out, &documents, &analysis, &waits),
+            Err(fault) => complain(err, fault),
+        },
+        Command::Table(files) => match table(alloc, source, files) {
+            Ok((documents, table)) => tell_table(out, &documents, &table),
+            Err(fault) => complain(err, fault),
+        },
+        Command::Graph(files) => match graph(alloc, source, files) {
+            Ok((documents, graph)) => tell_graph(out, &documents, &graph),
             Err(fault) => complain(err, fault),
         },
         Command::Draw(files) => match picture_of(alloc, source, files) {

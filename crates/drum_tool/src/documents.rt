@@ -1,10 +1,13 @@
 ghost use Rattle.std.specs.Prelude.{◌≡◌, ◌^◌, ◌<◌, IfOk, IfErr};
 ghost use Rattle.drum_core.specs.Loads.{loads_in, start_in};
-ghost use Rattle.drum_bound.specs.AnalysisOf.{angle_of, bound_of, visits_of};
+ghost use Rattle.drum_bound.specs.AnalysisOf.{angle_of, bound_of, rows_of, visits_of};
+ghost use Rattle.drum_bound.specs.Table.{IsTable};
 ghost use Rattle.drum_check.specs.Findings.{AreFindings};
 ghost use Rattle.drum_check.specs.FindingsOf.{found_in};
 ghost use Rattle.drum_check.specs.Lacking.{words_altered};
 ghost use Rattle.drum_check.specs.LackingOf.{words_in};
+ghost use Rattle.drum_graph.specs.Graph.{AreNodes};
+ghost use Rattle.drum_graph.specs.GraphOf.{nodes_in, start_of};
 ghost use Rattle.drum_tool.specs.Documents.{
   IsAnalysisFault,
   IsBound,
@@ -14,12 +17,14 @@ ghost use Rattle.drum_tool.specs.Documents.{
   IsLimitFault,
   IsTooLargeForBound,
   IsWorstWalk,
+  setting_of,
 };
 
 use drum_bound::{Analysis, Refusal, analyse, bound};
 use drum_ceiling::{Ceiling, ceiling};
 use drum_check::{Findings, Lacking};
 use drum_core::Deck;
+use drum_graph::Graph;
 use drum_lines::{Fault, Limit};
 use drum_times::{Notes, Times};
 use std::alloc::Global;
@@ -45,6 +50,8 @@ impl Documents {
         ensures bound { IfOk result (λ analysis. IsBound self.now (bound_of analysis)) }
         ensures walk { IfOk result (λ analysis.
             IsWorstWalk self.now (bound_of analysis) (angle_of analysis) (visits_of analysis)) }
+        ensures table { IfOk result (λ analysis.
+            IsTable (setting_of self.now) (rows_of analysis)) }
         ensures fault { IfErr result (IsAnalysisFault self.now) }
     {
         match analyse(alloc, &self.deck, &self.times, &self.notes) {
@@ -104,6 +111,23 @@ impl Documents {
             return Err(Fault::Refused(Refusal::Memory));
         };
         Ok((findings, lacking))
+    }
+
+    /// Their flow graph, whether they have a bound or not.
+    ///
+    /// # Errors
+    ///
+    /// [`Fault::Refused`] where memory is wanting.
+    pub(crate) fn graph(&self, alloc: Global) -> Result<Graph, Fault>
+        ensures nodes { IfOk result (λ graph. AreNodes (loads_in self.now.deck) self.now.notes
+            (start_in self.now.deck) (nodes_in graph)) }
+        ensures start { IfOk result (λ graph. start_of graph ≡ start_in self.now.deck) }
+        ensures wanting { IfErr result (λ fault. fault ≡ Fault.Refused Refusal.Memory) }
+    {
+        match Graph::of(alloc, &self.deck, &self.notes) {
+            Ok(graph) => Ok(graph),
+            Err(_) => Err(Fault::Refused(Refusal::Memory)),
+        }
     }
 
     /// What a run of theirs that keeps to the notes uses at most, in word times, and how that is

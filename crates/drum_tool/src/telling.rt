@@ -9,6 +9,10 @@ ghost use Rattle.drum_check.specs.LackingOf.{words_in};
 ghost use Rattle.drum_lines.specs.BoundText.{bound_text};
 ghost use Rattle.drum_lines.specs.FaultStatus.{status_after};
 ghost use Rattle.drum_lines.specs.FaultText.{fault_text};
+ghost use Rattle.drum_graph.specs.GraphOf.{nodes_in, start_of};
+ghost use Rattle.drum_graph.specs.GraphText.{graph_text};
+ghost use Rattle.drum_listing.specs.TableOf.{rows_in};
+ghost use Rattle.drum_listing.specs.TableText.{table_text};
 ghost use Rattle.drum_listing.specs.WaitsOf.{AreWaits, firsts_of};
 ghost use Rattle.drum_listing.specs.WaitsText.{waits_text};
 ghost use Rattle.drum_listing.specs.WalkText.{walk_text};
@@ -30,10 +34,11 @@ use drum_bound::Analysis;
 use drum_ceiling::Ceiling;
 use drum_check::{Findings, Lacking, list_findings};
 use drum_core::Output;
+use drum_graph::{Graph, send_graph};
 use drum_lines::{
     Fault, Limit, Status, Verdict, WriteFault, write_bound, write_fault, write_text, write_verdict,
 };
-use drum_listing::{Waits, list_waits, list_walk};
+use drum_listing::{Table, Waits, list_table, list_waits, list_walk};
 use drum_report::{report, report_ceiling};
 
 /// How the program ends once a result was written.
@@ -97,6 +102,33 @@ pub fn tell_waits<O: Output>(
 {
     ended(
         list_waits(waits, analysis, &documents.times, out),
+        Status::Done,
+    )
+}
+
+/// Writes a table of worst times.
+pub fn tell_table<O: Output>(out: &mut O, documents: &Documents, table: &Table) -> Status
+    requires { O.called out.old ≤ 2 ^ 62 }
+    ensures { GetsResult (device (O.written out.old) (O.failed out.old))
+        (device (O.written out.new) (O.failed out.new))
+        (table_text documents.now.notes.marks (rows_in table.now)) Status.Done result }
+{
+    ended(
+        list_table(table, documents.notes.marks(), out),
+        Status::Done,
+    )
+}
+
+/// Writes a flow graph.
+pub fn tell_graph<O: Output>(out: &mut O, documents: &Documents, graph: &Graph) -> Status
+    requires { O.called out.old ≤ 2 ^ 62 }
+    ensures { GetsResult (device (O.written out.old) (O.failed out.old))
+        (device (O.written out.new) (O.failed out.new))
+        (graph_text documents.now.notes.marks (start_of graph.now) (nodes_in graph.now))
+        Status.Done result }
+{
+    ended(
+        send_graph(graph, documents.notes.marks(), out),
         Status::Done,
     )
 }

@@ -2,6 +2,9 @@ use Rattle.std.proofs.Common.{ℕ, List, inl, inr, refl, subst}
 use Rattle.std.specs.Prelude.{string_bytes}
 use Rattle.drum_bound.specs.AnalysisOf.{angle_of, bound_of, visits_of}
 use Rattle.drum_check.specs.FindingsOf.{found_in}
+use Rattle.drum_graph.specs.GraphOf.{nodes_in}
+use Rattle.drum_graph.specs.GraphText.{graph_text}
+use Rattle.drum_listing.specs.TableOf.{rows_in}
 use Rattle.drum_listing.specs.WaitsOf.{firsts_of}
 use Rattle.drum_lines.specs.FaultStatus.{reads_failed}
 use Rattle.drum_lines.specs.declared.status.Status.TheVariants.{Done}
@@ -10,7 +13,7 @@ use Rattle.drum_tool.specs.declared.checking.Checked.TheVariants.{Faulty, Sound}
 use Rattle.drum_tool.specs.Checked.{IsChecked}
 use Rattle.drum_tool.specs.Output.{GetsComplaint, GetsResult, device}
 use Rattle.drum_tool.specs.Reply.{bound_reply, ceiling_reply, fault_reply, findings_reply, picture_reply, report_reply}
-use Rattle.drum_tool.specs.Reply.{lists, verdict_reply, waits_reply, walk_reply}
+use Rattle.drum_tool.specs.Reply.{graph_reply, lists, table_reply, verdict_reply, waits_reply, walk_reply}
 use Rattle.drum_tool.specs.Asked.{all_named_in, name_in, named_in, named_with}
 use Rattle.drum_tool.proofs.Asking.{no_line, no_line_of_lists, no_line_of_trace, told_fault, told_well}
 use Rattle.drum_tool.proofs.Replies.{Replied, counted, fault_of_reads, lists_of_no_read, result_of_no_read, trace_of_no_read}
@@ -225,6 +228,77 @@ returns-in-Waits-clause-told g c =
           (fault_of_reads fault, rw c.in-Waits.is (λ held told. inr (fault, c.in-Err-waits.ensures.fault held told, refl, refl)))),
       rw c.in-Waits.is (told_fault (named_in c.in-Waits.files) (g.S.Source.asked c.args.source.now)
           (g.S.Source.asked c.waits.new.source) fault c.in-Err-waits.ensures.asked),
+    )
+
+pub returns-in-Ok-table-clause-told : goal.returns-in-Ok-table-clause-told
+returns-in-Ok-table-clause-told g c =
+    let documents = c.in-Ok-table.documents in
+    let rows = rows_in c.in-Ok-table.table in
+    let reply = table_reply documents rows in (
+      reply,
+      (c.tell_table.ensures, refl),
+      (λ failures count.
+          counted (Replied (g.S.Source.files c.args.source.now) c.args.command reply) _ _ failures 0
+          c.in-Ok-table.ensures.counted count (
+            result_of_no_read _ _,
+            rw c.in-Table.is (λ held told.
+                let is = c.in-Ok-table.ensures.table in
+                inl (documents, c.in-Ok-table.ensures.held held told, refl, (is.0, is.1, rows, is.2, refl))),
+          )),
+      rw c.in-Table.is (told_well (named_in c.in-Table.files) (g.S.Source.asked c.args.source.now)
+          (g.S.Source.asked c.table.new.source) reply (no_line _ _) c.in-Ok-table.ensures.asked),
+    )
+
+pub returns-in-Table-clause-told : goal.returns-in-Table-clause-told
+returns-in-Table-clause-told g c =
+    let fault = c.in-Err-table.fault in (
+      fault_reply fault,
+      (refl, c.complain-in-Err-table.ensures.line, c.complain-in-Err-table.ensures.status),
+      (λ failures count.
+          counted (Replied (g.S.Source.files c.args.source.now) c.args.command (fault_reply fault)) _ _ failures
+          (reads_failed fault) c.in-Err-table.ensures.counted count
+          (fault_of_reads fault, rw c.in-Table.is (λ held told. inr (fault, c.in-Err-table.ensures.fault held told, refl, refl)))),
+      rw c.in-Table.is (told_fault (named_in c.in-Table.files) (g.S.Source.asked c.args.source.now)
+          (g.S.Source.asked c.table.new.source) fault c.in-Err-table.ensures.asked),
+    )
+
+pub returns-in-Ok-graph-clause-told : goal.returns-in-Ok-graph-clause-told
+returns-in-Ok-graph-clause-told g c =
+    let documents = c.in-Ok-graph.documents in
+    let nodes = nodes_in c.in-Ok-graph.graph in
+    let old = device (g.O.Output.written c.args.out.now) (g.O.Output.failed c.args.out.now) in
+    let new = device (g.O.Output.written c.tell_graph.new.out) (g.O.Output.failed c.tell_graph.new.out) in
+    let gets = subst (λ (start : ℕ). GetsResult old new (graph_text documents.notes.marks start nodes) Done
+    c.tell_graph.result) c.in-Ok-graph.ensures.start c.tell_graph.ensures in
+    let reply = graph_reply documents nodes in (
+      reply,
+      (gets, refl),
+      (λ failures count.
+          counted (Replied (g.S.Source.files c.args.source.now) c.args.command reply) _ _ failures 0
+          c.in-Ok-graph.ensures.counted count (
+            result_of_no_read _ _,
+            rw c.in-Graph.is (λ held told. inl (
+              documents,
+              c.in-Ok-graph.ensures.held held told,
+              refl,
+              (nodes, c.in-Ok-graph.ensures.nodes, refl),
+            )),
+          )),
+      rw c.in-Graph.is (told_well (named_in c.in-Graph.files) (g.S.Source.asked c.args.source.now)
+          (g.S.Source.asked c.graph.new.source) reply (no_line _ _) c.in-Ok-graph.ensures.asked),
+    )
+
+pub returns-in-Graph-clause-told : goal.returns-in-Graph-clause-told
+returns-in-Graph-clause-told g c =
+    let fault = c.in-Err-graph.fault in (
+      fault_reply fault,
+      (refl, c.complain-in-Err-graph.ensures.line, c.complain-in-Err-graph.ensures.status),
+      (λ failures count.
+          counted (Replied (g.S.Source.files c.args.source.now) c.args.command (fault_reply fault)) _ _ failures
+          (reads_failed fault) c.in-Err-graph.ensures.counted count
+          (fault_of_reads fault, rw c.in-Graph.is (λ held told. inr (fault, c.in-Err-graph.ensures.fault held told, refl, refl)))),
+      rw c.in-Graph.is (told_fault (named_in c.in-Graph.files) (g.S.Source.asked c.args.source.now)
+          (g.S.Source.asked c.graph.new.source) fault c.in-Err-graph.ensures.asked),
     )
 
 pub returns-in-Ok-picture_of-clause-told : goal.returns-in-Ok-picture_of-clause-told
