@@ -69,8 +69,10 @@ EMULATOR = "emulator"
 SHORT_RUNS = [
     ("operations that add", "adding", None),
     ("products and quotients", "multiplying", None),
+    ("quotients of each pair of signs", "dividing", None),
     ("stores and loads", "storing", None),
     ("shifts", "shifting", None),
+    ("shifts by each number of places", "places", None),
     ("both ways of a branch", "branching", None),
     ("positions of the distributor", "positions", None),
     ("cards and waits", "cards", "cards.toml"),

@@ -9,8 +9,11 @@ from model import is_location, suits
 from results import cards_of, entries_of, start_of
 from toml_text import document_of
 
-# The most words times counts.
+# The most words times counts, and the most marks.
 KEYS = 4_000_000
+MARKS = 8
+# What stands behind the `inside` of a mark that is lacking.
+RUN = " # without this line, most is of the whole run"
 
 
 class Flow:
@@ -87,8 +90,8 @@ class Flow:
 
     def is_nested(self, outer, inner):
         """Whether the loop of one edge stands inside that of another: past the outer loop's head
-        the inner one's leads round its loop and to the outer edge, and the start leads to it through
-        that head alone."""
+        the inner one's leads round its loop and to the outer edge, and the start leads to it
+        through that head alone."""
         head, place = outer[1], inner[1]
         past = [(one, onto) for one in self.order for onto in self.targets[one] if onto != head]
         here = reached(past, place)
@@ -104,6 +107,27 @@ class Flow:
                 if are_there and self.is_nested(outer, inner) and not self.is_inside(at, around):
                     yield "inside %04d %04d %04d %04d" % (*inner, *outer)
 
+    def rounds(self, inner, edges):
+        """The places of those edges inside whose loop that of another one stands, from 1."""
+        for place, outer in enumerate(edges, 1):
+            is_there = outer[1] in self.targets.get(outer[0], [])
+            if is_there and self.is_nested(outer, inner):
+                yield place
+
+    def in_order(self, told):
+        """The edges of loops, those first that stand inside fewer of them."""
+        if len(self.marks) + len(told) > MARKS:
+            return told
+        return sorted(told, key=lambda edge: len(list(self.rounds(edge, told))))
+
+    def around(self, told):
+        """For each of these edges the last mark before it inside whose loop its own stands."""
+        edges = [(mark["from"], mark["to"]) for mark in self.marks]
+        for edge in told:
+            rounds = list(self.rounds(edge, edges))
+            yield rounds[-1] if rounds and len(self.marks) + len(told) <= MARKS else None
+            edges.append(edge)
+
     def lines(self):
         """All that comes before the loops."""
         unfit = [line for place in self.order for line in self.unfit(place)]
@@ -112,8 +136,9 @@ class Flow:
 
     def lacking(self, told):
         """The notes that are lacking, as TOML, where these edges were told for the loops."""
-        for edge in told:
+        for edge, around in zip(told, self.around(told)):
             yield from ["[[mark]]", "most =", "from = %d" % edge[0], "to = %d" % edge[1]]
+            yield from [] if around is None else ["inside = %d%s" % (around, RUN)]
         writers = {}
         for place in self.order:
             for line in self.altering(place):
@@ -171,11 +196,12 @@ def reached(edges, place):
     return found
 
 
-def are_closing(told, free):
+def are_closing(told, flow):
     """Whether these are edges in order, without which nothing is closed, and each of which is
     needed for that."""
+    free = flow.free_edges()
     left = [edge for edge in free if edge not in set(told)]
-    is_in_order = told == [edge for edge in free if edge in set(told)]
+    is_in_order = told == flow.in_order([edge for edge in free if edge in set(told)])
     are_needed = all(source in reached(left, target) for source, target in told)
     return is_in_order and are_needed and not any(
         source in reached(left, target) for source, target in left
@@ -185,11 +211,12 @@ def are_closing(told, free):
 def is_check(text, files):
     """Whether a text is what a check of a deck with its notes tells."""
     flow = Flow(files)
-    told = [tuple(map(int, edge)) for edge in re.findall("^loop ([0-9]{4}) ([0-9]{4})$", text, re.M)]
+    loops = re.findall("^loop ([0-9]{4}) ([0-9]{4})$", text, re.M)
+    told = [tuple(map(int, edge)) for edge in loops]
     lines = flow.lines() + ["loop %04d %04d" % edge for edge in told]
     lines += [*flow.unused(), *flow.unsaid(), *flow.lacking(told)]
     is_one = text == "".join(line + "\n" for line in lines)
-    return is_one and are_closing(told, flow.free_edges())
+    return is_one and are_closing(told, flow)
 
 
 def is_unmeant(line):

@@ -179,12 +179,28 @@ def is_picture(bound):
     return look
 
 
+def everywhere():
+    """The graph of 2000 words, each of which goes on at every word, and stores into every one."""
+    patterns = "{op=45,d_from=0,d_to=1999,i=0},{op=24,d_from=0,d_to=1999,i=0}"
+    one = "[[list]]\nlocation=%d\npattern=[%s]\n"
+    lists = "".join(one % (here, patterns) for here in range(2000))
+    # Four lines, of each word a box and two arrows to each, and the last.
+    holds = has_lines(4 + 2000 * (1 + 2 * 2000) + 1, b"}\n")
+    parts = {"deck": b"START 0000\n", "notes": NOTES + lists.encode(), "holds": holds}
+    return Case("graph of 8,000,000 arrows", b"}\n", "graph", **parts)
+
+
 def of_results():
     last = ring(1999).line
     yield ring(1999, "report", holds=has_lines(2000 + 3, last))
     yield ring(1999, "walk", holds=has_lines(KEYS, last))
     yield ring(1999, "waits", holds=has_lines(2000 + 1, last))
     yield ring(1999, "draw", holds=is_picture(49 + KEYS - 1))
+    # The last word is come to for the last time, of 2000, as the bound is reached.
+    last = b"1999 angle 49 counts 1999 time %d\n" % (49 + KEYS - 1)
+    parts = {"deck": ring_deck(), "notes": ring_notes(1999), "holds": has_lines(KEYS, last)}
+    yield Case("table of 4,000,000 entries", last, "table", **parts)
+    yield everywhere()
     deck, notes = ring_deck(), ring_notes(1999)
     left = b"left toooften 1999 0000 step 4000000 used 3999999\n"
     for command, holds in [("replay", None), ("trace", has_lines(KEYS + 1, left))]:
@@ -254,7 +270,8 @@ def of_checks():
     # Each line of inputs is looked for among all that stand before it.
     again = b"ANGLE 00\n" + b"*\n" * 1999 + b"ANGLE 01\n" * 2000
     line = b"the first is here\n"
-    yield Case("check of an angle that is given 2001 times", line, "check", inputs=again, lists=4000)
+    name = "check of an angle that is given 2001 times"
+    yield Case(name, line, "check", inputs=again, lists=4000)
 
 
 def of_outputs():

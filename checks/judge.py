@@ -19,6 +19,7 @@ from results import (
     waits_of_walk,
     walked_bound,
 )
+from tables import graphed, tabled
 from text_faults import listed_faults
 
 # What a run gave: its status and both outputs.
@@ -78,6 +79,8 @@ def result_of(asked, status, text):
         "report": ("report", lambda: reported_bound(text, files)),
         "walk": ("walk", lambda: walked_bound(text, files)),
         "waits": ("waits", lambda: waited_bound(text)),
+        "table": ("table", lambda: tabled(text, files)),
+        "graph": ("graph", lambda: graphed(text, files)),
         "draw": ("picture", lambda: pictured_bound(text)),
         "ceiling": ("ceiling", lambda: ceiling_of(text, files)),
     }
@@ -209,6 +212,12 @@ def agrees(asked, ran, told, run):
             replay = told_of(("replay", files), other("replay"))
             return replay is not None and told.fault == replay.fault
         return is_said_first(ran, told, bound, files)
+    if command == "table":
+        return (ran.status, ran.err) == (bound.status, bound.err)
+    if command == "graph":
+        fault = told_of(("bound", files), bound).fault
+        is_refused = fault is not None and fault.about != "analysis"
+        return told.fault == fault if is_refused else told.fault is None
     if command == "ceiling":
         return is_no_lower(told, bound, files)
     if command == "draw":

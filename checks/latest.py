@@ -1,7 +1,7 @@
 """What a deck's longest walk spends its word times on, by the plain model (checks/model.py): its
 report, and where its word times go by instruction and way. Of the longest walks those are taken
 that arrive as late as any does wherever they come; where these don't all come to the same, there
-is none."""
+is none. And the table of these latest arrivals."""
 
 from collections import namedtuple
 
@@ -190,3 +190,39 @@ def report(walks, deck):
 def waits(walks):
     """The lines of where the word times go; None where the longest walks have more than one."""
     return Latest(walks, Kinds({})).lines()
+
+
+class Uncounted:
+    """What is counted of a walk for the table: nothing."""
+
+    def after(self, hop):
+        return self
+
+    def text(self):
+        return []
+
+
+def table(walks):
+    """The lines of the table: when each location is come to at the latest, by the counts of the
+    marks."""
+    latest = Latest(walks, Uncounted())
+    latest.lines()
+    first = (walks.start + 1) % 50
+    rows = [
+        (place, numbered(walks, counts), counts, arrived)
+        for (place, counts), (arrived, _) in latest.arrivals.items()
+    ]
+    return [
+        "%04d angle %d counts%s time %d"
+        % (place, arrived % 50, "".join(" %d" % count for count in counts), arrived - first)
+        for place, _, counts, arrived in sorted(rows, key=lambda row: row[:2])
+    ]
+
+
+def numbered(walks, counts):
+    """The counts of the marks as one number: the first mark's, and in units of its most + 1 the
+    number of the others'."""
+    number = 0
+    for mark, count in reversed(list(zip(walks.marks, counts))):
+        number = number * (mark["most"] + 1) + count
+    return number

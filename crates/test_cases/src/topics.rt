@@ -3,8 +3,8 @@
 /// The topics, in the order in which they are told.
 pub const TOPICS: &[&str] = &[
     "deck", "times", "notes", "numbers", "flow", "check", "analysis", "report", "walk", "waits",
-    "draw", "ceiling", "replay", "inputs", "trace", "words", "files", "joined", "lengths",
-    "examples",
+    "table", "graph", "draw", "ceiling", "replay", "inputs", "trace", "words", "files", "joined",
+    "lengths", "examples",
 ];
 
 /// The folder of the topics' files.

@@ -35,6 +35,18 @@ const WAITS: &str = "\
 bound 56\n\
 ";
 
+/// The flow graph of the two words.
+const GRAPH: &str = "\
+digraph deck {\n\
+node [shape=box]\n\
+start [shape=point]\n\
+start -> 0100\n\
+0100 [label=\"0100 69\"]\n\
+0100 -> 0106\n\
+0106 [label=\"0106 01\" peripheries=2]\n\
+}\n\
+";
+
 /// From angle 1, 24 is ready at clock 53, and 0106 comes at 56; 56 + 3 = 59, and 0106 comes at 106.
 /// There 69 is ready at clock 109, and 0000 comes at 150.
 const NO_STOP: &str = "\
@@ -73,6 +85,20 @@ pub(crate) const SUBJECTS: &[Subject] = &[
         files: (TWO_WORDS, NOTES, ""),
         status: Status::Done,
         out: WAITS,
+        err: "",
+    },
+    Subject {
+        command: "table",
+        files: (TWO_WORDS, NOTES, ""),
+        status: Status::Done,
+        out: "0100 angle 1 counts time 0\n0106 angle 6 counts time 55\n",
+        err: "",
+    },
+    Subject {
+        command: "graph",
+        files: (TWO_WORDS, NOTES, ""),
+        status: Status::Done,
+        out: GRAPH,
         err: "",
     },
     Subject {

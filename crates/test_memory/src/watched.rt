@@ -174,7 +174,9 @@ fn of_the_program(rt: HostRuntime) -> Result<(), Fail> {
     for subject in &SUBJECTS {
         let notes = subject.notes(rt.alloc())?;
         let files = files(subject.deck, &notes, "ANGLE 01\n");
-        for command in ["bound", "check", "report", "walk", "waits"] {
+        for command in [
+            "bound", "check", "report", "walk", "waits", "table", "graph",
+        ] {
             holds(&rt, Call::Run(&[command, "deck", "times", "notes"], &files))?;
         }
         for command in ["replay", "trace"] {

@@ -1,0 +1,115 @@
+"""Whether a table of worst times and a flow graph in DOT are what docs/FORMATS.md says, of a deck,
+a timing table and notes that are accepted."""
+
+import re
+from math import prod
+
+from findings import Flow, writes
+from latest import table
+from model import MAY_STOP_LATE, Walks, deck_of, is_location, suits
+from results import NUMBER, PLACE, entries_of
+from toml_text import document_of
+
+ROW = re.compile("{0} angle {1} counts((?: {1})*) time {1}".format(PLACE, NUMBER))
+
+# The plain model works a table out where there is no more to go through than this.
+FEW = 3000
+
+
+class TextWalks(Walks):
+    """The walks of a deck with its notes, of texts."""
+
+    def __init__(self, files):
+        notes = document_of(files["notes"])
+        self.words, self.start = deck_of(files["deck"].decode("latin-1"))
+        self.times = entries_of(files["times"])
+        self.has_load_cards = notes["load_cards"] == "any"
+        self.is_stopped = notes["programmed"] == "stop"
+        self.marks = notes.get("mark", [])
+        self.lists = {one["location"]: one["pattern"] for one in notes.get("list", [])}
+
+    def is_small(self):
+        """Whether the model can go through all walks, which it knows under one switch alone."""
+        listed = sum(
+            pattern["d_to"] - pattern["d_from"] + 1
+            for patterns in self.lists.values()
+            for pattern in patterns
+        )
+        counts = prod(mark["most"] + 1 for mark in self.marks)
+        return self.is_stopped and (len(self.words) + listed) * counts <= FEW
+
+
+def tabled(text, files):
+    """Whether each line of a table has its form, at the angle of its time, in order; and where the
+    model can tell, whether they are its lines."""
+    walks, rows = TextWalks(files), []
+    for line in text.splitlines():
+        matched = ROW.fullmatch(line)
+        if not matched:
+            return None
+        counts = [int(count) for count in matched.group(3).split()]
+        angle, time = int(matched.group(2)), int(matched.group(5))
+        are_within = len(counts) == len(walks.marks) and all(
+            count <= mark["most"] for count, mark in zip(counts, walks.marks)
+        )
+        if not are_within or angle != (walks.start + 1 + time) % 50:
+            return None
+        rows.append((int(matched.group(1)), counts[::-1]))
+    in_order = rows == sorted(rows) and all(one != next for one, next in zip(rows, rows[1:]))
+    is_whole = not walks.is_small() or text.splitlines() == table(walks)
+    return True if rows and in_order and is_whole else None
+
+
+class Drawn(Flow):
+    """The flow graph of a deck under its notes, as it is drawn."""
+
+    def may_stop(self, place):
+        return any(self.stops(*one) for one in self.instructions(place) if one[0] in self.profile)
+
+    def stops(self, op, d, i):
+        """Whether an instruction of the profile may end a run."""
+        if not suits(op, d) or op in MAY_STOP_LATE or op == 70 or op >= 90:
+            return True
+        if op == 1 and self.notes["programmed"] != "run":
+            return True
+        return not all(map(is_location, self.nexts(op, d, i)))
+
+    def written(self, place):
+        """The executed words that the instructions of a location write."""
+        words = (word for op, d, _ in self.instructions(place) for word in self.writes(op, d))
+        return [word for word in dict.fromkeys(words) if word in self.targets]
+
+    def writes(self, op, d):
+        return writes(op, d) if op in self.profile else []
+
+    def label(self, place):
+        """A location with the operations that are allowed there."""
+        operations = dict.fromkeys(op for op, _, _ in self.instructions(place))
+        return "".join(["%04d" % place] + [" %02d" % op for op in operations])
+
+    def arrow(self, place, onto):
+        """The arrow of an edge, with the mark on it, if there is one."""
+        edges = [(mark["from"], mark["to"]) for mark in self.marks]
+        text = "%04d -> %04d" % (place, onto)
+        if (place, onto) in edges:
+            number = edges.index((place, onto))
+            most = self.marks[number]["most"]
+            text += ' [label="mark %d most %d" penwidth=3]' % (number + 1, most)
+        return text
+
+    def text(self):
+        yield from ["digraph deck {", "node [shape=box]", "start [shape=point]"]
+        yield "start -> %04d" % self.order[0]
+        for place in self.order:
+            style = " style=dashed" if place in self.lists else ""
+            style += " peripheries=2" if self.may_stop(place) else ""
+            yield '%04d [label="%s"%s]' % (place, self.label(place), style)
+            yield from (self.arrow(place, onto) for onto in self.targets[place])
+            for word in self.written(place):
+                yield "%04d -> %04d [style=dotted]" % (place, word)
+        yield "}"
+
+
+def graphed(text, files):
+    """Whether a text is the flow graph."""
+    return True if text == "".join(line + "\n" for line in Drawn(files).text()) else None
