@@ -2,12 +2,10 @@ pub mod Bytes
 pub mod Cards
 pub mod CardLines
 mod Checks
-pub mod Clockworks
 pub mod DeckLaws
 mod DeckOrFault
 pub mod FaultLaws
 pub mod FirstFaults
-pub mod Firsts
 pub mod Handed
 pub mod LineCases
 pub mod LineLemmas
@@ -17,5 +15,4 @@ pub mod OpLaws
 pub mod Progress
 pub mod Puts
 pub mod Same
-pub mod Waited
 pub mod Words

@@ -1,4 +1,5 @@
--- Each text is a line of a deck, or it is none; and it is longer than so many lines and bytes, or it isn't.
+-- Each text is a line of a deck, or it is none; and it is longer than a limit of lines and bytes,
+-- or it isn't.
 use Rattle.std.proofs.Common.{◌≡◌, ℕ, zero, suc, ◌+◌, ◌^◌, ◌<◌, ◌≤◌, Bool, true, false, cond, List, [], ◌∷◌, ◌++◌}
 use Rattle.std.proofs.Common.{length, take, drop, refl, ap, sym, ◌∙◌, subst, arith, inl, inr, ◌⊎◌, take-append-drop}
 use Rattle.std.proofs.Math.Seq.{take-append_seam, drop-append_seam}
@@ -13,7 +14,7 @@ use Rattle.drum_core.proofs.DeckLaws.{length-spelling}
 use Rattle.drum_core.proofs.LineLemmas.{long_among, long_behind}
 use Rattle.drum_core.proofs.Numerals.{length-digits_of}
 
--- the least of so many numbers with a property; or none of them has it
+-- the least of the `count` numbers from `first` on with a property; or none of them has it
 pub least_or_none : (P : ℕ → Type 0) → ((n : ℕ) → P n ⊎ (P n → ⊥)) → (first count : ℕ)
     → ((n : ℕ) × (first ≤ n) × (n < first + count) × P n × ((m : ℕ) → first ≤ m → m < n → P m → ⊥))
     ⊎ ((n : ℕ) → first ≤ n → n < first + count → P n → ⊥)
@@ -73,7 +74,7 @@ word_cases text = elim (signed_cases true text) [
 length-word : (word : Word) → length (32 ∷ spelling word) ≡ 12
 length-word word = ap suc (length-spelling word)
 
--- so many words, each with a space before it
+-- `count` words, each with a space before it
 pub words_cases : (count : ℕ) (text : List ℕ) → ((words : List Word) × (length words ≡ count) × (text ≡ spaced words))
     ⊎ ((words : List Word) → length words ≡ count → text ≡ spaced words → ⊥)
 words_cases zero [] = inl ([], refl, refl)

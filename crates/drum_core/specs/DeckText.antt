@@ -1,5 +1,5 @@
--- Deck text (this project's choice): what each line says, which texts are decks, what a deck loads,
--- and why another text is refused.
+-- Deck text: what each line says, which texts are decks, what a deck loads, and why another text is
+-- refused.
 use Rattle.std.specs.Prelude.{◌≡◌, ℕ, ◌+◌, ◌^◌, ◌<◌, ◌≤◌, List, [], ◌∷◌, ◌++◌, length, flat_map}
 use Rattle.std.specs.Prelude.{codes, Any, ◌==◌, if◌then◌else◌, Option, Some, None}
 use Rattle.std.specs.List.{AllByRecursion}

@@ -1,4 +1,4 @@
--- What a device tells of its calls (this project's choice).
+-- What a device tells of its calls.
 use Rattle.std.specs.Borrow.{Bor}
 use Rattle.std.specs.Prelude.{ℕ, ◌==◌, ◌&&◌, Bool, true, false, List, flat_map, length, not, Result}
 use Rattle.std.specs.Prelude.{Ok, Err}

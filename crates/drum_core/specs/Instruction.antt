@@ -27,6 +27,6 @@ instruction op d i = record {
   next_four = four_digits i;
 }
 
--- the instruction of a word, whose sign plays no part (this project's choice)
+-- the instruction of a word, whose sign plays no part
 abbrev pub instruction_of : Word → Instruction
 instruction_of word = instruction (word.digits / 10 ^ 8) (word.digits / 10 ^ 4) word.digits

@@ -1,5 +1,4 @@
 pub mod Amount
-pub mod Available
 pub mod Branch
 pub mod DeckLine
 pub mod DeckText
@@ -11,14 +10,10 @@ pub mod Kind
 pub mod Lines
 pub mod Loads
 pub mod Location
-pub mod Moment
 pub mod Numeral
 pub mod Op
 pub mod Position
-pub mod Recurs
 pub mod Shift
-pub mod Span
 pub mod Store
 pub mod Loaded
-pub mod Waits
 pub mod Word

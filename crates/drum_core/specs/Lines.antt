@@ -1,4 +1,4 @@
--- The lines of a text, what each says, and the first with a fault (this project's choice).
+-- The lines of a text, what each says, and the first with a fault.
 use Rattle.std.specs.Prelude.{◌≡◌, ℕ, ◌+◌, ◌<◌, List, [], ◌∷◌, ◌++◌, ◌==◌, ◌⊎◌, Any, length}
 use Rattle.std.specs.Prelude.{if◌then◌else◌}
 
@@ -19,7 +19,7 @@ abbrev pub IsLonger : ℕ → ℕ → List ℕ → Type 0
 IsLonger count bytes text =
     (count < length (lines_of text)) ⊎ Any (λ line. bytes < length line) (lines_of text)
 
--- each text says its line, where Says tells what a text says
+-- each text says its line, where Says has what a text says
 abbrev pub EachSays : {Line : Type 0} → (List ℕ → Line → Type 0) → List (List ℕ) → List Line
     → Type 0
 EachSays Says [] [] = Unit {0}
@@ -28,7 +28,7 @@ EachSays Says [] (line ∷ lines) = ⊥
 EachSays Says (text ∷ texts) [] = ⊥
 
 -- The first line of a text with a fault has this one: the lines before it are sound. What a text
--- says, which lines are sound, and which fault the line of a number has behind others, is told by
+-- says, which lines are sound, and which fault the line of a number has behind others, is given by
 -- Says, AreSound and IsFaultOfLine.
 pub record HasFirstFault {Line Fault : Type 0} (Says : List ℕ → Line → Type 0)
     (AreSound : List Line → Type 0) (IsFaultOfLine : List Line → ℕ → List ℕ → Fault → Type 0)

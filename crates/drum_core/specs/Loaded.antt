@@ -1,7 +1,7 @@
 -- Which locations of an image have a word.
 use Rattle.std.specs.Prelude.{◌≡◌, ℕ, ◌+◌, ◌<◌, ◌≤◌, List, slice_get, Option, Some, None}
 
--- the location is the first of so many that has one
+-- the location is the first that has one, of the `count` from `first` on
 pub record IsFirstLoaded {A : Type 0} (image : List (Option A)) (first count location : ℕ) :
     Type 0 where
   pub low : first ≤ location

@@ -22,8 +22,8 @@ pub struct Given {
     pub line: u16,
 }
 
-/// A deck: which words it loads onto the drum, from which cards, and where the program starts. Some
-/// lines, 4000 at most, say just that.
+/// A deck: which words it loads onto the drum, from which cards, and where the program starts. Each
+/// deck is what some lines of text say, 4000 at most.
 #[derive(Debug, PartialEq, Eq, Drop)]
 pub struct Deck {
     image: Vec<Option<Given>>,
@@ -52,7 +52,7 @@ impl Deck {
     /// The most bytes of a text.
     pub const BYTES: usize = Deck::LINES as usize * (Deck::LINE + 1);
 
-    /// What the deck gives the location: nothing but for locations on the drum that it loads.
+    /// What the deck gives the location; `None` off the drum, and where the deck loads nothing.
     fn given(&self, location: Location) -> Option<Given>
         ensures held { result ≡ given_in self.now location.number }
         ensures told { (lines : List Line) → IsDeckOf self.now lines
@@ -86,7 +86,7 @@ impl Deck {
         Some(given.line)
     }
 
-    /// The lines of its cards, in order: each from 1 to 4000.
+    /// The numbers of the lines that are cards, ascending, each from 1 to 4000.
     pub fn cards(&self) -> &[u16]
         ensures held { result.now ≡ cards_in self.now }
         ensures numbered { All (λ line. (1 ≤ line) × (line ≤ 4000)) result.now }

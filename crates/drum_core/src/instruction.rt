@@ -4,8 +4,7 @@ use crate::word::Word;
 
 /// The instruction that a word's ten digits are: two of operation, four of D, four of I.
 ///
-/// Source: the IBM 650 Manual of Operation. That the word's sign isn't looked at is this project's
-/// choice.
+/// Source: the IBM 650 Manual of Operation, but for this: the word's sign isn't looked at.
 #[derive(Clone, Copy, Debug, PartialEq, Eq, Hash)]
 pub struct Instruction {
     /// The operation's two digits.

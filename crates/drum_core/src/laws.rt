@@ -2,15 +2,12 @@
 
 ghost use Rattle.std.specs.Prelude.{◌≡◌, ℕ, ◌<◌, ◌≤◌, ◌⊎◌, List, [], ◌∷◌, length, Some, Contains};
 ghost use Rattle.std.specs.List.Sorted.{IsStrictlyIncreasing};
-ghost use Rattle.drum_core.specs.Available.{is_angle, has_parity, is_available};
 ghost use Rattle.drum_core.specs.DeckText.{Given, Line, given_at, loads_of, starts, AreDistinct};
 ghost use Rattle.drum_core.specs.DeckText.{IsDeck, IsRefused, Say};
 ghost use Rattle.drum_core.specs.Holds.{IsDeckOf};
 ghost use Rattle.drum_core.specs.Loads.{card_in, cards_in, loads_in, start_in};
-ghost use Rattle.drum_core.specs.Moment.{IsFirst, first};
 ghost use Rattle.drum_core.specs.declared.deck.Deck.{Deck};
 ghost use Rattle.drum_core.specs.declared.deck.fault.DeckFault.{DeckFault};
-ghost use Rattle.drum_core.specs.declared.rotation.parity.Parity.{Parity};
 ghost use Rattle.drum_core.specs.declared.word.Word.{Word};
 
 /// Every text is a deck, or it has its fault; and it is the deck of one list of lines. (That it
@@ -59,15 +56,4 @@ pub fn decks_are_of_lines()
     ensures cards { (deck : Deck) → IsStrictlyIncreasing (cards_in deck) }
     ensures among { (deck : Deck) (location line : ℕ) → card_in deck location ≡ Some line
         → Contains (cards_in deck) line }
-{}
-
-/// A moment that is found by looking at one after the other is the least at or after the clock
-/// whose angle serves: for an angle, for a parity, and for each location.
-pub fn first_is_least()
-    ensures angles { (angle clock : ℕ) → angle < 50
-        → IsFirst (is_angle angle) clock (first (is_angle angle) clock) }
-    ensures parities { (parity : Parity) (clock : ℕ)
-        → IsFirst (has_parity parity) clock (first (has_parity parity) clock) }
-    ensures locations { (location clock : ℕ)
-        → IsFirst (is_available location) clock (first (is_available location) clock) }
 {}

@@ -5,6 +5,11 @@ ghost use Rattle.drum_core.specs.Location.{IsLocation};
 
 use std::fmt;
 
+/// The word times of a revolution of the drum.
+///
+/// Source: the IBM 650 Manual of Operation.
+pub const REVOLUTION: u64 = 50;
+
 /// A location that holds a word: 0000 to 1999 on the drum, 8000 to 8003 beside it.
 ///
 /// Source: the IBM 650 Manual of Operation.
@@ -36,7 +41,7 @@ impl Location {
     /// How many words the drum has: 0000 to 1999.
     pub const DRUM: u16 = 2000;
 
-    /// One more than the greatest number of a location.
+    /// One more than the greatest number of a location, which is 8003.
     pub const NUMBERS: usize = 8004;
 
     /// The location of this number; `None` where the machine has none.
@@ -57,7 +62,7 @@ impl Location {
         self.number
     }
 
-    /// What stands there.
+    /// What stands at the location.
     pub fn kind(self) -> Kind
         ensures { result ≡ kind_of self.number }
     {

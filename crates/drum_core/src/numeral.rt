@@ -14,7 +14,7 @@ fn read_digit(byte: u8) -> Option<u64>
     }
 }
 
-/// The number that the text writes, each byte of it a decimal digit.
+/// The number that the text writes in decimal digits; `None` where a byte of it is no digit.
 pub fn read_digits(text: &[u8]) -> Option<u64>
     requires { length text.now ≤ 19 }
     ensures found { IfSome result (λ n. text.now ≡ digits_of (length text.now) n) }

@@ -52,21 +52,21 @@ pub enum Op {
     BranchOnDigit(Position),
 }
 
-/// What an operation wants of its data address.
+/// What an operation requires of its data address D.
 #[derive(Clone, Copy, Debug, PartialEq, Eq)]
 pub enum Operand {
-    /// Any location: 10, 11, 14 to 19, 60, 61, 64 to 69.
+    /// D is a location, on the drum or beside it: 10, 11, 14 to 19, 60, 61, 64 to 69.
     Any,
-    /// A location on the drum: 20 to 24, 70, 71.
+    /// D is a location on the drum: 20 to 24, 70, 71.
     Drum,
-    /// Nothing: the rest.
+    /// D may be any address: all other operations.
     Unused,
 }
 
 impl Operand {
     ghost use Rattle.drum_core.specs.Op.{is_operand};
 
-    /// Whether a data address is what is wanted.
+    /// Whether a data address is one that meets it.
     pub fn suits(self, d: u16) -> bool
         ensures { result ≡ is_operand self d }
     {
@@ -185,7 +185,7 @@ impl Op {
         }
     }
 
-    /// What it wants of its data address.
+    /// What it requires of its data address.
     pub fn operand(self) -> Operand
         ensures { result ≡ operand_of self }
     {

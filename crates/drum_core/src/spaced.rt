@@ -21,8 +21,8 @@ fn read_spaced(text: &[u8]) -> Option<Word>
     Word::read(&text[1..])
 }
 
-/// Reads words that are written with a space before each, as many as there is room for. Whether the
-/// text spells so many; where it doesn't, some of the words may have been read.
+/// Reads words that are written with a space before each, as many as `words` has room for, and
+/// returns whether the text spells these; where it doesn't, some of `words` may have been changed.
 pub fn read_words(text: &[u8], words: &mut [Word]) -> bool
     requires { length text.now ≡ 12 * length words.old }
     ensures found { IsTrue result → text.now ≡ spaced words.new }

@@ -31,7 +31,7 @@ impl Word {
         }
     }
 
-    /// The word that the text spells: `+` or `-` and ten digits, and nothing else.
+    /// The word that the text spells: `+` or `-` and ten digits; `None` for any other text.
     pub fn read(text: &[u8]) -> Option<Word>
         ensures found { IfSome result (λ word. text.now ≡ spelling word) }
         ensures none { IfNone result ((word : Word) → text.now ≢ spelling word) }
@@ -64,7 +64,7 @@ impl Word {
         self.digits
     }
 
-    /// The digit at a position: 10 is the leftmost, 1 the units.
+    /// The digit at a position, from 1, the units, to 10, the leftmost.
     pub fn position(self, position: u8) -> u8
         requires from_one { 1 ≤ position }
         requires to_ten { position ≤ 10 }

@@ -21,7 +21,7 @@ pub struct Card {
     pub ghost seven: { len ≤ 7 },
 }
 
-/// How many words a card of so many bytes has.
+/// How many words a card of `bytes` bytes has, 1 to 7; `None` where no card has that length.
 fn count_words(bytes: usize) -> Option<usize>
     ensures found { IfSome result (λ n. (bytes ≡ 4 + 12 * n) × (1 ≤ n) × (n ≤ 7)) }
     ensures none { IfNone result ((n : ℕ) → 1 ≤ n → n ≤ 7 → bytes ≢ 4 + 12 * n) }

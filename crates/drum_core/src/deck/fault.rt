@@ -5,25 +5,25 @@ use thiserror::Error;
 /// Why a text isn't a deck.
 #[derive(Clone, Copy, Debug, PartialEq, Eq, Error)]
 pub enum DeckFault {
-    /// Its reader failed.
+    /// A read of its device failed.
     #[error("the deck can't be read")]
     Read,
     /// There is no memory for it.
     #[error("there is no memory for the deck")]
     Memory,
-    /// The line is no comment, no start and no card.
+    /// The line of this number, from 1, is neither a comment nor a start nor a card.
     #[error("line {0} is no card")]
     Card(u16),
-    /// The location is given a word twice.
+    /// The location is given a second word.
     #[error("location {0} is given twice")]
     Twice(Location),
     /// No line says where to start.
     #[error("no line says where to start")]
     NoStart,
-    /// The line is a second start.
+    /// The line of this number is a second start.
     #[error("line {0} is a second start")]
     TwoStarts(u16),
-    /// The line names a location past the drum.
+    /// The line of this number starts, or puts a word, past the end of the drum.
     #[error("line {0} goes past the drum")]
     PastDrum(u16),
     /// There are more than 4000 lines, or one has more than 100 bytes.

@@ -13,13 +13,14 @@ use crate::device::input::Input;
 use crate::device::whole::{WholeError, read_whole};
 use std::alloc::Global;
 
-/// Reads a deck. The whole text is read first, 404,001 bytes at most, so that a reader without end
-/// is too long.
+/// Reads a deck. The whole text is read first, 404,001 bytes at most: a device that gives as many
+/// as that is too long, and may have no end.
 ///
 /// # Errors
 ///
-/// Read where a read failed; Memory; TooLong before any line is looked at; then the first line with
-/// a fault, Card before PastDrum before TwoStarts before Twice; NoStart last.
+/// Read where a read failed; Memory where there is no memory; TooLong before any line is looked at;
+/// then the fault of the first line that has one (Card before PastDrum before TwoStarts before
+/// Twice); NoStart last.
 pub fn read_deck<I: Input>(alloc: Global, reader: &mut I) -> Result<Deck, DeckFault>
     requires { I.called reader.old ≤ 2 ^ 62 }
     ensures deck { IfOk result (λ deck. IfSome (I.left reader.old) (λ bytes.
@@ -51,12 +52,12 @@ pub fn read_deck<I: Input>(alloc: Global, reader: &mut I) -> Result<Deck, DeckFa
     deck_of(alloc, &text)
 }
 
-/// The deck of a text that is held.
+/// Reads a deck from a text in memory.
 ///
 /// # Errors
 ///
-/// Memory; TooLong before any line is looked at; then the first line with a fault, Card before
-/// PastDrum before TwoStarts before Twice; NoStart last.
+/// Memory where there is no memory; TooLong before any line is looked at; then the fault of the
+/// first line that has one (Card before PastDrum before TwoStarts before Twice); NoStart last.
 pub fn deck_of(alloc: Global, text: &[u8]) -> Result<Deck, DeckFault>
     ensures deck { IfOk result (λ deck.
         (lines : List Line) × IsDeck text.now lines × IsDeckOf deck lines) }

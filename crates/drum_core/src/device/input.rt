@@ -25,12 +25,12 @@ pub trait Input {
     /// How many reads gave no byte: they failed, met the end, or had no room.
     ghost idle: { Self → ℕ };
 
-    /// Reads some bytes into the beginning of the buffer and says how many: none only at the end,
-    /// or where the buffer has no room.
+    /// Reads some bytes into the beginning of the buffer, and returns how many: 0 only at the end,
+    /// or where the buffer is empty.
     ///
     /// # Errors
     ///
-    /// Any error of the device, also one that means that it was interrupted.
+    /// Any error of the device, even one that only means that the read was interrupted.
     fn read(&mut self, buf: &mut [u8]) -> Result<usize, Failed>
         requires { called self.old ≤ 2 ^ 63 }
         ensures bound { ReadsAtMost result buf.new }

@@ -16,11 +16,11 @@ pub trait Output {
     /// How many writes failed, or took none of some bytes.
     ghost failed: { Self → ℕ };
 
-    /// Writes some bytes from the beginning of the buffer and says how many.
+    /// Writes some bytes from the beginning of the buffer, and returns how many.
     ///
     /// # Errors
     ///
-    /// Any error of the device, also one that means that it was interrupted.
+    /// Any error of the device, even one that only means that the write was interrupted.
     fn write(&mut self, buf: &[u8]) -> Result<usize, Failed>
         requires { called self.old ≤ 2 ^ 63 }
         ensures bound { WritesAtMost result buf.now }

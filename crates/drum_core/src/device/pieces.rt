@@ -7,14 +7,18 @@ ghost use Rattle.drum_core.specs.Device.{joined};
 
 use super::output::Output;
 
-/// A write failed after some bytes.
+/// A write failed, or took no byte, after some bytes had gone out.
 #[derive(Clone, Copy, Debug, PartialEq, Eq)]
 pub struct Unsent {
-    /// How many bytes went out before it.
+    /// How many bytes had gone out.
     pub sent: usize,
 }
 
-/// Writes the bytes, as many times as the output asks for.
+/// Writes all of the bytes, in as many writes as that takes.
+///
+/// # Errors
+///
+/// Where a write fails or takes no byte, with the number of bytes that had gone out.
 pub fn write_whole<O: Output>(output: &mut O, bytes: &[u8]) -> Result<(), Unsent>
     requires { O.called output.old + length bytes.now ≤ 2 ^ 63 }
     ensures all { OnOk result (Appends (O.written output.old) (O.written output.new) bytes.now) }
@@ -35,8 +39,12 @@ pub fn write_whole<O: Output>(output: &mut O, bytes: &[u8]) -> Result<(), Unsent
     Ok(())
 }
 
-/// Writes pieces one after the other, as many times as the output asks for, and tells how many
-/// bytes they have.
+/// Writes all of the pieces, one after the other, in as many writes as that takes, and returns how
+/// many bytes they have together.
+///
+/// # Errors
+///
+/// Where a write fails or takes no byte, with the number of bytes that had gone out, of all pieces.
 pub fn write_pieces<O: Output>(output: &mut O, pieces: &[&[u8]]) -> Result<usize, Unsent>
     requires { O.called output.old + length (joined pieces.now) ≤ 2 ^ 63 }
     ensures all { OnOk result

@@ -4,7 +4,7 @@ use super::Failed;
 use super::input::Input;
 use std::io::Read;
 
-/// An input made of any reader of `std`. It tells the bytes that are left where the reader does.
+/// An input over any reader of `std`. It tells which bytes are left where the reader does.
 #[derive(Debug, Drop)]
 pub struct Reading<R: Read> {
     /// The reader.

@@ -4,12 +4,12 @@ ghost use Rattle.std.specs.Prelude.{vec_len, length};
 use super::input::Input;
 use std::alloc::Global;
 
-/// Why a whole input wasn't read.
+/// Why an input wasn't read as a whole.
 #[derive(Clone, Copy, Debug, PartialEq, Eq)]
 pub enum WholeError {
     /// A read failed.
     Read,
-    /// There is no memory for the bytes.
+    /// There is no memory to hold the bytes.
     Memory,
     /// There are more bytes than the limit.
     TooLong,
@@ -18,9 +18,14 @@ pub enum WholeError {
 /// How many bytes are asked for at a time.
 const CHUNK: usize = 4096;
 
-/// All bytes of an input, of which there may be `limit`; one more is asked for at most, so that an
-/// input without end is too long. One read at most gives no byte: the end, once it is met, isn't
-/// asked for again.
+/// Reads the whole input, up to `limit` bytes. One byte more shows that it is too long, and none is
+/// asked for after that one, so that an input may have no end. Once a read gives no byte, the input
+/// isn't read again.
+///
+/// # Errors
+///
+/// Read once a read fails; TooLong where there are more than `limit` bytes; Memory where there is
+/// no memory for them.
 pub fn read_whole<I: Input>(
     alloc: Global,
     input: &mut I,

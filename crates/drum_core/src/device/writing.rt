@@ -4,8 +4,7 @@ use super::Failed;
 use super::output::Output;
 use std::io::Write;
 
-/// An output made of any writer of `std`. It tells the bytes that it was given where the writer
-/// does.
+/// An output over any writer of `std`. It tells which bytes it was given where the writer does.
 #[derive(Debug, Drop)]
 pub struct Writing<W: Write> {
     /// The writer.

@@ -1,27 +1,27 @@
 ghost use Rattle.std.specs.Prelude.{◌≡◌, ◌≢◌, IfSome, IfNone};
 
-/// What is made of the word at D before an operation adds it.
+/// What an operation adds to the accumulator, of the word at D, and to which half.
 #[derive(Clone, Copy, Debug, PartialEq, Eq)]
 pub enum Amount {
-    /// 10, 60: it, into the upper half of the accumulator.
+    /// 10, 60: the word, to the upper half.
     Upper,
-    /// 11, 61: its negative, into the upper half.
+    /// 11, 61: its negative, to the upper half.
     MinusUpper,
-    /// 15, 65: it, into the lower half.
+    /// 15, 65: the word, to the lower half.
     Lower,
-    /// 16, 66: its negative, into the lower half.
+    /// 16, 66: its negative, to the lower half.
     MinusLower,
-    /// 17, 67: its magnitude, into the lower half.
+    /// 17, 67: its magnitude, to the lower half.
     AbsoluteLower,
-    /// 18, 68: the negative of its magnitude, into the lower half.
+    /// 18, 68: the negative of its magnitude, to the lower half.
     MinusAbsoluteLower,
 }
 
 impl Amount {
     ghost use Rattle.drum_core.specs.Amount.{number_of};
 
-    /// The amount that the operation of this number adds, for those that don't reset the
-    /// accumulator.
+    /// The amount that the operation of this number adds; `None` for numbers other than 10, 11 and
+    /// 15 to 18.
     pub fn of(number: u8) -> Option<Amount>
         ensures found { IfSome result (λ amount. number_of amount ≡ number) }
         ensures none { IfNone result ((amount : Amount) → number_of amount ≢ number) }
@@ -37,7 +37,7 @@ impl Amount {
         }
     }
 
-    /// The number of the operation that adds it, and doesn't reset the accumulator.
+    /// The number of the operation that adds it without resetting the accumulator first.
     pub fn number(self) -> u8
         ensures { result ≡ number_of self }
     {

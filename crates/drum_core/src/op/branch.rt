@@ -16,7 +16,7 @@ pub enum Branch {
 impl Branch {
     ghost use Rattle.drum_core.specs.Branch.{number_of};
 
-    /// What the operation of this number tests.
+    /// What the operation of this number tests; `None` for numbers other than 44 to 47.
     pub fn of(number: u8) -> Option<Branch>
         ensures found { IfSome result (λ branch. number_of branch ≡ number) }
         ensures none { IfNone result ((branch : Branch) → number_of branch ≢ number) }

@@ -18,7 +18,8 @@ pub enum Position {
 impl Position {
     ghost use Rattle.drum_core.specs.Position.{number_of};
 
-    /// The position that the operation of this number tests.
+    /// The position that the operation of this number tests; `None` for numbers other than 90 to
+    /// 99.
     pub fn of(number: u8) -> Option<Position>
         ensures found { IfSome result (λ position. number_of position ≡ number) }
         ensures none { IfNone result ((position : Position) → number_of position ≢ number) }

@@ -14,7 +14,7 @@ pub enum Shift {
 impl Shift {
     ghost use Rattle.drum_core.specs.Shift.{number_of};
 
-    /// How the operation of this number shifts.
+    /// How the operation of this number shifts; `None` for numbers other than 30, 31 and 35.
     pub fn of(number: u8) -> Option<Shift>
         ensures found { IfSome result (λ shift. number_of shift ≡ number) }
         ensures none { IfNone result ((shift : Shift) → number_of shift ≢ number) }

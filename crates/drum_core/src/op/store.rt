@@ -18,7 +18,7 @@ pub enum Store {
 impl Store {
     ghost use Rattle.drum_core.specs.Store.{number_of};
 
-    /// What the operation of this number stores.
+    /// What the operation of this number stores; `None` for numbers other than 20 to 24.
     pub fn of(number: u8) -> Option<Store>
         ensures found { IfSome result (λ store. number_of store ≡ number) }
         ensures none { IfNone result ((store : Store) → number_of store ≢ number) }

@@ -1,3 +1,5 @@
+-- Of put_words: the locations of the words before the one at hand had no word and have theirs now,
+-- and nothing else has changed; so a location that has a word is the first that does.
 use Rattle.std.proofs.Common.{◌≡◌, ◌+◌, ◌<◌, length, Some, sym, ◌∙◌, arith, true, false, refl}
 use Rattle.std.proofs.lemmas.Option.{slice_get_read, slice_get_within}
 use Rattle.std.specs.Prelude.{slice_get, is_some}

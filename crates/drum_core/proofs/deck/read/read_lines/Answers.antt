@@ -1,3 +1,5 @@
+-- Of read_lines: what is held is what the lines so far say. A fault of the line at hand is the
+-- first of the text; past the last line there is the deck, or no line says where to start.
 use Rattle.std.proofs.Common.{◌≡◌, [], refl, sym, ap, arith, subst}
 use Rattle.drum_core.specs.declared.deck.fault.DeckFault.TheVariants as faults
 use Rattle.drum_core.specs.declared.deck.lines.Lines.{Lines}

@@ -1,3 +1,5 @@
+-- Of write_pieces: what went out are the pieces so far, joined; a write that fails adds the first
+-- bytes of the piece at hand.
 use Rattle.std.proofs.Common.{◌≡◌, ℕ, ◌+◌, ◌<◌, ◌≤◌, List, [], ◌++◌, length, get_or, take, ap, sym, ◌∙◌, subst, arith}
 use Rattle.std.proofs.Common.{length-append}
 use Rattle.std.proofs.lemmas.List.Folds.{length-flat_map-take}

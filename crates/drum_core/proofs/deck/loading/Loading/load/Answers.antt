@@ -1,3 +1,6 @@
+-- Of Loading::load: once the words of the card stand in the image, what is held is what the lines
+-- so far and this card say. Else the card goes past the drum, or a location has a word already, and
+-- that is the fault of the line.
 use Rattle.std.proofs.Common.{◌≡◌, ℕ, ◌+◌, ◌≤◌, ◌<◌, ◌⊎◌, ◌++◌, ◌∷◌, [], List, length, take, slice_get, Bool, true}
 use Rattle.std.proofs.Common.{cond, not, Some, None, refl, sym, ◌∙◌, ap, arith, subst}
 use Rattle.std.specs.Result.{is_ok}

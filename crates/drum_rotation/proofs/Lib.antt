@@ -1,0 +1,3 @@
+pub mod Clockworks
+pub mod Firsts
+pub mod Waited
