@@ -1,4 +1,4 @@
--- What is told of a value at a key.
+-- The faults that are added of a value at a key.
 use Rattle.std.proofs.Common.{◌≡◌, ℕ, zero, suc, ◌<◌, ◌≤◌, Bool, true, false, ◌||◌, cond, List, [], ◌∷◌, ◌++◌, map}
 use Rattle.std.proofs.Common.{length, get_or, Option, Some, None, Bor, refl, ap, sym, ◌∙◌, subst, le-leb, arith}
 use Rattle.std.proofs.lemmas.Bool.{leb-true}

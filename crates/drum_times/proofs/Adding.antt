@@ -1,4 +1,4 @@
--- Faults that are told one behind the other.
+-- Faults that are added one behind the other.
 use Rattle.std.proofs.Common.{◌≡◌, List, [], ◌∷◌, ◌++◌, refl, ap, sym, ◌∙◌, subst}
 use Rattle.std.proofs.lemmas.List.{append-nil, append_assoc}
 use Rattle.drum_times.specs.declared.fault.NoteFault.{NoteFault}
@@ -12,11 +12,11 @@ tell_append [] (a ∷ es) ys bs first more = absurd first
 tell_append (x ∷ xs) [] ys bs first more = absurd first
 tell_append (x ∷ xs) (a ∷ es) ys bs first more = (first.0, tell_append xs es ys bs first.1 more)
 
--- none are told
+-- none are added
 pub adds_none : (old : List NoteFault) → Adds old old []
 adds_none old = record { told = []; is = sym (append-nil old); tell = tt }
 
--- one is told
+-- one is added
 pub adds_one : (old new : List NoteFault) (told : NoteFault) (fault : Fault) → new ≡ old ++ told ∷ []
     → Tells told fault → Adds old new (fault ∷ [])
 adds_one old new told fault is tells = record { told = told ∷ []; is = is; tell = (tells, tt) }
@@ -32,12 +32,12 @@ adds_more old between new faults others first more = record {
   tell = tell_append first.told faults more.told others first.tell more.tell;
 }
 
--- they are told where they are others' equals
+-- they are added where they are others' equals
 pub adds_same : (old new : List NoteFault) (faults others : List Fault) → faults ≡ others → Adds old new faults
     → Adds old new others
 adds_same old new faults others same adds = subst (Adds old new) same adds
 
--- Of some faults the first have been told, and these are left.
+-- Of some faults the first have been added, and these are left.
 pub record Left (old now : List NoteFault) (left whole : List Fault) : Type 0 where
   pub done : List Fault
   pub adds : Adds old now done
@@ -56,7 +56,7 @@ one_step old now next left faults others whole so_far steps adds = record {
       ∙ sym (append_assoc so_far.done faults others);
 }
 
--- a step that tells nothing
+-- a step that adds nothing
 pub no_step : (old now : List NoteFault) (left others whole : List Fault) → Left old now left whole
     → left ≡ others → Left old now others whole
 no_step old now left others whole so_far steps = record {

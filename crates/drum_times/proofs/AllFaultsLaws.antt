@@ -26,7 +26,7 @@ use Rattle.drum_times.proofs.TimesFaultless.{times_said}
 use Rattle.toml.specs.Data.{Data, string, integer, float, boolean, datetime, array, table, Items, no_items, item}
 use Rattle.toml.specs.Data.{Members, get_member}
 
--- what is told first is the first fault
+-- what is stated first is the first fault
 begin_told : (fault : NoteFault) (others : List NoteFault) (faults : List Fault) → TellEach (fault ∷ others) faults
     → (one : Fault) × Begin faults one × Tells fault one
 begin_told fault others [] each = absurd each
@@ -43,7 +43,7 @@ refused_by mine bytes D (Kind path) one is begin tells = (D, is, subst (Begin (m
 refused_by mine bytes D (TwoMarks from onto) one is begin tells = (D, is, subst (Begin (mine D)) tells begin)
 refused_by mine bytes D (TwoLists location) one is begin tells = (D, is, subst (Begin (mine D)) tells begin)
 
--- where two lists of faults begin alike, the first of the one's told is that of the other
+-- where two lists of faults begin alike, the first that is stated of the one is that of the other
 first_told : (whole mine : Members → List Fault) (bytes : List ℕ) (fault : NoteFault) (others : List NoteFault)
     → ((D : Members) (one : Fault) → Begin (whole D) one → Begin (mine D) one)
     → AreAllFaults whole bytes (fault ∷ others) → IsRefused mine bytes fault
@@ -58,7 +58,7 @@ none_told : (faults : List Fault) → TellEach [] faults → faults ≡ []
 none_told [] each = refl
 none_told (one ∷ faults) each = absurd each
 
--- where nothing is told, there is no fault
+-- where nothing is stated, there is no fault
 nothing_told : (whole : Members → List Fault) (bytes : List ℕ) → AreAllFaults whole bytes [] → (D : Members)
     × IsDocument bytes D × (whole D ≡ [])
 nothing_told whole bytes all = elim all [

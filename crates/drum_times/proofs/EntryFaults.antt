@@ -3,8 +3,8 @@ use Rattle.std.proofs.Common.{◌≡◌, ℕ, ◌≤◌, Bool, true, cond, List,
 use Rattle.std.proofs.Common.{◌∙◌, subst, le-leb, arith}
 use Rattle.std.specs.Prelude.{codes, ◌&&◌, nat_le}
 use Rattle.drum_core.specs.declared.op.Op.{Op}
-use Rattle.drum_core.specs.declared.rotation.parity.Parity.{Parity}
-use Rattle.drum_core.specs.declared.rotation.parity.Parity.TheVariants.{Any, Even, Odd}
+use Rattle.drum_core.specs.declared.parity.Parity.{Parity}
+use Rattle.drum_core.specs.declared.parity.Parity.TheVariants.{Any, Even, Odd}
 use Rattle.drum_times.specs.declared.fault.NoteFault.{NoteFault}
 use Rattle.drum_times.specs.declared.times.read_entry.Form.{Form}
 use Rattle.drum_times.specs.declared.times.read_entry.Form.TheVariants.{Plain, Units, Waits}

@@ -30,7 +30,7 @@ pub count_seen : (vs : List Value) → count_of (items_view vs) ≡ length vs
 count_seen [] = refl
 count_seen (v ∷ vs) = ap suc (count_seen vs)
 
--- the faults of an array of so many tables
+-- the faults of an array of tables: whether it has too few or too many, else those of its elements
 pub tables_are : (low : ℕ) (high : Option ℕ) (check : ℕ → List ℕ → Members → List Fault) (at key : List ℕ)
     (fields : Members) (d : Data) (vs : List Value) (fits : Bool)
     → Some d ≡ get_member key fields → Some (items_view vs) ≡ as_array d → fits ≡ is_count low high (length vs)

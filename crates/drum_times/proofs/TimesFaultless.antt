@@ -3,8 +3,8 @@ use Rattle.std.proofs.Common.{◌≡◌, ℕ, zero, suc, ◌≤◌, true, List, 
 use Rattle.std.proofs.Common.{◌∙◌, subst, arith}
 use Rattle.std.specs.Prelude.{codes, flat_map, slice_get}
 use Rattle.drum_core.specs.declared.op.Op.{Op}
-use Rattle.drum_core.specs.declared.rotation.parity.Parity.{Parity}
-use Rattle.drum_core.specs.declared.rotation.parity.Parity.TheVariants.{Any, Even, Odd}
+use Rattle.drum_core.specs.declared.parity.Parity.{Parity}
+use Rattle.drum_core.specs.declared.parity.Parity.TheVariants.{Any, Even, Odd}
 use Rattle.drum_core.specs.Op.{ops}
 use Rattle.drum_core.proofs.OpLaws.{place_of}
 use Rattle.drum_times.specs.declared.entry.Entry.{Entry}

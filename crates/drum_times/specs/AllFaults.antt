@@ -13,7 +13,7 @@ use Rattle.drum_times.specs.NotesDocument.{location_faults}
 use Rattle.drum_times.specs.Refused.{IsDocument}
 use Rattle.toml.specs.Data.{Data, integer, array, table, Members, get_member}
 
--- The fault that is told is this one of a table. (Neither Toml nor Memory is one of a table.)
+-- The fault that the code states is this one of a table. (Toml and Memory are none of a table.)
 abbrev pub Tells : NoteFault → Fault → Type 0
 Tells Toml fault = ⊥
 Tells Memory fault = ⊥
@@ -24,7 +24,7 @@ Tells (Kind path) fault = fault ≡ kind (string_bytes path.text)
 Tells (TwoMarks from onto) fault = fault ≡ two_marks from.number onto.number
 Tells (TwoLists location) fault = fault ≡ two_lists location.number
 
--- each tells its fault, in order
+-- each states its fault, in order
 abbrev pub TellEach : List NoteFault → List Fault → Type 0
 TellEach [] [] = Unit {0}
 TellEach (told ∷ others) (fault ∷ faults) = Tells told fault × TellEach others faults
@@ -38,7 +38,7 @@ AreAllFaults faults_of bytes faults =
     (((document : Members) → ¬ IsDocument bytes document) × (faults ≡ Toml ∷ []))
     ⊎ ((document : Members) × IsDocument bytes document × TellEach faults (faults_of document))
 
--- behind what was told, these faults are told
+-- behind the faults that were there, these are added
 pub record Adds (old new : List NoteFault) (faults : List Fault) : Type 0 where
   pub told : List NoteFault
   pub is : new ≡ old ++ told

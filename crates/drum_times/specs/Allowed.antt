@@ -1,4 +1,4 @@
--- Which instructions the notes allow at a location (this project's choice).
+-- Which instructions the notes allow at a location.
 use Rattle.std.specs.Prelude.{◌≡◌, ℕ, suc, ◌-◌, ◌≤◌, ◌==◌, if◌then◌else◌, Bool, List, [], ◌∷◌, ◌++◌}
 use Rattle.std.specs.Prelude.{map, flat_map, Option, Some, None, is_some, ◌+◌, ◌<◌, ◌&&◌, false}
 use Rattle.std.specs.Prelude.{IsTrue, length}

@@ -19,8 +19,8 @@ column_behind column [] = column
 column_behind column (byte ∷ bytes) = column_behind
     (if is_feed byte then 1 else if is_continuation byte then column else column + 1) bytes
 
--- The line and the column of the place behind so many bytes. Lines and columns count from 1; a
--- column counts characters.
+-- The line and the column of the place behind the first `offset` bytes. Lines and columns count
+-- from 1; a column counts characters.
 abbrev pub line_at : List ℕ → ℕ → ℕ
 line_at bytes offset = 1 + count_by is_feed (take offset bytes)
 

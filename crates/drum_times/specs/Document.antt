@@ -1,6 +1,5 @@
--- What both documents are made of (this project's choice): TOML tables, whose keys are looked at
--- one after the other. Here are the faults of a table, in their order; a document without a fault
--- has none.
+-- What both documents are made of: TOML tables, whose keys are looked at one after the other. Here
+-- are the faults of a table, in their order; a document without a fault has none.
 use Rattle.std.specs.Prelude.{ℕ, suc, ◌+◌, ◌&&◌, Bool, if◌then◌else◌, nat_le, List, [], ◌∷◌, ◌++◌}
 use Rattle.std.specs.Prelude.{flat_map, codes, decimal, pos, negsuc, Option, Some, None, is_some}
 use Rattle.std.specs.List.{list_any}

@@ -2,7 +2,7 @@
 use Rattle.std.specs.Prelude.{slice_index_or}
 use Rattle.std.proofs.Common.{lit≤}
 use Rattle.drum_core.specs.declared.op.Op.{Op}
-use Rattle.drum_core.specs.declared.rotation.parity.Parity.TheVariants.{Any}
+use Rattle.drum_core.specs.declared.parity.Parity.TheVariants.{Any}
 use Rattle.drum_core.specs.Op.{number_of}
 use Rattle.drum_times.specs.declared.entry.Entry.{Entry}
 use Rattle.drum_times.specs.declared.times.Times.{Times}

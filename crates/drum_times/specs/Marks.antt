@@ -1,4 +1,4 @@
--- On which edges marks stand (this project's choice).
+-- On which edges marks stand.
 use Rattle.std.specs.Prelude.{ℕ, ◌+◌, ◌==◌, Bool, ◌&&◌, if◌then◌else◌, List, [], ◌∷◌, Option, Some}
 use Rattle.std.specs.Prelude.{None}
 use Rattle.drum_times.specs.declared.notes.mark.Mark.{Mark}

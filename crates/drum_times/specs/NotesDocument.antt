@@ -1,4 +1,4 @@
--- The notes as a document (this project's choice): what they say, and their faults in their order.
+-- The notes as a document: what they say, and their faults in their order.
 use Rattle.std.specs.Prelude.{◌≡◌, ℕ, ◌+◌, ◌-◌, ◌<◌, ◌==◌, ◌&&◌, Bool, true, false, if◌then◌else◌}
 use Rattle.std.specs.Prelude.{List, [], ◌∷◌, ◌++◌, map, codes, Option, Some, None}
 use Rattle.std.specs.List.{list_any}
@@ -99,7 +99,7 @@ pub record IsNotes (document : Members) (notes : Notes) : Type 0 where
       (codes "list") notes.lists
   pub sound : AreSound notes
 
--- the fault of the number of a mark's outer one, which is one of so many earlier ones
+-- the fault of the number of a mark's outer one, which is from 1 to the number of earlier marks
 abbrev pub inside_faults : ℕ → List ℕ → Members → List Fault
 inside_faults earlier at fields = whole 1 earlier at (codes "inside") fields
 

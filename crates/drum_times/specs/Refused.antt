@@ -11,7 +11,7 @@ use Rattle.toml.specs.Parse.{parse_document}
 abbrev pub IsDocument : List ℕ → Members → Type 0
 IsDocument bytes document = IsUtf8 bytes × (parse_document bytes ≡ Some document)
 
--- The bytes are no document. (Or there is no memory to tell; there is no other fault here.)
+-- The bytes are no document. (Or there is no memory to find out; there is no other fault here.)
 abbrev pub IsUnread : List ℕ → NoteFault → Type 0
 IsUnread bytes Memory = Unit {0}
 IsUnread bytes Toml = (document : Members) → ¬ IsDocument bytes document
@@ -21,7 +21,7 @@ IsUnread bytes fault = ⊥
 abbrev pub Begin : List Fault → Fault → Type 0
 Begin faults fault = (others : List Fault) × (faults ≡ fault ∷ others)
 
--- This is the first of a table's faults. (Want of memory may come before any, and Toml is no fault
+-- This is the first of a table's faults. (Lack of memory may come before any, and Toml is no fault
 -- of a table.)
 abbrev pub IsFirst : List Fault → NoteFault → Type 0
 IsFirst faults Toml = ⊥

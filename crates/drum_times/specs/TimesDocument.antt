@@ -1,11 +1,10 @@
--- The timing table as a document (this project's choice): what it says, and its faults in their
--- order.
+-- The timing table as a document: what it says, and its faults in their order.
 use Rattle.std.specs.Prelude.{◌≡◌, ℕ, List, [], ◌∷◌, ◌++◌, map, flat_map, codes, pos, Some, None}
 use Rattle.drum_core.specs.declared.op.Op.{Op}
 use Rattle.drum_core.specs.declared.op.Op.TheVariants.{Divide, DivideReset, Multiply, Shift, Read}
 use Rattle.drum_core.specs.declared.op.Op.TheVariants.{Punch}
-use Rattle.drum_core.specs.declared.rotation.parity.Parity.{Parity}
-use Rattle.drum_core.specs.declared.rotation.parity.Parity.TheVariants.{Any, Even, Odd}
+use Rattle.drum_core.specs.declared.parity.Parity.{Parity}
+use Rattle.drum_core.specs.declared.parity.Parity.TheVariants.{Any, Even, Odd}
 use Rattle.drum_core.specs.Numeral.{digits_of}
 use Rattle.drum_core.specs.Op.{number_of, ops}
 use Rattle.drum_times.specs.declared.entry.Entry.{Entry}

@@ -5,22 +5,23 @@ ghost use Rattle.drum_times.specs.Complaint.{Complains};
 
 use std::alloc::{AllocError, Global};
 
-/// What `toml` says of bytes that are no document, and where.
+/// What `toml` says of bytes that are no document, and at which place in them.
 #[derive(Debug, Drop, PartialEq, Eq)]
 pub struct Complaint {
     /// The line, from 1.
     pub line: usize,
-    /// The character of the line, from 1.
+    /// The column: a character of the line, from 1.
     pub column: usize,
-    /// What is wrong there.
+    /// What is wrong there, in the words of `toml`.
     pub message: String,
 }
 
-/// What `toml` says of the bytes; `None` where they are a document.
+/// What `toml` says of the bytes; `None` where they are a TOML document.
 ///
 /// # Errors
 ///
-/// Want of memory, also where a place is past 2^62 bytes, for which no machine has room.
+/// [`AllocError`] where there is no memory, and for a place past 2^62 bytes, for which no machine
+/// has room.
 pub fn toml_complaint(alloc: Global, bytes: &[u8]) -> Result<Option<Complaint>, AllocError>
     ensures { IfOk result (Complains bytes.now) }
 {
@@ -43,7 +44,7 @@ pub fn toml_complaint(alloc: Global, bytes: &[u8]) -> Result<Option<Complaint>, 
     }))
 }
 
-/// Behind how many bytes a place is told at most.
+/// How many bytes may stand before a place.
 const FARTHEST: usize = 1 << 62;
 
 /// The line of the place behind these bytes, from 1.

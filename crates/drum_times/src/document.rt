@@ -15,11 +15,11 @@ use crate::fault::NoteFault;
 use std::alloc::Global;
 use toml::Table;
 
-/// The document that the bytes are.
+/// Reads a TOML document from bytes.
 ///
 /// # Errors
 ///
-/// Toml where they are no TOML document, or no UTF-8; Memory.
+/// Toml where they are no TOML document, or no UTF-8; Memory where there is no memory.
 pub fn read_document(alloc: Global, bytes: &[u8]) -> Result<Table, NoteFault>
     ensures read { IfOk result (λ table. IsDocument bytes.now (table_view table)) }
     ensures refused { IfErr result (IsUnread bytes.now) }

@@ -7,7 +7,7 @@ use std::fmt;
 /// 1.
 #[derive(Debug, Drop, PartialEq, Eq)]
 pub struct KeyPath {
-    /// With dots between the keys.
+    /// The keys, with dots between them.
     pub text: String,
     pub ghost short: { string_len text ≤ 2 ^ 61 },
 }

@@ -57,8 +57,9 @@ pub fn tells_times()
         × IsDocument bytes document × ((times : Op → Entry) × IsTimes document times) }
 {}
 
-/// And notes likewise: all faults of them begin with that for which they are refused, though those
-/// of two of a kind, which are looked for last, are told for the tables that have others, too.
+/// And notes likewise: all faults of them begin with that for which they are refused. (Two marks on
+/// one edge and two lists for one location are looked for last, and are among all faults even where
+/// their tables have other faults.)
 pub fn tells_notes()
     ensures first { (bytes : List ℕ) (fault : NoteFault) (others : List NoteFault)
         → AreAllFaults all_notes_faults bytes (fault ∷ others)

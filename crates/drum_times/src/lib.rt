@@ -1,6 +1,33 @@
 //! The two documents beside a deck: the timing table, and the notes on what the program may do.
 //! Each is read, or refused for its first fault; or all its faults are told. Of bytes that are no
 //! document it is told what `toml` says, and where.
+//!
+//! Code, from the bottom up. `key_path` is how a fault names a key, and `fault` why bytes are no
+//! timing table or no notes. `document` reads bytes as a TOML table, and its folder looks at one:
+//! `document/fields` at its keys (there a key's path is put together), `document/value` at a value
+//! by itself, `document/values` at the values of keys, `document/tables` at arrays of tables.
+//! `entry` is a row of the timing table. `times` is the table, which `times/read` and
+//! `times/read_entry` read. `notes` is what notes answer. Its folder has the types that they are
+//! made of: `notes/mark` (which knows its edge, and which of some marks stands on one),
+//! `notes/listing`, `notes/pattern` and `notes/programmed`. `notes/read`, `notes/read_mark` and
+//! `notes/read_list` read them, and `notes/repeated` looks last for edges and locations that stand
+//! there twice. A check wants all faults. `document/faults` and `document/table_faults` gather
+//! those of tables; `times/faults` and `notes/faults` (with `notes/repeated_faults`) those of a
+//! document. `complaint` has what `toml` says of bytes that are no document. `laws` has laws of the
+//! definitions.
+//!
+//! Definitions, in the order to read them: `Document` has what both documents share, the faults of
+//! a table first of all. `TimesDocument` and `NotesDocument` say what each document says, and its
+//! faults in their order. `Marks` says on which edges marks stand, and `Allowed` what notes are and
+//! which instructions they allow. `Refused` says which fault a document is refused for, and
+//! `AllFaults` which faults it has. `Complaint` is a place in bytes. The others say what the code's
+//! types mean by these: `Value` what is wrong with a value, `Entries` and `Listed` what a timing
+//! table and a list hold, `Says` which timing table and which notes bytes say.
+//!
+//! Proofs. `Matching` (what is listed for a pattern) serves `drum_machine` too. `TimesFaults` and
+//! `NotesFaults` follow the checks one after the other. `TimesSaid`, `TimesFaultless`, `NotesSaid`
+//! and `NotesFaultless` show that a document says something exactly where it has no fault, and
+//! `AllFaultsLaws` that the first of all faults is the one that it is refused for.
 #![tactic(auto)]
 
 mod complaint;

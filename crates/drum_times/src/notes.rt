@@ -50,7 +50,7 @@ impl Model for Notes {
 }
 
 impl Notes {
-    /// The patterns of a listed location, 1 to 64; `None` for one that isn't listed.
+    /// The patterns of a listed location, 1 to 64, in order; `None` for one that isn't listed.
     pub fn patterns(&self, location: Location) -> Option<&[Pattern]>
         ensures { option_map (λ patterns. patterns.now) result
             ≡ said.patterns_of self.now location.number }
@@ -66,14 +66,14 @@ impl Notes {
         &self.marks
     }
 
-    /// Where the programmed switch stands.
+    /// Where the notes say that the programmed switch stands.
     pub fn programmed(&self) -> Programmed
         ensures { result ≡ self.now.programmed }
     {
         self.programmed
     }
 
-    /// Whether load cards are read.
+    /// Whether the notes say that load cards may be read.
     pub fn load_cards(&self) -> bool
         ensures { result ≡ self.now.load_cards }
     {

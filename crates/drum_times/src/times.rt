@@ -18,7 +18,7 @@ pub struct Times {
 impl Times {
     ghost use Rattle.drum_times.specs.Entries.{entry_in};
 
-    /// How long the operation takes.
+    /// The entry of the operation: how long it takes.
     pub fn entry(&self, op: Op) -> Entry
         ensures { result ≡ entry_in self.now op }
     {

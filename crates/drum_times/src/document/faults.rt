@@ -1,4 +1,4 @@
-//! All faults of a document, told one behind the other as its tables are checked.
+//! All faults of a document, added one behind the other as its tables are checked.
 ghost use Rattle.std.specs.Prelude.{◌≡◌, ◌∷◌, [], ◌++◌, if◌then◌else◌, map, IfOk};
 ghost use Rattle.drum_times.specs.AllFaults.{Adds};
 ghost use Rattle.drum_times.specs.Document as document;

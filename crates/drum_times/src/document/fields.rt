@@ -20,8 +20,12 @@ pub struct Fields<'a> {
 }
 
 impl Fields<'_> {
-    /// The path of one of its keys. One past the limit of a path, for which no machine has room, is
-    /// refused as for want of memory.
+    /// The path of one of its keys.
+    ///
+    /// # Errors
+    ///
+    /// Where there is no memory, or where the path is longer than a path may be, for which no
+    /// machine has room.
     pub fn path(&self, key: &str) -> Result<KeyPath, AllocError>
         ensures { IfOk result (λ path. string_bytes path.text ≡ self.now.at.now ++ key.now) }
     {
@@ -30,7 +34,7 @@ impl Fields<'_> {
         KeyPath::new(path).ok_or(AllocError)
     }
 
-    /// Where the keys of the table at one of its keys stand.
+    /// The beginning of the paths of the keys in the table at one of its keys: the path, and a dot.
     pub fn inside(&self, key: &str) -> Result<String, AllocError>
         ensures { IfOk result (λ at. string_bytes at ≡ self.now.at.now ++ key.now ++ codes ".") }
     {
@@ -48,7 +52,7 @@ impl Fields<'_> {
         self.table.get(key)
     }
 
-    /// That each of its keys is known; else the first in byte order that isn't.
+    /// Checks that each of its keys is known; else Unknown with the first in byte order that isn't.
     pub fn only(&self, known: &[&str]) -> Result<(), NoteFault>
         ensures none { IfOk result (λ _. document.unknown_in self.now.at.now
             (map (λ key. key.now) known.now) (table_view self.now.table.now) ≡ []) }
@@ -63,7 +67,7 @@ impl Fields<'_> {
         Ok(())
     }
 
-    /// That each of some keys is there; else the first that isn't.
+    /// Checks that each of some keys is there; else Missing with the first that isn't.
     pub fn all(&self, wanted: &[&str]) -> Result<(), NoteFault>
         ensures none { IfOk result (λ _. document.missing_in self.now.at.now
             (map (λ key. key.now) wanted.now) (table_view self.now.table.now) ≡ []) }
@@ -78,7 +82,7 @@ impl Fields<'_> {
         Ok(())
     }
 
-    /// The value at a key.
+    /// The value at a key; Missing where there is none.
     pub fn value(&self, key: &str) -> Result<&Value, NoteFault>
         ensures found { IfOk result (λ value.
             get_member key.now (table_view self.now.table.now) ≡ Some (view value.now)) }

@@ -65,7 +65,7 @@ impl Fields<'_> {
     }
 }
 
-/// Whether there may be so many elements.
+/// Whether there may be `count` elements: `low` or more, and `high` at most, if there is a limit.
 pub fn is_count(count: usize, low: usize, high: Option<usize>) -> bool
     ensures { result ≡ document.is_count low high count }
 {

@@ -19,7 +19,7 @@ pub enum ValueFault {
     Range,
 }
 
-/// The whole number from `low` to `high` that a value is.
+/// The whole number from `low` to `high` that a value is; else Kind or Range.
 pub fn whole_number(value: &Value, low: u64, high: u64) -> Result<u64, ValueFault>
     ensures found { IfOk result (λ n. view value.now ≡ integer (pos n)) }
     ensures low { IfOk result (λ n. low ≤ n) }
@@ -37,7 +37,7 @@ pub fn whole_number(value: &Value, low: u64, high: u64) -> Result<u64, ValueFaul
     }
 }
 
-/// The number that a value is; 0 where it is none, or a negative one.
+/// The whole number that a value is; 0 where it is no whole number, or a negative one.
 pub fn number(value: &Value) -> u64
     ensures { result ≡ document.number_in (view value.now) }
 {
@@ -47,7 +47,7 @@ pub fn number(value: &Value) -> u64
     u64::try_from(number).unwrap_or(0)
 }
 
-/// The location whose number a value is.
+/// The location whose number a value is; Kind where it is no number, Range where it is no location.
 pub fn location(value: &Value) -> Result<Location, ValueFault>
     ensures found { IfOk result (λ location. view value.now ≡ integer (pos location.number)) }
     ensures wrong { IfErr result (λ wrong. (path : List ℕ)
@@ -57,7 +57,8 @@ pub fn location(value: &Value) -> Result<Location, ValueFault>
     Location::new(number as u16).ok_or(ValueFault::Range)
 }
 
-/// What the text that a value is stands for.
+/// What the text that a value is stands for, of the given choices; Kind where it is no text, Range
+/// where it is none of these.
 pub fn choice<T: Copy + Drop>(value: &Value, choices: &[(&str, T)]) -> Result<T, ValueFault>
     ensures found { IfOk result (StandsFor (map (λ choice. (choice.0.now, choice.1)) choices.now)
         (view value.now)) }

@@ -14,7 +14,8 @@ use drum_core::Location;
 use toml::Table;
 
 impl Fields<'_> {
-    /// The fault of the value at a key, or Memory.
+    /// The fault of the value at a key, with the key's path; Memory where there is none for the
+    /// path.
     pub fn fault(&self, key: &str, wrong: ValueFault) -> NoteFault
         ensures { IsFirst (fault_of wrong (self.now.at.now ++ key.now) ∷ []) result }
     {
@@ -87,7 +88,7 @@ impl Fields<'_> {
         }
     }
 
-    /// The number at a key; 0 where there is none, or a negative one.
+    /// The whole number at a key; 0 where there is none, or a negative one.
     pub fn number(&self, key: &str) -> u64
         ensures { result ≡ document.number_at key.now (table_view self.now.table.now) }
     {

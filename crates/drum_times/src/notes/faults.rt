@@ -17,13 +17,13 @@ use crate::fault::NoteFault;
 use std::alloc::{AllocError, Global};
 use toml::Table;
 
-/// All faults of notes, in the order in which [`crate::read_notes`] looks for the first; of bytes
-/// that are no document, that alone. Notes have none. The edges of more marks than notes may have
-/// aren't compared.
+/// All faults of bytes that are to be notes, in the order in which [`crate::read_notes`] looks for
+/// the first; of bytes that are no document, that alone. There is none exactly where the bytes are
+/// notes. Where there are more marks than notes may have, their edges aren't compared.
 ///
 /// # Errors
 ///
-/// Want of memory.
+/// [`AllocError`] where there is no memory.
 pub fn notes_faults(alloc: Global, bytes: &[u8]) -> Result<Vec<NoteFault>, AllocError>
     ensures { IfOk result (λ faults.
         AreAllFaults all.all_notes_faults bytes.now faults.items) }

@@ -5,7 +5,7 @@ use drum_core::Instruction;
 /// A pattern: which instructions may stand at a location whose word the program alters.
 #[derive(Clone, Copy, Debug, PartialEq, Eq)]
 pub struct Pattern {
-    /// The operation's two digits.
+    /// The operation's two digits, as a number.
     pub op: u8,
     /// The least data address.
     pub d_from: u16,
@@ -32,15 +32,15 @@ impl Pattern {
             && instruction.i == self.i
     }
 
-    /// How many instructions match, 1 to 10,000.
+    /// How many instructions match it: 1 to 10,000.
     pub fn len(self) -> usize
         ensures { result ≡ length (matching self) }
     {
         (self.d_to - self.d_from) as usize + 1
     }
 
-    /// The instruction at a place, from 0, of those that match, D ascending; `None` from
-    /// [`Pattern::len`] on.
+    /// The instruction at a place, from 0, of those that match, in ascending order of D; `None` for
+    /// a place from [`Pattern::len`] on.
     pub fn at(self, place: usize) -> Option<Instruction>
         ensures { result ≡ slice_get (matching self) place }
     {

@@ -5,6 +5,6 @@ pub enum Programmed {
     Stop,
     /// At RUN: 01 goes on.
     Run,
-    /// At either.
+    /// At either: 01 may stop or go on.
     Any,
 }

@@ -25,14 +25,14 @@ pub const PROGRAMMED: [(&str, Programmed); 3] = [
 
 pub const LOAD_CARDS: [(&str, bool); 2] = [("none", false), ("any", true)];
 
-/// Reads notes: a TOML document with the keys `programmed` and `load_cards`, and perhaps `mark` and
-/// `list`.
+/// Reads notes: a TOML document with the keys `programmed` and `load_cards`, and optionally `mark`
+/// and `list`.
 ///
 /// # Errors
 ///
-/// Toml or Memory; then the first of: the unknown keys in byte order, the missing keys, what is
-/// wrong with `programmed`, `load_cards`, the marks and the lists; two marks on one edge, two lists
-/// for one location.
+/// Toml or Memory; else the first of these that there is: unknown keys in byte order; missing keys;
+/// what is wrong with `programmed`, with `load_cards`, with the marks, with the lists; two marks on
+/// one edge; two lists for one location.
 pub fn read_notes(alloc: Global, bytes: &[u8]) -> Result<Notes, NoteFault>
     ensures read { IfOk result (λ notes. (whole : Members) × IsDocument bytes.now whole
         × said.IsNotes whole notes) }

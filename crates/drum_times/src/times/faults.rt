@@ -18,12 +18,13 @@ use drum_core::Op;
 use std::alloc::{AllocError, Global};
 use toml::Table;
 
-/// All faults of a timing table, in the order in which [`crate::read_times`] looks for the first;
-/// of bytes that are no document, that alone. A timing table has none.
+/// All faults of bytes that are to be a timing table, in the order in which [`crate::read_times`]
+/// looks for the first; of bytes that are no document, that alone. There is none exactly where the
+/// bytes are a timing table.
 ///
 /// # Errors
 ///
-/// Want of memory.
+/// [`AllocError`] where there is no memory.
 pub fn times_faults(alloc: Global, bytes: &[u8]) -> Result<Vec<NoteFault>, AllocError>
     ensures { IfOk result (λ faults.
         AreAllFaults document.times_faults bytes.now faults.items) }

@@ -25,9 +25,9 @@ use toml::Table;
 ///
 /// # Errors
 ///
-/// Toml or Memory; then the first of: at the top the unknown keys in byte order, `op` missing or of
-/// another kind; in `op` the unknown keys in byte order; and each operation in ascending order, as
-/// [`NoteFault`] names them.
+/// Toml or Memory; else the first of these that there is: at the top unknown keys in byte order,
+/// then `op` missing or of another kind; in `op` unknown keys in byte order; then what is wrong
+/// with each operation, in ascending order of their numbers.
 pub fn read_times(alloc: Global, bytes: &[u8]) -> Result<Times, NoteFault>
     ensures read { IfOk result (λ times. (whole : Members) × IsDocument bytes.now whole
         × document.IsTimes whole (entry_in times)) }
@@ -104,7 +104,7 @@ fn read_operation(operations: &Fields<'_>, key: &str, op: Op) -> Result<Entry, N
     read_entry(&fields, op)
 }
 
-/// The keys of the operations, in their order.
+/// The keys of the operations, two digits each, in ascending order.
 pub fn keys() -> [&'static str; 42]
     ensures { map (λ key. key.now) result ≡ map document.key_of ops }
 {

@@ -1,3 +1,6 @@
+-- Of read_table: the checks are made in the order of the definition's list (notes_checks). Those
+-- before one that fails found nothing, so its fault is the first of the document; where all pass,
+-- the notes are what the table says.
 use Rattle.std.proofs.Common.{◌≡◌, ℕ, List, refl, [], ◌∷◌, ◌∙◌, sym, ap, subst, map, true, false}
 use Rattle.std.specs.Prelude.{codes}
 use Rattle.toml.specs.View.{table_view}

@@ -1,3 +1,6 @@
+-- Of read_entry: the keys that an entry may have follow from the form of its operation. The keys
+-- are checked first, then the values that each entry has, then the others; the first check that
+-- fails has the entry's first fault.
 use Rattle.std.proofs.Common.{◌≡◌, ℕ, List, [], ◌∙◌, ap, subst}
 use Rattle.toml.specs.View.{table_view}
 use Rattle.drum_times.specs.declared.times.read_entry.Form.{Form}

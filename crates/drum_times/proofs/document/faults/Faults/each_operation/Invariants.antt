@@ -5,7 +5,7 @@ use Rattle.drum_times.specs.TimesDocument as document
 use Rattle.drum_times.proofs.Adding.{Left}
 use Rattle.drum_times.proofs.document.faults.Faults.each_operation.Given as goal
 
--- those of the operations so far are told
+-- those of the operations so far have been added
 abbrev pub invariant-loop-at : goal.invariant-loop-at
 invariant-loop-at l =
     Left l.initial.self.all.items l.self.all.items

@@ -4,7 +4,7 @@ use Rattle.drum_times.specs.Document as document
 use Rattle.drum_times.proofs.Adding.{Left}
 use Rattle.drum_times.proofs.document.faults.Faults.elements.Given as goal
 
--- those of the elements so far are told
+-- those of the elements so far have been added
 abbrev pub invariant-loop-place : goal.invariant-loop-place
 invariant-loop-place g l =
     Left l.initial.self.all.items l.self.all.items

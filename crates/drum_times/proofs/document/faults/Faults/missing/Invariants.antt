@@ -4,7 +4,7 @@ use Rattle.toml.specs.View.{table_view}
 use Rattle.drum_times.proofs.Adding.{Left}
 use Rattle.drum_times.proofs.document.faults.Faults.missing.Given as goal
 
--- those of the keys so far are told
+-- those of the keys so far have been added
 abbrev pub invariant-loop-key : goal.invariant-loop-key
 invariant-loop-key l =
     Left l.initial.self.all.items l.self.all.items

@@ -4,7 +4,7 @@ use Rattle.drum_times.specs.NotesDocument as said
 use Rattle.drum_times.proofs.Adding.{Left}
 use Rattle.drum_times.proofs.document.faults.Faults.second_edges.Given as goal
 
--- those of the edges so far are told
+-- those of the edges so far have been added
 abbrev pub invariant-loop-place : goal.invariant-loop-place
 invariant-loop-place l =
     Left l.initial.self.all.items l.self.all.items

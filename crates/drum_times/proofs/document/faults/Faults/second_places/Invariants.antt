@@ -9,7 +9,7 @@ invariant-loop-place l = record {
   -- which locations there have been
   flags : (n : ℕ) → n < 8004
       → get_or l.seen.items n false ≡ said.has_location (map (λ place. place.number) (take l.place-index l.places)) n;
-  -- those of the locations so far are told
+  -- those of the locations so far have been added
   so_far : Left l.initial.self.all.items l.self.all.items
       (said.location_faults (map (λ place. place.number) (take l.place-index l.places))
       (map (λ place. place.number) (drop l.place-index l.places)))

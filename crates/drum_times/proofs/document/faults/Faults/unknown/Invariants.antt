@@ -4,7 +4,7 @@ use Rattle.toml.specs.View.{members_view}
 use Rattle.drum_times.proofs.Adding.{Left}
 use Rattle.drum_times.proofs.document.faults.Faults.unknown.Given as goal
 
--- those of the keys so far are told
+-- those of the keys so far have been added
 abbrev pub invariant-loop-key : goal.invariant-loop-key
 invariant-loop-key l = record {
   next : (goal.iterator-loop-key).can_next l.key-iterator;

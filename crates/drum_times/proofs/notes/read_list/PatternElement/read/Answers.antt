@@ -1,3 +1,6 @@
+-- Of PatternElement::read: the checks are made in the order of the definition's list
+-- (pattern_checks). Those before one that fails found nothing, so its fault is the first of the
+-- pattern.
 use Rattle.std.proofs.Common.{refl, [], arith}
 use Rattle.std.specs.Prelude.{codes}
 use Rattle.toml.specs.View.{table_view}

@@ -1,3 +1,5 @@
+-- Of MarkElement::read: the checks are made in the order of the definition's list (mark_checks).
+-- Those before one that fails found nothing, so its fault is the first of the mark.
 use Rattle.std.proofs.Common.{ℕ, refl, ◌+◌, [], ◌∷◌, subst, arith}
 use Rattle.std.specs.Prelude.{codes}
 use Rattle.toml.specs.View.{table_view}
