@@ -7,20 +7,20 @@ use Rattle.drum_core.specs.declared.location.Kind.{Kind}
 use Rattle.drum_core.specs.declared.location.Kind.TheVariants.{Upper}
 use Rattle.drum_core.specs.declared.location.Location.{Location}
 use Rattle.drum_core.specs.declared.op.Op.{Op}
-use Rattle.drum_core.specs.declared.rotation.parity.Parity.{Parity}
-use Rattle.drum_core.specs.Available.{has_parity, is_had, is_available}
+use Rattle.drum_core.specs.declared.parity.Parity.{Parity}
+use Rattle.drum_rotation.specs.Available.{has_parity, is_had, is_available}
 use Rattle.drum_core.specs.Kind.{kind_of}
 use Rattle.drum_core.specs.Location.{IsLocation}
-use Rattle.drum_core.specs.Moment.{first}
-use Rattle.drum_core.specs.Span.{kind_span-≤, parity_span-≤}
-use Rattle.drum_core.specs.Waits.{available_recurs}
-use Rattle.drum_core.proofs.Waited.{first_again}
-use Rattle.drum_core.proofs.Clockworks.{Clockworks, KeepsTime, keeps_time, seek_clockworks, parity_clockworks}
-use Rattle.drum_core.proofs.Clockworks.{delay_clockworks, optional_clockworks, then_clockworks}
+use Rattle.drum_rotation.specs.Moment.{first}
+use Rattle.drum_rotation.specs.Span.{kind_span-≤, parity_span-≤}
+use Rattle.drum_rotation.specs.Waits.{available_recurs}
+use Rattle.drum_rotation.proofs.Waited.{first_again}
+use Rattle.drum_rotation.proofs.Clockworks.{Clockworks, KeepsTime, keeps_time, seek_clockworks, parity_clockworks}
+use Rattle.drum_rotation.proofs.Clockworks.{delay_clockworks, optional_clockworks, then_clockworks}
 use Rattle.drum_times.specs.declared.entry.Entry.{Entry}
 use Rattle.drum_machine.specs.Timing.{found, ready, waits_for_operand, reached, ended, longest_step}
 
--- a clockwork with these moments, by their clocks, and so many word times at most
+-- a clockwork with these moments, by their clocks, that takes `most` word times at most
 record GoesTo (kind : Clockworks) (moment : ℕ → ℕ) (most : ℕ) : Type 0 where
   pub clockwork : kind.row.Denot
   pub same : (t : ℕ) → kind.ghosts.moment clockwork t ≡ moment t

@@ -1,6 +1,6 @@
 -- Definitions evaluated, with answers that were worked out apart from them: single steps, with their times.
 use Rattle.std.proofs.Common.{◌≡◌, true, false, refl, pos, negsuc}
-use Rattle.drum_core.specs.Moment.{first}
+use Rattle.drum_rotation.specs.Moment.{first}
 use Rattle.drum_core.specs.Word.{word}
 use Rattle.drum_machine.specs.declared.why.Why.TheVariants as why
 use Rattle.drum_machine.specs.Contents.{Contents, lower_word, upper_word}

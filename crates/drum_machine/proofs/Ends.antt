@@ -10,8 +10,8 @@ use Rattle.drum_core.specs.declared.op.Op.TheVariants.{Store, Shift, Branch, Loa
 use Rattle.drum_core.specs.declared.op.Op.TheVariants.{BranchOnDigit}
 use Rattle.drum_core.specs.Location.{is_location}
 use Rattle.drum_core.specs.Op.{op_of, operand_of, is_operand}
-use Rattle.drum_core.specs.Recurs.{never_earlier}
-use Rattle.drum_core.specs.Waits.{available_recurs, parity_recurs}
+use Rattle.drum_rotation.specs.Recurs.{never_earlier}
+use Rattle.drum_rotation.specs.Waits.{available_recurs, parity_recurs}
 use Rattle.drum_core.specs.Word.{number_in}
 use Rattle.drum_times.specs.declared.entry.Entry.{Entry}
 use Rattle.drum_times.specs.declared.notes.programmed.Programmed as switches

@@ -1,4 +1,3 @@
-pub mod Allowing
 pub mod Alone
 pub mod Chained
 mod Checks
@@ -6,7 +5,6 @@ mod Effects
 pub mod Ends
 pub mod Prefixes
 pub mod Going
-pub mod Judging
 pub mod Keeping
 mod Marks
 pub mod OwnLocations
@@ -15,6 +13,5 @@ mod Setting
 pub mod SinceLaws
 pub mod StepLaws
 pub mod Stepping
-pub mod Watching
 pub mod Wholes
 pub mod Within

@@ -6,8 +6,8 @@ use Rattle.drum_core.specs.declared.op.Op.TheVariants.{NoOperation, Stop, Add, R
 use Rattle.drum_core.specs.declared.op.Op.TheVariants.{Store, Shift, Branch, LoadDistributor, Read, Punch}
 use Rattle.drum_core.specs.declared.op.Op.TheVariants.{BranchOnDigit}
 use Rattle.drum_core.specs.declared.op.store.Store.TheVariants as store
-use Rattle.drum_core.specs.declared.rotation.parity.Parity.{Parity}
-use Rattle.drum_core.specs.declared.rotation.parity.Parity.TheVariants.{Any, Even, Odd}
+use Rattle.drum_core.specs.declared.parity.Parity.{Parity}
+use Rattle.drum_core.specs.declared.parity.Parity.TheVariants.{Any, Even, Odd}
 use Rattle.drum_core.specs.declared.word.Word.{Word}
 use Rattle.drum_core.specs.Word.{word}
 use Rattle.drum_times.specs.declared.entry.Entry.{Entry}

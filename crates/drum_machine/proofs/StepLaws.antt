@@ -20,7 +20,7 @@ use Rattle.drum_machine.specs.Machine.{wait_with}
 use Rattle.drum_machine.specs.Step.{State, Stepped, on, stopped, contents_after, step, fetched, instruction_in}
 use Rattle.drum_machine.specs.Ways.{Way, to, ways}
 
--- the way that is told is that by which the step ended
+-- the way that the answer has is that by which the step ended
 told_way : (stepped : Stepped) (origin : Location) (word : Word) (load : Bool) (words : Option (List Word))
     (answer : Step)
     → Tells stepped origin word load words answer → ended_by stepped ≡ way_told answer

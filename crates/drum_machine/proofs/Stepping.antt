@@ -19,8 +19,8 @@ use Rattle.drum_machine.specs.declared.step.Step as answers
 use Rattle.drum_machine.specs.Machine.{op_in, Tells, Becomes}
 use Rattle.drum_core.specs.declared.location.Location.{Location}
 use Rattle.drum_core.specs.declared.word.Word.{Word}
-use Rattle.drum_core.specs.Available.{has_parity}
-use Rattle.drum_core.specs.Moment.{first}
+use Rattle.drum_rotation.specs.Available.{has_parity}
+use Rattle.drum_rotation.specs.Moment.{first}
 use Rattle.drum_machine.specs.Step.{State, Stepped, step, step_with, step_of, leaves, instruction_in, lacks_card}
 use Rattle.drum_machine.specs.Step.{clock_of}
 use Rattle.drum_machine.specs.Timing.{units_of, ended, reached, IsWait}
@@ -76,7 +76,7 @@ same_effect op c held d k i j contents ds is =
     sym (ap (λ (v : Contents). effect v op d i) contents ∙ ap (λ (v : ℕ). effect held op v i) ds
     ∙ ap (effect held op k) is)
 
--- what is told of a step is told of the same step
+-- what is said of a step is said of the same step
 pub same_told : (t stepped : Stepped) (origin : Location) (w word : Word) (l load : Bool)
     (p punched : Option (List Word)) (answer : answers.Step)
     → stepped ≡ t → w ≡ word → l ≡ load → p ≡ punched → Tells t origin w l p answer

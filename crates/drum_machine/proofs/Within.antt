@@ -1,12 +1,12 @@
 -- Counts after a pass, and how often marks may be passed.
-use Rattle.std.proofs.Common.{◌≡◌, ℕ, zero, suc, ◌+◌, ◌≤◌, ◌<◌, Bool, true, false, List, [], ◌∷◌, length, take, get_or}
+use Rattle.std.proofs.Common.{◌≡◌, ℕ, zero, suc, ◌+◌, ◌≤◌, ◌<◌, Bool, true, false, List, [], ◌∷◌, length, replicate, take, get_or}
 use Rattle.std.proofs.Common.{Option, Some, None, refl, subst, sym, ap, eq-eqb, arith}
 use Rattle.std.specs.Prelude.{◌==◌, if◌then◌else◌}
 use Rattle.std.proofs.lemmas.Bool.{eqb-true}
 use Rattle.std.proofs.lemmas.List.{get_or_read, get_or-take}
 use Rattle.drum_times.specs.declared.notes.mark.Mark.{Mark}
 use Rattle.drum_times.specs.Marks.{mark_on}
-use Rattle.drum_machine.specs.Counts.{is_inside, passed_from, after_pass, AreWithin}
+use Rattle.drum_machine.specs.Counts.{is_inside, no_counts, passed_from, after_pass, AreWithin}
 
 -- a pass of the mark on the edge
 pub counts_passed : (marks : List Mark) (from onto passed : ℕ) (counts : List ℕ) → Some passed ≡ mark_on marks from onto
@@ -52,7 +52,8 @@ over_most all passed place (mark ∷ marks) (count ∷ counts) zero d at inside 
 over_most all passed place (mark ∷ marks) (count ∷ counts) (suc k) d at inside over within =
     over_most all passed (place + 1) marks counts k d (omega arith) (omega arith) over within.1
 
--- the same of the mark that was found, and of counts of which only so many mean anything
+-- the same of the mark that was found, and of counts of which only as many as there are marks mean
+-- anything
 pub too_often : (marks : List Mark) (counts : List ℕ) (from onto passed : ℕ) (mark : Mark)
     → Some passed ≡ mark_on marks from onto → passed < length marks
     → mark ≡ get_or marks passed mark → mark.most ≤ get_or counts passed 0
@@ -84,3 +85,10 @@ within_after marks counts from onto passed mark found inside is room within =
     (omega (arith, count, ap (λ (m : Mark). m.most) (most_at d))) in
     subst (AreWithin marks) (sym (counts_passed marks from onto passed (take size counts) found))
     (within_most marks passed 0 marks (take size counts) within roomy)
+
+-- no pass is counted at first
+pub zeros : (marks : List Mark) (most : ℕ) → length marks ≤ most
+    → take (length marks) (replicate most 0) ≡ no_counts marks
+zeros [] most few = refl
+zeros (mark ∷ marks) zero few = absurd (omega arith)
+zeros (mark ∷ marks) (suc most) few = ap (λ (counts : List ℕ). 0 ∷ counts) (zeros marks most (omega arith))

@@ -19,7 +19,7 @@ pub record Contents : Type 0 where
   pub accumulator : ℤ
   -- Whether the dividend was minus, while the remainder's sign stands: after 14, until an operation
   -- 10 to 19, 30, 31, 35 or 60 to 68 next acts, but for a 14 or 64 that stops for its quotient.
-  -- (That sign and how long it lasts are this project's choice.)
+  -- (That sign and how long it lasts aren't the manual's.)
   pub remainder : Option Bool
   -- the overflow latch
   pub latch : Bool
@@ -30,7 +30,7 @@ pub record Contents : Type 0 where
   -- the cards left in the reader
   pub cards : List Card
 
--- zero is plus (this project's choice)
+-- zero is plus
 abbrev pub is_minus : ℤ → Bool
 is_minus (pos n) = false
 is_minus (negsuc n) = true

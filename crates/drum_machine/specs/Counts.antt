@@ -1,5 +1,4 @@
--- How often marks are passed, counted since the last pass of a mark that they stand inside of (this
--- project's choice).
+-- How often marks are passed, counted since the last pass of a mark that they stand inside of.
 use Rattle.std.specs.Prelude.{ℕ, zero, suc, ◌+◌, ◌≤◌, ◌==◌, Bool, false, ◌||◌, if◌then◌else◌, List}
 use Rattle.std.specs.Prelude.{[], ◌∷◌, map, length, slice_get, Option, Some, None}
 use Rattle.drum_times.specs.declared.notes.mark.Mark.{Mark}
@@ -10,7 +9,8 @@ abbrev pub outer_of : Option Mark → Option ℕ
 outer_of None = None
 outer_of (Some mark) = mark.inside
 
--- the mark at a place stands inside the one at another, so many steps outward at most
+-- the mark at a place stands inside the one at another, as many steps outward at most as the number
+-- says
 abbrev pub is_inside_by : ℕ → List Mark → ℕ → ℕ → Bool
 is_inside_by zero marks inner outer = false
 is_inside_by (suc more) marks inner outer =

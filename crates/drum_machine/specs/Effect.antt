@@ -42,8 +42,7 @@ takes c w = record c { distributor = w }
 abbrev pub becomes : Contents → ℤ → Contents
 becomes c z = record c { accumulator = z; remainder = None }
 
--- the accumulator becomes what twenty digits hold of a number that wants more, and the latch goes
--- on
+-- the accumulator becomes what twenty digits hold of a number that has more, and the latch goes on
 abbrev pub overflows : Contents → ℤ → Contents
 overflows c z = record (becomes c (signed (is_minus z) (unsigned_abs z % 10 ^ 20))) { latch = true }
 
@@ -114,7 +113,7 @@ places shift.Right d = d % 10
 places shift.Round d = if d % 10 == 0 then 10 else d % 10
 places shift.Left d = d % 10
 
--- the magnitude after a shift by so many places; a left shift drops what leaves the twenty digits
+-- the magnitude after a shift by n places; a left shift drops what leaves the twenty digits
 abbrev pub shifted : shifts.Shift → ℕ → ℕ → ℕ
 shifted shift.Right n size = size / 10 ^ n
 shifted shift.Round n size = (size + 5 * 10 ^ (n - 1)) / 10 ^ n

@@ -1,4 +1,4 @@
--- The way in which a step ends, and what notes say of one machine (this project's choice).
+-- The way in which a step ends, and what notes say of one machine.
 use Rattle.std.specs.Prelude.{ℕ, Bool, true, false, []}
 use Rattle.drum_times.specs.declared.notes.programmed.Programmed as switches
 use Rattle.drum_times.specs.declared.notes.programmed.Programmed.TheVariants as switch

@@ -1,5 +1,4 @@
--- What the card machine is fed with: the cards and the waits that are left (how waits are given is
--- this project's choice).
+-- What the card machine is fed with: the cards and the waits that are left.
 use Rattle.std.specs.Prelude.{ℕ, drop, slice_get, min, max, Bool, true, false, if◌then◌else◌, List}
 use Rattle.std.specs.Prelude.{[], ◌∷◌, Option, Some, None}
 use Rattle.std.specs.Vec.Iter.{into_iter_items}

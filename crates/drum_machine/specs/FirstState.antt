@@ -1,4 +1,4 @@
--- What a machine is at time 0 (what it is set up with is this project's choice).
+-- What a machine is at time 0.
 use Rattle.std.specs.Prelude.{◌≡◌, ℕ, ◌<◌, false, List, length, slice_get, Option, Some, None}
 use Rattle.std.specs.Prelude.{unwrap_or}
 use Rattle.drum_core.specs.declared.location.Location.{Location}

@@ -1,4 +1,4 @@
--- When a run keeps to the notes, and how it leaves them (this project's choice).
+-- When a run keeps to the notes, and how it leaves them.
 use Rattle.std.specs.Prelude.{◌≡◌, ℕ, Bool, true, false, ◌&&◌, IsTrue, List, [], ◌∷◌, Option, Some}
 use Rattle.std.specs.Prelude.{None, Contains}
 use Rattle.drum_core.specs.declared.op.Op.{Op}
@@ -50,12 +50,18 @@ counts_by notes counts from (stopped held because moment) = counts
 abbrev pub counts_after : Notes → List ℕ → Stride → List ℕ
 counts_after notes counts stride = counts_by notes counts stride.origin.sought stride.outcome
 
+-- the counts after strides
+abbrev pub counts_over : Notes → List ℕ → List Stride → List ℕ
+counts_over notes counts [] = counts
+counts_over notes counts (stride ∷ strides) =
+    counts_over notes (counts_after notes counts stride) strides
+
 -- the step goes on to this location
 abbrev pub GoesTo : Stepped → ℕ → Type 0
 GoesTo (on next) location = next.sought ≡ location
 GoesTo (stopped held because moment) location = ⊥
 
--- the stride keeps to the notes, where marks were passed so often before it
+-- the stride keeps to the notes, where the marks have these counts before it
 pub record IsKeptStride (loads : ℕ → Option Word) (notes : Notes) (counts : List ℕ)
     (stride : Stride) : Type 0 where
   pub listed : IsAllowed loads notes stride.origin

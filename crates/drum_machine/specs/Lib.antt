@@ -7,7 +7,6 @@ pub mod Feed
 pub mod FirstState
 pub mod Keeps
 pub mod Machine
-pub mod Monitor
 pub mod Registers
 pub mod Run
 pub mod Setup

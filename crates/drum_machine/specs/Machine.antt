@@ -19,6 +19,7 @@ use Rattle.drum_machine.specs.Ending.{own_notes, stops_by}
 use Rattle.drum_machine.specs.Feed.{cards_left, waits_left, wait_for, cards_after, waits_after}
 use Rattle.drum_machine.specs.Keeps.{reads_load}
 use Rattle.drum_machine.specs.Registers.{contents_with}
+use Rattle.drum_machine.specs.Run.{Stride}
 use Rattle.drum_machine.specs.Step.{State, Stepped, on, stopped, step, fetched, instruction_in}
 use Rattle.drum_machine.specs.Step.{lacks_card, MayWait}
 use Rattle.drum_machine.specs.Ways.{Way, to, ways}
@@ -72,6 +73,15 @@ Tells (on next) origin word load words (Went from fetch onto used read punch) =
 Tells (on next) origin word load words (Stopped from fetch why used) = ⊥
 Tells (stopped held because moment) origin word load words answer =
     answer ≡ Stopped origin word because moment
+
+-- the answer of a step tells of this stride, which is a step of the definitions
+pub record IsToldOf (times : Op → Entry) (stride : Stride) (answer : Step) : Type 0 where
+  pub stepped : stride.outcome ≡ step times stride.origin stride.wait
+  pub origin : Location
+  pub sought : origin.number ≡ stride.origin.sought
+  pub punched : Option (List Word)
+  pub tells :
+      Tells stride.outcome origin (fetched stride.origin) (reads_load stride.origin) punched answer
 
 -- What the machine is after a step, with these cards left. One that has stopped seeks what it
 -- sought, and holds what the step left.

@@ -36,7 +36,7 @@ abbrev pub time_after : Stepped → ℕ
 time_after (on s) = s.time
 time_after (stopped held why moment) = moment
 
--- the word times used after a run that begins when so many are
+-- the word times used after a run that begins with `time` word times used
 abbrev pub used_from : ℕ → List Stride → ℕ
 used_from time [] = time
 used_from time (stride ∷ strides) = used_from (time_after stride.outcome) strides

@@ -1,5 +1,5 @@
 -- What the counts of marks are: the passes of a mark are counted since the last pass of a mark that
--- it stands inside of, and from the beginning where there is none yet (this project's choice).
+-- it stands inside of, and from the beginning where there is none yet.
 use Rattle.std.specs.Prelude.{◌≡◌, ℕ, nat_eq, List, [], ◌∷◌, ◌++◌, take, slice_get}
 use Rattle.std.specs.Prelude.{Some, ◌⊎◌, All, count_by, flat_map}
 use Rattle.std.specs.Option.{option_eq}
@@ -51,8 +51,8 @@ abbrev pub EndsIn : (Edge → Type 0) → List Edge → Type 0
 EndsIn Such edges =
     (earlier : List Edge) × (last : Edge) × (edges ≡ earlier ++ last ∷ []) × Such last
 
--- So often the mark at this place was passed since the last of these edges that restarts its count,
--- or since the beginning where none does.
+-- How often the mark at this place was passed: since the last of these edges that restarts its
+-- count, or since the beginning where none does.
 pub record IsCountSince (marks : List Mark) (place : ℕ) (edges : List Edge)
     (count : ℕ) : Type 0 where
   pub before : List Edge

@@ -1,5 +1,4 @@
--- A step of the machine, and when it ends (IBM 650 Manual of Operation; the moments are this
--- project's choice).
+-- A step of the machine, and when it ends (IBM 650 Manual of Operation, but for the moments).
 use Rattle.std.specs.Prelude.{◌≡◌, ℕ, ◌+◌, ◌-◌, Bool, true, false, not, ◌&&◌, if◌then◌else◌, List}
 use Rattle.std.specs.Prelude.{[], ◌∷◌, Option, Some, None}
 use Rattle.drum_core.specs.declared.instruction.Instruction.{Instruction}

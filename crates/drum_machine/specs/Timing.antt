@@ -1,12 +1,12 @@
--- The moments of a step (this project's choice; that a drum word is had at its angle is the IBM 650
--- Manual of Operation's). A clock counts word times from a moment of angle 0 on.
+-- The moments of a step. That a drum word is had at its angle is in the IBM 650 Manual of
+-- Operation; nothing else here is. A clock counts word times from a moment of angle 0 on.
 use Rattle.std.specs.Prelude.{◌≡◌, ℕ, zero, suc, ◌+◌, ◌*◌, ◌/◌, ◌%◌, ◌≤◌, Bool, true, false}
 use Rattle.std.specs.Prelude.{if◌then◌else◌}
 use Rattle.drum_core.specs.declared.op.Op.{Op}
 use Rattle.drum_core.specs.declared.op.Op.TheVariants.{Add, ResetAdd, Divide, DivideReset, Multiply}
 use Rattle.drum_core.specs.declared.op.Op.TheVariants.{Store, Shift, LoadDistributor, Read, Punch}
-use Rattle.drum_core.specs.Available.{has_parity, is_available}
-use Rattle.drum_core.specs.Moment.{first}
+use Rattle.drum_rotation.specs.Available.{has_parity, is_available}
+use Rattle.drum_rotation.specs.Moment.{first}
 use Rattle.drum_core.specs.Word.{number_in}
 use Rattle.drum_times.specs.declared.entry.Entry.{Entry}
 use Rattle.drum_machine.specs.Contents.{Contents, upper, word_at}

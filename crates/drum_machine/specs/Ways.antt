@@ -1,4 +1,4 @@
--- The ways in which a step of an instruction may end, by the notes (this project's choice).
+-- The ways in which a step of an instruction may end, by the notes.
 use Rattle.std.specs.Prelude.{ℕ, Bool, true, false, not, if◌then◌else◌, ◌||◌, List, [], ◌∷◌, ◌++◌}
 use Rattle.std.specs.Prelude.{map, filter, Option, Some, None}
 use Rattle.std.specs.List.{list_any}
@@ -33,7 +33,7 @@ ways_of_stop switch.Run i = in_order false (i ∷ []) false
 ways_of_stop switch.Any i = in_order false (i ∷ []) true
 
 -- The ways of an operation whose D is what it wants. 10 to 19 and 64 may stop for an overflow or a
--- quotient, 90 to 99 for a digit, 70 for want of a card.
+-- quotient, 90 to 99 for a digit, 70 where there is no card.
 abbrev pub ways_of : Notes → Op → ℕ → ℕ → List Way
 ways_of notes NoOperation d i = in_order false (i ∷ []) false
 ways_of notes Stop d i = ways_of_stop notes.programmed i

@@ -16,10 +16,10 @@ ghost use Rattle.drum_core.specs.declared.op.shift.Shift.TheVariants as shift;
 
 use drum_core::{Amount, Position, Shift, Word};
 
-/// 10^10, the magnitudes of half an accumulator.
+/// 10^10: the magnitude of half an accumulator is below it.
 pub const HALF: u128 = 10_000_000_000;
 
-/// 10^20, the magnitudes of an accumulator.
+/// 10^20: the magnitude of an accumulator is below it.
 pub const WHOLE: u128 = HALF * HALF;
 
 /// The word of this sign and these digits.
@@ -54,7 +54,7 @@ pub fn is_minus(number: i128) -> bool
     number < 0
 }
 
-/// The upper ten digits.
+/// The upper ten of the twenty digits of the number's magnitude.
 pub fn upper(number: i128) -> u64
     requires { unsigned_abs number < 10 ^ 20 }
     ensures value { result ≡ upper_of number }
@@ -63,7 +63,7 @@ pub fn upper(number: i128) -> u64
     (number.unsigned_abs() / HALF) as u64
 }
 
-/// The lower ten digits.
+/// The lower ten of the twenty digits of the number's magnitude.
 pub fn lower(number: i128) -> u64
     requires { unsigned_abs number < 10 ^ 20 }
     ensures value { result ≡ lower_of number }
@@ -104,7 +104,7 @@ pub fn differ(number: i128, other: i128) -> bool
     is_minus(number) != is_minus(other)
 }
 
-/// The upper half by the number, and to it the lower half is added, ten places up.
+/// The product of the upper half and the number, to which the lower half is added ten places up.
 pub fn product(accumulator: i128, number: i128) -> i128
     requires whole { unsigned_abs accumulator < 10 ^ 20 }
     requires half { unsigned_abs number < 10 ^ 10 }
@@ -116,7 +116,8 @@ pub fn product(accumulator: i128, number: i128) -> i128
     signed(differ(accumulator, number), size)
 }
 
-/// Whether the quotient would have more than ten digits, or the divisor is 0.
+/// Whether the quotient of the accumulator by the number would have more than ten digits, or the
+/// number is 0.
 pub fn is_too_large(accumulator: i128, number: i128) -> bool
     requires { unsigned_abs accumulator < 10 ^ 20 }
     ensures { result ≡ too_large_of accumulator number }
@@ -134,7 +135,7 @@ pub fn quotient(accumulator: i128, number: i128) -> u128
     accumulator.unsigned_abs() / number.unsigned_abs()
 }
 
-/// What is left of the magnitudes' division.
+/// The remainder of the magnitudes' division.
 pub fn rest(accumulator: i128, number: i128) -> u128
     requires whole { unsigned_abs accumulator < 10 ^ 20 }
     requires half { unsigned_abs number < 10 ^ 10 }
@@ -145,7 +146,7 @@ pub fn rest(accumulator: i128, number: i128) -> u128
     accumulator.unsigned_abs() % number.unsigned_abs()
 }
 
-/// How many places an instruction with this D shifts.
+/// How many places an instruction with this D shifts, 0 to 10.
 pub fn places(shift: Shift, d: u16) -> u32
     ensures value { result ≡ places_of shift d }
     ensures ten { result ≤ 10 }
@@ -158,7 +159,7 @@ pub fn places(shift: Shift, d: u16) -> u32
     }
 }
 
-/// 10 to the power of so many places.
+/// 10 to the power of `places`.
 fn power(places: u32) -> u128
     requires { places ≤ 10 }
     ensures value { result ≡ 10 ^ places }
@@ -168,7 +169,7 @@ fn power(places: u32) -> u128
     10u128.pow(places)
 }
 
-/// The magnitude rounded to so many places fewer.
+/// The magnitude without its lowest `places` digits, rounded.
 fn rounded(places: u32, size: u128) -> u128
     requires some { 1 ≤ places }
     requires ten { places ≤ 10 }

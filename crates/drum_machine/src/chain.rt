@@ -1,24 +1,25 @@
 //! The time of a step, as a chain of waits and delays: a clockwork, like each of them.
 
 ghost use Rattle.std.specs.Prelude.{◌≡◌, ℕ, ◌<◌, ◌≤◌, ◌+◌, ◌*◌, true};
-ghost use Rattle.drum_core.specs.Available.{has_parity};
-ghost use Rattle.drum_core.specs.Moment.{first};
+ghost use Rattle.drum_rotation.specs.Available.{has_parity};
+ghost use Rattle.drum_rotation.specs.Moment.{first};
 ghost use Rattle.drum_core.specs.Op.{operand_of, is_operand};
 ghost use Rattle.drum_machine.specs.Timing.{ready, waits_for_operand as waits_for, reached, ended};
 ghost use Rattle.drum_machine.specs.Timing.{longest_step};
 
-use drum_core::{AtParity, Clockwork, Delay, Location, Op, Seek, Then};
+use drum_core::{Location, Op};
+use drum_rotation::{AtParity, Clockwork, Delay, Seek, Then};
 use drum_times::Entry;
 
-/// A step up to x: the search for its instruction, and then what its operation takes before it
-/// looks for its operand.
+/// A step up to the moment x: the search for its instruction, and then what its operation takes
+/// before it looks for its operand.
 pub type ToReady = Then<Seek, Delay>;
 
 /// A step from x on: the search for the operand, where the operation waits for one, then an angle
 /// of its parity, and then what it takes from there on.
 pub type FromReady = Then<Then<Option<Seek>, AtParity>, Delay>;
 
-/// A step from its begin to its end. Where it stops early, it takes the first part alone.
+/// A step from its beginning to its end. Where it stops early, it takes the first part alone.
 pub type ToEnd = Then<ToReady, FromReady>;
 
 /// Whether the operation waits for its operand at D: 10, 11, 14 to 24, 60, 61, 64 to 69.
@@ -65,7 +66,8 @@ pub fn to_ready(entry: Entry, place: Location) -> ToReady
     }
 }
 
-/// From x on, a step with so many units of work and a wait for the card machine.
+/// From x on, a step with `units` units of work and a wait of `wait` word times for the card
+/// machine.
 pub fn from_ready(entry: Entry, op: Op, d: u16, units: u64, wait: u32) -> FromReady
     requires operand { is_operand (operand_of op) d ≡ true }
     requires work { entry.per * units + wait ≤ 90000000 }
@@ -86,7 +88,8 @@ pub fn from_ready(entry: Entry, op: Op, d: u16, units: u64, wait: u32) -> FromRe
     }
 }
 
-/// From its begin to its end, a step whose instruction is at the place.
+/// From its beginning to its end, a step whose instruction is at the place, with `units` units of
+/// work and a wait of `wait` word times for the card machine.
 pub fn to_end(entry: Entry, op: Op, place: Location, d: u16, units: u64, wait: u32) -> ToEnd
     requires operand { is_operand (operand_of op) d ≡ true }
     requires work { entry.per * units + wait ≤ 90000000 }

@@ -26,8 +26,8 @@ impl Counts {
         }
     }
 
-    /// The counts after a step from one location to another; `None` where that passes a mark more
-    /// often than it may be.
+    /// The counts after a step from the one location to the other; `None` where that step passes a
+    /// mark more often than the mark allows.
     pub fn passed(self, marks: &[Mark], from: Location, onto: Location) -> Option<Counts>
         requires few { length marks.now ≤ 8 }
         ensures counted { let after =

@@ -13,8 +13,7 @@ use drum_times::Entry;
 use std::vec::IntoIter;
 
 /// What the card machine is fed with: cards for the reader, and how long it lets the machine wait.
-///
-/// That waits are given one by one is this project's choice.
+/// The waits are given one by one.
 #[derive(Debug, Drop)]
 pub struct Feed {
     cards: IntoIter<Card>,
@@ -22,7 +21,7 @@ pub struct Feed {
 }
 
 impl Feed {
-    /// A feed of these cards, in order, and of these waits in word times, in order.
+    /// A feed of these cards and of these waits, in word times, each used in order.
     pub fn new(cards: Vec<Card>, waits: Vec<u32>) -> Feed
         ensures cards { cards_left result ≡ cards.items }
         ensures waits { waits_left result ≡ waits.items }

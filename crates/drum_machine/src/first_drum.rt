@@ -23,7 +23,11 @@ fn first_word(deck: &Deck, setup: &Setup, location: Location) -> Word
     }
 }
 
-/// The words of the drum.
+/// The 2000 words of the drum at time 0, by their locations.
+///
+/// # Errors
+///
+/// [`Memory`] where there is no memory for them.
 pub fn first_drum(alloc: Global, deck: &Deck, setup: &Setup) -> Result<Vec<Word>, Memory>
     ensures { IfOk result (λ drum.
         IsFirstDrum (loads_in deck.now) setup.now.words.items drum.items) }

@@ -5,10 +5,10 @@ use drum_core::{Location, Word};
 pub enum Left {
     /// The word fetched at a listed location isn't allowed there.
     Unlisted(Location, Word),
-    /// A mark was passed too often, from one location to another.
+    /// The mark from the one location to the other was passed more often than it allows.
     TooOften(Location, Location),
-    /// The programmed switch isn't as declared.
+    /// The programmed switch isn't where the notes say that it stands.
     Switch,
-    /// A load card was read where the notes have none.
+    /// A load card was read, though the notes say that none is.
     LoadCard,
 }

@@ -1,5 +1,31 @@
-//! The timed machine: what a step does and when, what a run is, and the monitor, which tells when a
-//! run leaves the notes.
+//! The timed machine: what a step does and when, what a run is, and when a run keeps to the notes.
+//!
+//! Code, from the bottom up. `setup` and `feed` are what a machine is given; a `card` is for its
+//! reader. `first_drum` is its drum at time 0. `arithmetic` has sums, products, quotients, digit
+//! sums, and how many places a shift goes. `registers` has what each operation does, and the units
+//! of its work. `chain` is what takes time in a step, one after the other; the analysis goes
+//! through it too. `moments` says when, by the parts of that chain. `machine` takes the steps. A
+//! `step` is what it answers, a `stop` that it has stopped, and `why` the reason. `memory` is that
+//! memory was wanted. `ways` has how a step of an instruction may end, and `written` which drum
+//! words it writes. `passes` is what the pass of a mark does to each count. `counts` is how often
+//! marks are passed, and that a full mark isn't passed again; the analysis counts with it too.
+//! `left` is how a run left the notes. `laws` has laws of the definitions.
+//!
+//! Definitions, in the order to read them: `Contents` (what a machine holds), `Effect` (what an
+//! operation does to it, and which stop it meets), `Timing` (the moments of a step: when its word
+//! is found, when it is ready, has its data and ends; and the units of its work), `Step`, `Run`.
+//! Then `Counts` (how often marks are passed), `Since` (what these counts are, over all edges of a
+//! run) and `Keeps` (when a run keeps to the notes, and which way of leaving them comes first).
+//! Then `Writes` and `Ways`, which the flow graph is made of, and `Ending`, by which way a step
+//! ended. The others say what the code's types mean by these: `Registers`, `Feed`, `Setup`,
+//! `FirstState`, `Machine`, `CountsIn`, `WaysLeft`.
+//!
+//! Proofs. `Checks` (single steps with their times), `Effects` and `Marks` evaluate the
+//! definitions. These have laws that other crates use: `Alone`, which drum words stay (it stands on
+//! `Going`: what an effect leaves, its step leaves); `Ends`, by which way a step ends, and when;
+//! `Chained`, that the moments of a step are a chain's, so that they keep to the laws of a
+//! clockwork; `SinceLaws`, of counts over all edges, and that an outer mark stands earlier;
+//! `Prefixes`, of runs.
 #![tactic(auto)]
 
 mod arithmetic;
@@ -13,7 +39,6 @@ mod left;
 mod machine;
 mod memory;
 pub mod moments;
-mod monitor;
 mod passes;
 mod registers;
 mod setup;
@@ -30,7 +55,6 @@ pub use feed::Feed;
 pub use left::Left;
 pub use machine::Machine;
 pub use memory::Memory;
-pub use monitor::Monitor;
 pub use passes::is_inside;
 pub use setup::Setup;
 pub use step::Step;

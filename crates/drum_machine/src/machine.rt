@@ -10,13 +10,14 @@ use crate::setup::Setup;
 use crate::step::Step;
 use crate::stop::Stop;
 use crate::why::Why;
-use drum_core::{Clockwork, Deck, Instruction, Location, Op, Word};
+use drum_core::{Deck, Instruction, Location, Op, Word};
+use drum_rotation::Clockwork;
 use drum_times::{Entry, Times};
 use std::alloc::Global;
 
 /// A machine: what it holds, where it seeks its next instruction, and the time that it has used.
 ///
-/// Source: the IBM 650 Manual of Operation; the moments of a step are this project's choice.
+/// Source: the IBM 650 Manual of Operation, but for the moments of a step.
 #[derive(Debug, Drop)]
 pub struct Machine {
     registers: Registers,
@@ -48,6 +49,10 @@ impl Machine {
     /// A machine at time 0: it seeks the deck's start; it has the setup's angle, registers, latch
     /// and switches, and no remainder's sign; its drum has the deck's words, elsewhere the setup's,
     /// else +0.
+    ///
+    /// # Errors
+    ///
+    /// [`Memory`] where there is no memory for the drum.
     pub fn new(alloc: Global, deck: &Deck, setup: &Setup) -> Result<Machine, Memory>
         ensures runs { IfOk result GoesOn }
         ensures set_up { IfOk result (λ machine. (cards : List Card)
@@ -83,7 +88,7 @@ impl Machine {
         self.used
     }
 
-    /// The accumulator: one whole number of twenty digits.
+    /// The accumulator: one whole number of twenty digits at most.
     pub fn accumulator(&self) -> i128
         ensures number { (cards : List Card)
             → result ≡ (held_by self.now cards).accumulator }
@@ -244,8 +249,8 @@ impl Machine {
         }
     }
 
-    /// Takes a step, of 92,000,099 word times at most; one that goes on takes some. A machine that
-    /// has stopped answers the same again, and nothing changes.
+    /// Takes a step, of 92,000,099 word times at most; one that goes on takes one at least. A
+    /// machine that has stopped answers the same again, and nothing changes.
     pub fn step(&mut self, times: &Times, feed: &mut Feed) -> Step
         requires { used_by self.old ≤ 2 ^ 62 }
         ensures goes { GoesOn self.old

@@ -1,6 +1,6 @@
 use std::alloc::AllocError;
 
-/// That memory was wanted, and there was none.
+/// There was no memory.
 #[derive(Clone, Copy, Debug, PartialEq, Eq)]
 pub struct Memory;
 

@@ -2,16 +2,17 @@
 //! angle 0 on.
 
 ghost use Rattle.std.specs.Prelude.{◌≡◌, ◌^◌, ◌≤◌, ◌+◌, ◌*◌, true};
-ghost use Rattle.drum_core.specs.Available.{has_parity};
-ghost use Rattle.drum_core.specs.Moment.{first};
+ghost use Rattle.drum_rotation.specs.Available.{has_parity};
+ghost use Rattle.drum_rotation.specs.Moment.{first};
 ghost use Rattle.drum_core.specs.Op.{operand_of, is_operand};
 ghost use Rattle.drum_machine.specs.Timing.{found as found_at, reached as reached_at};
 
 use crate::chain::{from_ready, to_operand};
-use drum_core::{Clockwork, Location, Op, Seek};
+use drum_core::{Location, Op};
+use drum_rotation::{Clockwork, Seek};
 use drum_times::Entry;
 
-/// The first moment at which the word at the location can be had.
+/// The first moment, from a clock on, at which the word at the location can be had.
 pub fn found(location: Location, clock: u64) -> u64
     requires { clock ≤ 2 ^ 62 + 2 ^ 39 }
     ensures value { result ≡ found_at location.number clock }
@@ -21,7 +22,7 @@ pub fn found(location: Location, clock: u64) -> u64
     Seek::of(location).go(clock)
 }
 
-/// From x on, the moment at which the operation has its operand.
+/// The moment, from x on, at which the operation has its operand: x itself where it waits for none.
 pub fn reached(op: Op, d: u16, x: u64) -> u64
     requires operand { is_operand (operand_of op) d ≡ true }
     requires soon { x ≤ 2 ^ 62 + 2 ^ 39 }
@@ -32,8 +33,8 @@ pub fn reached(op: Op, d: u16, x: u64) -> u64
     to_operand(op, d).go(x)
 }
 
-/// From x on, the moment at which the step ends, with so many units of work and a wait for the card
-/// machine.
+/// The moment at which the step ends that is ready at x, with `units` units of work and a wait of
+/// `wait` word times for the card machine.
 pub fn ended(entry: Entry, op: Op, d: u16, units: u64, wait: u32, x: u64) -> u64
     requires operand { is_operand (operand_of op) d ≡ true }
     requires work { entry.per * units + wait ≤ 90000000 }

@@ -20,9 +20,9 @@ pub struct Registers {
     pub switches: Word,
     /// The distributor.
     pub distributor: Word,
-    /// One whole number of twenty digits.
+    /// The accumulator: one whole number of twenty digits at most.
     pub accumulator: i128,
-    /// Whether the dividend was minus, while the remainder's sign stands.
+    /// Whether the dividend was minus, while the remainder's sign stands; else `None`.
     pub remainder: Option<bool>,
     /// Whether the overflow latch is on.
     pub latch: bool,
@@ -89,9 +89,8 @@ impl Registers {
         self.word_at(Location { number: d })
     }
 
-    /// The accumulator becomes what twenty digits hold of the number. Where more are wanted, that
-    /// is an overflow: the latch goes on, and the machine stops where the overflow switch is at
-    /// STOP.
+    /// The accumulator becomes what twenty digits hold of the number. A number of more digits is an
+    /// overflow: the latch goes on, and the machine stops where the overflow switch is at STOP.
     fn keep(&mut self, number: i128, next: u16) -> Result<u16, Why>
         requires { unsigned_abs number < 10 ^ 30 }
         ensures { HasEffect (λ c. keeps_in c number next) self.old self.new result }
@@ -304,7 +303,7 @@ impl Registers {
         if card.load { d } else { i }
     }
 
-    /// The words that 71 punches: 27 to 36 of D's band.
+    /// The words that 71 punches: words 27 to 36 of D's band.
     pub fn punched(&self, d: u16) -> [Word; 10]
         requires { d < 2000 }
         ensures { (cards : List Card) → result ≡ punched_in (contents_with self.now cards) d }

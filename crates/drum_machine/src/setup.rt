@@ -9,13 +9,13 @@ use drum_core::{Deck, Location, REVOLUTION, Word};
 /// What a machine is set up with beside its deck.
 #[derive(Debug, Drop)]
 pub struct Setup {
-    /// The drum's angle at time 0.
+    /// The drum's angle at time 0, below 50.
     pub angle: u8,
     /// The word of the storage entry switches.
     pub switches: Word,
-    /// The distributor.
+    /// The word in the distributor.
     pub distributor: Word,
-    /// The accumulator.
+    /// The accumulator: one whole number of twenty digits at most.
     pub accumulator: i128,
     /// Whether the overflow latch is on.
     pub latch: bool,
@@ -23,7 +23,7 @@ pub struct Setup {
     pub programmed: bool,
     /// Whether the overflow switch is at STOP.
     pub on_overflow: bool,
-    /// Words for drum locations, each of which is given once.
+    /// Words for locations on the drum, one for each at most.
     pub words: Vec<(Location, Word)>,
     pub ghost angle_on_drum: { angle < 50 },
     pub ghost twenty: { unsigned_abs accumulator < 10 ^ 20 },
@@ -104,7 +104,7 @@ impl Setup {
         })
     }
 
-    /// The word that is given to a location; `None` where none is.
+    /// The word that the setup gives to a location; `None` where it gives none.
     pub(crate) fn given(&self, location: Location) -> Option<Word>
         ensures { result ≡ given_to location.number self.now.words.items }
     {

@@ -19,7 +19,7 @@ pub enum Step {
         /// The words that it punched, for 71.
         punched: Option<[Word; 10]>,
     },
-    /// It stopped.
+    /// It stopped, or the machine had stopped before.
     Stopped {
         /// Where the step began.
         origin: Location,

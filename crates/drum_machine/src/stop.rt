@@ -1,7 +1,7 @@
 use crate::why::Why;
 use drum_core::Word;
 
-/// That a machine has stopped: at which word, and why.
+/// How a machine has stopped: at which word, and why.
 #[derive(Clone, Copy, Debug, PartialEq, Eq)]
 pub struct Stop {
     /// The word that was fetched.

@@ -11,9 +11,9 @@ use drum_times::{Notes, Programmed};
 /// How a step may end.
 #[derive(Clone, Copy, Debug, PartialEq, Eq, Hash)]
 pub enum Way {
-    /// It stops before it acts, at the moment x.
+    /// It stops before the operation acts, at the moment x, when the step is ready.
     Early,
-    /// It goes on to a location.
+    /// It goes on at a location.
     To(Location),
     /// It stops at its end, the moment e.
     Late,

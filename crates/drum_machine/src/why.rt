@@ -3,9 +3,9 @@
 pub enum Why {
     /// The operation isn't in the profile.
     Operation,
-    /// D isn't a location that the operation takes.
+    /// D isn't an address that the operation takes.
     Operand,
-    /// 70 found no card.
+    /// 70 found no card in the reader.
     Card,
     /// A quotient of more than ten digits, or a divisor of 0.
     Quotient,
@@ -15,6 +15,6 @@ pub enum Why {
     Digit,
     /// 01, with the programmed switch at STOP.
     Programmed,
-    /// The next location is none.
+    /// The next address is no location.
     Next,
 }

@@ -1,4 +1,4 @@
-use Rattle.drum_machine.proofs.Watching.{zeros}
+use Rattle.drum_machine.proofs.Within.{zeros}
 use Rattle.drum_machine.proofs.counts.Counts.none.Goals as goal
 
 pub returns : goal.returns

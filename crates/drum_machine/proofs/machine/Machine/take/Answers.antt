@@ -1,3 +1,6 @@
+-- Of Machine::take: entry, card, wait, units, end and effect are, one after the other, those of the
+-- state as the definitions have it. Put together they are the definition's step, and leave the
+-- cards and waits that it leaves.
 use Rattle.std.proofs.Common.{◌≡◌, ◌+◌, ◌≤◌, ◌*◌, ℕ, Option, true, false, ◌&&◌, is_some, ◌∙◌, ap, sym, subst, arith}
 use Rattle.std.proofs.Common.{refl}
 use Rattle.drum_core.specs.declared.instruction.Instruction.{Instruction}

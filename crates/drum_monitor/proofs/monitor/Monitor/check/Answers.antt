@@ -1,6 +1,6 @@
 use Rattle.drum_core.specs.Loads.{loads_in}
-use Rattle.drum_machine.proofs.Watching.{seen_more}
-use Rattle.drum_machine.proofs.monitor.Monitor.check.Goals as goal
+use Rattle.drum_monitor.proofs.Watching.{seen_more}
+use Rattle.drum_monitor.proofs.monitor.Monitor.check.Goals as goal
 
 pub returns-clause-judged : goal.returns-clause-judged
 returns-clause-judged c fresh times strides stride seen told =

@@ -1,4 +1,4 @@
--- What a step's answer tells of the notes.
+-- What a step's answer says of the notes.
 use Rattle.std.proofs.Common.{◌≡◌, ℕ, Bool, true, false, not, ◌&&◌, List, [], ◌∷◌, Option, Some, None, refl, sym, ap}
 use Rattle.std.proofs.Common.{subst, ◌∙◌}
 use Rattle.std.specs.Prelude.{nat_lt, nat_le, ◌||◌, if◌then◌else◌, IsTrue, MatchOption}
@@ -31,7 +31,7 @@ use Rattle.drum_machine.specs.Effect.{goes, reads}
 use Rattle.drum_machine.specs.Timing.{ended, units_of}
 use Rattle.drum_machine.proofs.Stepping.{acts}
 
--- where a step began that is told of, and the word that was fetched
+-- where the step began that is answered, and the word that was fetched
 pub told_going : (t : Stepped) (origin : Location) (w : Word) (l : Bool) (p : Option (List Word)) (location : Location)
     (word : Word) (next : Location) (used : ℕ) (load : Bool) (punched : Option (List Word))
     → Tells t origin w l p (Went location word next used load punched) → (location ≡ origin) × (word ≡ w)

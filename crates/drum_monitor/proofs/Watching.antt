@@ -1,15 +1,16 @@
 -- What a monitor has seen, one stride later.
-use Rattle.std.proofs.Common.{◌≡◌, ℕ, zero, suc, ◌≤◌, List, [], ◌∷◌, ◌++◌, take, length, replicate, Option, Some, None}
+use Rattle.std.proofs.Common.{◌≡◌, ℕ, List, [], ◌∷◌, ◌++◌, Option, Some, None}
 use Rattle.std.proofs.Common.{refl, sym, ap, subst, ◌∙◌, arith}
 use Rattle.std.specs.Prelude.{MatchOption}
 use Rattle.drum_core.specs.declared.word.Word.{Word}
 use Rattle.drum_times.specs.declared.notes.mark.Mark.{Mark}
 use Rattle.drum_times.specs.Allowed.{Notes}
 use Rattle.drum_machine.specs.declared.left.Left.{Left}
-use Rattle.drum_machine.specs.declared.monitor.Monitor.{Monitor}
+use Rattle.drum_monitor.specs.declared.monitor.Monitor.{Monitor}
 use Rattle.drum_machine.specs.Counts.{no_counts, AreWithin}
 use Rattle.drum_machine.specs.Keeps.{AreKept, IsKeptStride, Leaves, counts_after}
-use Rattle.drum_machine.specs.Monitor.{counts_in, counts_over, HasSeen}
+use Rattle.drum_monitor.specs.Monitor.{counts_in, HasSeen}
+use Rattle.drum_machine.specs.Keeps.{counts_over}
 use Rattle.drum_machine.specs.Run.{Stride}
 
 zeros_within : (marks : List Mark) → AreWithin marks (no_counts marks)
@@ -58,10 +59,3 @@ seen_more loads notes m n strides stride None seen judged =
     }
 seen_more loads notes m n strides stride (Some l) seen judged =
     subst (λ (counts : List ℕ). Leaves loads notes counts stride l) seen.counts judged
-
--- no pass is counted at first
-pub zeros : (marks : List Mark) (most : ℕ) → length marks ≤ most
-    → take (length marks) (replicate most 0) ≡ no_counts marks
-zeros [] most few = refl
-zeros (mark ∷ marks) zero few = absurd (omega arith)
-zeros (mark ∷ marks) (suc most) few = ap (λ (counts : List ℕ). 0 ∷ counts) (zeros marks most (omega arith))

@@ -8,15 +8,12 @@ ghost use Rattle.drum_machine.specs.declared.left.Left.TheVariants as Left;
 
 mod allowed;
 
-use crate::counts::Counts;
-use crate::left::Left;
-use crate::setup::Setup;
-use crate::step::Step;
 use allowed::is_allowed;
 use drum_core::{Deck, Instruction, Location, Word};
+use drum_machine::{Counts, Left, Setup, Step};
 use drum_times::{Mark, Notes, Programmed};
 
-/// Watches the steps of a run, and tells how the run leaves the notes.
+/// Watches the steps of a run, and says whether and how the run leaves the notes.
 #[derive(Debug, Drop)]
 pub struct Monitor {
     counts: Counts,
@@ -61,11 +58,12 @@ impl Monitor {
     ghost use Rattle.drum_machine.specs.Run.{Stride};
     ghost use Rattle.drum_machine.specs.Counts.{after_pass, no_counts, AreWithin};
     ghost use Rattle.drum_machine.specs.CountsIn.{counts_in as counts_of};
-    ghost use Rattle.drum_machine.specs.Monitor.{answer_of, counts_in, counts_over, HasSeen};
-    ghost use Rattle.drum_machine.specs.Monitor.{IsToldOf};
+    ghost use Rattle.drum_monitor.specs.Monitor.{answer_of, counts_in, HasSeen};
+    ghost use Rattle.drum_machine.specs.Keeps.{counts_over};
+    ghost use Rattle.drum_machine.specs.Machine.{IsToldOf};
 
-    /// A monitor of a run from this setup. It has answered where the programmed switch isn't as the
-    /// notes declare it.
+    /// A monitor of a run from this setup. Where the programmed switch isn't as the notes declare
+    /// it, the run has left the notes already, before its first step.
     pub fn new(notes: &Notes, setup: &Setup) -> Monitor
         ensures declared { MatchOption (answer_of result)
             (IsAsDeclared notes.now.programmed setup.now.programmed)
@@ -85,7 +83,7 @@ impl Monitor {
         }
     }
 
-    /// How the run left the notes, where it has.
+    /// How the run left the notes; `None` while it keeps to them.
     pub fn left(&self) -> Option<Left>
         ensures { result ≡ answer_of self.now }
     {
@@ -141,9 +139,9 @@ impl Monitor {
         }
     }
 
-    /// How the run leaves the notes at this step, or has left them; `None` while it keeps to them.
-    /// The steps of one run are given in order, with one deck and the notes and the setup that the
-    /// monitor was made for. Once there is an answer it stays, and nothing changes.
+    /// How the run leaves the notes at this step, or has left them before; `None` while it keeps to
+    /// them. Give it the steps of one run, in order, with one deck, and with the notes that the
+    /// monitor was made for. Once there is an answer, it stays the same, and nothing changes.
     pub fn check(&mut self, notes: &Notes, deck: &Deck, step: &Step) -> Option<Left>
         ensures answered { result ≡ answer_of self.new }
         ensures judged { answer_of self.old ≡ None

@@ -1,4 +1,4 @@
-use Rattle.drum_machine.proofs.monitor.Monitor.new.Goals as goal
+use Rattle.drum_monitor.proofs.monitor.Monitor.new.Goals as goal
 
 pub returns-clause-seen : goal.returns-clause-seen
 returns-clause-seen c loads = record

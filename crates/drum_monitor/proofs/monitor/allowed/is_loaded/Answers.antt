@@ -4,8 +4,8 @@ use Rattle.std.specs.List.{Contains}
 use Rattle.drum_core.specs.declared.instruction.Instruction.{Instruction}
 use Rattle.drum_core.specs.declared.word.Word.{Word}
 use Rattle.drum_times.specs.Allowed.{loaded}
-use Rattle.drum_machine.proofs.Allowing.{loaded_test}
-use Rattle.drum_machine.proofs.monitor.allowed.is_loaded.Goals as goal
+use Rattle.drum_monitor.proofs.Allowing.{loaded_test}
+use Rattle.drum_monitor.proofs.monitor.allowed.is_loaded.Goals as goal
 
 pub returns-in-Some : goal.returns-in-Some
 returns-in-Some c =

@@ -1,7 +1,7 @@
 use Rattle.std.proofs.Common.{ℕ, ◌<◌, get_or}
 use Rattle.drum_times.specs.declared.notes.pattern.Pattern.{Pattern}
 use Rattle.drum_times.specs.Allowed.{Matches}
-use Rattle.drum_machine.proofs.monitor.allowed.has_match.Given as goal
+use Rattle.drum_monitor.proofs.monitor.allowed.has_match.Given as goal
 
 -- none so far matches
 abbrev pub invariant-loop-pattern : goal.invariant-loop-pattern

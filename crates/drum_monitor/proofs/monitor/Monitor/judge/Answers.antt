@@ -4,10 +4,10 @@ use Rattle.drum_core.specs.Loads.{loads_in}
 use Rattle.drum_machine.specs.declared.step.Step.{Step}
 use Rattle.drum_machine.specs.Keeps.{reads_load}
 use Rattle.drum_machine.specs.Machine.{Tells}
-use Rattle.drum_machine.specs.Monitor.{counts_in}
+use Rattle.drum_monitor.specs.Monitor.{counts_in}
 use Rattle.drum_machine.specs.Step.{fetched}
-use Rattle.drum_machine.proofs.Judging.{told_going, told_stop, unlisted_leaves, stop_reads_none, stop_judged}
-use Rattle.drum_machine.proofs.monitor.Monitor.judge.Goals as goal
+use Rattle.drum_monitor.proofs.Judging.{told_going, told_stop, unlisted_leaves, stop_reads_none, stop_judged}
+use Rattle.drum_monitor.proofs.monitor.Monitor.judge.Goals as goal
 
 pub returns-in-Some : goal.returns-in-Some
 returns-in-Some c times stride told =

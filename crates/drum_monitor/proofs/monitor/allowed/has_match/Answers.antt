@@ -1,8 +1,8 @@
 use Rattle.std.proofs.Common.{arith, subst}
 use Rattle.drum_times.specs.declared.notes.pattern.Pattern.{Pattern}
 use Rattle.drum_times.specs.Allowed.{Matches}
-use Rattle.drum_machine.proofs.Allowing.{allowed_by_one, allowed_by_none}
-use Rattle.drum_machine.proofs.monitor.allowed.has_match.Goals as goal
+use Rattle.drum_monitor.proofs.Allowing.{allowed_by_one, allowed_by_none}
+use Rattle.drum_monitor.proofs.monitor.allowed.has_match.Goals as goal
 
 pub returns-then-matches : goal.returns-then-matches
 returns-then-matches c =

@@ -1,0 +1,3 @@
+pub mod Allowing
+pub mod Judging
+pub mod Watching

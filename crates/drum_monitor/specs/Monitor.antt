@@ -1,0 +1,24 @@
+-- What a monitor has seen of a run.
+use Rattle.std.specs.Prelude.{◌≡◌, ℕ, List, Option}
+use Rattle.drum_core.specs.declared.word.Word.{Word}
+use Rattle.drum_times.specs.Allowed.{Notes}
+use Rattle.drum_machine.specs.declared.left.Left.{Left}
+use Rattle.drum_monitor.specs.declared.monitor.Monitor.{Monitor}
+use Rattle.drum_machine.specs.Counts.{no_counts}
+use Rattle.drum_machine.specs.CountsIn as held
+use Rattle.drum_machine.specs.Keeps.{AreKept, counts_over}
+use Rattle.drum_machine.specs.Run.{Stride}
+
+-- what a monitor has answered so far
+abbrev pub answer_of : Monitor → Option Left
+answer_of m = m.left
+
+-- the counts of the notes' marks, as a monitor holds them
+abbrev pub counts_in : Monitor → Notes → List ℕ
+counts_in m notes = held.counts_in m.counts notes.marks
+
+-- a monitor has seen these strides, which keep to the notes
+pub record HasSeen (loads : ℕ → Option Word) (notes : Notes) (m : Monitor)
+    (strides : List Stride) : Type 0 where
+  pub counts : counts_in m notes ≡ counts_over notes (no_counts notes.marks) strides
+  pub kept : AreKept loads notes (no_counts notes.marks) strides
