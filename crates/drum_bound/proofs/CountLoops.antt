@@ -16,7 +16,8 @@ use Rattle.drum_bound.specs.Digits.{digits}
 use Rattle.drum_bound.proofs.DigitsLaws.{counts_some, digits_leading, number_within}
 use Rattle.drum_bound.specs.Table.{counts_for, number_of}
 
--- A number is so many times the counts that these marks can have, and the number of these counts.
+-- A number is `prefix` times the number of counts that these marks can have, and the number of
+-- these counts.
 pub record Leads (marks : List Mark) (counts : List ℕ) (prefix number : ℕ) : Type 0 where
   pub same : prefix * counts_of marks + leading marks counts ≡ number
   pub within : AreWithin marks counts

@@ -13,7 +13,8 @@ use Rattle.drum_flow.specs.Longest.{longest}
 use Rattle.drum_flow.proofs.LongestLaws.{longest_later}
 use Rattle.drum_bound.specs.Table.{Row, AreApart}
 
--- the word times used at the latest at the end of a hop that begins when so many are, from the angle behind the start's
+-- the word times used at the latest at the end of a hop that begins with `begun` used, from the
+-- angle behind the start's
 abbrev pub latest_end : Setting → ℕ → Hop → ℕ → ℕ
 latest_end g place hop begun =
     let angle = (g.start + 1) % 50 in

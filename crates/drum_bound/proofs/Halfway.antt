@@ -4,9 +4,9 @@ use Rattle.std.proofs.Common.{sym, ◌∙◌, subst, Some, arith}
 use Rattle.std.specs.Prelude.{slice_get}
 use Rattle.std.proofs.lemmas.Option.{slice_get_within}
 use Rattle.drum_core.specs.Kind.{kind_of}
-use Rattle.drum_core.specs.Recurs.{within_span}
-use Rattle.drum_core.specs.Span.{kind_span-≤}
-use Rattle.drum_core.specs.Waits.{available_recurs}
+use Rattle.drum_rotation.specs.Recurs.{within_span}
+use Rattle.drum_rotation.specs.Span.{kind_span-≤}
+use Rattle.drum_rotation.specs.Waits.{available_recurs}
 use Rattle.drum_flow.specs.Hops.{Hop}
 use Rattle.drum_flow.specs.Walk.{Setting}
 use Rattle.drum_bound.specs.declared.cells.Cells.{Cells}
@@ -24,7 +24,7 @@ use Rattle.drum_bound.specs.SearchOf.{IsSearch, KeepsAt}
 use Rattle.drum_bound.proofs.KeysTaken.{hops_at, opened, early_clock, few_turns, closed}
 use Rattle.drum_bound.proofs.Lists.{drop_at, drop_past}
 
--- So many hops of a key have been taken, from a scan on in which none had.
+-- The first `number` hops of a key have been taken, from a scan on in which none had.
 pub record IsHalfway (b : Scan) (key clock number : ℕ) (cells : Cells) : Type 0 where
   pub are : AreCells (setting_in b) (order_of b) cells
   pub taking : Taking (setting_in b) (order_of b) key clock (drop number (hops_at b key)) (kept_in cells) cells.last

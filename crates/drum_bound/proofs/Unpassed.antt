@@ -4,8 +4,8 @@ use Rattle.std.proofs.Common.{arith}
 use Rattle.std.specs.Prelude.{Contains}
 use Rattle.drum_core.specs.declared.instruction.Instruction.{Instruction}
 use Rattle.drum_core.specs.declared.op.Op.{Op}
-use Rattle.drum_core.specs.Available.{is_available}
-use Rattle.drum_core.specs.Moment.{first}
+use Rattle.drum_rotation.specs.Available.{is_available}
+use Rattle.drum_rotation.specs.Moment.{first}
 use Rattle.drum_times.specs.declared.entry.Entry.{Entry}
 use Rattle.drum_machine.specs.Counts.{after_pass, no_counts, AreWithin}
 use Rattle.drum_machine.specs.Ways.{Way, early, to, late}
@@ -20,7 +20,7 @@ use Rattle.drum_flow.proofs.Profiles.{hop_may_end}
 use Rattle.drum_bound.specs.Scanned.{cell_at, end_from, Arrives, IsTakenBy, Scanned}
 use Rattle.drum_bound.specs.Table.{start_angle, GoesOn, Arrive}
 
--- A search that begins so many revolutions later ends as many later.
+-- A search that begins k revolutions later ends k revolutions later.
 pub longest_revolutions : (times : Op → Entry) (place : ℕ) (ins : Instruction) (way : Way) (t k : ℕ)
     → longest times place ins way (t + 50 * k) ≡ longest times place ins way t + 50 * k
 longest_revolutions times place ins way t zero =
@@ -42,8 +42,8 @@ hop_of hop = record { ins = hop.ins; way = hop.way }
 module _ (g : Setting) (order : List ℕ) (cells : List (Option Latest)) (last : Latest)
     (ordered : IsOrdered g.loads g.notes g.start order) (starts : g.start < 2000)
     (s : Scanned g order (keys_of g.notes.marks order) (keys_of g.notes.marks order) cells last) where
-  -- Hops from a place, a time and counts on, from this angle, end so many revolutions before the latest of all, and
-  -- arrive nowhere later than so many before what is kept there.
+  -- Hops from a place, a time and counts on, from this angle, end k revolutions or more before the
+  -- latest of all, and arrive k revolutions or more before what is kept where they arrive.
   pub record IsUnpassed (angle k place time : ℕ) (counts : List ℕ) (hops : List Taken) : Type 0 where
     pub below : angle + time_from time hops + 50 * k ≤ last.clock
     pub arrivals : (place' time' : ℕ) (counts' : List ℕ) → Arrive g place time counts hops place' time' counts'
@@ -65,7 +65,8 @@ module _ (g : Setting) (order : List ℕ) (cells : List (Option Latest)) (last :
     };
   }
 
-  -- a hop that begins so many revolutions before a clock ends as many before the latest end from there
+  -- a hop that begins k revolutions or more before a clock ends as many before the latest end from
+  -- there
   end_before : (angle k time key clock : ℕ) (hop : Taken) → IsHopAt g angle (place_at order key) time hop
       → angle + time + 50 * k ≤ clock → angle + hop.ended + 50 * k ≤ end_from g order key (hop_of hop) clock
   end_before angle k time key clock hop is before =
@@ -95,7 +96,7 @@ module _ (g : Setting) (order : List ℕ) (cells : List (Option Latest)) (last :
       let passed = after_pass g.notes.marks (place_at order key) next (counts_at g.notes.marks order key) in
       AreWithin g.notes.marks passed × IsWalkFrom g angle next hop.ended passed more) more
 
-  -- hops from each key that what is kept there is so many revolutions behind
+  -- hops from each key at which what is kept is k revolutions or more later are unpassed
   abbrev AreUnpassedFrom : ℕ → ℕ → ℕ → List Taken → Type 0
   AreUnpassedFrom angle k time more =
       (key : ℕ) (kept : Latest) → key < keys_of g.notes.marks order → cell_at cells key ≡ Some kept
@@ -103,8 +104,8 @@ module _ (g : Setting) (order : List ℕ) (cells : List (Option Latest)) (last :
       → IsWalkFrom g angle (place_at order key) time (counts_at g.notes.marks order key) more
       → IsUnpassed angle k (place_at order key) time (counts_at g.notes.marks order key) more
 
-  -- a hop that ends so many revolutions before the latest end from what is kept at its key, where those behind it are
-  -- unpassed
+  -- a hop that ends k revolutions or more before the latest end from what is kept at its key, where
+  -- those behind it are unpassed
   unpassed_on : (angle k time key : ℕ) (kept : Latest) (hop : Taken) (more : List Taken)
       → key < keys_of g.notes.marks order → cell_at cells key ≡ Some kept
       → Contains (hops g.loads g.notes (place_at order key)) (hop_of hop)
@@ -155,7 +156,7 @@ module _ (g : Setting) (order : List ℕ) (cells : List (Option Latest)) (last :
       unpassed_behind angle k hop.ended key' kept' next more inside' there' walk.0.allowed
       (end_before angle k hop.ended key' kept'.clock next walk.0 before') walk.1)
 
-  -- hops from a key on, that begin so many revolutions before what is kept there
+  -- hops from a key on that begin k revolutions or more before what is kept there
   unpassed_from : (angle k time : ℕ) (more : List Taken) → AreUnpassedFrom angle k time more
   unpassed_from angle k time [] key kept inside there before walk =
       unpassed_none angle k time key kept inside there before
@@ -171,7 +172,8 @@ module _ (g : Setting) (order : List ℕ) (cells : List (Option Latest)) (last :
       at_key (λ at passed. IsWalkFrom g angle at time passed more → IsUnpassed angle k at time passed more) key place
       counts is (unpassed_from angle k time more key kept is.below there before)
 
-  -- Hops that begin so many revolutions before what is kept at their key end as many before the latest of all.
+  -- Hops that begin k revolutions or more before what is kept at their key end as many before the
+  -- latest of all.
   pub below_from : (angle k : ℕ) (hops : List Taken) (place time key : ℕ) (counts : List ℕ) (kept : Latest)
       → IsKey g.notes.marks order key place counts → cell_at cells key ≡ Some kept
       → angle + time + 50 * k ≤ kept.clock → IsWalkFrom g angle place time counts hops
@@ -179,7 +181,7 @@ module _ (g : Setting) (order : List ℕ) (cells : List (Option Latest)) (last :
   below_from angle k hops place time key counts kept is there before walk =
       (unpassed_at angle k hops place time key counts kept is there before walk).below
 
-  -- Where they arrive something is kept that is no earlier than so many revolutions later.
+  -- Where they arrive something is kept that is k revolutions or more later.
   pub arrives_from : (angle k : ℕ) (hops : List Taken) (place time key : ℕ) (counts : List ℕ) (kept : Latest)
       → IsKey g.notes.marks order key place counts → cell_at cells key ≡ Some kept
       → angle + time + 50 * k ≤ kept.clock → IsWalkFrom g angle place time counts hops
@@ -188,7 +190,8 @@ module _ (g : Setting) (order : List ℕ) (cells : List (Option Latest)) (last :
   arrives_from angle k hops place time key counts kept is there before walk =
       (unpassed_at angle k hops place time key counts kept is there before walk).arrivals
 
-  -- The first hop of a walk ends so many revolutions before the latest end from what is kept for the start.
+  -- The first hop of a walk ends k revolutions or more before the latest end from what is kept for
+  -- the start.
   first_before : (angle k : ℕ) (hop : Taken) → first (is_available g.start) angle + 50 * k ≡ start_angle g.start + 49
       → IsHopAt g angle g.start 0 hop
       → angle + hop.ended + 50 * k ≤ end_from g order s.begins.key (hop_of hop) s.begins.kept.clock

@@ -1,4 +1,4 @@
--- A number read as counts of marks (this project's choice).
+-- A number read as counts of marks.
 use Rattle.std.specs.Prelude.{ℕ, ◌/◌, ◌%◌, List, [], ◌∷◌}
 use Rattle.drum_times.specs.declared.notes.mark.Mark.{Mark}
 use Rattle.drum_flow.specs.Accepted.{counts_of}

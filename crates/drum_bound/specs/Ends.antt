@@ -1,5 +1,4 @@
--- The ends of the hops of a table's entries, and how they raise the entries (this project's
--- choice).
+-- The ends of the hops of a table's entries, and how they raise the entries.
 use Rattle.std.specs.Prelude.{◌≡◌, ℕ, ◌+◌, ◌≤◌, ◌⊎◌, List, [], ◌∷◌, slice_get, Some, Contains}
 use Rattle.drum_machine.specs.Counts.{after_pass, AreWithin}
 use Rattle.drum_machine.specs.Ways.{to}

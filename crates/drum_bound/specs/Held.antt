@@ -17,7 +17,7 @@ use Rattle.drum_bound.specs.SearchOf.{CanEnd, KeepsAt}
 abbrev pub size_of : Cells → ℕ
 size_of cells = cells.counts * cells.words
 
--- what is kept at so many keys, in their order
+-- what is kept at the keys below `size`, in their order
 abbrev pub kept_below : Entries → ℕ → List (Option Latest)
 kept_below entries size = map (kept_of entries) (range_with_len 0 size)
 

@@ -12,7 +12,8 @@ use Rattle.drum_flow.specs.Walk.{Setting}
 use Rattle.drum_bound.specs.declared.leap.Leap.{Leap}
 use Rattle.drum_flow.specs.Longest.{longest}
 
--- From a clock at this angle on, the hop of this place ends so many word times later at the latest.
+-- From a clock at this angle on, the hop of this place ends at the latest as many word times later
+-- as the leap has.
 abbrev pub TakesLongest : Setting → ℕ → ℕ → Leap → Type 0
 TakesLongest g place angle leap = (clock : ℕ) → clock % 50 ≡ angle
     → longest g.times place leap.hop.instruction (seen_way leap.hop.way) clock ≡ clock + leap.time

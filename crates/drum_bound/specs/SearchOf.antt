@@ -1,7 +1,7 @@
 -- The search for a key's instruction, as it is held, and the ends of the key's hops.
 use Rattle.std.specs.Prelude.{◌≡◌, ℕ, ◌%◌, ◌^◌, ◌<◌, ◌≤◌, List, Option, Some}
-use Rattle.drum_core.specs.Available.{is_available}
-use Rattle.drum_core.specs.Moment.{first}
+use Rattle.drum_rotation.specs.Available.{is_available}
+use Rattle.drum_rotation.specs.Moment.{first}
 use Rattle.drum_machine.specs.WaysLeft.{seen_way}
 use Rattle.drum_flow.specs.Walk.{Setting}
 use Rattle.drum_bound.specs.declared.key_hop.KeyHop.{KeyHop}

@@ -1,4 +1,4 @@
--- Which entries of a table the steps of a run arrive under (this project's choice).
+-- Which entries of a table the steps of a run arrive under.
 use Rattle.std.specs.Prelude.{◌≡◌, ℕ, ◌≤◌, List, [], ◌∷◌, Contains}
 use Rattle.drum_times.specs.declared.notes.mark.Mark.{Mark}
 use Rattle.drum_times.specs.Allowed.{Notes}
@@ -18,8 +18,8 @@ abbrev pub IfOn : Stepped → (State → Type 0) → Type 0
 IfOn (on s) Right = Right s
 IfOn (stopped held because moment) Right = Unit {0}
 
--- Each of these steps that goes on, with so many passes of the marks before the first, arrives
--- under an entry: at the location that it goes on to, with the passes and the word times used then.
+-- Each of these steps that goes on, with these counts of the marks before the first, arrives under
+-- an entry: at the location that it goes on to, with the counts and the word times used then.
 abbrev pub ArriveUnder : Notes → List Row → List ℕ → List Stride → Type 0
 ArriveUnder notes rows counts [] = Unit {0}
 ArriveUnder notes rows counts (stride ∷ steps) =

@@ -30,7 +30,7 @@ seen_visit visit = record {
   ended = visit.begun + visit.took;
 }
 
--- These are the hops of a walk from this angle that takes so many word times.
+-- These are the hops of a walk from this angle that takes `used` word times.
 pub record IsWalkOf (g : Setting) (angle used : ℕ) (visits : List Visited) : Type 0 where
   pub hops : List Taken
   pub walk : IsWalk g angle hops

@@ -1,4 +1,4 @@
--- The bound (this project's choice): the time that some walk has and none passes.
+-- The bound: the time that some walk has and none passes.
 use Rattle.std.specs.Prelude.{◌≡◌, ℕ, ◌≤◌, List}
 use Rattle.drum_flow.specs.Walk.{Setting, Taken, IsWalk, time_of}
 

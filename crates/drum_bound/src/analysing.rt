@@ -56,12 +56,12 @@ fn analysis_of<'a, L: Ledger>(
     analysis_by(alloc, times, &keys, steps)
 }
 
-/// As [`analyse`], on a ledger of the caller's: one is counted there for each end of a hop that is
-/// made with it, by the one maker of ends, and as many in all as [`turns`](Analysis::turns) says.
+/// As [`analyse`], with a ledger of the caller's: the one maker of ends counts there each end of a
+/// hop that it makes, as many in all as [`turns`](Analysis::turns) says.
 ///
 /// # Errors
 ///
-/// As those of [`analyse`].
+/// Those of [`analyse`].
 pub fn analyse_counting<L: Ledger>(
     alloc: Global,
     deck: &Deck,
@@ -105,8 +105,8 @@ fn analyse_from<L: Ledger>(
 ///
 /// # Errors
 ///
-/// Where the deck with its notes isn't accepted, why ([`accept`](crate::accept));
-/// [`Refusal::Memory`] where memory is wanting.
+/// Where the deck with its notes isn't accepted, the reason ([`accept`](crate::accept));
+/// [`Refusal::Memory`] where there is no memory.
 pub fn analyse(
     alloc: Global,
     deck: &Deck,

@@ -17,7 +17,8 @@ use drum_times::Mark;
 pub struct Analysis {
     cells: Cells,
     walk: Vec<Visit>,
-    /// By the marks' places in the notes; what stands past the last mark means nothing.
+    /// How often the walk passes each mark, by the marks' places in the notes; what stands past the
+    /// last mark means nothing.
     passed: [u64; Mark::MOST],
     ghost in_time: { ∥ AreInTime 0 (map seen_visit walk.items)
         (cells.last.clock - cells.entries.angle) ∥₁ },
@@ -50,8 +51,8 @@ impl Analysis {
         }
     }
 
-    /// The bound, in word times: no run that keeps to the notes uses more, and some walk uses just
-    /// as many. Below 2^50.
+    /// The bound, in word times, below 2^50: no run that keeps to the notes ever uses more, and
+    /// some walk uses exactly as many.
     pub fn bound(&self) -> u64
         ensures told { result ≡ bound_of self.now }
         ensures below { result < 2 ^ 50 }
@@ -60,7 +61,7 @@ impl Analysis {
     }
 
     /// The table of worst times: one entry for each location and counts of the marks that some walk
-    /// arrives at, in no order that is promised.
+    /// arrives at. Nothing is promised of their order.
     pub fn table(&self) -> &[Worst]
         ensures { map row_in result.now ≡ rows_of self.now }
     {
@@ -74,8 +75,8 @@ impl Analysis {
         self.cells.angle() as u8
     }
 
-    /// The hops of a walk that uses as many word times as the bound, in order; none where the bound
-    /// is 0; 4,000,000 at most.
+    /// The hops of a walk that uses exactly as many word times as the bound, in order: 4,000,000 at
+    /// most, and none where the bound is 0.
     pub fn walk(&self) -> &[Visit]
         ensures told { map seen_visit result.now ≡ visits_of self.now }
         ensures in_time { ∥ AreInTime 0 (visits_of self.now) (bound_of self.now) ∥₁ }
@@ -98,16 +99,16 @@ impl Analysis {
         self.cells.words()
     }
 
-    /// How many ends of hops the analysis has made: as many as the locations of the entries have
-    /// hops, summed over the table.
+    /// How many ends of hops the analysis has made: for each entry of the table as many as its
+    /// location has hops.
     pub fn turns(&self) -> u64
         ensures { result ≡ turns_of self.now }
     {
         self.cells.made()
     }
 
-    /// How often the walk passes the mark at a place of the notes, from 0, whatever it stands
-    /// inside of. What it says of a place past the last mark means nothing.
+    /// How often the whole walk passes the mark at a place of the notes, from 0, whatever the mark
+    /// stands inside of. For a place past the last mark the number means nothing.
     pub fn passed(&self, mark: usize) -> u64
         requires { mark < 8 }
         ensures { result ≡ slice_index (passed_of self.now) mark }

@@ -53,7 +53,7 @@ fn bound_of<'a, L: Ledger>(
     bound_by(alloc, times, &keys, steps)
 }
 
-/// As [`bound`], on a ledger of its own, as each scan wants one.
+/// As [`bound`], with a ledger of its own: each scan needs one.
 fn bound_from<L: Ledger>(
     alloc: Global,
     deck: &Deck,
@@ -79,12 +79,12 @@ fn bound_from<L: Ledger>(
 }
 
 /// The bound of a deck with its timing table and notes, in word times, below 2^50: no run that
-/// keeps to the notes ever uses more, and some walk uses just as many. It is the bound of
-/// [`analyse`](crate::analyse), and no walk is made.
+/// keeps to the notes ever uses more, and some walk uses exactly as many. It is the bound of
+/// [`analyse`](crate::analyse), found without making a walk.
 ///
 /// # Errors
 ///
-/// As those of [`analyse`](crate::analyse).
+/// Those of [`analyse`](crate::analyse).
 pub fn bound(alloc: Global, deck: &Deck, times: &Times, notes: &Notes) -> Result<u64, Refusal>
     ensures bound { IfOk result (IsBound (setting deck.now times.now notes.now)) }
     ensures below { IfOk result (λ bound. bound < 2 ^ 50) }

@@ -60,8 +60,8 @@ impl Cells {
     ghost use Rattle.drum_bound.specs.Scanned.{cell_at, later, raised};
     ghost use Rattle.drum_bound.specs.SearchOf.{KeepsAt, end_sought};
 
-    /// The cells of so many executed locations and counts: the start's key keeps the moment of the
-    /// start, at this angle, and no other keeps anything.
+    /// The cells of `words` executed locations and `counts` counts: the start's key keeps the
+    /// moment of the start, at this angle, and no other keeps anything.
     pub fn new(
         alloc: Global,
         words: usize,

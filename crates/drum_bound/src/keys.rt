@@ -147,8 +147,8 @@ impl<'a> Keys<'a> {
         self.nodes[index]
     }
 
-    /// The index of a key's location in the order. It is told the first key of some counts: where
-    /// the key has those, there is nothing to divide.
+    /// The index of a key's location in the order. `first` is the first key of some counts: where
+    /// the key has the same counts, there is nothing to divide.
     #[inline(always)]
     pub fn index_at(&self, key: usize, first: usize) -> usize
         requires keys { AreKeys self.now }

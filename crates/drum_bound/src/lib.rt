@@ -1,5 +1,37 @@
 //! How many word times a deck can take at most: the analysis of a deck with its timing table and
 //! notes.
+//!
+//! Code, from the bottom up. `numbers` stand for counts of marks, and `keys` are locations with
+//! counts, and the one start angle. This is known before the scan: `leap` (a hop with its time and
+//! where it goes on), `recent` (the leaps of a long list, made once for each angle of D), `round`
+//! (the keys with the same counts) and `search` (for a key's instruction). This the scan raises:
+//! `worst` (an entry of the table), `key_hop` (a hop of a key, by its number) and `latest` (what is
+//! kept at a key). `steps` is the ledger on which ends are counted, and `steps/end` has their one
+//! maker. `cells` is what is kept at all keys: an end of a hop is made there, and raises it.
+//! `cells/entries` is the map that is the table, and `cells/key_hasher` its hasher. `scan` takes
+//! each key in turn, and each of its hops. Of a finished scan `trace` makes the walk, followed
+//! back, with its passes; a `visit` is a hop of it, as it is handed out. `analysing` has `analyse`,
+//! and `analysis` what that hands out. `bounding` has `bound`, which makes no walk. `laws` has laws
+//! of the definitions.
+//!
+//! Definitions, in the order to read them: `Worst` is what the bound is, `Table` what the table is,
+//! with its entries and the one start angle, `Ends` the ends that raise its entries, `Under` how a
+//! run arrives under them, `Visited` and `AnalysisOf` what an analysis hands out, and `BoundOf`
+//! what the bound alone is. The others are how it is found, and a reader of the theorem's clauses
+//! needs only `row_in` of `RowOf`. `Digits`, `Keys`, `Scanned` and `TakenOf` are definitions.
+//! `EndOf`, `KeysOf`, `LeapOf`, `RecentOf` and `RoundOf` say what the code's types mean by them.
+//! `Kept` says how the table that is raised holds what is kept at a key. `Held` (what is kept at
+//! all keys), `SearchOf` and `ScanOf` say what is asked where an end is made.
+//!
+//! Proofs. Laws of numbers of counts (`DigitsLaws`), of leaps that serve more hops (`Recents`), of
+//! keys (`KeyLaws`, `Onward`) and of rounds (`RoundLaws`). Laws of what is held, by entry
+//! (`Entering`, `EntryKeys`) and by key (`HeldLaws`). Laws of the scan, step by step (`Raises`,
+//! `Scans`, `GoesOnto`, `GoingOn`, `Sought`, `KeysTaken`, `Halfway`). From the finished scan to
+//! walks (`Walked`, `Unpassed`), the bound (`Worsts`), the table (`Rows`, `RowSums`, and `RowsHeld`
+//! as it is handed out) with its ends (`EntryEnds`, `EntriesRaised`) and what arrives under it
+//! (`Unders`), the number of a walk's hops (`ShortWalks`), and the walk that is handed out
+//! (`Traces`). `Checks` evaluates the counts of three marks. docs/THEOREM.md says what they add up
+//! to.
 #![tactic(auto)]
 
 mod analysing;

@@ -7,8 +7,9 @@ pub mod end;
 use std::marker::Model;
 use std::sync::ledger::{Blank, Book, Ledger, Share};
 
-/// How many ends of hops were made. It takes no bytes, and the one maker of ends alone changes it:
-/// who is handed one, of any ledger, can't count on it, copy it, or set it back.
+/// A count of the ends of hops that were made. It takes no bytes, and only the one maker of ends
+/// changes it: code that is handed one, with any ledger, can neither count with it, nor copy it,
+/// nor set it back.
 #[derive(Drop)]
 pub struct Steps<L: Ledger> {
     book: Book<L>,

@@ -13,13 +13,13 @@ use drum_times::Mark;
 /// A hop of a walk, and when it was taken.
 #[derive(Clone, Copy, Debug, PartialEq, Eq)]
 pub struct Visit {
-    /// Where it begins.
+    /// The location at which it begins.
     pub place: Location,
     /// The instruction there.
     pub instruction: Instruction,
     /// How it ends.
     pub way: Way,
-    /// The word times that it takes. (It stands here, beside what is as narrow.)
+    /// The word times that it takes. (The field stands here, beside others as narrow.)
     pub took: u32,
     /// The word times used when it begins.
     pub begun: u64,

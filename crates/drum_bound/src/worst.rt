@@ -4,18 +4,19 @@ use drum_core::Location;
 use drum_machine::Counts;
 use drum_times::Mark;
 
-/// An entry of the table of worst times: the most word times that can be used when a search begins
-/// at a place, with marks passed so often.
+/// An entry of the table of worst times: the most word times that can be used when the search for
+/// the instruction at a place begins, with these counts of the marks.
 #[derive(Clone, Copy, Debug, PartialEq, Eq)]
 pub struct Worst {
     /// The location that is sought.
     pub place: Location,
-    /// The drum's angle then, from the one start angle, that behind the start's.
+    /// The drum's angle then, 0 to 49, where the walk began at the angle just behind that of the
+    /// start's location.
     pub angle: u8,
     /// The counts of the marks, as one number: the first mark's, and in units of its `most + 1` the
     /// number of the others'.
     pub counts: u32,
-    /// The word times.
+    /// The word times used when that search begins.
     pub time: u64,
 }
 

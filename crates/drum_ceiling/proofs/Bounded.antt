@@ -4,10 +4,10 @@ use Rattle.std.proofs.Common.{Option, Some, None, refl, ap, sym, ◌∙◌, subs
 use Rattle.std.specs.Prelude.{◌==◌, if◌then◌else◌, slice_get, Contains}
 use Rattle.std.proofs.lemmas.List.Sums.{sum_by-cons}
 use Rattle.drum_core.specs.declared.op.Op.{Op}
-use Rattle.drum_core.specs.Moment.{first}
+use Rattle.drum_rotation.specs.Moment.{first}
 use Rattle.drum_core.specs.Op.{op_of}
-use Rattle.drum_core.specs.Waits.{available_recurs}
-use Rattle.drum_core.proofs.Waited.{first_again}
+use Rattle.drum_rotation.specs.Waits.{available_recurs}
+use Rattle.drum_rotation.proofs.Waited.{first_again}
 use Rattle.drum_times.specs.declared.notes.mark.Mark.{Mark}
 use Rattle.drum_machine.specs.Counts.{after_pass, is_inside, no_counts, passed_from, AreWithin}
 use Rattle.drum_machine.specs.Since.{Edge}

@@ -9,13 +9,13 @@ use Rattle.drum_core.specs.declared.location.Kind.TheVariants.{Upper}
 use Rattle.drum_core.specs.declared.op.Op.{Op}
 use Rattle.drum_core.specs.declared.op.Op.TheVariants.{Shift}
 use Rattle.drum_core.specs.declared.op.shift.Shift as shifts
-use Rattle.drum_core.specs.Available.{is_angle, is_available, is_had}
+use Rattle.drum_rotation.specs.Available.{is_angle, is_available, is_had}
 use Rattle.drum_core.specs.Kind.{kind_of}
 use Rattle.drum_core.specs.Location.{is_location}
-use Rattle.drum_core.specs.Moment.{first}
-use Rattle.drum_core.specs.Recurs.{monotone}
-use Rattle.drum_core.specs.Waits.{parity_recurs}
-use Rattle.drum_core.proofs.Waited.{drum_at_angle, longest_behind}
+use Rattle.drum_rotation.specs.Moment.{first}
+use Rattle.drum_rotation.specs.Recurs.{monotone}
+use Rattle.drum_rotation.specs.Waits.{parity_recurs}
+use Rattle.drum_rotation.proofs.Waited.{drum_at_angle, longest_behind}
 use Rattle.drum_core.specs.Op.{op_of}
 use Rattle.drum_times.specs.declared.entry.Entry.{Entry}
 use Rattle.drum_times.specs.declared.notes.pattern.Pattern.{Pattern}

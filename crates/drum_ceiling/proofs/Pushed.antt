@@ -24,7 +24,7 @@ contains_before (z ∷ xs) x y there = elim (contains_cases z y xs there) [
   | inr behind ↦ contains_there z y (xs ++ x ∷ []) (contains_before xs x y behind)
 ]
 
--- what the first so many and one more have
+-- what the first k + 1 have, the first k have or it is the one more
 pub taken_cases : {X : Type 0} (xs : List X) (k : ℕ) (x y : X) → slice_get xs k ≡ Some x → Contains (take (k + 1) xs) y
     → Contains (take k xs) y ⊎ (x ≡ y)
 taken_cases xs k x y here there =
@@ -33,6 +33,6 @@ taken_cases xs k x y here there =
     take_more xs k x inside ∙ ap (λ (z : _). take k xs ++ z ∷ []) (get_or_from_slice_get xs k x x here) in
     Contains-push_cases (take k xs) x y (subst (λ (ys : List _). Contains ys y) more there)
 
--- all of them are the first so many, where there are no more
+-- the first k are all, where there are no more
 pub all_taken : {X : Type 0} (xs : List X) (k : ℕ) → length xs ≤ k → take k xs ≡ xs
 all_taken xs k past = take_all k xs past

@@ -54,7 +54,8 @@ raised_alike from raised ins other way op kind angle is =
           × IsReachedBy raised.onward.items next from.angle (found next clock)) long (is.goes_on next on);
     }
 
--- and so was one that ends no later, if it goes on on the drum: there the angle tells nothing.
+-- and so was one that ends no later, if it goes on on the drum: there the angle makes no
+-- difference.
 pub raised_sooner : (from : Found) (raised : Raised) (ins other : Instruction) (way : Way)
     → latest from other way ≤ latest from ins way → ((next : ℕ) → way ≡ to next → next < 2000)
     → IsRaised from raised ins way → IsRaised from raised other way

@@ -25,7 +25,7 @@ use Rattle.drum_ceiling.specs.Raised.{latest, HasTaken, IsRaised}
 use Rattle.drum_ceiling.specs.Rows.{HasEdges, IsRow}
 use Rattle.drum_ceiling.specs.Slot.{place_of, slot_of}
 
--- a location's number tells the location,
+-- a location's number determines the location,
 pub slot_place : (place angle : ℕ) → IsLocation place → angle < 50 → place_of (slot_of place angle) ≡ place
 slot_place place angle is on_drum = elim (cases_lt place 2000) [
   | inl drum ↦ rw (lt-ltb place 2000 drum, lt-ltb place 2000 drum) refl

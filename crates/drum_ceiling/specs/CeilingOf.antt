@@ -74,7 +74,7 @@ pub record IsTooDear (deck : Deck) (times : Times) (notes : Notes) (least : ℕ)
   pub large : least ≤ summed notes.marks prices base
 
 -- The refusal is that of the deck with its notes, but for its size; or it is too large, this is the
--- product, and the sum comes to this number or more; or memory is wanting.
+-- product, and the sum comes to this number or more; or there is no memory.
 abbrev pub IsRefusedFrom : ℕ → Deck → Times → Notes → Refusal → Type 0
 IsRefusedFrom least deck times notes (TooLarge product) =
     IsTooLarge (loads_in deck) notes (start_in deck) product × IsTooDear deck times notes least

@@ -1,5 +1,5 @@
 -- Certificates: a price for each pass of a mark and a potential for each place, which together
--- bound every walk (this project's choice).
+-- bound every walk.
 use Rattle.std.specs.Prelude.{◌≡◌, ℕ, ◌+◌, ◌*◌, ◌%◌, ◌<◌, ◌≤◌, List, [], ◌∷◌, sum_by, slice_get}
 use Rattle.std.specs.Prelude.{slice_index, length, Option, Some, None, Contains}
 use Rattle.drum_times.specs.declared.notes.mark.Mark.{Mark}

@@ -6,15 +6,15 @@ use Rattle.drum_ceiling.specs.declared.row.Row.{Row}
 use Rattle.drum_ceiling.specs.Certificate.{price_of}
 use Rattle.drum_ceiling.specs.Slot.{at_slot}
 
--- Where the edge leads there is a potential, of 49 at least behind a mark, and so many word times
--- pay for it and the edge's time, with the price of its mark.
+-- Where the edge leads there is a potential, of 49 at least behind a mark, and `owed` word times,
+-- with the price of the edge's mark, pay for it and the edge's time.
 abbrev pub IsEdgePaid : List ℕ → List (Option ℕ) → ℕ → Edge → Type 0
 IsEdgePaid prices potentials owed edge = (later : ℕ)
     × (at_slot potentials edge.onto.number ≡ Some later)
     × (edge.time + later ≤ owed + price_of prices edge.mark)
     × (IsSome edge.mark → 49 ≤ later)
 
--- So many word times pay for all hops of the row.
+-- `owed` word times pay for all hops of the row.
 pub record IsPaid (prices : List ℕ) (potentials : List (Option ℕ)) (owed : ℕ) (row : Row) : Type 0
   where
     pub ends : row.stop ≤ owed

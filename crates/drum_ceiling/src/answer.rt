@@ -2,8 +2,8 @@
 
 ghost use Rattle.std.specs.Prelude.{◌≡◌, ◌^◌, ◌<◌, length, slice_index, vec_len};
 
-/// A number of word times that no run which keeps to the notes ever passes: a base, and for each
-/// mark its price times how often it can be passed.
+/// A number of word times that no run which keeps to the notes ever uses more than: a base, and for
+/// each mark its price times how often it can be passed.
 #[derive(Debug, Drop)]
 pub struct Ceiling {
     prices: Vec<u64>,
@@ -36,15 +36,16 @@ impl Ceiling {
         self.total
     }
 
-    /// The base, in word times: what a run uses at most beside the passes of marks.
+    /// The base, in word times: what a run uses at most, apart from the prices of the marks that it
+    /// passes.
     pub fn base(&self) -> u64
         ensures { result ≡ base_of self.now }
     {
         self.base
     }
 
-    /// What a pass of the mark at a place of the notes costs, in word times; the place is counted
-    /// from 0.
+    /// The price of the mark at a place of the notes, counted from 0: what one pass of it costs at
+    /// most, in word times.
     pub fn price(&self, mark: usize) -> u64
         requires { mark < length (prices_of self.now) }
         ensures { result ≡ slice_index (prices_of self.now) mark }
@@ -52,8 +53,8 @@ impl Ceiling {
         self.prices[mark]
     }
 
-    /// How often the mark at a place of the notes can be passed at most; the place is counted from
-    /// 0.
+    /// How often the mark at a place of the notes, counted from 0, can be passed at most in a whole
+    /// run.
     pub fn passes(&self, mark: usize) -> u128
         requires { mark < length (passes_in self.now) }
         ensures { result ≡ slice_index (passes_in self.now) mark }

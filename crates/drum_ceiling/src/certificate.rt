@@ -46,8 +46,8 @@ impl Certificate {
         }
     }
 
-    /// Whether so many word times pay for an edge: for its time and the next potential, with the
-    /// price of its mark.
+    /// Whether `owed` word times, with the price of the edge's mark, pay for an edge: for its time
+    /// and the next potential.
     fn pays_edge(&self, owed: u64, edge: &Edge) -> bool
         ensures { IsTrue result
             → IsEdgePaid self.now.prices.items self.now.potentials.items owed edge.now }
@@ -62,7 +62,7 @@ impl Certificate {
         u128::from(edge.time) + u128::from(later) <= u128::from(owed) + u128::from(price)
     }
 
-    /// Whether so many word times pay for all hops of a row.
+    /// Whether `owed` word times pay for all hops of a row.
     fn pays(&self, owed: u64, row: &Row) -> bool
         ensures { IsTrue result
             → IsPaid self.now.prices.items self.now.potentials.items owed row.now }

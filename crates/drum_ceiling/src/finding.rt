@@ -61,13 +61,14 @@ fn product_of(accepted: &AcceptedFlow<'_>, marks: &[Mark]) -> u128
     accepted.flow().executed().len() as u128 * counts_of(marks)
 }
 
-/// A number of word times that no run which keeps to the notes ever passes, nor any walk, whatever
-/// the marks' counts are: a base, and for each mark a price times how often it can be passed.
+/// A number of word times that no run which keeps to the notes, and no walk, ever uses more than,
+/// whatever the marks' counts are: a base, and for each mark a price times how often it can be
+/// passed.
 ///
 /// # Errors
 ///
-/// Those of [`accept`](drum_flow::accept), but that [`Refusal::TooLarge`] comes last, and only
-/// where the number would be 2^127 or more.
+/// Those of [`accept`](drum_flow::accept), except that [`Refusal::TooLarge`] comes last, and only
+/// where the number would be 2^127 or more; it has the product of executed words and counts.
 pub fn ceiling(alloc: Global, deck: &Deck, times: &Times, notes: &Notes) -> Result<Ceiling, Refusal>
     ensures given { IfOk result (IsCeilingOf deck.now times.now notes.now) }
     ensures refused { IfErr result (IsCeilingRefusal deck.now times.now notes.now) }

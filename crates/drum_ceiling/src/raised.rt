@@ -6,10 +6,10 @@ ghost use Rattle.drum_flow.specs.Profile.{MayEnd};
 
 use crate::found::{Found, LONGEST_SEARCH};
 use crate::slot::Slot;
-use drum_core::{Clockwork, Seek};
 use drum_flow::Hop;
 use drum_flow::longest::longest;
 use drum_machine::Way;
+use drum_rotation::{Clockwork, Seek};
 use std::alloc::{AllocError, Global};
 
 /// What the hops take at most that were looked at, of a location whose instruction is found at an
@@ -53,7 +53,7 @@ impl Raised {
         }
     }
 
-    /// What leads there takes so many word times.
+    /// A hop that leads there takes `time` word times.
     fn reach(&mut self, slot: Slot, time: u32)
         ensures stop { self.new.stop ≡ self.old.stop }
         ensures there { (most : ℕ) × (slice_get self.new.onward.items slot.number

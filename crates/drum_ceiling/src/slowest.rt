@@ -6,9 +6,10 @@ ghost use Rattle.drum_machine.specs.Ways.{to};
 ghost use Rattle.drum_machine.specs.WaysLeft.{seen_way};
 
 use crate::found::Found;
-use drum_core::{Clockwork, Location, Op, Shift};
+use drum_core::{Location, Op, Shift};
 use drum_machine::Way;
 use drum_machine::chain::to_ready;
+use drum_rotation::Clockwork;
 use drum_times::Pattern;
 
 /// How many angles the drum has.

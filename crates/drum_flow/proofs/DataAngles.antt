@@ -10,10 +10,10 @@ use Rattle.drum_core.specs.declared.op.Op.{Op}
 use Rattle.drum_core.specs.declared.op.Op.TheVariants.{Shift}
 use Rattle.drum_core.specs.declared.op.shift.Shift as shifts
 use Rattle.drum_core.specs.declared.op.shift.Shift.TheVariants as shift
-use Rattle.drum_core.specs.Available.{has_parity, is_angle, is_available, is_had}
+use Rattle.drum_rotation.specs.Available.{has_parity, is_angle, is_available, is_had}
 use Rattle.drum_core.specs.Kind.{kind_of}
 use Rattle.drum_core.specs.Location.{is_location}
-use Rattle.drum_core.specs.Moment.{first}
+use Rattle.drum_rotation.specs.Moment.{first}
 use Rattle.drum_core.specs.Op.{op_of}
 use Rattle.drum_times.specs.declared.entry.Entry.{Entry}
 use Rattle.drum_machine.specs.Effect.{places}

@@ -2,10 +2,10 @@
 use Rattle.std.proofs.Common.{◌≡◌, ℕ, zero, suc, ◌+◌, ◌-◌, ◌*◌, ◌/◌, ◌%◌, ◌<◌, true, refl, ap, sym, ◌∙◌, arith}
 use Rattle.std.specs.Prelude.{◌==◌}
 use Rattle.std.proofs.lemmas.Bool.{lt-ltb, eqb-true}
-use Rattle.drum_core.specs.Available.{is_available}
-use Rattle.drum_core.specs.Moment.{first}
-use Rattle.drum_core.specs.Recurs.{first_is_first}
-use Rattle.drum_core.specs.Waits.{available_recurs}
+use Rattle.drum_rotation.specs.Available.{is_available}
+use Rattle.drum_rotation.specs.Moment.{first}
+use Rattle.drum_rotation.specs.Recurs.{first_is_first}
+use Rattle.drum_rotation.specs.Waits.{available_recurs}
 use Rattle.drum_core.specs.declared.instruction.Instruction.{Instruction}
 use Rattle.drum_core.specs.declared.op.Op.{Op}
 use Rattle.drum_times.specs.declared.entry.Entry.{Entry}

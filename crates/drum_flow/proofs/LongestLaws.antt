@@ -9,11 +9,11 @@ use Rattle.drum_core.specs.declared.op.Op.{Op}
 use Rattle.drum_core.specs.declared.op.Op.TheVariants.{Divide, DivideReset, Multiply, Shift, Read, Punch}
 use Rattle.drum_core.specs.declared.op.shift.Shift as shifts
 use Rattle.drum_core.specs.declared.op.shift.Shift.TheVariants as shift
-use Rattle.drum_core.specs.Available.{is_angle, is_available}
-use Rattle.drum_core.specs.Moment.{first}
+use Rattle.drum_rotation.specs.Available.{is_angle, is_available}
+use Rattle.drum_rotation.specs.Moment.{first}
 use Rattle.drum_core.specs.Op.{op_of}
-use Rattle.drum_core.proofs.Clockworks.{KeepsTime, keeps_time, seek_clockworks, optional_clockworks}
-use Rattle.drum_core.proofs.Waited.{at_angle, angles_apart, longest_behind, drum_at_angle}
+use Rattle.drum_rotation.proofs.Clockworks.{KeepsTime, keeps_time, seek_clockworks, optional_clockworks}
+use Rattle.drum_rotation.proofs.Waited.{at_angle, angles_apart, longest_behind, drum_at_angle}
 use Rattle.drum_times.specs.declared.entry.Entry.{Entry}
 use Rattle.drum_machine.specs.Effect.{places}
 use Rattle.drum_machine.specs.Timing.{found, IsWait, longest_step}

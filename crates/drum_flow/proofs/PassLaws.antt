@@ -1,5 +1,5 @@
--- How often a walk passes a mark: counts tell of so many passes, which a pass of the mark raises by one and no other pass
--- lowers, and they are never more than the most.
+-- How often a walk passes a mark: counts stand for a number of passes, which a pass of the mark
+-- raises by one and no other pass lowers, and which is never more than the most.
 use Rattle.std.proofs.Common.{◌≡◌, ◌≢◌, ℕ, ◌+◌, ◌*◌, ◌<◌, ◌≤◌, Bool, true, false, List, [], ◌∷◌, ◌++◌, length}
 use Rattle.std.proofs.Common.{refl, ap, sym, ◌∙◌, inl, inr, arith}
 use Rattle.std.specs.Prelude.{◌==◌, if◌then◌else◌}
@@ -45,11 +45,11 @@ module _ (all : List Mark) (nested : StandInEarlier 0 all) where
       false_from_ne_true (is_inside all inner outer) (λ is. omega (arith, before, outer_before inner outer is))
 
   module _ (k : ℕ) where
-    -- what the count of the mark at a place tells of passes of the one at place k
+    -- what the count of the mark at a place says of passes of the one at place k
     abbrev digit : ℕ → ℕ → ℕ
     digit place count = if place == k then count else (if is_inside all k place then count else 0)
 
-    -- of so many passes do counts tell
+    -- the number of passes that counts stand for
     abbrev pub told : ℕ → List Mark → List ℕ → ℕ
     told place [] counts = 0
     told place (mark ∷ marks) [] = 0
@@ -66,7 +66,7 @@ module _ (all : List Mark) (nested : StandInEarlier 0 all) where
           behind_one (place + 1) marks (omega (arith, behind)),
         ) refl
 
-    -- and tells of none.
+    -- and stands for none.
     behind_none : (place : ℕ) (marks : List Mark) (counts : List ℕ) → k < place → told place marks counts ≡ 0
     behind_none place [] counts behind = refl
     behind_none place (mark ∷ marks) [] behind = refl
@@ -77,7 +77,7 @@ module _ (all : List Mark) (nested : StandInEarlier 0 all) where
           behind_none (place + 1) marks counts (omega (arith, behind)),
         ) (omega arith)
 
-    -- Counts within what the marks allow tell of the most at most.
+    -- Counts within what the marks allow stand for the most at most.
     pub told_most : (place : ℕ) (marks : List Mark) (counts : List ℕ) → AreWithin marks counts
         → told place marks counts ≤ passes_from all k place marks
     told_most place [] [] within = omega arith
@@ -111,7 +111,7 @@ module _ (all : List Mark) (nested : StandInEarlier 0 all) where
             ))
         before_it ne others false is = rw (ne_eqb place k ne, is) (omega (arith, others))
 
-    -- A pass of the mark is told of,
+    -- A pass of the mark raises that number,
     pub own_pass : (place : ℕ) (marks : List Mark) (counts : List ℕ) → AreWithin marks counts → place ≤ k
         → k < place + length marks → told place marks counts + 1 ≤ told place marks (passed_from all k place counts)
     own_pass place [] counts within low high = absurd (omega (arith, low, high))
@@ -156,7 +156,7 @@ module _ (all : List Mark) (nested : StandInEarlier 0 all) where
                 ) (omega (arith, told_most (place + 1) marks counts within.1))
           ]
 
-      -- and no other changes what is told of it.
+      -- and no other changes it.
       module _ (ne : m ≢ k) (outside : is_inside all k m ≡ false) where
         same_digit : (place count : ℕ)
             → digit place (if place == m then count + 1 else (if is_inside all place m then 0 else count))

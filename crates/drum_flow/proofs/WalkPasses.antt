@@ -16,7 +16,7 @@ use Rattle.drum_flow.specs.Walk.{FollowHop, IsWalk, IsWalkFrom, Setting, Taken}
 use Rattle.drum_flow.proofs.PassLaws.{no_counts_within, told, told_most, other_pass, outer_pass, own_pass}
 
 module _ (marks : List Mark) (nested : StandInEarlier 0 marks) (k : ℕ) (below : k < length marks) where
-  -- a step that passes the mark is told of, and none is forgotten
+  -- a step that passes the mark raises the number that counts stand for, and no step lowers it
   step_told : (counts : List ℕ) (from onto : ℕ) → AreWithin marks counts
       → told marks nested k 0 marks counts
       + cond (option_eq nat_eq (mark_on marks from onto) (Some k)) 1 0

@@ -8,7 +8,7 @@ use Rattle.drum_flow.specs.declared.refusal.Refusal.TheVariants.{Alters, Unbound
 use Rattle.drum_flow.specs.Accepted.{IsNotLoaded, IsNotInProfile, IsAltered, IsFreeRound}
 use Rattle.drum_flow.specs.Accepted.{IsTooLarge, IsUnbounded}
 
--- the refusal is that of the deck with its notes, or memory is wanting
+-- the refusal is that of the deck with its notes, or there is no memory
 abbrev pub IsRefusal : (ℕ → Option Word) → Notes → ℕ → Refusal → Type 0
 IsRefusal loads notes start (NotLoaded location) = IsNotLoaded loads notes start location.number
 IsRefusal loads notes start (NotInProfile location op) =

@@ -1,4 +1,4 @@
--- When a deck with its notes is accepted, and why another isn't (this project's choice).
+-- When a deck with its notes is accepted, and why another isn't.
 use Rattle.std.specs.Prelude.{◌≡◌, ℕ, ◌+◌, ◌*◌, ◌<◌, ◌≤◌, IsTrue, IsSome, IsNone, List, [], ◌∷◌}
 use Rattle.std.specs.Prelude.{◌++◌, length, slice_get, Option, Some, Contains, ◌⊎◌}
 use Rattle.drum_core.specs.declared.instruction.Instruction.{Instruction}

@@ -10,7 +10,7 @@ use Rattle.drum_flow.specs.Walk.{Setting}
 abbrev pub IsDeckAccepted : Setting → Type 0
 IsDeckAccepted g = (executed : List ℕ) × IsAccepted g.loads g.notes g.start executed
 
--- each run that keeps to the notes uses so many word times at most, at any moment
+-- each run that keeps to the notes has used `most` word times at most, at any moment
 abbrev pub IsBounded : Setting → ℕ → Type 0
 IsBounded g most = (s : State) (steps : List Stride)
     → IsFirstState g.loads (IsFixed g.loads g.notes g.start) g.start s

@@ -1,6 +1,5 @@
--- The order of discovery of the executed locations (this project's choice): a list begins with the
--- start, and each of its members in turn adds its successors that are not in it yet, in the order
--- of its hops.
+-- The order of discovery of the executed locations: a list begins with the start, and each of its
+-- members in turn adds its successors that are not in it yet, in the order of its hops.
 use Rattle.std.specs.Prelude.{◌≡◌, ℕ, zero, suc, ◌≤◌, ◌==◌, if◌then◌else◌, List, [], ◌∷◌, ◌++◌}
 use Rattle.std.specs.Prelude.{length, slice_get, Option, Some, None, filter_map}
 use Rattle.std.specs.List.{list_any}
@@ -30,7 +29,7 @@ abbrev pub added_by : (ℕ → Option Word) → Notes → Option ℕ → List �
 added_by loads notes None = []
 added_by loads notes (Some place) = successors loads notes place
 
--- the list after so many of its members have added theirs
+-- the list after as many of its members as the number says have added theirs
 abbrev pub found_after : (ℕ → Option Word) → Notes → ℕ → ℕ → List ℕ
 found_after loads notes start zero = start ∷ []
 found_after loads notes start (suc count) =

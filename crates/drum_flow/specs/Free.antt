@@ -46,7 +46,7 @@ pub record IsFreeCycle (loads : ℕ → Option Word) (notes : Notes)
   pub different : AreDifferent cycle
   pub smallest : IsSmallestFirst cycle
 
--- the refusal has such a cycle, or memory is wanting
+-- the refusal has such a cycle, or there is no memory
 abbrev pub IsCycleRefusal : (ℕ → Option Word) → Notes → List ℕ → Refusal → Type 0
 IsCycleRefusal loads notes executed (Unbounded cycle) =
     IsFreeCycle loads notes executed (map (λ location. location.number) cycle.locations.items)

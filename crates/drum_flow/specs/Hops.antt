@@ -1,4 +1,4 @@
--- The flow graph of a deck under its notes (this project's choice).
+-- The flow graph of a deck under its notes.
 use Rattle.std.specs.Prelude.{◌≡◌, ℕ, List, [], ◌∷◌, map, flat_map, Option, Contains}
 use Rattle.drum_core.specs.declared.instruction.Instruction.{Instruction}
 use Rattle.drum_core.specs.declared.word.Word.{Word}

@@ -1,4 +1,4 @@
--- The latest clock at which a hop can end (this project's choice).
+-- The latest clock at which a hop can end.
 use Rattle.std.specs.Prelude.{ℕ, Option, Some, None}
 use Rattle.drum_core.specs.declared.instruction.Instruction.{Instruction}
 use Rattle.drum_core.specs.declared.op.Op.{Op}

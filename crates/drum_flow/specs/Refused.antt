@@ -15,7 +15,7 @@ IsWrong loads notes place (NotInProfile location op) =
     (location.number ≡ place) × IsThere loads notes place × IsFirstOutside loads notes place op
 IsWrong loads notes place _ = ⊥
 
--- the first location that discovery meets with something wrong, or want of memory
+-- the first location that discovery meets with something wrong; or there is no memory
 abbrev pub IsFlowRefusal : (ℕ → Option Word) → Notes → ℕ → Refusal → Type 0
 IsFlowRefusal loads notes start (NotLoaded location) = IsNotLoaded loads notes start location.number
 IsFlowRefusal loads notes start (NotInProfile location op) =

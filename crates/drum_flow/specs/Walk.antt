@@ -1,4 +1,4 @@
--- Walks of the flow graph, with their times (this project's choice).
+-- Walks of the flow graph, with their times.
 use Rattle.std.specs.Prelude.{◌≡◌, ℕ, ◌+◌, ◌<◌, ◌≤◌, List, [], ◌∷◌, Option, Some, None, Contains}
 use Rattle.std.specs.Prelude.{if◌then◌else◌}
 use Rattle.drum_core.specs.declared.instruction.Instruction.{Instruction}

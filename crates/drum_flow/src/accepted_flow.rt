@@ -47,7 +47,7 @@ pub struct AcceptedFlow<'a> {
 }
 
 impl<'a> AcceptedFlow<'a> {
-    /// That of a deck under its notes, where the deck with its notes is accepted.
+    /// The accepted flow of a deck under its notes, where the deck with its notes is accepted.
     ///
     /// # Errors
     ///
@@ -68,8 +68,8 @@ impl<'a> AcceptedFlow<'a> {
         Ok(AcceptedFlow { flow, order })
     }
 
-    /// That of a deck under its notes, where the deck with its notes is admitted: all that makes it
-    /// accepted holds, but for its size, which may be any.
+    /// The accepted flow of a deck under its notes, where the deck with its notes is admitted: it
+    /// meets all that makes it accepted, except that it may be of any size.
     ///
     /// # Errors
     ///

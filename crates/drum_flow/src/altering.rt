@@ -67,7 +67,7 @@ fn first_altered(flow: &Flow<'_>, fixed: &Fixed, location: Location) -> Option<L
     None
 }
 
-/// That no instruction of an executed location alters one without a list.
+/// Checks that no instruction of an executed location alters an executed location without a list.
 ///
 /// # Errors
 ///

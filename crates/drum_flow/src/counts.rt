@@ -5,7 +5,7 @@ ghost use Rattle.drum_flow.specs.Accepted as said;
 
 use drum_times::Mark;
 
-/// The product of `most + 1` over the marks.
+/// How many counts of these marks there can be: the product of `most + 1` over the marks.
 pub fn counts_of(marks: &[Mark]) -> u128
     requires { length marks.now ≤ 8 }
     ensures value { result ≡ said.counts_of marks.now }

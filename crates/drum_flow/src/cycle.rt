@@ -3,8 +3,8 @@ ghost use Rattle.drum_flow.specs.Turned.{IsLeastAt, IsTurned};
 
 use drum_core::Location;
 
-/// Locations without repeats whose edges, the last one's back to the first among them, are free of
-/// marks. The smallest is the first.
+/// Locations without repeats, each with an edge free of marks to the next, and the last with one to
+/// the first. The smallest is the first.
 #[derive(Debug, Drop, PartialEq, Eq)]
 pub struct Cycle {
     /// The locations, 2004 at most.

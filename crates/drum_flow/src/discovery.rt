@@ -15,13 +15,14 @@ use drum_core::Deck;
 use drum_times::Notes;
 use std::alloc::{AllocError, Global};
 
-/// The flow graph of a deck under its notes.
+/// The flow graph of a deck under its notes, where each executed location is loaded or listed, with
+/// operations in the profile alone.
 ///
 /// # Errors
 ///
 /// [`Refusal::NotLoaded`] or [`Refusal::NotInProfile`] for the first location that discovery meets
 /// which is neither loaded nor listed, or has an operation outside the profile;
-/// [`Refusal::Memory`].
+/// [`Refusal::Memory`] where there is no memory.
 pub fn flow<'a>(alloc: Global, deck: &'a Deck, notes: &'a Notes) -> Result<Flow<'a>, Refusal>
     ensures deck { IfOk result (λ flow. deck_of flow ≡ deck.now) }
     ensures notes { IfOk result (λ flow. notes_of flow ≡ notes.now) }
@@ -35,8 +36,8 @@ pub fn flow<'a>(alloc: Global, deck: &'a Deck, notes: &'a Notes) -> Result<Flow<
     Ok(flow)
 }
 
-/// The flow graph of a deck under its notes, whatever stands at its locations: one that is neither
-/// loaded nor listed has no hops, nor has an operation outside the profile.
+/// The flow graph of a deck under its notes, whatever stands at its locations. A location that is
+/// neither loaded nor listed has no hops, and an instruction outside the profile has none.
 ///
 /// # Errors
 ///

@@ -16,7 +16,7 @@ pub struct Executed {
 }
 
 impl Executed {
-    /// No location.
+    /// The list without any location.
     pub fn none(alloc: Global) -> Executed
         ensures { places_of result ≡ [] }
     {
@@ -25,7 +25,7 @@ impl Executed {
         }
     }
 
-    /// The start alone.
+    /// The list of the start alone.
     pub fn new(alloc: Global, start: Location) -> Result<Executed, AllocError>
         ensures { IfOk result (λ executed. places_of executed ≡ start.number ∷ []) }
     {
@@ -43,7 +43,7 @@ impl Executed {
         Ok(())
     }
 
-    /// The location at a place of the order, from 0; `None` past its end.
+    /// The location at an index of the order, from 0; `None` past its end.
     pub fn get(&self, place: usize) -> Option<Location>
         ensures value { option_map (λ location. location.number) result
             ≡ slice_get (places_of self.now) place }

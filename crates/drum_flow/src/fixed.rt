@@ -13,7 +13,7 @@ pub struct Fixed {
 }
 
 impl Fixed {
-    /// Those of the executed locations that the notes don't list.
+    /// Of the executed locations, those that the notes don't list.
     pub fn of(alloc: Global, executed: &[Location], notes: &Notes) -> Result<Fixed, AllocError>
         ensures { IfOk result (λ fixed. AreFlagged
             (map (λ location. location.number) executed.now) notes.now fixed.flags.items) }

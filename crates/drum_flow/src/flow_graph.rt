@@ -43,7 +43,8 @@ impl<'a> Flow<'a> {
         self.notes
     }
 
-    /// The index of a location in the order of discovery; `None` for one that isn't executed.
+    /// The index of a location in the order of discovery, from 0; `None` for one that isn't
+    /// executed.
     pub fn index_of(&self, location: Location) -> Option<usize>
         ensures found { IfSome result (λ index.
             slice_get (executed_in self.now) index ≡ Some location.number) }
@@ -55,7 +56,7 @@ impl<'a> Flow<'a> {
         self.executed.index_of(location)
     }
 
-    /// The hops of a location, in order; none of one that isn't executed.
+    /// The hops of a location, in order: none where the location isn't executed.
     pub fn hops(&self, location: Location) -> Hops<'a>
         ensures executed { Contains (executed_in self.now) location.number
             → hops_left result ≡ said.hops (loads_in (deck_of self.now))

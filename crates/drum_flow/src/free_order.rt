@@ -21,7 +21,8 @@ use std::alloc::{AllocError, Global};
 ///
 /// # Errors
 ///
-/// [`Refusal::Unbounded`] with a cycle of edges free of marks; [`Refusal::Memory`].
+/// [`Refusal::Unbounded`] with a cycle of edges free of marks, where there is one;
+/// [`Refusal::Memory`] where there is no memory.
 pub fn free_order(alloc: Global, flow: &Flow<'_>) -> Result<Vec<Location>, Refusal>
     requires { of_flow AreExecuted flow.now (executed_in flow.now) }
     ensures order { IfOk result (λ order. IsFreeOrder
@@ -37,7 +38,7 @@ pub fn free_order(alloc: Global, flow: &Flow<'_>) -> Result<Vec<Location>, Refus
     }
 }
 
-/// The refusal for a cycle of places.
+/// The refusal for a cycle of the graph, whose nodes are indices.
 fn unbounded(alloc: Global, flow: &Flow<'_>, graph: &Graph, cycle: &[usize]) -> Refusal
     requires size { size graph.now ≡ length (executed_in flow.now) }
     requires rows { AreFreeRows (loads_in flow.now.deck.now) flow.now.notes.now
@@ -52,7 +53,7 @@ fn unbounded(alloc: Global, flow: &Flow<'_>, graph: &Graph, cycle: &[usize]) -> 
     }
 }
 
-/// The locations at places of the order of discovery.
+/// The locations at these indices of the order of discovery.
 fn locations_at(
     alloc: Global,
     flow: &Flow<'_>,

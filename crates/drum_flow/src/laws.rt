@@ -2,8 +2,8 @@
 
 ghost use Rattle.std.specs.Prelude.{◌≡◌, ℕ, ◌+◌, ◌%◌, ◌<◌, ◌≤◌, List, length, Option, Some};
 ghost use Rattle.std.specs.Prelude.{Contains};
-ghost use Rattle.drum_core.specs.Available.{is_available};
-ghost use Rattle.drum_core.specs.Moment.{first};
+ghost use Rattle.drum_rotation.specs.Available.{is_available};
+ghost use Rattle.drum_rotation.specs.Moment.{first};
 ghost use Rattle.drum_core.specs.declared.op.Op.{Op};
 ghost use Rattle.drum_core.specs.declared.word.Word.{Word};
 ghost use Rattle.drum_times.specs.declared.notes.mark.Mark.{Mark};
@@ -69,12 +69,12 @@ pub fn kept_run_is_a_walk()
         × (time_of (hops_taken strides) ≡ used_from 0 strides) }
 {}
 
-/// The units of an operation's work, whatever the contents, are units that a hop may have.
+/// The units of an operation's work, whatever the machine holds, are units that a hop may have.
 pub fn units_in_range()
     ensures { (op : Op) (d : ℕ) (c : Contents) → MayHaveUnits op d (units_of op d c) }
 {}
 
-/// A deck that is accepted with its notes isn't refused, but for want of memory.
+/// A deck that is accepted with its notes isn't refused, except where there is no memory.
 pub fn accepted_is_not_refused()
     ensures { (loads : ℕ → Option Word) (notes : Notes) (start : ℕ) (executed : List ℕ)
         (refusal : Refusal) → IsAccepted loads notes start executed

@@ -8,9 +8,10 @@ ghost use Rattle.drum_flow.specs.Longest as defined;
 ghost use Rattle.drum_flow.specs.Profile.{MayEnd};
 
 use crate::hops::Hop;
-use drum_core::{Clockwork, Location, Op};
+use drum_core::{Location, Op};
 use drum_machine::chain::{to_end, to_ready};
 use drum_machine::{Way, places};
+use drum_rotation::Clockwork;
 use drum_times::{Entry, Times};
 
 /// The most units of work that the operation may have at this D, whatever the data; at most 90.
@@ -38,8 +39,8 @@ fn most_wait(op: Op, entry: Entry) -> u32
 }
 
 /// The latest clock at which a hop of the place can end whose search begins at this clock, with the
-/// most units and the longest wait that its operation may have; at most 92,000,099 word times
-/// later. The profile has the operation.
+/// most units of work and the longest wait that its operation may have: at most 92,000,099 word
+/// times later. The operation has to be in the profile.
 pub fn longest(times: &Times, place: Location, hop: Hop, clock: u64) -> u64
     requires may_end { MayEnd hop.instruction (seen_way hop.way) }
     requires soon { clock ≤ 2 ^ 61 }

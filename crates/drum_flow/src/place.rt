@@ -12,12 +12,12 @@ use crate::refusal::Refusal;
 use drum_core::{Deck, Instruction, Location, Op};
 use drum_times::Notes;
 
-/// That a location is loaded or listed, with operations in the profile alone.
+/// Checks that a location is loaded or listed, with operations in the profile alone.
 ///
 /// # Errors
 ///
-/// [`Refusal::NotLoaded`], or [`Refusal::NotInProfile`] with the first operation outside the
-/// profile.
+/// [`Refusal::NotLoaded`] where it is neither loaded nor listed; [`Refusal::NotInProfile`] with the
+/// first operation outside the profile.
 pub fn check_place(deck: &Deck, notes: &Notes, location: Location) -> Result<(), Refusal>
     ensures good { OnOk result (IsGood (loads_in deck.now) notes.now location.number) }
     ensures wrong { IfErr result (IsWrong (loads_in deck.now) notes.now location.number) }

@@ -9,20 +9,21 @@ pub enum Refusal {
     /// There is no memory for the analysis, or for what is made of it.
     #[error("there is no memory for the analysis")]
     Memory,
-    /// An operation that is allowed at an executed location, of these two digits, is outside the
-    /// profile.
+    /// At this executed location an operation is allowed, with this number of two digits, that is
+    /// outside the profile.
     #[error("operation {1:02} at {0} is outside the profile")]
     NotInProfile(Location, u8),
-    /// An executed location is neither loaded nor listed.
+    /// This executed location is neither loaded nor listed.
     #[error("location {0} is neither loaded nor listed")]
     NotLoaded(Location),
-    /// An instruction at an executed location alters an executed word that isn't listed.
+    /// An instruction at the executed location `writer` alters the executed location `word`, which
+    /// isn't listed, and may be the same.
     #[error("{writer} alters {word}, which isn't listed")]
     Alters { writer: Location, word: Location },
-    /// Edges free of marks lead round.
+    /// Edges free of marks lead round: nothing bounds how often this cycle is gone through.
     #[error("a cycle is free of marks")]
     Unbounded(Cycle),
-    /// Executed words times counts is past 4,000,000.
+    /// Executed words times counts is this product, which is more than 4,000,000.
     #[error("{0} executed words times counts are too many")]
     TooLarge(u128),
 }

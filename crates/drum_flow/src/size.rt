@@ -9,10 +9,10 @@ use crate::counts::counts_of;
 use crate::flow_graph::Flow;
 use crate::refusal::Refusal;
 
-/// The most that executed words times counts may be (this project's choice).
+/// The most that executed words times counts may be.
 const LIMIT: u128 = 4_000_000;
 
-/// That executed words times counts are within the limit.
+/// Checks that executed words times counts is 4,000,000 at most.
 ///
 /// # Errors
 ///

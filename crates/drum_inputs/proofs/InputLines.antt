@@ -112,7 +112,7 @@ ten_cases front four text = elim (list_cases (take 4 text) front) [
       ap (drop 4) is ∙ ap (λ k. drop k (front ++ spaced ws)) (sym four) ∙ drop-append_seam front (spaced ws),
     )
 
--- a wait of so many digits, and of any
+-- a wait of `count` digits, and of any number of them
 abbrev IsWait : List ℕ → ℕ → ℕ → Type 0
 IsWait text count n = (n < 10 ^ count) × (text ≡ codes "WAIT " ++ digits_of count n)
 

@@ -103,7 +103,7 @@ placed_more first (suc place) (w ∷ words) word within here =
     (placed_more (first + 1) place words word (omega arith) here
     ∙ ap (λ (n : ℕ). placed (first + 1) (take place words) ++ (n, word) ∷ []) at)
 
--- a mark among so many is that of a location that is given a word
+-- a mark among the `count` from `first` on is that of a location that is given a word
 pub marked_given : (drum : DrumWords) (given : List (ℕ × Word)) (first count : ℕ) → first + count ≤ 2000
     → HoldWords drum given
     → Contains (slice_range drum.marks.items first (first + count)) true → (location : ℕ) × (first ≤ location)

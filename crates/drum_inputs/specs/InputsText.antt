@@ -1,5 +1,5 @@
--- The inputs of a replay (this project's choice): what each line says, which texts are inputs, what
--- they state, and why another text is refused.
+-- The inputs of a replay: what each line says, which texts are inputs, what they state, and why
+-- another text is refused.
 use Rattle.std.specs.Prelude.{◌≡◌, ℕ, ◌+◌, ◌^◌, ◌<◌, ◌≤◌, List, [], ◌∷◌, ◌++◌, length, flat_map}
 use Rattle.std.specs.Prelude.{codes, Any, Bool, true, false, if◌then◌else◌, Option, Some, None}
 use Rattle.std.specs.Prelude.{IsSome, ℤ}

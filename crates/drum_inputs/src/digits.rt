@@ -8,7 +8,7 @@ use drum_core::REVOLUTION;
 use drum_core::numeral::read_digits;
 use drum_times::Entry;
 
-/// The angle of a line that states the start angle.
+/// The angle of a line that states the start angle, 0 to 49.
 pub fn read_angle(line: &[u8]) -> Option<u8>
     ensures found { IfSome result (λ n. text.IsLine line.now (text.angle n)) }
     ensures none { IfNone result ((n : ℕ) → ¬ text.IsLine line.now (text.angle n)) }
@@ -25,7 +25,7 @@ pub fn read_angle(line: &[u8]) -> Option<u8>
     }
 }
 
-/// How long the line lets the machine wait.
+/// How long a line lets the machine wait, in word times.
 pub fn read_wait(line: &[u8]) -> Option<u32>
     ensures found { IfSome result (λ n. text.IsLine line.now (text.wait n)) }
     ensures none { IfNone result ((n : ℕ) → ¬ text.IsLine line.now (text.wait n)) }

@@ -29,7 +29,7 @@ impl DrumWords {
         })
     }
 
-    /// Whether one of so many locations has a word.
+    /// Whether one of the `count` locations from `first` on has a word.
     pub fn has_any(&self, first: u16, count: usize) -> bool
         requires { first + count ≤ 2000 }
         ensures { IsTrue result

@@ -4,19 +4,20 @@ use thiserror::Error;
 /// Why a text isn't inputs.
 #[derive(Clone, Copy, Debug, PartialEq, Eq, Error)]
 pub enum InputFault {
-    /// Its reader failed.
+    /// A read of its device failed.
     #[error("the inputs can't be read")]
     Read,
     /// There is no memory for them.
     #[error("there is no memory for the inputs")]
     Memory,
-    /// The line is of no kind.
+    /// The line of this number, from 1, is no line of inputs.
     #[error("line {0} is no line of inputs")]
     Line(u16),
-    /// The line says again what an earlier line says: a setting, or the word of a location.
+    /// The line of this number says again what an earlier line says: a setting, or the word of a
+    /// location.
     #[error("line {0} says something again")]
     Repeated(u16),
-    /// The line names a location past the drum.
+    /// The line of this number gives a word to a location past the end of the drum.
     #[error("line {0} goes past the drum")]
     PastDrum(u16),
     /// There are more than 4000 lines, or one has more than 200 bytes.

@@ -1,5 +1,19 @@
 //! The inputs of a replay: a text that states what a machine is set up with and fed with, read, or
 //! refused for its first fault.
+//!
+//! Code, from the bottom up. `key` is what stands behind a line's first word, `digits` has the
+//! numbers that a line is written with, and `accumulator` the accumulator's. `setting` is what a
+//! line states once at most, and `line` reads one line. `settings` and `drum_words` keep what was
+//! stated. `stating` is inputs of which some lines were taken. `read` has `read_inputs`; `inputs`
+//! is what it gives, and `fault` why a text is no inputs. `laws` has laws of the definitions.
+//!
+//! Definitions, in the order to read them: `InputsText` says which texts are inputs and why others
+//! are refused (over the first fault of `drum_core`'s lines), and `Inputs` what inputs state, as
+//! they are held. `Said` and `Holds` are what the code's other types mean by these.
+//!
+//! Proofs. `Progress` is on how the lines are read, one by one. `Refusals` shows that a text has
+//! one fault, `Repeated` when a line says again what others say, and `Sounds` what one sound line
+//! more is; `drum_faults` uses these too. `Checks` evaluates the definitions.
 #![tactic(auto)]
 
 mod accumulator;

@@ -11,13 +11,13 @@ use crate::stating::Stating;
 use drum_core::{Input, Lines, WholeError, is_longer, read_whole};
 use std::alloc::Global;
 
-/// Reads the inputs of a replay. The whole text is read first, 804,001 bytes at most, so that a
-/// reader without end is too long.
+/// Reads the inputs of a replay. The whole text is read first, 804,001 bytes at most: a device that
+/// gives as many as that is too long, and may have no end.
 ///
 /// # Errors
 ///
-/// Read where a read failed; Memory; TooLong before any line is looked at; then the first line with
-/// a fault, Line before PastDrum before Repeated.
+/// Read where a read failed; Memory where there is no memory; TooLong before any line is looked at;
+/// then the fault of the first line that has one (Line before PastDrum before Repeated).
 pub fn read_inputs<I: Input>(alloc: Global, reader: &mut I) -> Result<Inputs, InputFault>
     requires { I.called reader.old ≤ 2 ^ 62 }
     ensures inputs { IfOk result (λ inputs. IfSome (I.left reader.old) (λ bytes.
@@ -50,12 +50,12 @@ pub fn read_inputs<I: Input>(alloc: Global, reader: &mut I) -> Result<Inputs, In
     inputs_of(alloc, &text)
 }
 
-/// The inputs of a text that is held.
+/// Reads the inputs of a replay from a text in memory.
 ///
 /// # Errors
 ///
-/// Memory; TooLong before any line is looked at; then the first line with a fault, Line before
-/// PastDrum before Repeated.
+/// Memory where there is no memory; TooLong before any line is looked at; then the fault of the
+/// first line that has one (Line before PastDrum before Repeated).
 pub fn inputs_of(alloc: Global, text: &[u8]) -> Result<Inputs, InputFault>
     ensures inputs { IfOk result (λ inputs.
         (lines : List Line) × AreInputs text.now lines × AreInputsOf inputs lines) }

@@ -12,13 +12,13 @@ use drum_core::Word;
 /// What a line states of a machine's setup, once at most.
 #[derive(Clone, Copy, Debug)]
 pub enum Setting {
-    /// The drum's angle at time 0.
+    /// The drum's angle at time 0, below 50.
     Angle(u8),
     /// The word of the storage entry switches.
     Switches(Word),
-    /// The distributor.
+    /// The word in the distributor.
     Distributor(Word),
-    /// The accumulator.
+    /// The accumulator: one whole number of twenty digits at most.
     Accumulator(i128),
     /// Whether the overflow latch is on.
     Latch(bool),
@@ -88,7 +88,7 @@ impl Setting {
         }
     }
 
-    /// Whether another one is of the same thing.
+    /// Whether another setting states the same thing, whatever its value.
     pub fn is_of(&self, other: &Setting) -> bool
         ensures { IsTrue result ↔ text.Repeats (stated other.now ∷ []) (stated self.now) }
     {

@@ -19,7 +19,7 @@ pub struct Settings {
     pub on_overflow: Option<bool>,
 }
 
-/// Fills a slot that is empty.
+/// Fills a slot that is empty; else Repeated.
 fn fill<T: Copy>(slot: &mut Option<T>, value: T, line: u16) -> Result<(), InputFault>
     ensures empty { OnOk result (slot.old ≡ None) }
     ensures filled { OnOk result (slot.new ≡ Some value) }

@@ -11,7 +11,8 @@ pub record AreBehind (row ranks : List ℕ) (node : ℕ) (targets : List ℕ) : 
       → Contains targets next
   pub different : AreDifferent targets
 
--- An edge, from one of so many nodes, that doesn't go on; `places` has the locations of the nodes.
+-- An edge, from one of the first `count` nodes, that doesn't go on; `places` has the locations of
+-- the nodes.
 pub record IsBack (row : ℕ → List ℕ) (ranks places : List ℕ) (count from onto : ℕ) : Type 0 where
   pub node : ℕ
   pub next : ℕ
@@ -21,7 +22,7 @@ pub record IsBack (row : ℕ → List ℕ) (ranks places : List ℕ) (count from
   pub begins : slice_get places node ≡ Some from
   pub ends : slice_get places next ≡ Some onto
 
--- These are the edges from so many nodes that don't go on, none twice.
+-- These are the edges from the first `count` nodes that don't go on, none twice.
 pub record AreBack (row : ℕ → List ℕ) (ranks places : List ℕ) (count : ℕ)
     (edges : List (ℕ × ℕ)) : Type 0 where
   pub only : (from onto : ℕ) → Contains edges (from, onto)

@@ -7,7 +7,7 @@ use drum_flow::graph::Graph;
 use std::alloc::{AllocError, Global};
 
 /// An order of a graph's nodes in which each edge goes on, or leads to a node from which edges that
-/// go on lead back. It costs as much as there are nodes and edges.
+/// go on lead back. The time that it takes grows with the number of nodes and edges.
 pub(crate) fn arrange(alloc: Global, graph: &Graph) -> Result<Vec<usize>, AllocError>
     ensures { IfOk result (λ order. IsArranged (row graph.now) (size graph.now) order.items) }
 {

@@ -14,7 +14,7 @@ use drum_flow::free::free_graph;
 use drum_flow::graph::Graph;
 use std::alloc::{AllocError, Global};
 
-/// Adds the edges from a location to those at some places of the order of discovery.
+/// Adds the edges from a location to those at some indices of the order of discovery.
 fn add_edges(
     edges: &mut Vec<Edge>,
     from: Location,
@@ -57,8 +57,9 @@ fn edges_back(
 }
 
 /// The edges that close the loops of a flow graph. With a mark on each of them, no list of edges
-/// that closes is free of marks; and if one of these marks is left out, whichever, some list is. It
-/// costs as much as discovery, as the flow graph has edges, and as the square of its locations.
+/// that leads round is free of marks; and whichever of these marks is left out, some such list is.
+/// The time that it takes grows as that of discovery, with the number of edges, and with the square
+/// of the number of locations.
 ///
 /// # Errors
 ///

@@ -1,7 +1,6 @@
 use drum_core::Location;
 
-/// A step from one location to another: an edge of the flow graph, or where a mark says that there
-/// is one.
+/// A step from one location to another: an edge of the flow graph, or one that a mark names.
 #[derive(Clone, Copy, Debug, PartialEq, Eq)]
 pub struct Edge {
     /// The location that it leads from.

@@ -1,10 +1,22 @@
 //! The edges that close the loops of a flow graph: with a mark on each of them nothing closed is
 //! free of marks, and none of these marks can be spared. And which loop stands inside another.
 //!
-//! `arrangement` is a depth-first search that puts a graph's nodes into an order, and `arranging`
-//! runs it over all of them. `ranking` tells where each node stands there, `behind` which of a
-//! node's edges don't go on, and `closing` lists those as edges of the flow graph. `nesting` tells
-//! whether one loop stands inside another one.
+//! Code, from the bottom up. An `edge` leads from one location to another. `arrangement` is a
+//! depth-first search that puts a graph's nodes into an order, and `arranging` runs it over all of
+//! them. `ranking` tells where each node stands there. `behind` tells which of a node's edges don't
+//! go on, and `closing` lists those as edges of the flow graph. `nesting` tells whether one loop
+//! stands inside another one. `laws` has laws of the definitions.
+//!
+//! Definitions, in the order to read them: `Loops` says which edges close the loops, `Nested` which
+//! loop stands inside another, and `Marked` what notes with more marks are. The others say how
+//! these edges are found: `Arranged` what an order of nodes is in which they are those that lead
+//! back, `Arranging` what is so of the search for it, and `Flags`, `Ranks` and `Closing` what the
+//! code's lists mean by these.
+//!
+//! Proofs. `Befores` has what stands before what in an order, `Paths` what leads along it,
+//! `Arrangements` the moves of the search, `Rankings` and `Backs` the edges that lead back, and
+//! `Closings` puts them together. `Markings` is on notes with more marks, and `Reachings` on what
+//! is reached past a loop's head.
 #![tactic(auto)]
 
 mod arrangement;

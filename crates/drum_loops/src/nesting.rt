@@ -13,7 +13,8 @@ use drum_flow::Flow;
 use drum_flow::executed::Executed;
 use std::alloc::{AllocError, Global};
 
-/// The locations that edges lead to from a location, none of them onto another one; and that one.
+/// The locations that edges lead to from the location `from`, none of these edges onto the location
+/// `past`; and `past` itself.
 fn reached_past(
     alloc: Global,
     flow: &Flow<'_>,
@@ -82,8 +83,8 @@ fn is_entered_by(
     Ok(!is_reached(&reached, head, location))
 }
 
-/// Whether the loop that one edge closes stands inside the one that another edge closes. It costs
-/// as much as discovery, twice.
+/// Whether the loop that the edge `inner` closes stands inside the one that `outer` closes. It
+/// takes as long as discovery, twice.
 ///
 /// # Errors
 ///

@@ -169,8 +169,8 @@ impl Entries {
         Some(self.kept_by(key, index).clock)
     }
 
-    /// Keeps an end of a hop that goes on at a key, of so many, at this location and with the
-    /// counts of this number, where it is later than what is kept there.
+    /// Keeps an end of a hop that goes on at a key, one of `keys` keys, at this location and with
+    /// the counts of this number, where it is later than what is kept there.
     #[inline(always)]
     pub fn keep(
         &mut self,
@@ -224,7 +224,7 @@ impl Entries {
         self.origins[index] = end.origin();
     }
 
-    /// Adds the entry of a key, of so many, at which nothing is kept.
+    /// Adds the entry of a key, one of `keys` keys, at which nothing is kept.
     #[inline(always)]
     fn add(
         &mut self,
@@ -254,8 +254,8 @@ impl Entries {
         Ok(())
     }
 
-    /// Makes ready for the entry of a key, of so many: asks for room for all where there are many
-    /// already, and takes the index of the next entry for that which is looked near.
+    /// Makes ready for the entry of a key, one of `keys` keys: asks for room for all of them once
+    /// there are many entries, and has the next search begin near the new entry.
     fn make_room(&mut self, key: u32, keys: usize) -> Result<(), AllocError>
         ensures pairs { pairs_of self.new ≡ pairs_of self.old }
         ensures origins { self.new.origins.items ≡ self.old.origins.items }

@@ -62,8 +62,8 @@ struct Best {
 }
 
 impl Best {
-    /// Keeps a price, if its total is less, or the price is lower and its total no greater. Of
-    /// totals that no number has room for nothing is told.
+    /// Keeps a price, if its total is less, or the price is lower and its total no greater. A total
+    /// for which no number has room is never kept.
     fn see(&mut self, price: u64, total: u128) {
         let is_better = total < self.total || total == self.total && price < self.price;
         if is_better && total < u128::MAX {
@@ -111,7 +111,7 @@ impl<'a> Pricing<'a> {
         self.trial.run(self.leaps, &self.prices)
     }
 
-    /// What the start's potential and the prices times passes come to, as the last trial tells; the
+    /// What the start's potential and the prices times passes come to, by the last trial; the
     /// greatest number, where none has room for that.
     fn sum(&self) -> u128 {
         let mut sum = u128::from(self.trial.value(self.start));
@@ -137,7 +137,7 @@ impl<'a> Pricing<'a> {
         }
     }
 
-    /// Tries a price of a mark, and tells whether it is too low: there are no potentials, or the
+    /// Tries a price of a mark, and returns whether it is too low: there are no potentials, or the
     /// longest way passes the mark more often than can be.
     fn is_too_low(&mut self, mark: u8, price: u64, best: &mut Best) -> bool {
         self.set(mark, price);
@@ -210,7 +210,7 @@ impl<'a> Pricing<'a> {
         Ok(is_less)
     }
 
-    /// Tries a mark with each of some, and tells whether the total has fallen.
+    /// Tries a mark with each of some, and returns whether the total has fallen.
     fn raise_with(&mut self, order: &[u8], first: u8, seconds: &[u8]) -> Result<bool, AllocError> {
         let mut has_fallen = false;
         for second in seconds {
@@ -221,7 +221,7 @@ impl<'a> Pricing<'a> {
         Ok(has_fallen)
     }
 
-    /// Tries each mark alone and each two, and tells whether the total has fallen.
+    /// Tries each mark alone and each two, and returns whether the total has fallen.
     fn raise_each(&mut self, order: &[u8]) -> Result<bool, AllocError> {
         let mut has_fallen = false;
         for (place, first) in order.iter().enumerate() {

@@ -53,7 +53,7 @@ impl Trial {
         }
     }
 
-    /// Looks at each leap, and tells the last head from which a longer way was found.
+    /// Looks at each leap, and returns the last head from which a longer way was found.
     fn sweep(&mut self, list: &[Leap], prices: &[u64]) -> Option<Slot> {
         self.looks = self.looks.saturating_add(list.len() as u64);
         let mut last = None;

@@ -6,8 +6,8 @@ use crate::graph::search::Search;
 use crate::graph::sorted::Sorted;
 use std::alloc::{AllocError, Global};
 
-/// An order of a graph's nodes in which every edge goes on, or a cycle. It costs as much as there
-/// are nodes and edges.
+/// An order of a graph's nodes in which every edge goes on, or a cycle. The time that it takes
+/// grows with the number of nodes and edges.
 pub fn sort(alloc: Global, graph: &Graph) -> Result<Sorted, AllocError>
     ensures { IfOk result (λ sorted. IsSorted (row graph.now) (size graph.now) sorted) }
 {

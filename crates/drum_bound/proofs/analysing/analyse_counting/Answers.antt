@@ -1,3 +1,6 @@
+-- Of analyse_counting: the accepted flow is of this deck and these notes, so what is right of its
+-- walks is right of the deck's. A run that keeps to the notes takes the hops of such a walk; so it
+-- passes neither the bound nor an entry.
 use Rattle.std.proofs.Common.{◌≡◌, length, sym, ◌∙◌, subst, arith}
 use Rattle.drum_core.specs.Loads.{loads_in, start_in}
 use Rattle.drum_flow.specs.Accepted.{IsAccepted}

@@ -1,3 +1,5 @@
+-- Of analysis_by: the finished scan and the walk that is followed back from its latest end are a
+-- found analysis (IsFound), whose bound, walk and table are right of the keys' walks.
 use Rattle.std.proofs.Common.{◌≡◌, ℕ, ◌+◌, ◌-◌, List, Vec, Global, length, map, ap, sym, ◌∙◌, subst, arith}
 use Rattle.std.proofs.lemmas.List.{length-map}
 use Rattle.drum_times.specs.declared.times.Times.{Times}

@@ -1,3 +1,5 @@
+-- Of nodes_of: the nodes so far are the locations of the order so far, each with its hops, which
+-- are those of the definition since the location is executed.
 use Rattle.std.proofs.Common.{◌≡◌, ℕ, ◌+◌, List, [], ◌∷◌, ◌++◌, take, Some, sym, ap, ◌∙◌, subst, inl, inr}
 use Rattle.std.specs.Prelude.{slice_get, Contains}
 use Rattle.std.proofs.lemmas.List.Elements.{Contains-push_cases}

@@ -1,3 +1,6 @@
+-- Of ceiling: prices and base are those of a certificate, and the total is the definition's sum for
+-- them. So the certificate's law bounds every run and walk by it; where the sum is 2^127 or more,
+-- the refusal has the product.
 use Rattle.std.proofs.Common.{◌≡◌, ℕ, ◌+◌, ◌*◌, ◌^◌, ◌≤◌, List, length, ap, sym, subst, ◌∙◌, arith}
 use Rattle.std.specs.Prelude.{slice_index}
 use Rattle.drum_times.specs.declared.notes.mark.Mark.{Mark}

@@ -1,3 +1,6 @@
+-- Of prices_by_order: a potential that falls by 92,000,148 word times from each place of the order
+-- to the next pays for every hop (ByOrder). Here the base and the prices in code are shown to be
+-- those of that certificate, and small.
 use Rattle.std.proofs.Common.{◌≡◌, ℕ, ◌*◌, ◌≤◌, List, length, map, take, ap, sym, subst, ◌∙◌, arith}
 use Rattle.std.specs.Prelude.{All}
 use Rattle.std.proofs.lemmas.List.{length-map}

@@ -1,3 +1,5 @@
+-- Of row_at: all hops of the location have been looked at, so times and edges are a row of the
+-- setting of the flow's deck and notes.
 use Rattle.std.proofs.Common.{◌≡◌, ℕ, List, Option, subst, sym, ap, ◌∙◌, refl}
 use Rattle.std.specs.Prelude.{Contains}
 use Rattle.drum_core.specs.declared.deck.Deck.{Deck}

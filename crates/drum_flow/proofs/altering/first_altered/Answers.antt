@@ -1,3 +1,5 @@
+-- Of first_altered: no instruction of the patterns so far alters a word. So the first that alters
+-- one in the pattern at hand is the first of the location.
 use Rattle.std.proofs.Common.{Contains, List, sym, subst}
 use Rattle.drum_core.specs.declared.instruction.Instruction.{Instruction}
 use Rattle.drum_core.specs.Loads.{loads_in, start_in}

@@ -1,3 +1,5 @@
+-- Of first_altered_in: up to `same_writes_end` all data addresses from d on write the same words,
+-- so one instruction is looked at for all of these. None before d alters a word.
 use Rattle.std.proofs.Common.{◌≡◌, ℕ, Contains, List, sym, ap, ◌∙◌, subst, inl, inr, arith}
 use Rattle.std.proofs.lemmas.Bool.{cases_lt}
 use Rattle.drum_core.specs.declared.instruction.Instruction.{Instruction}

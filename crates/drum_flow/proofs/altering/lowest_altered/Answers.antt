@@ -1,3 +1,5 @@
+-- Of lowest_altered: the words that an instruction writes are a range of numbers, and none before
+-- the one at hand is an executed location without a list. So the first that is one is the lowest.
 use Rattle.std.proofs.Common.{◌≡◌, ℕ, true, false, Option, Some, None, IfSome, IfNone, sym, ◌∙◌, subst, inl, inr, arith}
 use Rattle.std.proofs.Common.{Bool}
 use Rattle.std.specs.Prelude.{IsSome}

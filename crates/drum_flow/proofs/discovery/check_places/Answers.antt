@@ -1,3 +1,5 @@
+-- Of check_places: all executed locations before the one at hand are loaded or listed and in the
+-- profile. So the first that isn't is the first that discovery meets with something wrong.
 use Rattle.std.proofs.Common.{◌≡◌, ℕ, ◌+◌, ◌<◌, ◌≤◌, List, length, Option, Some, sym, ap, ◌∙◌, subst, inl, inr}
 use Rattle.std.proofs.Common.{arith}
 use Rattle.std.specs.Prelude.{slice_get}

@@ -1,3 +1,5 @@
+-- Of unmarked_row: the row is that of the targets so far. One more target adds nothing where its
+-- edge has a mark or where it isn't executed, and else its index.
 use Rattle.std.proofs.Common.{◌≡◌, ℕ, ◌+◌, true, false, List, [], ◌∷◌, ◌++◌, Option, take, sym, ap, ◌∙◌, subst}
 use Rattle.std.specs.Prelude.{is_some}
 use Rattle.std.proofs.lemmas.List.{take_all}

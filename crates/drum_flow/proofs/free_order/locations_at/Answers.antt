@@ -1,3 +1,5 @@
+-- Of locations_at: each index is one of the executed locations', so it can be looked up; the
+-- locations so far are those at the indices so far.
 use Rattle.std.proofs.Common.{◌≡◌, ◌<◌, ℕ, List, length, get_or, Some, refl, sym, ap, ◌∙◌, arith}
 use Rattle.std.specs.Prelude.{slice_get}
 use Rattle.std.proofs.lemmas.List.{length-map}

@@ -1,3 +1,6 @@
+-- Of unbounded: a cycle of the graph is a cycle of locations by edges free of marks. Its indices
+-- are different, and so are its locations, of which there are 2004 at most; so it can be turned to
+-- begin with the smallest.
 use Rattle.std.proofs.Common.{◌<◌, ℕ, List, length, Contains, sym, ap, subst, arith}
 use Rattle.std.specs.Prelude.{slice_index}
 use Rattle.std.proofs.lemmas.List.{length-map}

@@ -1,8 +1,8 @@
 use Rattle.std.proofs.Common.{arith}
 use Rattle.drum_core.specs.Kind.{kind_of}
-use Rattle.drum_core.specs.Recurs.{within_span}
-use Rattle.drum_core.specs.Span.{kind_span-≤}
-use Rattle.drum_core.specs.Waits.{available_recurs}
+use Rattle.drum_rotation.specs.Recurs.{within_span}
+use Rattle.drum_rotation.specs.Span.{kind_span-≤}
+use Rattle.drum_rotation.specs.Waits.{available_recurs}
 use Rattle.drum_flow.proofs.FromAngles.{found_angle}
 use Rattle.drum_flow.proofs.laws.first_fetch_at_one_angle.Goals as goal
 

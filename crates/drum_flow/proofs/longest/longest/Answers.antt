@@ -1,3 +1,6 @@
+-- Of longest: the chain of waits and delays that the code goes through ends at the moment of the
+-- definition: x for Early, else e with the most units and the longest wait. The span of the chain
+-- gives the limit.
 use Rattle.std.proofs.Common.{◌≡◌, ℕ, ap, sym, ◌∙◌, inl, inr, arith, None, Some}
 use Rattle.drum_core.specs.declared.op.Op.{Op}
 use Rattle.drum_core.specs.Op.{op_of}

@@ -1,3 +1,6 @@
+-- Of first_outside: all instructions of a pattern have its operation, so where that is outside the
+-- profile the pattern's first instruction is the first; and no pattern before it has such an
+-- operation.
 use Rattle.std.proofs.Common.{◌≡◌, ℕ, true, false, not, Option, ap, sym, ◌∙◌, subst, arith}
 use Rattle.std.specs.Prelude.{is_some}
 use Rattle.drum_core.specs.declared.instruction.Instruction.{Instruction}

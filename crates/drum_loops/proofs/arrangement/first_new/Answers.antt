@@ -1,3 +1,5 @@
+-- Of first_new: each node of the row from `from` on and before the place at hand is met. So the
+-- first that isn't is the result, or the row's length.
 use Rattle.std.proofs.Common.{◌≡◌, true, false, ◌<◌, ℕ, length, slice_get, Some, None, slice_index_or, sym, ap, ◌∙◌, inl, inr}
 use Rattle.std.proofs.Common.{arith}
 use Rattle.std.proofs.lemmas.Bool.{cases_eq}

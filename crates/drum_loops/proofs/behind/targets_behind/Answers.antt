@@ -1,3 +1,5 @@
+-- Of targets_behind: the targets are those of the row so far whose rank isn't above the node's, and
+-- the flags say which nodes are among them. So a node that the row has again isn't added again.
 use Rattle.std.proofs.Common.{◌≡◌, ◌<◌, ◌+◌, ◌++◌, ◌∷◌, [], Bool, true, false, ℕ, List, Option, Some, length, set, take, arith}
 use Rattle.std.proofs.Common.{slice_index_or, sym, ap, ◌∙◌, subst}
 use Rattle.std.specs.Prelude.{slice_get, Contains}

@@ -1,3 +1,4 @@
+-- Of add_edges: the edges are those that were there, and one to the location of each target so far.
 use Rattle.std.proofs.Common.{◌≡◌, ◌<◌, ◌++◌, ℕ, List, Some, length, map, get_or, ap, ◌∙◌, refl, subst, arith}
 use Rattle.std.specs.Prelude.{slice_get}
 use Rattle.std.proofs.lemmas.List.{take_all}

@@ -1,3 +1,5 @@
+-- Of edges_back: the edges are those of the nodes so far that don't go on. What one more node adds
+-- leads from its own location, so no edge is there twice.
 use Rattle.std.proofs.Common.{◌≡◌, ◌<◌, ◌+◌, ◌++◌, ℕ, List, Some, length, map, sym, ap, ◌∙◌, subst, arith}
 use Rattle.std.specs.Prelude.{Contains, slice_get}
 use Rattle.std.proofs.lemmas.List.{length-map}

@@ -1,3 +1,6 @@
+-- Of reached_past: the list grows as in discovery, but begins with the location that isn't to be
+-- come through, whose successors aren't added. When all others have added theirs, the list is
+-- closed under edges that don't lead onto it.
 use Rattle.std.proofs.Common.{◌≡◌, ◌≤◌, ℕ, List, length, get_or, Option, Some, None, sym, ap, ◌∙◌, inl, inr}
 use Rattle.std.specs.Prelude.{slice_get}
 use Rattle.std.proofs.lemmas.Bool.{cases_lt}

@@ -1,3 +1,5 @@
+-- Of Cells::new: the start's entry is the only one, and its round the only one that is noted to
+-- keep something.
 use Rattle.std.proofs.Common.{rules, ◌≡◌, ℕ, zero, suc, ◌*◌, ◌/◌, ◌<◌, true, false, List, [], ◌∷◌, length, set, replicate, ap, sym}
 use Rattle.std.proofs.Common.{◌∙◌, inl, inr, Bool, None, subst, arith}
 use Rattle.std.specs.Prelude.{slice_get, Contains}

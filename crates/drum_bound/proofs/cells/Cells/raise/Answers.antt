@@ -1,3 +1,6 @@
+-- Of Cells::raise: Entries::keep puts the end into the key's entry, if it is later, and changes no
+-- other. With the key's round noted the cells stay in order, and there are never more entries than
+-- keys.
 use Rattle.std.proofs.Common.{◌*◌, Some, true, ap, ◌∙◌, arith}
 use Rattle.std.proofs.lemmas.List.{length-set}
 use Rattle.drum_machine.specs.WaysLeft.{seen_way}

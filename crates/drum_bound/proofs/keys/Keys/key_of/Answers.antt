@@ -1,3 +1,5 @@
+-- Of Keys::key_of: the number of the counts is below that of all counts, and the index below that
+-- of the locations. So their number is a key, and too small to overflow.
 use Rattle.std.proofs.Common.{◌≡◌, ℕ, ◌+◌, ◌*◌, List, length, sym, ap, ◌∙◌, subst, arith}
 use Rattle.drum_times.specs.declared.notes.mark.Mark.{Mark}
 use Rattle.drum_machine.specs.Counts.{AreWithin}

@@ -1,3 +1,6 @@
+-- Of Keys::leap: a hop takes as long from each clock of one angle (FromAngles), so the time from
+-- the angle itself is that of all. Where it goes on there is an index, since the order has all
+-- targets of its hops.
 use Rattle.std.proofs.Common.{◌≡◌, ◌⊎◌, ℕ, ◌+◌, ◌-◌, Some, ap, sym, ◌∙◌, subst, inl, inr, refl, arith}
 use Rattle.std.specs.Prelude.{Contains}
 use Rattle.drum_core.specs.Loads.{loads_in}

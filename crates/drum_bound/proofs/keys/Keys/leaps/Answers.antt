@@ -1,3 +1,5 @@
+-- Of Keys::leaps: the leaps so far, where they were made, are each location's own; those of one
+-- more location stand at the index of that location.
 use Rattle.std.proofs.Common.{◌≡◌, ◌<◌, ℕ, List, [], ◌∷◌, ◌++◌, length, Option, Some, Vec, Global, refl, ap, sym, ◌∙◌}
 use Rattle.std.proofs.Common.{subst, inl, inr, arith}
 use Rattle.std.specs.Prelude.{slice_get, IfSome}

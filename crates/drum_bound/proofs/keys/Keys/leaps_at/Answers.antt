@@ -1,3 +1,5 @@
+-- Of Keys::leaps_at: the leaps so far, followed by the hops that are left, are the hops of the
+-- location, and each was made for the angle at which its instruction is found.
 use Rattle.std.proofs.Common.{◌≡◌, ◌%◌, ℕ, List, [], ◌∷◌, ◌++◌, map, ap, sym, ◌∙◌, subst, inl, inr, arith}
 use Rattle.std.specs.Prelude.{Contains}
 use Rattle.std.proofs.lemmas.List.{append_assoc, map-append}

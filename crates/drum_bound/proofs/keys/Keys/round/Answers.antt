@@ -1,3 +1,5 @@
+-- Of Keys::round: the counts that are read off a number of counts are within what the marks allow.
+-- For each mark so far the round has the counts after its pass, or nothing where it is full.
 use Rattle.std.proofs.Common.{◌≡◌, ℕ, ◌+◌, ◌<◌, List, length, set, Option, Some, None, refl, sym, ap, ◌∙◌, subst, inl}
 use Rattle.std.proofs.Common.{inr, arith}
 use Rattle.std.specs.Prelude.{slice_get, slice_index_or}

@@ -1,3 +1,6 @@
+-- Of Scan::go_on: where the round has no counts after the hop's mark, the mark is full and bars it.
+-- Else the first key of these counts and the index of the target are the key that the hop leads to,
+-- a later one, and its end is kept there if it is the latest.
 use Rattle.std.proofs.Common.{◌+◌, inl, inr, ap, sym, ◌∙◌, subst, arith}
 use Rattle.drum_flow.specs.Walk.{Setting}
 use Rattle.drum_bound.specs.declared.cells.Cells.{Cells}

@@ -1,3 +1,5 @@
+-- Of Scan::hop_at: the leaps of a location are its hops, one by one and in order, so the leap of a
+-- number has the hop of that number; without leaps the hop is found among the hops themselves.
 use Rattle.std.proofs.Common.{◌≡◌, ℕ, ◌<◌, ◌≤◌, List, length, get_or, Option, Some, Vec, Global, refl, ap, sym, ◌∙◌}
 use Rattle.std.proofs.Common.{arith}
 use Rattle.std.specs.Prelude.{slice_get}

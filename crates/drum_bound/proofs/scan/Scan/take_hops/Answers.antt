@@ -1,3 +1,6 @@
+-- Of Scan::take_hops: halfway through a key, the first hops have been taken and the others are left
+-- (Halfway). The leap of each is as Keys::leap makes it, or that of one that takes as long
+-- (RecentOf).
 use Rattle.std.proofs.Common.{◌≡◌, ℕ, ◌+◌, ◌%◌, ◌∷◌, [], List, drop, length, Some, inl, refl, ap, sym, ◌∙◌, subst}
 use Rattle.std.proofs.Common.{arith}
 use Rattle.std.specs.declared.iter.Enumerate.{Enumerate}

@@ -10,7 +10,7 @@ use Rattle.drum_bound.proofs.scan.Scan.take_hops.Given as goal
 abbrev pub ghost-take_leap : goal.ghost-take_leap
 ghost-take_leap g a = setting_in a.self.now
 
--- so many hops of the key have been taken, and the others are left
+-- the hops of the key that the iterator gave have been taken, and the others are left
 abbrev pub invariant-loop-number : goal.invariant-loop-number
 invariant-loop-number g l = record {
   same : l.self ≡ record l.fn.self { cells = l.self.cells };

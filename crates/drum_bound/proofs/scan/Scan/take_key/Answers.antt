@@ -1,3 +1,6 @@
+-- Of Scan::take_key: a key at which nothing is kept has no hops to take. Any other one's search
+-- begins at the clock that it keeps, and its hops are taken, with the leaps of its location where
+-- there are any.
 use Rattle.std.proofs.Common.{◌≡◌, ℕ, ◌+◌, ◌%◌, List, length, get_or, Option, Some, Vec, Global, refl, ap, sym, ◌∙◌}
 use Rattle.std.proofs.Common.{subst, arith}
 use Rattle.std.specs.Prelude.{slice_get}

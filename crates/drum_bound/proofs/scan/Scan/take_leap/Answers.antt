@@ -1,3 +1,5 @@
+-- Of Scan::take_leap: a hop that goes on raises what a later key keeps, and one that stops raises
+-- the latest of all alone. So what is kept up to this key stays, and one hop less is left to take.
 use Rattle.std.proofs.Common.{◌≡◌, ◌⊎◌, ◌+◌, ap, sym, subst, inl, inr, arith}
 use Rattle.indexmap.proofs.MapLemmas.{OnOk-map}
 use Rattle.drum_machine.specs.Ways.{early, late}

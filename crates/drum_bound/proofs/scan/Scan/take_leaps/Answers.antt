@@ -1,3 +1,6 @@
+-- Of Scan::take_leaps: halfway through a key, the first hops have been taken and the others are
+-- left (Halfway). The leaps of the location are its hops, each from the angle at which its
+-- instruction is found.
 use Rattle.std.proofs.Common.{◌≡◌, ℕ, ◌+◌, ◌%◌, List, length, map, Some, refl, ap, sym, ◌∙◌, subst, arith}
 use Rattle.std.specs.Prelude.{slice_get, Contains}
 use Rattle.std.specs.Option.{option_map}

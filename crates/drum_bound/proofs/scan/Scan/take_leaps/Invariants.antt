@@ -6,7 +6,7 @@ use Rattle.drum_bound.proofs.scan.Scan.take_leaps.Given as goal
 abbrev pub ghost-take_leap : goal.ghost-take_leap
 ghost-take_leap g a = setting_in a.self.now
 
--- so many hops of the key have been taken
+-- the first `number` hops of the key have been taken
 abbrev pub invariant-loop-number : goal.invariant-loop-number
 invariant-loop-number g l = record {
   same : l.self ≡ record l.fn.self { cells = l.self.cells };

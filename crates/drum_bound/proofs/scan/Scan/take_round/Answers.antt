@@ -1,3 +1,5 @@
+-- Of Scan::take_round: the keys of a round are as many in a row as there are locations, and are
+-- taken in turn. Where no key of the round keeps anything, none has a hop to take.
 use Rattle.std.proofs.Common.{◌≡◌, ℕ, suc, ◌+◌, ◌-◌, ◌*◌, ◌/◌, ◌%◌, ◌<◌, ◌≤◌, length, refl, ap, sym, ◌∙◌, subst, arith}
 use Rattle.std.proofs.Math.Nat.{mul-le-mul_left}
 use Rattle.std.proofs.lemmas.Nat.{div-mul-add, mod-mul-add}

@@ -1,3 +1,5 @@
+-- Of Scan::visit: the origin names a hop of its key, so it is found; and the clocks of its begin
+-- and its end, less the start angle, are the word times used then.
 use Rattle.std.proofs.Common.{◌≡◌, ℕ, ◌+◌, ◌-◌, ◌%◌, ◌<◌, List, length, Some, None, ap, sym, ◌∙◌, subst, arith}
 use Rattle.std.specs.Prelude.{slice_get}
 use Rattle.std.proofs.Math.Nat.{mod-lt}

@@ -1,3 +1,6 @@
+-- Of Scan::walk: from the latest end back, each hop begins with what is kept at its key, which came
+-- from an earlier key or is the start's. So the start is reached, and the hops in reverse are a
+-- walk; the passes are counted on the way.
 use Rattle.std.proofs.Common.{◌≡◌, ℕ, ◌-◌, List, Some, map, reverse, ap, arith, sym, ◌∙◌, subst}
 use Rattle.std.specs.Prelude.{option_map, slice_get}
 use Rattle.drum_times.specs.declared.notes.mark.Mark.{Mark}

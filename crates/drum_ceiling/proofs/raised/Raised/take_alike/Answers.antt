@@ -1,3 +1,5 @@
+-- Of Raised::take_alike: the data addresses have the same ways. Of each way so far all hops have
+-- been looked at, and what was looked at stays so, since what is kept never falls.
 use Rattle.std.proofs.Common.{◌≡◌, ℕ, ◌<◌, ◌≤◌, List, ap, sym, subst, inl, inr, ◌∙◌}
 use Rattle.std.specs.Prelude.{Contains}
 use Rattle.drum_core.specs.Instruction.{instruction}

@@ -1,3 +1,5 @@
+-- Of Raised::take_pattern: the data addresses are taken in stretches with the same ways and of one
+-- part. All before d have been looked at, and what was looked at stays so.
 use Rattle.std.proofs.Common.{◌≡◌, ℕ, ◌<◌, ◌≤◌, sym, ap, inl, inr, ◌∙◌, arith}
 use Rattle.std.specs.Prelude.{nat_lt}
 use Rattle.std.proofs.lemmas.Bool.{cases_lt}

@@ -1,3 +1,6 @@
+-- Of Raised::take_way: where one data address ends no earlier than the others, it counts for all.
+-- Else those of one revolution are looked at, and each other one has the angle of one of these, and
+-- so its time.
 use Rattle.std.proofs.Common.{◌≡◌, ℕ, ◌+◌, ◌-◌, ◌%◌, ◌^◌, ◌<◌, ◌≤◌, subst, sym, ap, inl, inr, ◌∙◌, refl, arith}
 use Rattle.std.proofs.lemmas.Bool.{cases_lt}
 use Rattle.drum_core.specs.declared.instruction.Instruction.{Instruction}

@@ -1,3 +1,6 @@
+-- Of AcceptedFlow::of: the flow is of this deck and these notes, so what is shown of the flow's
+-- deck holds of the argument's (moved): that it is too large, that edges free of marks lead round,
+-- or that it is accepted, with its order.
 use Rattle.drum_core.proofs.Handed.{handed}
 use Rattle.drum_core.specs.Loads.{loads_in, start_in}
 use Rattle.drum_flow.specs.Acceptance.{IsRefusal}

@@ -1,3 +1,5 @@
+-- Of Fixed::of: the flags are those of the executed locations so far. One more location changes
+-- nothing where it is listed, and sets its flag where it isn't.
 use Rattle.std.proofs.Common.{rules, ◌≡◌, ℕ, ◌<◌, true, false, length, take, List, [], Bool, replicate, sym, ◌∙◌, subst}
 use Rattle.std.proofs.Common.{arith}
 use Rattle.std.specs.Prelude.{slice_set}

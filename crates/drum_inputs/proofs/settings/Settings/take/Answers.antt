@@ -1,3 +1,5 @@
+-- Of Settings::take: for each setting, its slot was empty, and then no line so far stated it and
+-- the slot has its value; or the slot was full, and the line states it again.
 use Rattle.std.proofs.Common.{◌≡◌, subst, ℤ, Some}
 use Rattle.std.specs.Prelude.{OnOk}
 use Rattle.drum_inputs.specs.Holds.{CanBeStated}

@@ -1,3 +1,6 @@
+-- Of Stating::give: the marks of drum locations say which have a word from a line so far. So a mark
+-- among the locations of the words is a location that is given again; without one, the words are
+-- added.
 use Rattle.std.proofs.Common.{◌≡◌, ◌+◌, ◌≤◌, ◌++◌, List, length, take, refl, ap, subst, arith, true}
 use Rattle.std.specs.Prelude.{Contains, slice_range}
 use Rattle.drum_core.specs.declared.word.Word.{Word}

@@ -1,3 +1,5 @@
+-- Of Stating::take: what a line spells is added to what the lines so far state; each kind of line
+-- changes its own part alone.
 use Rattle.std.proofs.Common.{refl, subst}
 use Rattle.drum_inputs.specs.InputsText as text
 use Rattle.drum_inputs.specs.declared.line.Line as read

@@ -1,3 +1,5 @@
+-- Of Arrangement::pass: the nodes of the row that were passed before are met, and so are those that
+-- are passed now. So where the row's end is reached, all are.
 use Rattle.std.proofs.Common.{◌≡◌, Bool, true, ℕ, ◌<◌, ◌≤◌, length, List, Option, Some, None, IfNone, Contains, sym, ap}
 use Rattle.std.proofs.Common.{◌∙◌, subst, refl, arith}
 use Rattle.std.specs.Prelude.{slice_get, slice_index}

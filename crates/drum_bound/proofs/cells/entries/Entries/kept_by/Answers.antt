@@ -1,3 +1,5 @@
+-- Of Entries::kept_by: the entry at the index is the key's own, so its time from the start angle on
+-- is the clock that the key keeps. It comes from its own key exactly where it is the start's.
 use Rattle.std.proofs.Common.{◌≡◌, ℕ, ◌+◌, ◌<◌, List, length, get_or, Some, refl, ap, ◌∙◌, arith}
 use Rattle.std.specs.Prelude.{slice_get}
 use Rattle.std.specs.Map.{values_of}

@@ -1,3 +1,5 @@
+-- Of Entries::raise: an end that is no later leaves all as it is. A later one is put into the key's
+-- entry, with where it comes from, and no other entry changes.
 use Rattle.std.proofs.Common.{◌≡◌, ℕ, ◌+◌, ◌-◌, ◌%◌, Some, refl, ap, sym, ◌∙◌, subst, arith}
 use Rattle.std.specs.Prelude.{slice_get}
 use Rattle.std.specs.Map.{values_of}

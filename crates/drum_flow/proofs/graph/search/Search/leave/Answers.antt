@@ -1,3 +1,5 @@
+-- Of Search::leave: the path's last node is open, and all that its edges lead to is finished. So it
+-- may be finished too: the search stays sound, has less work left, and forgets no node that it met.
 use Rattle.std.proofs.Common.{◌≡◌, ◌≢◌, ◌<◌, ◌++◌, ◌∷◌, [], ℕ, List, length, Some, sym, subst, arith}
 use Rattle.std.specs.Prelude.{slice_get, slice_set, IsSome}
 use Rattle.std.proofs.lemmas.Option.{slice_get_within}

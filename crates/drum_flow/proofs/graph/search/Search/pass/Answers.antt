@@ -1,3 +1,5 @@
+-- Of Search::pass: the nodes of the row that were passed before are finished, and so are those that
+-- are passed now. So where the row's end is reached, all are.
 use Rattle.std.proofs.Common.{◌≡◌, ℕ, ◌<◌, ◌≤◌, length, List, Option, Some, None, IfNone, Contains, sym, ap, ◌∙◌, subst}
 use Rattle.std.proofs.Common.{refl, arith}
 use Rattle.std.specs.Prelude.{slice_get, slice_index}
