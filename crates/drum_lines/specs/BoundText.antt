@@ -1,4 +1,4 @@
--- The line of a bound (this project's choice).
+-- The line of a bound.
 use Rattle.std.specs.Prelude.{ℕ, List, ◌++◌, codes, decimal}
 
 abbrev pub bound_text : ℕ → List ℕ

@@ -1,5 +1,5 @@
--- How the program ends after a fault (this project's choice): a part whose bytes can't be had, and
--- want of memory, are failures; all else is a refusal.
+-- How the program ends after a fault: a part whose bytes can't be had, and want of memory, are
+-- failures; all else is a refusal.
 use Rattle.std.specs.Prelude.{ℕ, Result, Ok, Err}
 use Rattle.drum_core.specs.declared.deck.fault.DeckFault.{DeckFault}
 use Rattle.drum_core.specs.declared.deck.fault.DeckFault.TheVariants as deck
@@ -34,7 +34,7 @@ abbrev pub after_refusal : refused.Refusal → status.Status
 after_refusal refusal.Memory = ends.Failed
 after_refusal _ = ends.Refused
 
--- how many failed reads a fault tells: one, or none
+-- how many failed reads a fault tells of: one, or none
 abbrev pub reads_failed : Fault → ℕ
 reads_failed (Part part what.Read) = 1
 reads_failed (Deck deck.Read) = 1

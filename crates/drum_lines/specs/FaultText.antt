@@ -1,5 +1,5 @@
--- The line of each fault (this project's choice). A location has four digits, an operation two, and
--- other numbers are plain decimal.
+-- The line of each fault. A location has four digits, an operation two, and other numbers are plain
+-- decimal.
 use Rattle.std.specs.Prelude.{ℕ, List, ◌++◌, codes, decimal, flat_map, string_bytes}
 use Rattle.drum_core.specs.declared.deck.fault.DeckFault.{DeckFault}
 use Rattle.drum_core.specs.declared.deck.fault.DeckFault.TheVariants as deck

@@ -4,8 +4,8 @@ use Rattle.std.specs.Prelude.{Err}
 use Rattle.std.specs.Io.KnownBytes.{Appends}
 use Rattle.drum_lines.specs.declared.failed_write.WriteFault.{WriteFault}
 
--- Behind so many bytes a text was written: all of it, and then so many have gone out in all; or a
--- write failed, and then a prefix of it has gone out, whose end the fault tells.
+-- Where `sent` bytes had gone out a text was written: all of it, and `total` bytes have gone out
+-- then; or a write failed, and a prefix of it has gone out, up to where the fault says.
 abbrev pub IsSent : Option (List ℕ) → Option (List ℕ) → ℕ → Result ℕ WriteFault → List ℕ → Type 0
 IsSent before after sent (Ok total) text = (total ≡ sent + length text) × Appends before after text
 IsSent before after sent (Err fault) text =
@@ -17,8 +17,8 @@ abbrev pub fails_by : {A : Type 0} → Result A WriteFault → ℕ
 fails_by (Ok done) = 0
 fails_by (Err fault) = 1
 
--- A text was written: all of it; or a write failed, and a prefix of it has gone out, of so many
--- bytes as the fault tells.
+-- A text was written: all of it; or a write failed, and a prefix of it has gone out, of as many
+-- bytes as the fault says.
 abbrev pub IsWritten : {A : Type 0} → Option (List ℕ) → Option (List ℕ) → Result A WriteFault
     → List ℕ → Type 0
 IsWritten before after (Ok done) text = Appends before after text

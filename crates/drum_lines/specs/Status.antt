@@ -1,4 +1,4 @@
--- The exit codes, and the status after a verdict (this project's choice).
+-- The exit codes, and the status after a verdict.
 use Rattle.std.specs.Prelude.{ℕ}
 use Rattle.drum_lines.specs.declared.status.Status.{Status}
 use Rattle.drum_lines.specs.declared.status.Status.TheVariants.{Done, Refused, Usage, Failed, Left}

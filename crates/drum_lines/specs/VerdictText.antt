@@ -1,5 +1,5 @@
--- The line of a replay's verdict (this project's choice). A location has four digits, a word a sign
--- and ten, and other numbers are plain decimal.
+-- The line of a replay's verdict. A location has four digits, a word a sign and ten, and other
+-- numbers are plain decimal.
 use Rattle.std.specs.Prelude.{ℕ, List, ◌++◌, codes, decimal}
 use Rattle.drum_core.specs.Numeral.{digits_of}
 use Rattle.drum_core.specs.Word.{spelling}
@@ -23,7 +23,7 @@ why_name why.Digit = codes "digit"
 why_name why.Programmed = codes "programmed"
 why_name why.Next = codes "next"
 
--- the run leaves the notes so at this step, with so many word times used before it
+-- the run leaves the notes in this way at this step, with `used` word times used before it
 abbrev pub left_text : Left → ℕ → ℕ → List ℕ
 left_text (Unlisted location word) step used =
     codes "left unlisted " ++ digits_of 4 location.number ++ codes " " ++ spelling word

@@ -1,9 +1,9 @@
 use thiserror::Error;
 
-/// A write failed, or took none of some bytes.
+/// A write failed, or took no byte.
 #[derive(Clone, Copy, Debug, PartialEq, Eq, Error)]
 #[error("a write failed after {sent} bytes")]
 pub struct WriteFault {
-    /// How many bytes of the text had gone out before it.
+    /// How many bytes of the text had gone out.
     pub sent: usize,
 }

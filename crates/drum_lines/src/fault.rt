@@ -7,13 +7,14 @@ use drum_core::{DeckFault, Location};
 use drum_flow::Refusal;
 use drum_inputs::InputFault;
 use drum_times::NoteFault;
+use std::alloc::AllocError;
 
 /// Why a command has no answer.
 #[derive(Debug, Drop)]
 pub enum Fault {
-    /// A line that ends a part is missing.
+    /// The joined form lacks the line that ends a part.
     NoPart,
-    /// The bytes of a part can't be had.
+    /// The bytes of this part can't be had, for this reason.
     Part(Part, PartFault),
     /// There is no memory for the bytes of a part, for the command line or for the machine.
     Memory,
@@ -25,14 +26,15 @@ pub enum Fault {
     Notes(NoteFault),
     /// The inputs are refused.
     Inputs(InputFault),
-    /// The analysis refuses the deck, or there is no memory for it or for a picture of it.
+    /// The analysis refuses the deck with its notes, or there is no memory for it or for what is
+    /// made of it.
     Refused(Refusal),
     /// The inputs give a word to a location that the deck loads too.
     Loaded(Location),
 }
 
 impl Fault {
-    /// How the program ends after it.
+    /// The status with which the program ends after this fault.
     pub fn status(&self) -> Status
         ensures { result ≡ status_after self.now }
     {
@@ -44,5 +46,51 @@ impl Fault {
             Fault::Refused(Refusal::Memory) => Status::Failed,
             _ => Status::Refused,
         }
+    }
+}
+
+impl From<DeckFault> for Fault {
+    ghost use Rattle.std.specs.Prelude.{◌≡◌};
+    ghost use Rattle.drum_lines.specs.declared.fault.Fault.TheVariants.{Deck};
+
+    ghost from_gives = { λ cause fault. fault ≡ Deck cause };
+
+    fn from(cause: DeckFault) -> Fault {
+        Fault::Deck(cause)
+    }
+}
+
+impl From<InputFault> for Fault {
+    ghost use Rattle.std.specs.Prelude.{◌≡◌};
+    ghost use Rattle.drum_lines.specs.declared.fault.Fault.TheVariants.{Inputs};
+
+    ghost from_gives = { λ cause fault. fault ≡ Inputs cause };
+
+    fn from(cause: InputFault) -> Fault {
+        Fault::Inputs(cause)
+    }
+}
+
+impl From<Refusal> for Fault {
+    ghost use Rattle.std.specs.Prelude.{◌≡◌};
+    ghost use Rattle.drum_lines.specs.declared.fault.Fault.TheVariants.{Refused};
+
+    ghost from_gives = { λ cause fault. fault ≡ Refused cause };
+
+    fn from(cause: Refusal) -> Fault {
+        Fault::Refused(cause)
+    }
+}
+
+/// No memory for what is made of an analysis, or of a deck with its notes.
+impl From<AllocError> for Fault {
+    ghost use Rattle.std.specs.Prelude.{◌≡◌};
+    ghost use Rattle.drum_flow.specs.declared.refusal.Refusal.TheVariants.{Memory};
+    ghost use Rattle.drum_lines.specs.declared.fault.Fault.TheVariants.{Refused};
+
+    ghost from_gives = { λ _ fault. fault ≡ Refused Memory };
+
+    fn from(_: AllocError) -> Fault {
+        Fault::Refused(Refusal::Memory)
     }
 }

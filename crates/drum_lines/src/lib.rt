@@ -1,5 +1,17 @@
 //! The lines that go out of the program: a bound, a verdict, or why there is none, and the status
 //! with which the program ends after it. They take no memory.
+//!
+//! Code. `fault` (with the status after each) and `part` are why a command has no answer. `verdict`
+//! is what a replay or a trace found, and `limit` by what its time is limited. `status` is how the
+//! program ends, and `failed_write` how much of a text went out. `print` has the parts of a line;
+//! `print/` writes each line, that of a fault in `print/fault_line`.
+//!
+//! Definitions, in the order to read them: `BoundText`, `VerdictText` and `FaultText` are the
+//! lines. `Status` is the number of each status, and `FaultStatus` which comes after which fault,
+//! and how many failed reads a fault tells. `Sent` is what has gone out of a text.
+//!
+//! Proofs. `Sending` has laws of texts that go out one behind the other, for each crate that writes
+//! lines. `Checks` evaluates the definitions.
 #![tactic(auto)]
 
 mod failed_write;

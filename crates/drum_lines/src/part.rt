@@ -20,7 +20,7 @@ pub enum Part {
 pub enum PartFault {
     /// Its file can't be opened.
     Open,
-    /// A reading of it failed.
+    /// A read of it failed.
     Read,
     /// It is longer than its limit.
     TooLong,

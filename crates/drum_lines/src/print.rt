@@ -18,7 +18,7 @@ use crate::failed_write::WriteFault;
 use drum_core::{Location, Output, write_pieces, write_whole};
 use itoa::Buffer;
 
-/// Writes the line of a bound.
+/// Writes the line of a bound, in word times.
 pub fn write_bound<O: Output>(output: &mut O, bound: u64) -> Result<(), WriteFault>
     requires { O.called output.old ≤ 2 ^ 62 }
     ensures written { IsWritten (O.written output.old) (O.written output.new) result
@@ -53,7 +53,7 @@ fn write_line<O: Output>(output: &mut O, pieces: &[&[u8]]) -> Result<(), WriteFa
     }
 }
 
-/// Writes pieces behind so many bytes, and tells how many have gone out then.
+/// Writes pieces where `sent` bytes have gone out before, and returns how many have gone out then.
 pub fn send<O: Output>(output: &mut O, sent: usize, pieces: &[&[u8]]) -> Result<usize, WriteFault>
     requires called { O.called output.old + length (joined pieces.now) ≤ 2 ^ 63 }
     requires few { sent + length (joined pieces.now) ≤ 2 ^ 63 }
@@ -70,7 +70,8 @@ pub fn send<O: Output>(output: &mut O, sent: usize, pieces: &[&[u8]]) -> Result<
     }
 }
 
-/// Writes the line of a bound behind so many bytes, and tells how many have gone out then.
+/// Writes the line of a bound where `sent` bytes have gone out before, and returns how many have
+/// gone out then.
 pub fn send_bound<O: Output>(output: &mut O, sent: usize, bound: u64) -> Result<usize, WriteFault>
     requires called { O.called output.old ≤ 2 ^ 62 + 2 ^ 40 }
     requires few { sent ≤ 2 ^ 40 }

@@ -21,7 +21,8 @@ pub enum Verdict {
     Left {
         /// How it leaves them.
         what: Left,
-        /// The step with which it does, from 1; 0 for the programmed switch.
+        /// The number, from 1, of the step with which it leaves them; 0 where the programmed switch
+        /// isn't as declared.
         step: u64,
         /// The word times used before this step.
         used: u64,
@@ -29,7 +30,7 @@ pub enum Verdict {
 }
 
 impl Verdict {
-    /// How the program ends with it.
+    /// The status with which the program ends with this verdict.
     pub fn status(&self) -> Status
         ensures { result ≡ status_of self.now }
     {

@@ -58,7 +58,8 @@ fn write_cycle<O: Output>(output: &mut O, cycle: &Cycle) -> Result<(), WriteFaul
     Ok(())
 }
 
-/// Writes locations behind so many bytes, each after a space.
+/// Writes locations, each after a space, where `sent` bytes have gone out before, and returns how
+/// many have gone out then.
 fn send_locations<O: Output>(
     output: &mut O,
     mut sent: usize,

@@ -15,7 +15,7 @@ use drum_core::{Location, Output, Word};
 use drum_machine::{Left, Why};
 use itoa::Buffer;
 
-/// Writes the line of a verdict on a run whose word times are limited so.
+/// Writes the line of a verdict on a run, whose word times are limited in this way.
 pub fn write_verdict<O: Output>(
     output: &mut O,
     limit: Limit,
@@ -87,8 +87,8 @@ fn name_of(why: Why) -> &'static [u8]
     }
 }
 
-/// Writes the line of a run that leaves the notes so at this step, with so many word times used
-/// before it.
+/// Writes the line of a run that leaves the notes in this way at this step, with `used` word times
+/// used before it.
 fn write_left<O: Output>(output: &mut O, what: Left, step: u64, used: u64) -> Result<(), WriteFault>
     requires { O.called output.old ≤ 2 ^ 62 + 2 ^ 60 }
     ensures written { IsWritten (O.written output.old) (O.written output.new) result

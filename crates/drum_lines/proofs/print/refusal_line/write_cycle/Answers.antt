@@ -1,3 +1,5 @@
+-- Of write_cycle: the line is three texts, one behind the other. Where the write of one fails,
+-- those before it have gone out whole and it in part, so a prefix of the line has gone out.
 use Rattle.std.proofs.Common.{List, ◌++◌, flat_map, Ok, Err, subst}
 use Rattle.std.proofs.lemmas.Result.{err_from_is_err_and}
 use Rattle.std.specs.Prelude.{codes}

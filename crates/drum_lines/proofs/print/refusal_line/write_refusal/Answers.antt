@@ -1,3 +1,5 @@
+-- Of write_refusal: each kind of refusal writes the pieces of its own line, and the digits in them
+-- are those of its numbers.
 use Rattle.std.proofs.Common.{ℕ, List, ◌++◌, ap, ◌∙◌, subst}
 use Rattle.std.specs.Prelude.{codes}
 use Rattle.drum_core.specs.Numeral.{digits_of}
