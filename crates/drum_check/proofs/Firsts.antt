@@ -39,7 +39,7 @@ use Rattle.drum_check.proofs.Silent.{round_left}
 use Rattle.drum_check.proofs.Tellings.{first_told}
 use Rattle.drum_check.proofs.WriteRanges.{writes_range}
 
--- a member of the first so many stands among these
+-- a member of the first `count` has a place among these
 taken_at : (xs : List ℕ) (count x : ℕ) → Contains (take count xs) x → (k : ℕ) × (k < count) × (slice_get xs k ≡ Some x)
 taken_at xs count x there =
     let at : (k : ℕ) × (slice_get (take count xs) k ≡ Some x) = contains_at (take count xs) x there in

@@ -1,4 +1,4 @@
--- Locations of which nothing is told.
+-- Locations of which nothing is found.
 use Rattle.std.proofs.Common.{◌≡◌, ℕ, Bool, true, false, List, [], ◌∷◌, ◌++◌, map, refl, ap, ◌∙◌, inl, inr}
 use Rattle.std.proofs.Common.{Option, is_some}
 use Rattle.std.specs.Prelude.{Contains, cond, flat_map, ◌||◌}
@@ -28,7 +28,7 @@ there_untold loads notes place (inr listed) = go (is_some (loads place)) (is_lis
     go false true e = refl
     go false false e = cc
 
--- and one that is neither loaded nor listed is told
+-- and one that is neither loaded nor listed is found
 pub absent_told : (loads : ℕ → Option Word) (notes : Notes) (place : ℕ) → ¬ IsThere loads notes place
     → not_there loads notes place ≡ not_loaded place ∷ []
 absent_told loads notes place none = go (is_some (loads place)) (is_listed notes place) refl refl
@@ -39,7 +39,7 @@ absent_told loads notes place none = go (is_some (loads place)) (is_listed notes
     go false true e f = absurd (none (inr f))
     go false false e f = refl
 
--- of a location that is in order nothing is told
+-- of a location that is in order nothing is found
 pub good_fit : (loads : ℕ → Option Word) (notes : Notes) (place : ℕ) → IsGood loads notes place
     → unfit loads notes place ≡ []
 good_fit loads notes place good =

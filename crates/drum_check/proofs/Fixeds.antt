@@ -1,4 +1,4 @@
--- The flags of executed locations without a list tell which words are fixed.
+-- The flags of executed locations without a list say which words are fixed.
 use Rattle.std.proofs.Common.{◌≡◌, ℕ, Bool, true, false, not, List, eqb, Some, sym, ◌∙◌, refl}
 use Rattle.std.specs.Prelude.{slice_get, Contains, ◌&&◌, ◌↔◌, IsTrue}
 use Rattle.std.specs.List.{list_any}

@@ -35,7 +35,7 @@ round_left loads notes edges first node (x ∷ xs) none round = (
   round_left loads notes edges first x xs none round.1,
 )
 
--- a location that isn't told is there
+-- a location that isn't found to be missing is there
 told_there : (loads : ℕ → Option Word) (notes : Notes) (place : ℕ) → not_there loads notes place ≡ []
     → IsThere loads notes place
 told_there loads notes place none = go (is_some (loads place)) (is_listed notes place) refl refl none
@@ -46,7 +46,7 @@ told_there loads notes place none = go (is_some (loads place)) (is_listed notes 
     go false true e f h = inr f
     go false false e f h = cc
 
--- an operation that isn't told is in the profile
+-- an operation that isn't found to be outside the profile is in it
 told_inside : (loads : ℕ → Option Word) (notes : Notes) (place : ℕ) → operations_outside loads notes place ≡ []
     → IsInProfile loads notes place
 told_inside loads notes place none ins there = go (is_some (op_of ins.op)) refl
@@ -59,7 +59,7 @@ told_inside loads notes place none ins there = go (is_some (op_of ins.op)) refl
         (in_flat_map outside_of (allowed loads notes place) ins ins.op there
         (subst (λ (all : List ℕ). Contains all ins.op) (sym alone) (contains_here ins.op []))))
 
--- a size that isn't told is small
+-- a size that isn't found to be too large is small
 told_small : (product : ℕ) → too_many product ≡ [] → product ≤ 4000000
 told_small product none = elim (cases_lt 4000000 product) [
   | inl large ↦ (let told : too_many product ≡ too_large product ∷ [] =
@@ -81,7 +81,7 @@ one_unmeant loads notes start executed some others one other =
 module _ (loads : ℕ → Option Word) (notes : Notes) (start : ℕ) (executed : List ℕ) (findings : List Finding)
     (found : AreFound loads notes start executed) (a : AreFindings loads notes start findings)
     (alone : AreUnmeant loads notes start executed findings) where
-  -- an instruction that isn't told alters nothing
+  -- an instruction that isn't found to alter anything alters nothing
   told_unaltered : (place : ℕ) (ins : Instruction) (at : ℕ) → altered loads notes a.executed place ≡ []
       → Contains (allowed loads notes place) ins → Contains (writes ins) at → ¬ IsFixed loads notes start at
   told_unaltered place ins at none there written fixed =

@@ -1,4 +1,4 @@
--- Loops that are told one after the other, and where none is told.
+-- Loops that are listed one after the other, and where none is listed.
 use Rattle.std.proofs.Common.{◌≡◌, ℕ, List, [], ◌∷◌, ◌++◌, map, refl, ap, sym, ◌∙◌, subst, inl, inr, append_assoc, Option, None}
 use Rattle.std.proofs.lemmas.List.{append-nil}
 use Rattle.drum_core.specs.declared.word.Word.{Word}
@@ -30,21 +30,21 @@ told_more IsInside before (first ∷ edges) loops edge number told last = (
 )
 
 module _ (loads : ℕ → Option Word) (notes : Notes) (start : ℕ) (executed : List ℕ) where
-  -- no edges close loops, and none is told
+  -- no edges close loops, and none is listed
   pub none_told : (edges : List (ℕ × ℕ)) (loops : List Finding) → edges ≡ []
       → AreLoops loads notes start executed edges loops → loops ≡ []
   none_told [] loops none (inl told) = told.2
   none_told [] loops none (inr told) = told.1
   none_told (edge ∷ edges) loops none told = cc
 
-  -- the first of them is told first
+  -- the first of them is listed first
   pub first_told : (edge : ℕ × ℕ) (edges : List (ℕ × ℕ)) (loops : List Finding)
       → AreLoops loads notes start executed (edge ∷ edges) loops
       → (number : Option ℕ) × BeginsWith loops (closes edge number)
   first_told edge edges loops (inl told) = (told.2.0, (told.2.1, told.2.3))
   first_told edge edges loops (inr told) = (None, (map (λ (one : ℕ × ℕ). closes one None) edges, told.1))
 
-  -- where none is told no edges close loops
+  -- where none is listed no edges close loops
   pub told_none : (edges : List (ℕ × ℕ)) (loops : List Finding) → AreLoops loads notes start executed edges loops
       → loops ≡ [] → edges ≡ []
   told_none [] loops told none = refl

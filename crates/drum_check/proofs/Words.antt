@@ -47,7 +47,7 @@ set_alike f g (a ∷ xs) (suc k) x different at alike =
 abbrev pub places : List Finding → List ℕ
 places findings = with_new [] (flat_map altered_word findings)
 
--- a finding tells of one altered word, or of none
+-- a finding is about one altered word, or about none
 abbrev TellsNone : Finding → Type 0
 TellsNone finding = (altered_word finding ≡ []) × ((word : ℕ) → leaves word finding ≡ [])
 
@@ -75,7 +75,7 @@ leaves_other writer word other kept different = go (eqb word other) refl
     go true e = absurd (different (sym (eqb-true word other e)))
     go false e = ap (λ (b : Bool). cond b (kept ∷ []) []) e
 
--- a word of which no finding tells has no writers
+-- a word that no finding is about has no writers
 none_left : (word : ℕ) (before : List Finding) → ¬ Contains (flat_map altered_word before) word
     → flat_map (leaves word) before ≡ []
 none_left word before none =
@@ -87,7 +87,7 @@ none_left word before none =
           (subst (λ (z : ℕ). Contains (tells.1 ∷ []) z) (sym e) (contains_here tells.1 [])))))
     ])
 
--- and one of which one tells has some
+-- and one that some finding is about has some
 abbrev HasWriter : ℕ → List Finding → Type 0
 HasWriter word before = (kept : Kept) × (others : List Kept) × (flat_map (leaves word) before ≡ kept ∷ others)
 
@@ -181,14 +181,14 @@ module _ (before : List Finding) (finding : Finding) where
       flat_map-append (leaves word) before (finding ∷ [])
       ∙ ap (λ (ks : List Kept). flat_map (leaves word) before ++ ks) (append-nil (leaves word finding))
 
-  -- of a word that the finding doesn't tell of
+  -- of a word that the finding isn't about
   same_left : (word : ℕ) → leaves word finding ≡ []
       → lacking_list (before ++ finding ∷ []) word ≡ lacking_list before word
   same_left word none =
       ap (λ (ks : List Kept). (word, kept_by_all ks)) (leaves_more word
       ∙ ap (λ (ks : List Kept). flat_map (leaves word) before ++ ks) none ∙ append-nil (flat_map (leaves word) before))
 
-  -- a finding that tells of no word
+  -- a finding that is about no word
   pub none_more : altered_word finding ≡ [] → ((word : ℕ) → leaves word finding ≡ [])
       → words_altered before ≡ words_altered (before ++ finding ∷ [])
   none_more no_word none =
@@ -210,7 +210,7 @@ module _ (before : List Finding) (writer word : ℕ) (kept : Kept) (lacks : List
       leaves_more before (alters writer word kept) word
       ∙ ap (λ (ks : List Kept). flat_map (leaves word) before ++ ks) (leaves_it writer word kept)
 
-  -- one more that tells of a word which is there
+  -- one more that is about a word which is there
   pub there_more : (k : ℕ) (d : ℕ × Kept) → slice_get (places before) k ≡ Some word
       → set lacks k (word, both_leave (get_or lacks k d).1 kept) ≡ words_altered after
   there_more k d at =
@@ -237,7 +237,7 @@ module _ (before : List Finding) (writer word : ℕ) (kept : Kept) (lacks : List
       ∙ set_alike (lacking_list before) (lacking_list after) (places before) k word (different before) at other_same
       ∙ sym (ap (map (lacking_list after)) same_places)
 
-  -- one that tells of a word which isn't
+  -- one that is about a word which isn't
   pub new_more : ¬ Contains (places before) word → lacks ++ (word, kept) ∷ [] ≡ words_altered after
   new_more none =
       let no_writer : flat_map (leaves word) before ≡ [] =

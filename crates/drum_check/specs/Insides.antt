@@ -1,4 +1,4 @@
--- In which order the loops that lack a mark are told, and inside which other mark a mark on each
+-- In which order the loops that lack a mark are listed, and inside which other mark a mark on each
 -- stands.
 use Rattle.std.specs.Prelude.{◌≡◌, ℕ, suc, ◌+◌, ◌<◌, ◌≤◌, true, List, [], ◌∷◌, ◌++◌, ◌⊎◌, map}
 use Rattle.std.specs.Prelude.{length, slice_get, Contains, Option, Some, None}
@@ -20,7 +20,7 @@ pub record StandsInside (loads : ℕ → Option Word) (notes : Notes) (start : �
   pub there : has_edge loads notes executed outer.0 outer.1 ≡ true
   pub nested : IsNested loads notes start outer inner
 
--- so many of some edges have a property
+-- of some edges `many` have a property
 pub record AreSoMany (IsOne : ℕ × ℕ → Type 0) (edges : List (ℕ × ℕ)) (many : ℕ) : Type 0 where
   pub those : List (ℕ × ℕ)
   pub are : AreThose IsOne edges those
@@ -42,7 +42,7 @@ IsLastNumber IsOne edges (Some number) =
     × (edges ≡ before ++ edge ∷ after) × (number ≡ suc (length before)) × IsOne edge
     × ((other : ℕ × ℕ) → Contains after other → ¬ IsOne other)
 
--- Loops, each told with the number of the last edge before its own that its loop stands inside of.
+-- Loops, each with the number of the last edge before its own that its loop stands inside of.
 -- Before all of them stand the edges of marks that there are.
 abbrev pub AreToldInside : (ℕ × ℕ → ℕ × ℕ → Type 0) → List (ℕ × ℕ) → List (ℕ × ℕ)
     → List Finding → Type 0
@@ -53,8 +53,8 @@ AreToldInside IsInside before (edge ∷ edges) loops =
     × (loops ≡ closes edge number ∷ others)
     × AreToldInside IsInside (before ++ edge ∷ []) edges others
 
--- The loops of these edges, as they are told. With more than 8 marks in all none is said to stand
--- inside another one, since notes can't have so many.
+-- The loops of these edges, as they are listed. With more than 8 marks in all none is said to stand
+-- inside another one, since notes can't have more.
 abbrev pub AreLoops : (ℕ → Option Word) → Notes → ℕ → List ℕ → List (ℕ × ℕ) → List Finding
     → Type 0
 AreLoops loads notes start executed edges loops =

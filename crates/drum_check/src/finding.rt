@@ -6,19 +6,20 @@ use drum_loops::Edge;
 /// isn't meant.
 #[derive(Clone, Copy, Debug, PartialEq, Eq)]
 pub enum Finding {
-    /// An executed location is neither loaded nor listed.
+    /// This executed location is neither loaded nor listed.
     NotLoaded(Location),
-    /// An operation that is allowed at an executed location, of these two digits, is outside the
-    /// profile.
+    /// At this executed location an operation is allowed, with this number of two digits, that is
+    /// outside the profile.
     NotInProfile(Location, u8),
     /// An instruction at an executed location alters an executed word that isn't listed, and leaves
-    /// so much of it.
+    /// these parts of it.
     Alters {
         writer: Location,
         word: Location,
         kept: Kept,
     },
-    /// Executed words times counts, the product of `most + 1` over the marks, is past 4,000,000.
+    /// Executed words times counts, the product of `most + 1` over the marks, is this product,
+    /// which is more than 4,000,000.
     TooLarge(u128),
     /// An edge free of marks closes a loop of edges that are free of marks. A mark on it is to say
     /// that it stands inside the mark of this number, if there is one. The first mark has number 1;

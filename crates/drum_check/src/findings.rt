@@ -19,7 +19,7 @@ use std::alloc::{AllocError, Global};
 /// The most findings that are held, far more than any deck has.
 const LIMIT: usize = 1 << 40;
 
-/// The most that executed words times counts may be (this project's choice).
+/// The most that executed words times counts may be.
 const PRODUCT_LIMIT: u128 = 4_000_000;
 
 /// All that keeps a deck from having a bound under its notes, and what of the notes isn't meant.
@@ -274,7 +274,7 @@ impl Findings {
     ///
     /// # Errors
     ///
-    /// Where memory is wanting.
+    /// [`AllocError`] where there is no memory.
     pub fn of(alloc: Global, deck: &Deck, notes: &Notes) -> Result<Findings, AllocError>
         ensures { IfOk result (λ findings. AreFindings (loads_in deck.now) notes.now
             (start_in deck.now) (found_in findings)) }
@@ -293,7 +293,7 @@ impl Findings {
         Ok(findings)
     }
 
-    /// Whether nothing was found.
+    /// Whether nothing was found at all.
     pub fn is_empty(&self) -> bool
         ensures { IsTrue result ↔ (found_in self.now ≡ []) }
     {

@@ -31,11 +31,11 @@ impl Lacking {
     ghost use Rattle.drum_check.specs.Lacking.{words_altered};
     ghost use Rattle.drum_check.specs.LackingOf.{pair_of, words_in};
 
-    /// Those of what was found.
+    /// The words that lack a list, by what was found.
     ///
     /// # Errors
     ///
-    /// Where memory is wanting.
+    /// [`AllocError`] where there is no memory.
     pub fn of(alloc: Global, findings: &Findings) -> Result<Lacking, AllocError>
         ensures { IfOk result (λ lacking. words_in lacking
             ≡ words_altered (found_in findings.now)) }

@@ -115,7 +115,8 @@ fn send_edges<O: Output>(
     send(writer, sent, &pieces)
 }
 
-/// Writes the line of a finding behind so many bytes, and tells how many have gone out then.
+/// Writes the line of a finding where `sent` bytes have gone out before, and returns how many have
+/// gone out then.
 fn send_finding<O: Output>(
     writer: &mut O,
     sent: usize,
@@ -156,7 +157,7 @@ fn send_finding<O: Output>(
     }
 }
 
-/// Writes the lines of what was found, and tells how many bytes have gone out then.
+/// Writes the lines of what was found, and returns how many bytes have gone out then.
 pub fn send_findings<O: Output>(writer: &mut O, findings: &Findings) -> Result<usize, WriteFault>
     requires { O.called writer.old ≤ 2 ^ 62 }
     ensures sent { IsSent (O.written writer.old) (O.written writer.new) 0 result

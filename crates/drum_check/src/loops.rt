@@ -1,5 +1,5 @@
-//! The loops that lack a mark, as they are told: the outer ones first, each with the mark before it
-//! inside which a mark on its edge stands.
+//! The loops that lack a mark, in the order in which they are listed: the outer ones first, each
+//! with the mark before it inside which a mark on its edge stands.
 
 ghost use Rattle.std.specs.Prelude.{◌≡◌, ◌≤◌, ℕ, List, None, map, length, All, IfOk};
 ghost use Rattle.std.specs.Prelude.{IsPermutation};
@@ -47,8 +47,8 @@ fn edges_of(alloc: Global, counted: &[Counted]) -> Result<Vec<Edge>, AllocError>
     counted.iter().map(|one| one.edge).collect(alloc)
 }
 
-/// Edges in the order in which they are told: those first whose loop stands inside the fewest loops
-/// of them.
+/// Edges in the order in which they are listed: those first whose loop stands inside the fewest of
+/// their loops.
 fn outer_first(alloc: Global, flow: &Flow<'_>, edges: &[Edge]) -> Result<Vec<Edge>, AllocError>
     ensures same { IfOk result (λ sorted. IsPermutation (map edge_of edges.now)
         (map edge_of sorted.items)) }
@@ -109,9 +109,9 @@ fn told_alone(alloc: Global, edges: &[Edge]) -> Result<Vec<Finding>, AllocError>
     Ok(loops)
 }
 
-/// The loops of edges that close them, as they are told. With so many that notes can't have a mark
-/// for each, none is said to stand inside another one. It costs as much as [`closing_edges`], and
-/// at most some two hundred times as much as discovery.
+/// The loops that lack a mark, in the order in which they are listed. Where they are so many that
+/// notes can't have a mark for each, none is said to stand inside another one. It takes as long as
+/// [`closing_edges`], and at most some two hundred times as long as discovery.
 pub fn unmarked_loops(alloc: Global, flow: &Flow<'_>) -> Result<Vec<Finding>, AllocError>
     requires { of_flow AreFound flow.now (executed_in flow.now) }
     ensures { IfOk result (λ loops. (edges : List (ℕ × ℕ)) × of_flow AreClosing flow.now edges

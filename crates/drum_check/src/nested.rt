@@ -12,7 +12,7 @@ use drum_loops::{Edge, is_nested};
 use std::alloc::{AllocError, Global};
 
 /// Whether the loop of the inner edge stands inside that of the outer one, and the flow graph has
-/// the outer edge. It costs as much as discovery, twice.
+/// the outer edge. It takes as long as discovery, twice.
 fn stands_inside(
     alloc: Global,
     flow: &Flow<'_>,

@@ -20,7 +20,8 @@ use drum_lines::{WriteFault, send, spelling_of};
 use drum_loops::Edge;
 use itoa::Buffer;
 
-/// Writes the mark of an edge, behind so many bytes, and tells how many have gone out then.
+/// Writes the mark of an edge where `sent` bytes have gone out before, and returns how many have
+/// gone out then.
 fn send_edge<O: Output>(writer: &mut O, sent: usize, edge: Edge) -> Result<usize, WriteFault>
     requires called { O.called writer.old ≤ 2 ^ 62 + 2 ^ 60 }
     requires few { sent ≤ 2 ^ 60 }
@@ -271,12 +272,12 @@ fn send_lists<O: Output>(
 
 /// Writes what was found, a line each, and then the notes that are lacking, as TOML: a mark for
 /// each edge that closes a loop, with the number of the mark inside which it stands, and a list for
-/// each word that is altered. What is lacking is that of what was found. It takes no memory.
+/// each word that is altered. What is lacking has to be that of what was found. It takes no memory.
 ///
 /// # Errors
 ///
-/// Where a write fails, or takes none of some bytes: then a prefix of the text has gone out, of so
-/// many bytes as it says.
+/// Where a write fails or takes no byte: then a prefix of the text has gone out, of as many bytes
+/// as the fault says.
 pub fn list_findings<O: Output>(
     findings: &Findings,
     lacking: &Lacking,

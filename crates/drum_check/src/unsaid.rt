@@ -91,8 +91,8 @@ fn add_unsaid_of(
     Ok(())
 }
 
-/// The pairs of marks of which the one stands inside the other, and doesn't say so: by the place
-/// of the one, and then of the other. It costs as much as discovery for each pair, twice.
+/// The pairs of marks of which the one stands inside the other, and doesn't say so: by the place of
+/// the one, and then of the other. For each pair it takes as long as discovery, twice.
 pub fn unsaid_marks(alloc: Global, flow: &Flow<'_>) -> Result<Vec<Finding>, AllocError>
     ensures { IfOk result (λ found. (pairs : List (ℕ × ℕ))
         × AreThose (IsUnsaid (loads_in flow.now.deck.now) flow.now.notes.now

@@ -9,7 +9,7 @@ use Rattle.drum_faults.specs.declared.placed_fault.PlacedFault.{PlacedFault}
 use Rattle.drum_faults.proofs.ByLine.{past_is_long, first_of_lines, none_of_lines}
 use Rattle.drum_faults.proofs.OnePlaced.{inputs_one}
 
--- the first fault that is told is the one that a reader refuses inputs for
+-- the first fault that is found is the one that a reader refuses inputs for
 pub first_input_refused : (text : List ℕ) (placed : PlacedFault InputFault) (others : List (PlacedFault InputFault))
     → AreInputFaults text (placed ∷ others) → IsRefused text placed.fault
 first_input_refused text placed others (inl (number, past, are)) =
@@ -19,7 +19,7 @@ first_input_refused text placed others (inr (short, have)) =
     first_refused text placed.fault short
     (first_of_lines comment IsLine AreSound IsFaultOfLine IsPlaced inputs_one text placed others have)
 
--- and none is told of inputs alone
+-- and only a text that is inputs has none
 pub none_is_inputs : (text : List ℕ) → AreInputFaults text [] → (lines : List Line) × AreInputs text lines
 none_is_inputs text (inl (number, past, are)) = cc (are)
 none_is_inputs text (inr (short, have)) =

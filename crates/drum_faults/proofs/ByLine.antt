@@ -1,5 +1,5 @@
--- Laws of all faults of a text that is read line by line, whatever its lines say: the first is the first fault of a
--- line, where none is told the lines are sound, and a text has one list of them.
+-- Laws of all faults of a text that is read line by line, whatever its lines say: the first is the
+-- first fault of a line, where none is found the lines are sound, and a text has one list of them.
 use Rattle.std.proofs.Common.{◌≡◌, ℕ, suc, ◌+◌, ◌<◌, List, [], ◌∷◌, ◌++◌, length, refl, ap, sym, ◌∙◌, subst}
 use Rattle.std.proofs.Common.{arith, inl, inr, Option, length-append, append_assoc}
 use Rattle.std.proofs.lemmas.Bool.{cases_lt}
@@ -121,7 +121,7 @@ pub record AllSound {Line : Type 0} (IsLine : List ℕ → Line → Type 0) (Are
   pub said : EachSays IsLine texts lines
   pub sound : AreSound lines
 
--- lines behind sound ones of which no fault is told are sound
+-- lines behind sound ones in which no fault is found are sound
 none_behind : {Line Fault : Type 0} (comment : Line) (IsLine : List ℕ → Line → Type 0)
     (AreSound : List Line → Type 0) (IsPlaced : List Line → List ℕ → PlacedFault Fault → Type 0)
     → (texts rest : List (List ℕ)) (before : List Line) → EachSays IsLine texts before → AreSound before

@@ -5,7 +5,8 @@ use Rattle.std.proofs.lemmas.List.{append-nil}
 use Rattle.std.specs.Prelude.{Any}
 use Rattle.drum_core.specs.Lines.{lines_of}
 
--- Of a text so many lines have been passed, none of which is such a one, and this is left.
+-- The first `number` lines of a text have been passed, none of which is such a one, and this is
+-- left.
 pub record Passed (P : List ℕ → Type 0) (text rest : List ℕ) (number : ℕ) : Type 0 where
   pub texts : List (List ℕ)
   pub split : lines_of text ≡ texts ++ lines_of rest

@@ -1,4 +1,4 @@
--- How the faults of a text's lines are told, one by one.
+-- How the faults of a text's lines are found, one by one.
 use Rattle.std.proofs.Common.{◌≡◌, ℕ, ◌+◌, ◌≤◌, List, [], ◌∷◌, ◌++◌, length, refl, ap}
 use Rattle.std.proofs.Common.{sym, subst, arith, Bool, true, false, None, inl, inr, length-append, append_assoc}
 use Rattle.std.proofs.lemmas.Bool.{cases_lt}
@@ -14,8 +14,8 @@ use Rattle.drum_faults.specs.DeckSoFar.{IsOf}
 use Rattle.drum_faults.specs.declared.deck_so_far.DeckSoFar.{DeckSoFar}
 use Rattle.drum_faults.specs.declared.placed_fault.PlacedFault.{PlacedFault}
 
--- Of a text the faults of some lines have been told, and this is left: with the faults of the lines
--- that are left, they are those of all.
+-- Of a text the faults of some lines have been found, and this is left: with the faults of the
+-- lines that are left, they are those of all.
 pub record Told (text rest : List ℕ) (so_far : DeckSoFar) (number : ℕ) (faults : List (PlacedFault DeckFault)) : Type 0 where
   pub lines : List Line
   pub holds : IsOf so_far lines

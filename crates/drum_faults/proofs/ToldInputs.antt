@@ -1,4 +1,4 @@
--- How the faults of the lines of inputs are told, one by one.
+-- How the faults of the lines of inputs are found, one by one.
 use Rattle.std.proofs.Common.{◌≡◌, ℕ, ◌+◌, ◌≤◌, List, [], ◌∷◌, ◌++◌, length, map, refl, ap, sym, subst, arith}
 use Rattle.std.proofs.Common.{inl, inr, length-append, append_assoc}
 use Rattle.std.proofs.lemmas.Bool.{cases_lt}
@@ -17,8 +17,8 @@ use Rattle.drum_faults.specs.declared.placed_fault.PlacedFault.{PlacedFault}
 abbrev pub all_said : List read.Line → List Line
 all_said lines = map said lines
 
--- Of a text the faults of some lines have been told, and this is left: with the faults of the lines
--- that are left, they are those of all.
+-- Of a text the faults of some lines have been found, and this is left: with the faults of the
+-- lines that are left, they are those of all.
 pub record ToldInputs (text rest : List ℕ) (before : List read.Line) (faults : List (PlacedFault InputFault)) :
     Type 0 where
   pub sound : AreSound (all_said before)
@@ -85,7 +85,7 @@ all_told text rest before faults p nothing =
     subst (λ (fs : List (PlacedFault InputFault)). HaveInputFaults [] (lines_of text) fs) (append-nil faults)
     (p.all [] (subst (λ (texts : List (List ℕ)). HaveInputFaults (all_said before) texts []) (sym nothing) refl))
 
--- so many lines fit, where a text isn't too long
+-- there are 4000 lines at most, where a text isn't too long
 pub few_told : (text rest : List ℕ) (before : List read.Line) (faults : List (PlacedFault InputFault))
     → ¬ IsTooLong text → ToldInputs text rest before faults → length before ≤ 4000
 few_told text rest before faults short p = elim (cases_lt 4000 (length (lines_of text)))

@@ -1,4 +1,4 @@
--- What was done to a line (this project's choice).
+-- What was done to a line.
 use Rattle.std.specs.Prelude.{ℕ, List, [], ◌∷◌, if◌then◌else◌, Option, Some, None}
 use Rattle.drum_faults.specs.declared.slip.Slip.{Slip}
 use Rattle.drum_faults.specs.declared.slip.Slip.TheVariants.{ByteOrderMark, Utf16, CarriageReturn}

@@ -113,7 +113,7 @@ impl DeckSoFar {
         None
     }
 
-    /// The first of so many locations that a card gives.
+    /// The first location that a card gives, of the `count` from `first` on.
     fn first_given(&self, first: u16, count: u16) -> Option<Location>
         requires { first + count ≤ 2000 }
         ensures found { IfSome result (λ location.
@@ -130,7 +130,7 @@ impl DeckSoFar {
     }
 }
 
-/// Notes that the card of a line gives so many locations.
+/// Notes that the card of a line gives the `count` locations from `first` on.
 fn give(cards: &mut Vec<Option<u16>>, first: u16, count: u16, line: u16)
     requires drum { vec_len cards.old ≡ 2000 }
     requires within { first + count ≤ 2000 }

@@ -4,8 +4,8 @@ ghost use Rattle.drum_faults.specs.ByLine.{IsFirstPast};
 
 use drum_core::Lines;
 
-/// The first line of a text, from 1, that is past the last one that may be, or longer than a line
-/// may be.
+/// The number, from 1, of the first line of a text that stands behind the first `most` lines, or is
+/// longer than `longest` bytes.
 pub fn first_past(text: &[u8], most: u16, longest: usize) -> Option<u16>
     requires { most < 2 ^ 15 }
     ensures found { IfSome result (IsFirstPast most longest text.now) }

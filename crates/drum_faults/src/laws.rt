@@ -21,8 +21,8 @@ ghost use Rattle.drum_faults.specs.declared.placed_fault.PlacedFault.{PlacedFaul
 
 use drum_times::laws::{tells_notes, tells_times};
 
-/// The first fault that is told is the one that a reader refuses the deck for, and none is told of
-/// a deck alone.
+/// The first of all faults is the one that a reader refuses the deck for, and only a text that is a
+/// deck has none.
 pub fn deck_faults_begin()
     ensures first { (text : List ℕ) (placed : PlacedFault DeckFault)
         (others : List (PlacedFault DeckFault))
@@ -37,8 +37,8 @@ pub fn one_list_of_faults()
         → AreDeckFaults text faults → AreDeckFaults text others → faults ≡ others }
 {}
 
-/// Of inputs likewise: the first fault is the one that a reader refuses them for, none is told of
-/// inputs alone, and a text has one list of faults.
+/// Of inputs likewise: the first fault is the one that a reader refuses them for, only a text that
+/// is inputs has none, and a text has one list of faults.
 pub fn input_faults_begin()
     ensures first { (text : List ℕ) (placed : PlacedFault InputFault)
         (others : List (PlacedFault InputFault))

@@ -1,17 +1,22 @@
 //! Every fault of what a drum machine is given, where a reader stops at the first: for a command
 //! that tells all of them at once.
 //!
-//! - `faults_of_deck`: all faults of a deck's text, in the order of its lines.
-//! - `faults_of_inputs`: all faults of a text of inputs, likewise.
-//! - `first_past`: the first line of a text that is past a limit.
-//! - `placed_fault`: a fault of a line, with the earlier line that it points at.
-//! - `slip`: what was done to a line that is none of its text.
-//! - `loaded`: the locations that both a deck and inputs load.
-//! - `lines_of_faults`: the lines of all faults of a deck, a timing table, notes and inputs.
-//! - `named_text`: a text, and its file's name.
-//! - `behind`: a text in memory, with what is said of a fault behind it.
-//! - `deck_so_far`: what the lines of a deck so far have given, and the fault of the next one.
-//! - `laws`: the laws that these definitions keep.
+//! Code, from the bottom up. `first_past` is the first line of a text that is past a limit. `slip`
+//! is what was done to a line that is none of its text. `placed_fault` is a fault of a line, with
+//! the earlier line that it points at. `deck_so_far` is what the lines of a deck so far have given,
+//! and the fault of the next one. `faults_of_deck` has all faults of a deck's text, in the order of
+//! its lines, and `faults_of_inputs` those of a text of inputs. `loaded` are the locations that
+//! both a deck and inputs load. `named_text` is a text with its file's name, and `behind` a text in
+//! memory, with what is said of a fault behind it. `lines_of_faults` has the lines of all faults of
+//! a deck, a timing table, notes and inputs. `laws` has laws of the definitions.
+//!
+//! Definitions, in the order to read them: `ByLine` says what all faults of a text by lines are,
+//! `DeckFaults` which those of a deck's text, `InputFaults` those of inputs, `Slip` (with
+//! `SlipTests`) what was done to a line, and `FaultLines` the lines of all faults. `DeckSoFar` and
+//! `NamedTexts` say what the code's types mean by these.
+//!
+//! Proofs. They take the lines one after the other (`SoFar`, `Told`, `Placed`), and show that a
+//! text has one list of faults (`OneList`), the first of which is the reader's (`Begin`).
 #![tactic(auto)]
 
 mod behind;

@@ -29,7 +29,8 @@ const LONGEST: usize = 1 << 61;
 ///
 /// # Errors
 ///
-/// Want of memory, also for lines of more than 2^61 bytes, for which no machine has room.
+/// [`AllocError`] where there is no memory, and for lines of more than 2^61 bytes in all, for which
+/// no machine has room.
 pub fn fault_lines(
     alloc: Global,
     deck: NamedText<'_>,

@@ -23,21 +23,21 @@ pub fn loaded_twice(alloc: Global, deck: &[u8], inputs: &[u8]) -> Result<Vec<Loc
     }
 }
 
-/// Whether a deck's fault is want of memory.
+/// Whether a deck's fault is lack of memory.
 fn deck_wants_memory(fault: DeckFault) -> bool
     ensures { result ≡ false → fault ≢ DeckFault.Memory }
 {
     matches!(fault, DeckFault::Memory)
 }
 
-/// Whether a fault of inputs is want of memory.
+/// Whether a fault of inputs is lack of memory.
 fn inputs_want_memory(fault: InputFault) -> bool
     ensures { result ≡ false → fault ≢ InputFault.Memory }
 {
     matches!(fault, InputFault::Memory)
 }
 
-/// No locations, but where memory was wanting that is the fault.
+/// No locations; but where there was no memory, that is the fault.
 fn none_but_for_memory(alloc: Global, wanting: bool) -> Result<Vec<Location>, AllocError>
     ensures { IfOk result (λ none. (wanting ≡ false) × (none.items ≡ [])) }
 {

@@ -5,10 +5,10 @@ use crate::slip::Slip;
 pub struct PlacedFault<F> {
     /// The fault.
     pub fault: F,
-    /// Its line, from 1; a deck without a start has none.
+    /// The number of its line, from 1; `None` of a deck without a start.
     pub line: Option<u16>,
-    /// The earlier line that says first what this one says again.
+    /// The number of the earlier line that says what this one says again, if that is its fault.
     pub earlier: Option<u16>,
-    /// What was done to the line, where it is no line of its text.
+    /// What was done to the line, where it is none of its text and that is known.
     pub slip: Option<Slip>,
 }

@@ -10,7 +10,7 @@ pub enum Slip {
     Utf16,
     /// The line ends with a carriage return.
     CarriageReturn,
-    /// The line has small letters.
+    /// The line has letters from `a` to `z`.
     SmallLetters,
 }
 

@@ -33,7 +33,7 @@ box_text node =
 abbrev pub most_at : List Mark → ℕ → ℕ
 most_at marks place = elim (slice_get marks place) [ None ↦ 0 | Some mark ↦ mark.most ]
 
--- what is told of the mark at a place: its number, from 1, and its most
+-- what is said of the mark at a place: its number, from 1, and its most
 abbrev pub mark_label : List Mark → Option ℕ → List ℕ
 mark_label marks None = []
 mark_label marks (Some place) =

@@ -14,7 +14,7 @@ use drum_lines::{WriteFault, four_digits, send};
 use drum_times::Mark;
 use itoa::Buffer;
 
-/// Writes an arrow from one location to another, and tells how many bytes have gone out then.
+/// Writes an arrow from one location to another, and returns how many bytes have gone out then.
 fn send_arrow<O: Output>(
     writer: &mut O,
     sent: usize,

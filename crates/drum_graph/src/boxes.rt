@@ -10,8 +10,8 @@ use crate::node::Node;
 use drum_core::{Location, Output};
 use drum_lines::{WriteFault, four_digits, send, two_digits};
 
-/// Writes the name of a word's box, and how its label begins, behind so many bytes, and tells how
-/// many have gone out then.
+/// Writes the name of a word's box, and how its label begins, where `sent` bytes have gone out
+/// before, and returns how many have gone out then.
 fn send_name<O: Output>(
     writer: &mut O,
     sent: usize,

@@ -14,8 +14,8 @@ use drum_core::{Location, Output};
 use drum_lines::{WriteFault, four_digits, send};
 use drum_times::Mark;
 
-/// Writes the beginning of a graph, with the arrow to the start, and tells how many bytes have gone
-/// out then.
+/// Writes the beginning of a graph, with the arrow to the start, and returns how many bytes have
+/// gone out then.
 fn send_head<O: Output>(writer: &mut O, start: Location) -> Result<usize, WriteFault>
     requires { O.called writer.old ≤ 2 ^ 62 }
     ensures sent { IsSent (O.written writer.old) (O.written writer.new) 0 result
@@ -81,8 +81,8 @@ fn send_nodes<O: Output>(
 ///
 /// # Errors
 ///
-/// Where a write fails, or takes none of some bytes: then a prefix of the text has gone out, of so
-/// many bytes as it says.
+/// Where a write fails or takes no byte: then a prefix of the text has gone out, of as many bytes
+/// as the fault says.
 pub fn send_graph<O: Output>(
     graph: &Graph,
     marks: &[Mark],

@@ -36,11 +36,11 @@ impl Graph {
         Ok(nodes)
     }
 
-    /// The flow graph of a deck under its notes, whatever is wrong with them.
+    /// What is drawn of the flow graph of a deck under its notes, whatever is wrong with them.
     ///
     /// # Errors
     ///
-    /// Where memory is wanting.
+    /// [`AllocError`] where there is no memory.
     pub fn of(alloc: Global, deck: &Deck, notes: &Notes) -> Result<Graph, AllocError>
         ensures nodes { IfOk result (λ graph. AreNodes (loads_in deck.now) notes.now
             (start_in deck.now) (nodes_in graph)) }

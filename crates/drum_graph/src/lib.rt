@@ -3,10 +3,18 @@
 //! go on, with the mark that stands on that edge, and a dotted arrow to each executed word that
 //! they write. It is drawn of any deck, whatever is wrong with it.
 //!
-//! `graph` has what is drawn of a deck, a `node` for each word: `operations` are those that are
-//! allowed at a location, `stops` tells whether some instruction of it may stop the run, and
-//! `written` are the executed words that its instructions write. `drawing` writes the graph out:
-//! `boxes` the line of a word's box, and `arrows` the lines of its arrows.
+//! Code, from the bottom up. `operations` are those that are allowed at a location. `stops` tells
+//! whether some instruction of it may stop the run, and `written` are the executed words that its
+//! instructions write. A `node` is what is drawn of a word, and `graph` of a deck. `drawing` writes
+//! the graph out: `boxes` the line of a word's box, and `arrows` the lines of its arrows. `laws`
+//! has laws of the definitions.
+//!
+//! Definitions, in the order to read them: `Graph` is what is drawn of each executed location,
+//! `GraphText` its lines, and `GraphOf` how it is held.
+//!
+//! Proofs. There is a file for each part of a node (`Words` for what is written, with `Among`;
+//! `PatternOperations`; `Stopping`), `Nodes` for all of them, and `Texts` for the lines. `Checks`
+//! evaluates the definitions on a deck of three words.
 #![tactic(auto)]
 
 mod arrows;

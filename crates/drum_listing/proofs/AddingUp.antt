@@ -5,8 +5,8 @@ use Rattle.std.proofs.lemmas.List.Sums.{sum_by-cons}
 use Rattle.std.specs.Prelude.{Contains, slice_get, sum_by, not, if◌then◌else◌}
 use Rattle.drum_core.specs.declared.op.Op.{Op}
 use Rattle.drum_core.specs.Op.{op_of, operand_of, is_operand}
-use Rattle.drum_core.specs.Recurs.{never_earlier}
-use Rattle.drum_core.specs.Waits.{parity_recurs}
+use Rattle.drum_rotation.specs.Recurs.{never_earlier}
+use Rattle.drum_rotation.specs.Waits.{parity_recurs}
 use Rattle.drum_times.specs.declared.entry.Entry.{Entry}
 use Rattle.drum_machine.specs.Counts.{AreWithin, after_pass}
 use Rattle.drum_machine.specs.Timing.{ended, found, reached, ready}

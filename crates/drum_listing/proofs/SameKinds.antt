@@ -1,4 +1,4 @@
--- That `==` of kinds tells kinds apart as their definition does, which is an equivalence.
+-- That `==` of kinds distinguishes kinds as their definition does, which is an equivalence.
 use Rattle.std.proofs.Common.{◌≡◌, ◌==◌, Bool, true, false, ◌&&◌, refl, ap, ◌∙◌, subst, cond, Option, Some}
 use Rattle.indexmap.specs.IndexMap.{IndexMap, IsUnique, get}
 use Rattle.std.proofs.lemmas.Bool.{eqb-true}
@@ -126,7 +126,7 @@ same_kind_equiv = record {
   congr = λ a b c. alike_equiv.congr (hop_of a) (hop_of b) (hop_of c);
 }
 
--- so a map's keys are told apart by either
+-- so a map's keys are distinguished by either
 pub eq_is_same : kinds.TheImpl.ghosts.eq ≡ same_kind
 eq_is_same = λ j a b. eq_is a b j
 

@@ -1,4 +1,4 @@
--- The answer of a step tells of its stride's hop.
+-- The answer of a step is about its stride's hop.
 use Rattle.std.proofs.Common.{◌≡◌, ℕ, Bool, List, ap, sym, ◌∙◌, Option}
 use Rattle.drum_core.specs.declared.instruction.Instruction.{Instruction}
 use Rattle.drum_core.specs.declared.location.Location.{Location}

@@ -4,9 +4,9 @@ use Rattle.std.specs.Prelude.{codes}
 use Rattle.std.specs.Fmt.{digits}
 use Rattle.drum_core.specs.declared.op.Op.{Op}
 use Rattle.drum_core.specs.declared.op.Op.TheVariants.{LoadDistributor}
-use Rattle.drum_core.specs.declared.rotation.parity.Parity.TheVariants.{Any}
+use Rattle.drum_core.specs.declared.parity.Parity.TheVariants.{Any}
 use Rattle.drum_core.specs.Instruction.{instruction_of}
-use Rattle.drum_core.specs.Moment.{first}
+use Rattle.drum_rotation.specs.Moment.{first}
 use Rattle.drum_core.specs.Word.{word}
 use Rattle.drum_times.specs.declared.entry.Entry.{Entry}
 use Rattle.drum_times.specs.Entries.{blank}

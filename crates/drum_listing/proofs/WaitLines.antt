@@ -59,7 +59,7 @@ angles_told operand next first first' second second' p q r s =
     ∙ ap (λ (xs : List ℕ). moment_text (codes " data-at ") operand ++ xs ++ codes "\n")
     (sym (angle_pieces (codes " next-at ") next)))
 
--- ---- the line of a row, of which the first hop is told
+-- ---- the line of a row, which states its first hop
 
 -- where it begins
 abbrev pub begin_text : Visited → Wait → List ℕ
@@ -95,7 +95,7 @@ module _ (times : Op → Entry) (angle : ℕ) (wait : Wait) (hop : Visited) (sam
         IsSent-cut old second sent fault (begin_text told wait ++ sums_text wait)
         (angles_text (data_at times angle told) (next_at angle told)) (up_to_sums (Err fault) sums)
 
-    -- its angles are those that are told
+    -- its angles are those that the line states
     pub row_last : (new : Option (List ℕ)) (most : ℕ) (result : Result ℕ WriteFault)
         (moments : Moments) (operand next : Option ℕ) → moments ≡ moments_at times angle hop
         → operand ≡ on_drum hop.ins.d

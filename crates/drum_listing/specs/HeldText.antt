@@ -1,4 +1,4 @@
--- What a machine holds after a step, as the step's line tells it (this project's choice).
+-- What a machine holds after a step, as the step's line tells it.
 use Rattle.std.specs.Prelude.{ℕ, ◌+◌, Bool, true, false, ◌||◌, not, if◌then◌else◌, List, [], ◌∷◌}
 use Rattle.std.specs.Prelude.{◌++◌, Option, Some, None, ℤ, unsigned_abs, codes, slice_range}
 use Rattle.drum_core.specs.declared.op.Op.{Op}
@@ -40,7 +40,7 @@ acting way None d = None
 acting way (Some op) d =
     if is_early way || not (is_operand (operand_of op) d) then None else Some op
 
--- a location, and so many words of the drum from there on
+-- a location, and the `count` words of the drum from there on
 abbrev pub words_text : List Word → ℕ → ℕ → List ℕ
 words_text drum at count = digits_of 4 at ++ spaced (slice_range drum at (at + count))
 

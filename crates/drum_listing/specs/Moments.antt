@@ -1,5 +1,5 @@
--- When an instruction is found, is ready and has its data, in word times used (this project's
--- choice; the moments are those of the machine's steps).
+-- When an instruction is found, is ready and has its data, in word times used. The moments are
+-- those of the machine's steps.
 use Rattle.std.specs.Prelude.{ℕ, ◌+◌, ◌-◌, Bool, true, false, ◌||◌, not, if◌then◌else◌, Option}
 use Rattle.std.specs.Prelude.{Some, None}
 use Rattle.drum_core.specs.declared.instruction.Instruction.{Instruction}
@@ -30,7 +30,7 @@ moments_with times angle place d way begun (Some op) =
           else Some (reached op d x - angle);
     }
 
--- Those of an instruction at a place, sought when so many word times are used, on a drum with this
+-- Those of an instruction at a place, sought with `begun` word times used, on a drum with this
 -- angle at time 0, whose step ends in this way.
 abbrev pub moments_of : (Op → Entry) → ℕ → ℕ → Instruction → Way → ℕ → Moments
 moments_of times angle place ins way begun =

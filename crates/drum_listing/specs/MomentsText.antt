@@ -1,4 +1,4 @@
--- The text of moments (this project's choice).
+-- The text of moments.
 use Rattle.std.specs.Prelude.{ℕ, List, [], ◌++◌, codes, decimal, Option, Some, None}
 use Rattle.drum_listing.specs.declared.moments.Moments.{Moments}
 

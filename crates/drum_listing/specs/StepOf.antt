@@ -6,11 +6,11 @@ use Rattle.drum_machine.specs.declared.card.Card.{Card}
 use Rattle.drum_machine.specs.declared.machine.Machine.{Machine}
 use Rattle.drum_machine.specs.declared.step.Step.{Step}
 use Rattle.drum_machine.specs.Machine.{held_by}
-use Rattle.drum_machine.specs.Monitor.{IsToldOf}
+use Rattle.drum_machine.specs.Machine.{IsToldOf}
 use Rattle.drum_machine.specs.Run.{Stride}
 use Rattle.drum_machine.specs.Step.{contents_after}
 
--- The step is that of a stride, on a drum with this angle at time 0, with so many word times used
+-- The step is that of a stride, on a drum with this angle at time 0, with `before` word times used
 -- before it; the machine is as it is after the stride, with some cards in the reader.
 pub record IsStepOf (times : Op → Entry) (angle before : ℕ) (step : Step) (machine : Machine)
     (stride : Stride) : Type 0 where

@@ -3,7 +3,7 @@ use Rattle.drum_machine.specs.WaysLeft.{seen_way}
 use Rattle.drum_bound.specs.Visited.{Visited}
 use Rattle.drum_listing.specs.declared.told.Told.{Told}
 
--- the hop that is told
+-- the hop that the line is of
 abbrev pub seen_told : Told → Visited
 seen_told told = record {
   place = told.place.number;

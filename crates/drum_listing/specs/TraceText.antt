@@ -1,5 +1,5 @@
--- The lines of a run's steps (this project's choice). A location has four digits, a word a sign
--- and ten, and other numbers are plain decimal.
+-- The lines of a run's steps. A location has four digits, a word a sign and ten, and other numbers
+-- are plain decimal.
 use Rattle.std.specs.Prelude.{ℕ, suc, List, [], ◌∷◌, ◌++◌, codes, decimal}
 use Rattle.drum_core.specs.declared.op.Op.{Op}
 use Rattle.drum_core.specs.Numeral.{digits_of}

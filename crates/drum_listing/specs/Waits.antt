@@ -1,4 +1,4 @@
--- Where the word times of a walk go, by instruction and way (this project's choice).
+-- Where the word times of a walk go, by instruction and way.
 use Rattle.std.specs.Prelude.{◌≡◌, ℕ, suc, ◌+◌, ◌-◌, ◌%◌, ◌<◌, ◌≤◌, ◌==◌, ◌⊎◌, Bool, true, false}
 use Rattle.std.specs.Prelude.{◌&&◌, nat_lt, if◌then◌else◌, List, ◌∷◌, ◌++◌, filter, sum_by}
 use Rattle.std.specs.Prelude.{slice_get, Option, Some, None, Contains}
@@ -88,8 +88,8 @@ abbrev pub IsFirst : List Visited → Visited → Type 0
 IsFirst walk one = (before after : List Visited) × (walk ≡ before ++ one ∷ after)
     × ((hop : Visited) → Contains before hop → is_alike one hop ≡ false)
 
--- Of two kinds, each told by a hop, that which takes longer in all comes before; of those that take
--- as long, that which the walk comes to first.
+-- Of two kinds, each given by a hop, that which takes longer in all comes before; of those that
+-- take as long, that which the walk comes to first.
 abbrev pub ComesBefore : List Visited → Visited → Visited → Type 0
 ComesBefore walk a b = (time_alike walk b < time_alike walk a)
     ⊎ ((time_alike walk a ≡ time_alike walk b) × (a.begun ≤ b.begun))

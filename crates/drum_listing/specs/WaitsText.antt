@@ -1,5 +1,5 @@
--- The lines of where the word times of a walk go (this project's choice). A location has four
--- digits, an operation two, and other numbers are plain decimal.
+-- The lines of where the word times of a walk go. A location has four digits, an operation two, and
+-- other numbers are plain decimal.
 use Rattle.std.specs.Prelude.{ℕ, ◌-◌, List, ◌++◌, length, codes, decimal, flat_map, sum_by}
 use Rattle.drum_core.specs.declared.op.Op.{Op}
 use Rattle.drum_times.specs.declared.entry.Entry.{Entry}

@@ -1,5 +1,5 @@
--- The lines of the worst walk (this project's choice). A location has four digits, an operation
--- two, and other numbers are plain decimal.
+-- The lines of the worst walk. A location has four digits, an operation two, and other numbers are
+-- plain decimal.
 use Rattle.std.specs.Prelude.{ℕ, List, ◌++◌, codes, decimal, flat_map}
 use Rattle.drum_core.specs.declared.op.Op.{Op}
 use Rattle.drum_core.specs.Numeral.{digits_of}

@@ -31,7 +31,8 @@ fn acting(told: &Told) -> Option<Op>
     }
 }
 
-/// Writes words, each behind a space, behind so many bytes, and tells how many have gone out then.
+/// Writes words, each behind a space, where `sent` bytes have gone out before, and returns how many
+/// have gone out then.
 fn send_spaced<O: Output>(writer: &mut O, sent: usize, words: &[Word]) -> Result<usize, WriteFault>
     requires called { O.called writer.old + 200 ≤ 2 ^ 63 }
     requires few { sent + 200 ≤ 2 ^ 63 }
@@ -50,7 +51,7 @@ fn send_spaced<O: Output>(writer: &mut O, sent: usize, words: &[Word]) -> Result
     Ok(total)
 }
 
-/// Writes a name, a location, and so many words of the drum from there on.
+/// Writes a name, a location, and the `count` words of the drum from there on.
 fn send_words<O: Output>(
     writer: &mut O,
     sent: usize,
@@ -76,8 +77,8 @@ fn send_words<O: Output>(
     send_spaced(writer, sent, &drum[first..first + usize::from(count)])
 }
 
-/// Writes what a step did to words of the drum behind so many bytes, and tells how many have gone
-/// out then. The words are those of the drum after the step.
+/// Writes what a step did to words of the drum, where `sent` bytes have gone out before, and
+/// returns how many have gone out then. The words are those of the drum after the step.
 pub fn send_acted<O: Output>(
     writer: &mut O,
     sent: usize,

@@ -39,8 +39,8 @@ fn onto_with(digits: &mut [u8; 4], way: Way) -> &[u8]
     }
 }
 
-/// Writes where a hop begins, its instruction, how it ends, and a named number, behind so many
-/// bytes, and tells how many have gone out then.
+/// Writes where a hop begins, its instruction, how it ends, and a named number, where `sent` bytes
+/// have gone out before, and returns how many have gone out then.
 pub fn send_hop<O: Output>(
     writer: &mut O,
     sent: usize,

@@ -29,7 +29,7 @@ pub fn waits_are_one()
 {}
 
 /// The angle at which D would come just when it is wanted is the same for all hops of a kind: the
-/// line of the kind tells it of the first.
+/// line of the kind states that of the first.
 pub fn data_angles_are_one()
     ensures { (times : Op → Entry) (angle : ℕ) (a b : Visited)
         → is_alike a b ≡ true → data_at times angle a ≡ data_at times angle b }

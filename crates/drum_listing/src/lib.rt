@@ -1,6 +1,33 @@
 //! The lines of the worst walk of an analysis and of the steps of a run, each with the moments of
 //! its instruction, and of a step with what the machine holds after it; where the walk's word times
 //! go; and the table of worst times.
+//!
+//! Code, from the bottom up. `moments` is when an instruction is found, is ready and has its data,
+//! and `moments_text` the end of a line, which tells them. `told` is a hop as its line tells it, of
+//! a visit or of a step. `hop_text` writes where a hop begins, its instruction and how it ends.
+//! `registers_text` writes the registers and the latch after a step. `acted` writes what a step did
+//! to words of the drum: the word that it wrote, or the card that it read or punched. `visit_line`
+//! and `step_line` write a line each. `page` is an output in which lines are gathered until there
+//! is no room for one more. `line` is what is written as a line, and `passing` gathers one after
+//! the other on a page and writes many at a time. `walk` has `list_walk`, and `step_page` has
+//! `pass_step`, for one line of a trace after the other. `table` has the table, sorted, with
+//! `table/line` and `table/listing`. `waits` has where the word times of a walk go. `waits/sums`
+//! goes over the walk once. For each kind of hops (`waits/kind`) it adds up what they have spent
+//! (`waits/spent`), in a `waits/wait`. `waits/listing` has `list_waits`, and `waits/line` the line
+//! of a kind. `laws` has laws of the definitions.
+//!
+//! Definitions, in the order to read them: `Moments`, `MomentsText`, `WalkText`, `HeldText` (what a
+//! machine holds after a step), `TraceText`, `Waits`, `WaitsText`, `TableText`. The others say what
+//! the code means by these. `StepOf` says which stride a step is of, and `Page` what a page holds
+//! and what has gone out behind it. `Pieces` are parts of lines, as the code writes them. `Told` is
+//! a hop that is told, `WaitsOf` are the waits, and `TableOf` is the table.
+//!
+//! Proofs. `Lines` puts lines together of their pieces, `Gathers` has lines that go out many at a
+//! time, and `Strides` what a step's answer tells of its stride. `Checks` and `WaitChecks` evaluate
+//! the definitions. Of the waits: `SameKinds` (`==` of kinds), `Waiting` (how long a hop waits at
+//! most), `WaitRows` (rows with a hop more), `WaitsFound` (rows, sorted, are the waits),
+//! `WaitLines`; and for their laws `AddingUp`, `OneListing`, `DataAngles` and `NextAngles`. Of the
+//! table: `TableRows` (rows that are sorted are in order) and `TableLines`.
 #![tactic(auto)]
 
 mod acted;

@@ -9,11 +9,12 @@ pub trait Line {
     /// The bytes of the line, with the end of it.
     ghost text: { Self → List ℕ };
 
-    /// Writes the line behind so many bytes, and tells how many have gone out then.
+    /// Writes the line where `sent` bytes have gone out before, and returns how many have gone out
+    /// then.
     ///
     /// # Errors
     ///
-    /// Where a write fails, or takes none of some bytes: then a prefix of the line has gone out.
+    /// Where a write fails or takes no byte: then a prefix of the line has gone out.
     fn send<O: Output>(&self, writer: &mut O, sent: usize) -> Result<usize, WriteFault>
         requires called { O.called writer.old ≤ 2 ^ 62 + 2 ^ 60 }
         requires few { sent ≤ 2 ^ 60 }

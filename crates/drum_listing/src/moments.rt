@@ -9,11 +9,11 @@ use drum_times::Times;
 /// When an instruction is found, is ready and has its data, in word times used.
 #[derive(Clone, Copy, Debug, PartialEq, Eq)]
 pub struct Moments {
-    /// When its location comes under the heads.
+    /// When its word can be had: on the drum, when its location comes under the heads.
     pub found: u64,
-    /// When its operation can begin; none where the profile doesn't have it.
+    /// When its operation can begin; `None` where the profile doesn't have it.
     pub ready: Option<u64>,
-    /// When its operation has its data; none where it stops before it acts.
+    /// When its operation has its data; `None` where it stops before it acts.
     pub operand: Option<u64>,
 }
 

@@ -32,8 +32,8 @@ pub(crate) fn digits_with(buffer: &mut Buffer, moment: Option<u64>) -> &[u8]
     }
 }
 
-/// Writes the moments of an instruction, when its step ends, and these last bytes, behind so many
-/// bytes, and tells how many have gone out then.
+/// Writes the moments of an instruction, when its step ends, and these last bytes, where `sent`
+/// bytes have gone out before, and returns how many have gone out then.
 pub fn send_times<O: Output>(
     writer: &mut O,
     sent: usize,

@@ -50,7 +50,7 @@ impl Page {
         &self.bytes[..self.held]
     }
 
-    /// Keeps the first of its bytes alone, so many of them.
+    /// Keeps the first `count` of its bytes alone.
     pub fn keep(&mut self, count: usize)
         requires { count ≤ length (text_of self.old) }
         ensures kept { text_of self.new ≡ take count (text_of self.old) }

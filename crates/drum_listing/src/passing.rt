@@ -10,7 +10,7 @@ use crate::page::Page;
 use drum_core::Output;
 use drum_lines::{WriteFault, send};
 
-/// Gathers a line, and tells whether there was room for it: else the page is as it was.
+/// Gathers a line, and returns whether there was room for it: else the page is as it was.
 fn gather<L: Line>(page: &mut Page, line: &L) -> bool
     requires { ⟦<Page as Output>⟧.called page.old ≤ 2 ^ 62 }
     ensures line { result ≡ true → text_of page.new ≡ text_of page.old ++ L.text line.now }
@@ -52,8 +52,8 @@ fn send_behind<O: Output, L: Line>(
     line.send(writer, sent)
 }
 
-/// Gathers a line; where there is no room for it, writes what was gathered, and then the line. So
-/// many bytes have gone out before, and it tells how many have gone out then. What is left on the
+/// Gathers a line; where there is no room for it, writes what was gathered, and then the line.
+/// `sent` bytes have gone out before; it returns how many have gone out then. What is left on the
 /// page is for the caller to write.
 pub fn pass_line<O: Output, L: Line>(
     writer: &mut O,

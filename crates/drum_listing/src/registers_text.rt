@@ -71,8 +71,8 @@ fn latch_text(latch: bool) -> &'static [u8]
     if latch { b" latch on" } else { b" latch off" }
 }
 
-/// Writes the registers of a machine and its latch behind so many bytes, and tells how many have
-/// gone out then.
+/// Writes the registers of a machine and its latch, where `sent` bytes have gone out before, and
+/// returns how many have gone out then.
 pub fn send_registers<O: Output>(
     writer: &mut O,
     sent: usize,

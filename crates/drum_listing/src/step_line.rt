@@ -7,7 +7,7 @@ ghost use Rattle.drum_times.specs.Entries.{entry_in};
 ghost use Rattle.drum_machine.specs.declared.card.Card.{Card};
 ghost use Rattle.drum_machine.specs.Ending.{stops_by};
 ghost use Rattle.drum_machine.specs.Machine.{held_by};
-ghost use Rattle.drum_machine.specs.Monitor.{IsToldOf};
+ghost use Rattle.drum_machine.specs.Machine.{IsToldOf};
 ghost use Rattle.drum_machine.specs.Run.{Stride};
 ghost use Rattle.drum_machine.specs.Step.{contents_after, fetched};
 ghost use Rattle.drum_flow.specs.RunHops.{hop_of};
@@ -50,7 +50,7 @@ fn word_of(step: &Step) -> Word
     }
 }
 
-/// A step as a hop from the location where it begins, with so many word times used before it.
+/// A step as a hop from the location where it begins, with `before` word times used before it.
 fn told_of(step: &Step, before: u64) -> Told
     ensures told { (times : Op → Entry) (stride : Stride) → IsToldOf times stride step.now
         → stride.origin.time ≡ before → seen_told result ≡ visited (hop_of stride) }
@@ -158,14 +158,14 @@ fn send_held<O: Output>(
     send(writer, sent, &[b"\n"])
 }
 
-/// Writes the line of a step behind so many bytes, and tells how many have gone out then. The step
-/// is the one of this number, on a drum with this angle at time 0, with so many word times used
-/// before it; the machine is as it is after it.
+/// Writes the line of a step where `sent` bytes have gone out before, and returns how many have
+/// gone out then. The step is the one of this number, on a drum with this angle at time 0, with
+/// `before` word times used before it; the machine is as it is after it.
 ///
 /// # Errors
 ///
-/// Where a write fails, or takes none of some bytes: then a prefix of the line has gone out, which
-/// ends where it says.
+/// Where a write fails or takes no byte: then a prefix of the line has gone out, up to where the
+/// fault says.
 pub fn send_step<O: Output>(
     writer: &mut O,
     sent: usize,

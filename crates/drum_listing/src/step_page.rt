@@ -16,7 +16,8 @@ use drum_lines::{WriteFault, send};
 use drum_machine::{Machine, Step};
 use drum_times::Times;
 
-/// Gathers the line of a step, and tells whether there was room for it: else the page is as it was.
+/// Gathers the line of a step, and returns whether there was room for it: else the page is as it
+/// was.
 fn gather_step(
     page: &mut Page,
     times: &Times,
@@ -80,14 +81,14 @@ fn send_behind<O: Output>(
 }
 
 /// Gathers the line of a step; where there is no room for it, writes what was gathered, and then
-/// the line. The step is the one of this number, on a drum with this angle at time 0, with so many
-/// word times used before it; the machine is as it is after it. So many bytes have gone out before,
-/// and it tells how many have gone out then. What is left on the page is for the caller to write.
+/// the line. The step is the one of this number, on a drum with this angle at time 0, with `before`
+/// word times used before it; the machine is as it is after it. `sent` bytes have gone out before;
+/// it returns how many have gone out then. What is left on the page is for the caller to write.
 ///
 /// # Errors
 ///
-/// Where a write fails, or takes none of some bytes: then a prefix of what was gathered, with the
-/// line behind it, has gone out, which ends where it says.
+/// Where a write fails or takes no byte: then a prefix of what was gathered, with the line behind
+/// it, has gone out, up to where the fault says.
 pub fn pass_step<O: Output>(
     writer: &mut O,
     sent: usize,

@@ -29,7 +29,7 @@ impl Table {
     ///
     /// # Errors
     ///
-    /// Where memory is wanting.
+    /// [`AllocError`] where there is no memory.
     pub fn of(alloc: Global, analysis: &Analysis) -> Result<Table, AllocError>
         ensures { IfOk result (λ table. AreInOrder (rows_of analysis.now) (rows_in table)) }
     {

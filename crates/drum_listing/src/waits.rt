@@ -36,12 +36,12 @@ impl Waits {
     ghost use Rattle.drum_bound.specs.AnalysisOf.{angle_of, visits_of};
     ghost use Rattle.drum_listing.specs.WaitsOf.{AreWaits};
 
-    /// Where the word times of the walk of an analysis go. The timing table is the one of the
-    /// analysis.
+    /// Where the word times of the walk of an analysis go. The timing table has to be the one of
+    /// the analysis.
     ///
     /// # Errors
     ///
-    /// Where memory is wanting.
+    /// [`AllocError`] where there is no memory.
     pub fn of(alloc: Global, analysis: &Analysis, times: &Times) -> Result<Waits, AllocError>
         ensures { IfOk result (AreWaits (entry_in times.now) (angle_of analysis.now)
             (visits_of analysis.now)) }

@@ -43,14 +43,14 @@ fn send_visits<O: Output>(
     send(writer, sent, &[page.bytes()])
 }
 
-/// Writes the worst walk of an analysis, visit by visit, and the bound. The timing table is the one
-/// of the analysis, and the moments are those of a drum with the angle of the walk. It takes no
-/// memory.
+/// Writes the worst walk of an analysis, visit by visit, and the bound. The timing table has to be
+/// the one of the analysis, and the moments are those of a drum with the angle of the walk. It
+/// takes no memory.
 ///
 /// # Errors
 ///
-/// Where a write fails, or takes none of some bytes: then a prefix of the text has gone out, of so
-/// many bytes as it says.
+/// Where a write fails or takes no byte: then a prefix of the text has gone out, of as many bytes
+/// as the fault says.
 pub fn list_walk<O: Output>(
     analysis: &Analysis,
     times: &Times,

@@ -68,7 +68,7 @@ fn draw_walk(
 ///
 /// # Errors
 ///
-/// Where memory is wanting.
+/// [`AllocError`] where there is no memory.
 pub fn picture(
     alloc: Global,
     analysis: &Analysis,

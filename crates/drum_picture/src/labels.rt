@@ -30,7 +30,7 @@ const SMALL_FONT: u16 = 78;
 
 pub const LARGE_FONT: u16 = 102;
 
-/// So many tenths of a degree.
+/// `count` tenths of a degree.
 fn tenths(count: u16) -> Tenths {
     Tenths {
         count: u64::from(count),

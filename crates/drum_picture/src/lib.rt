@@ -1,11 +1,16 @@
-//! The picture of an analysis: its worst walk, drawn as an SVG document of bounded size.
+//! The picture of an analysis: its worst walk, drawn as an SVG document of bounded size. It is
+//! proved to be safe and to end, whatever is handed in; how it looks is no contract.
+//! docs/PICTURE.md says how it is read.
 //!
-//! Each of `tallies`, `edges` and `shares` counts something in one pass over the `walk`, of which
-//! `parts` says when the parts of one hop begin and end, `operations` what stands at a location,
-//! and `rows` which revolutions are shown.
-//! `drum`, with `rings`, `word`, `labels`, `curves` and `beside`, draws the drum; `revolutions`,
-//! with `spans`, draws the walk a revolution a row; `page` and `bar` draw what stands around them,
-//! all of it in the colours of `ink`.
+//! Code. `drawing` has `picture`. What is drawn is found first. `walk` is the walk that is drawn,
+//! and `parts` says when the parts of a hop begin and end. `tallies` counts visits by location,
+//! `edges` counts hops from word to word, and `shares` adds up where all word times go.
+//! `operations` tells what stands at a location, and `rows` which revolutions are shown. The drum
+//! is drawn by `drum`, with `rings`, `word`, `labels`, `curves` and `beside` (8000 to 8003), over
+//! `point`, where angles become points. The walk is drawn a revolution a row by `revolutions`, with
+//! `spans`. `page` has what stands around them: the heading and the keys. `bar` draws where the
+//! word times go, with their percentages. `ink` has the colours. `scale` (a share of a length) and
+//! `tenths` (a number with one decimal place) serve them all.
 #![tactic(auto)]
 
 mod bar;

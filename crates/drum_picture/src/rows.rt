@@ -100,7 +100,7 @@ impl Rows {
         Ok(())
     }
 
-    /// The last of so many first revolutions that are shown.
+    /// The last of the first `count` revolutions that are shown; 0 where there is none.
     fn last_before(&self, count: usize) -> u64 {
         self.shown.iter().take(count).last().copied().unwrap_or(0)
     }

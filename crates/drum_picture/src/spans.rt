@@ -42,8 +42,8 @@ fn draw_span(
     Ok(())
 }
 
-/// Writes the location and the operation of a hop where there is room for so many word times, or
-/// the location alone.
+/// Writes the location and the operation of a hop where `room` word times leave room for both;
+/// where they don't, the location alone, or nothing.
 fn draw_label(
     text: &mut String,
     visit: &Visit,

@@ -1,6 +1,5 @@
--- The text of a ceiling (this project's choice): how often each mark can be passed and what a pass
--- costs, and then the base and what they come to. A location has four digits, and other numbers are
--- plain decimal.
+-- The text of a ceiling: how often each mark can be passed and what a pass costs, and then the base
+-- and what they come to. A location has four digits, and other numbers are plain decimal.
 use Rattle.std.specs.Prelude.{ℕ, List, ◌++◌, codes, decimal, flat_map, slice_index}
 use Rattle.std.specs.List.{enumerate_from}
 use Rattle.drum_core.specs.Numeral.{digits_of}

@@ -1,5 +1,5 @@
--- The report of a walk by card (this project's choice): how often the walk visits each card's
--- locations and how long it stays there, how often it passes each mark, and its time.
+-- The report of a walk by card: how often the walk visits each card's locations and how long it
+-- stays there, how often it passes each mark, and its time.
 use Rattle.std.specs.Prelude.{ℕ, ◌-◌, ◌==◌, Bool, false, true, List, [], ◌∷◌, ◌++◌, codes, decimal}
 use Rattle.std.specs.Prelude.{filter, flat_map, length, sum_by, Some, None}
 use Rattle.drum_core.specs.declared.deck.Deck.{Deck}
@@ -48,7 +48,7 @@ mark_line walk mark =
     ++ codes " passed " ++ decimal (passes_in mark walk)
     ++ codes " of " ++ decimal mark.most ++ codes "\n"
 
--- the word times used at the end of hops that begin when so many are
+-- the word times used at the end of hops that begin with `used` word times used
 abbrev pub used_after : ℕ → List Visited → ℕ
 used_after used [] = used
 used_after used (visit ∷ visits) = used_after visit.ended visits

@@ -29,7 +29,7 @@ pub record AreTallies (deck : Deck) (marks : List Mark) (walk : List Visited) (t
   pub elsewhere : tallies.other ≡ tally_of (visits_at (is_of_none deck) walk)
   pub passes : ArePasses marks walk tallies.passed
 
--- what a tally tells
+-- what a tally says
 abbrev pub told_of : Tally → List ℕ
 told_of tally =
     codes " visits " ++ decimal tally.visits ++ codes " time " ++ decimal tally.time ++ codes "\n"

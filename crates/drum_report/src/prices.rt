@@ -12,7 +12,7 @@ use drum_lines::{WriteFault, four_digits, send};
 use drum_times::{Mark, Notes};
 use itoa::Buffer;
 
-/// Writes the line of a mark that can be passed so often at most, at this price.
+/// Writes the line of a mark that can be passed `passes` times at most, each at this price.
 fn send_price<O: Output>(
     writer: &mut O,
     sent: usize,
@@ -106,8 +106,8 @@ fn send_sums<O: Output>(
 ///
 /// # Errors
 ///
-/// Where a write fails, or takes none of some bytes: then a prefix of the text has gone out, of so
-/// many bytes as it says.
+/// Where a write fails or takes no byte: then a prefix of the text has gone out, of as many bytes
+/// as the fault says.
 pub fn report_ceiling<O: Output>(
     ceiling: &Ceiling,
     notes: &Notes,

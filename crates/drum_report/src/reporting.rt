@@ -23,8 +23,8 @@ use tallies::Tallies;
 ///
 /// # Errors
 ///
-/// Where a write fails, or takes none of some bytes: then a prefix of the text has gone out, of so
-/// many bytes as it says.
+/// Where a write fails or takes no byte: then a prefix of the text has gone out, of as many bytes
+/// as the fault says.
 pub fn report<O: Output>(
     analysis: &Analysis,
     deck: &Deck,

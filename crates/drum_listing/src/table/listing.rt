@@ -32,13 +32,13 @@ fn send_rows<O: Output>(writer: &mut O, rows: &[Worst], marks: &[Mark]) -> Resul
     send(writer, sent, &[page.bytes()])
 }
 
-/// Writes the table of worst times, a line for each entry, in order. The marks are those of the
-/// notes of the analysis. It takes no memory.
+/// Writes the table of worst times, a line for each entry, in order. The marks have to be those of
+/// the notes of the analysis. It takes no memory.
 ///
 /// # Errors
 ///
-/// Where a write fails, or takes none of some bytes: then a prefix of the text has gone out, of so
-/// many bytes as it says.
+/// Where a write fails or takes no byte: then a prefix of the text has gone out, of as many bytes
+/// as the fault says.
 pub fn list_table<O: Output>(
     table: &Table,
     marks: &[Mark],

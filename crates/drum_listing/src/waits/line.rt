@@ -52,7 +52,8 @@ fn next_at(told: &Told, angle: u8) -> Option<u64>
     }
 }
 
-/// Writes the sums of a kind of hops behind so many bytes, and tells how many have gone out then.
+/// Writes the sums of a kind of hops where `sent` bytes have gone out before, and returns how many
+/// have gone out then.
 fn send_sums<O: Output>(writer: &mut O, sent: usize, wait: &Wait) -> Result<usize, WriteFault>
     requires called { O.called writer.old ≤ 2 ^ 62 + 2 ^ 61 }
     requires few { sent ≤ 2 ^ 61 }
@@ -79,8 +80,8 @@ fn send_sums<O: Output>(writer: &mut O, sent: usize, wait: &Wait) -> Result<usiz
     send(writer, sent, &pieces)
 }
 
-/// Writes the angles at which a kind of hops would wait for nothing, and the end of its line,
-/// behind so many bytes, and tells how many have gone out then.
+/// Writes the angles at which a kind of hops would wait for nothing, and the end of its line, where
+/// `sent` bytes have gone out before, and returns how many have gone out then.
 fn send_angles<O: Output>(
     writer: &mut O,
     sent: usize,
@@ -107,7 +108,8 @@ fn send_angles<O: Output>(
     send(writer, sent, &pieces)
 }
 
-/// Writes the line of a kind of hops behind so many bytes, and tells how many have gone out then.
+/// Writes the line of a kind of hops where `sent` bytes have gone out before, and returns how many
+/// have gone out then.
 pub fn send_wait<O: Output>(
     writer: &mut O,
     sent: usize,

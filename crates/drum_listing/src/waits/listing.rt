@@ -38,12 +38,13 @@ fn send_waits<O: Output>(
 }
 
 /// Writes where the word times of the worst walk of an analysis go, a line for each kind of hops,
-/// and the bound. The waits and the timing table are those of the analysis. It takes no memory.
+/// and the bound. The waits and the timing table have to be those of the analysis. It takes no
+/// memory.
 ///
 /// # Errors
 ///
-/// Where a write fails, or takes none of some bytes: then a prefix of the text has gone out, of so
-/// many bytes as it says.
+/// Where a write fails or takes no byte: then a prefix of the text has gone out, of as many bytes
+/// as the fault says.
 pub fn list_waits<O: Output>(
     waits: &Waits,
     analysis: &Analysis,

@@ -6,7 +6,7 @@ use drum_times::Times;
 /// What a hop takes, in word times.
 #[derive(Clone, Copy, Debug, PartialEq, Eq)]
 pub struct Spent {
-    /// In all.
+    /// In all, from the search for its instruction to its end.
     pub time: u64,
     /// Until its instruction is found.
     pub instruction: u64,

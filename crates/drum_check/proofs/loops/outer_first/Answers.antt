@@ -1,3 +1,6 @@
+-- Of outer_first: each edge is held with a count, inside how many loops of the edges its own
+-- stands. Sorting moves edges and counts together, so the edges are the same, and are in the order
+-- of these counts.
 use Rattle.std.proofs.Common.{◌≡◌, ℕ, List, map, ap, ◌∙◌, sym, subst}
 use Rattle.std.specs.Prelude.{All, IsPermutation}
 use Rattle.std.specs.List.Sorted.{IsNonDecreasingBy}

@@ -5,7 +5,7 @@ use Rattle.drum_check.specs.Findings.{closes}
 use Rattle.drum_check.specs.FindingsOf.{seen}
 use Rattle.drum_check.proofs.loops.told_alone.Given as goal
 
--- the edges so far are told
+-- the loops of the edges so far are listed
 abbrev pub invariant-loop-edge : goal.invariant-loop-edge
 invariant-loop-edge l =
     map seen l.loops.items ≡ map (λ (edge : Edge). closes (edge_of edge) None) (take l.edge-index l.edges)

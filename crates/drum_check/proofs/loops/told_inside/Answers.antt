@@ -1,3 +1,6 @@
+-- Of told_inside: the loops so far have their numbers. The edges before the one at hand are the
+-- notes' marks and the edges so far, so the last of these inside whose loop its own stands is its
+-- number.
 use Rattle.std.proofs.Common.{◌≡◌, ◌∷◌, [], ◌++◌, ℕ, ◌+◌, List, map, take, ap, sym, ◌∙◌, subst, append_assoc}
 use Rattle.std.proofs.lemmas.List.{map_push}
 use Rattle.drum_loops.specs.Loops.{edge_of}

@@ -4,7 +4,7 @@ use Rattle.drum_check.specs.FindingsOf.{seen, IsInsideIn}
 use Rattle.drum_check.specs.Insides.{marked_edges, AreToldInside}
 use Rattle.drum_check.proofs.loops.told_inside.Given as goal
 
--- the loops of the edges so far are told, and these edges stand behind those of the marks
+-- the loops of the edges so far are listed, and these edges stand behind those of the marks
 abbrev pub invariant-loop-edge : goal.invariant-loop-edge
 invariant-loop-edge l = record {
   before : map edge_of l.before.items

@@ -1,3 +1,5 @@
+-- Of unmarked_loops: the edges close the loops. With the notes' marks they are more than eight, and
+-- then none is said to stand inside another; or they are put in order and each has its number.
 use Rattle.std.proofs.Common.{◌≡◌, ℕ, ◌+◌, ◌≤◌, ◌<◌, List, map, length, ap, sym, ◌∙◌, subst, inl, inr, arith, None}
 use Rattle.std.specs.Prelude.{IsPermutation}
 use Rattle.std.proofs.lemmas.List.{length-map}

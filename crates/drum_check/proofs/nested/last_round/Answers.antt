@@ -1,3 +1,5 @@
+-- Of last_round: the number is that of the last edge so far inside whose loop the other stands. One
+-- more edge gives its own number, or leaves what there is.
 use Rattle.std.proofs.Common.{◌≡◌, ℕ, ◌+◌, ◌≤◌, List, true, false, sym, ◌∙◌, subst, map, take, length, arith, Some}
 use Rattle.std.proofs.lemmas.List.{take_all}
 use Rattle.drum_loops.specs.declared.edge.Edge.{Edge}

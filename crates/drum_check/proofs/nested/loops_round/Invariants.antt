@@ -4,7 +4,7 @@ use Rattle.drum_check.specs.FindingsOf.{IsInsideIn}
 use Rattle.drum_check.specs.Insides.{AreSoMany}
 use Rattle.drum_check.proofs.nested.loops_round.Given as goal
 
--- of the edges so far so many are round the inner one
+-- of the edges so far `many` have a loop round the inner one
 abbrev pub invariant-loop-outer : goal.invariant-loop-outer
 invariant-loop-outer l = record {
   few : l.many ≤ l.outer-index;

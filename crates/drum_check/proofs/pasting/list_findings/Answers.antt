@@ -1,3 +1,5 @@
+-- Of list_findings: the text is three texts, one behind the other: the findings, the marks and the
+-- lists. Where a write fails, a prefix of that text has gone out.
 use Rattle.std.proofs.Common.{List, ℕ, flat_map, Ok, Err, subst}
 use Rattle.std.proofs.lemmas.Result.{err_from_is_err_and}
 use Rattle.drum_lines.proofs.Sending.{all_three, cut_middle, written_cut, written_whole}

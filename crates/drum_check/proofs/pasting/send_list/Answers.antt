@@ -1,3 +1,5 @@
+-- Of send_list: the text of a list is its head, its pattern and its comment, one behind the other;
+-- where a write fails, a prefix of that text has gone out.
 use Rattle.std.proofs.Common.{ℕ, List, ◌++◌, Ok, Err}
 use Rattle.std.specs.Prelude.{codes, decimal}
 use Rattle.std.proofs.lemmas.Result.{err_from_is_err_and}

@@ -1,3 +1,5 @@
+-- Of send_lists: what went out are the lists of the words so far; where a write fails, a prefix of
+-- that text has gone out.
 use Rattle.std.proofs.Common.{◌≡◌, ℕ, ◌<◌, ◌≤◌, List, length, flat_map, get_or, Ok, Err, ap, sym, ◌∙◌, subst}
 use Rattle.std.proofs.Common.{arith}
 use Rattle.std.proofs.lemmas.List.{take_all}

@@ -1,3 +1,5 @@
+-- Of send_marks: what went out are the marks for the findings so far, each of which is short or
+-- nothing; where a write fails, a prefix of that text has gone out.
 use Rattle.std.proofs.Common.{◌≡◌, ℕ, ◌<◌, ◌≤◌, List, length, flat_map, get_or, Ok, Err, ap, sym, ◌∙◌, subst}
 use Rattle.std.proofs.Common.{arith}
 use Rattle.std.proofs.lemmas.List.{take_all}

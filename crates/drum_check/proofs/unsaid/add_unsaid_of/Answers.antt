@@ -1,3 +1,5 @@
+-- Of add_unsaid_of: what was added are those of the marks so far inside which the one at the place
+-- stands without saying so. One more mark is added where it is one of these, and nothing else is.
 use Rattle.std.proofs.Common.{◌≡◌, ◌∷◌, [], ◌++◌, ℕ, true, false, map, ap, sym, ◌∙◌, arith}
 use Rattle.std.proofs.lemmas.List.{map_push}
 use Rattle.drum_core.specs.Loads.{loads_in, start_in}

@@ -1,3 +1,5 @@
+-- Of line_faults, of a deck: the faults are those of the lines so far, where each faulty line
+-- counts as a comment for those behind it.
 use Rattle.std.proofs.Common.{◌≡◌, ◌+◌, ℕ, List, length, ap, sym, subst, arith}
 use Rattle.drum_core.specs.declared.deck.lines.Lines.{Lines}
 use Rattle.drum_core.specs.declared.deck.fault.DeckFault.{DeckFault}

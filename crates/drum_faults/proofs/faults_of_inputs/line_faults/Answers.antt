@@ -1,3 +1,5 @@
+-- Of line_faults, of inputs: the faults are those of the lines so far, where each faulty line
+-- counts as a comment for those behind it. So the lines before the one at hand are sound.
 use Rattle.std.proofs.Common.{◌++◌, ◌∷◌, [], List, map, sym, subst}
 use Rattle.drum_inputs.specs.declared.fault.InputFault.{InputFault}
 use Rattle.drum_inputs.specs.declared.line.Line as read

@@ -1,3 +1,5 @@
+-- Of send_words: what went out are the lines of the words so far, and there are 2004 at most; where
+-- a write fails, a prefix of that text has gone out.
 use Rattle.std.proofs.Common.{ℕ, List, flat_map, get_or, Ok, Err, arith, subst}
 use Rattle.std.proofs.lemmas.Result.{err_from_is_err_and}
 use Rattle.drum_flow.specs.Found.{places_of}

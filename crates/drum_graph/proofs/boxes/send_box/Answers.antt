@@ -1,3 +1,5 @@
+-- Of send_box: the line of a box is its name, its operations and its style, one behind the other;
+-- where a write fails, a prefix of that text has gone out.
 use Rattle.std.proofs.Common.{List, ℕ, ◌++◌, flat_map, Ok, Err, subst}
 use Rattle.std.specs.Prelude.{codes}
 use Rattle.std.proofs.lemmas.Result.{err_from_is_err_and}

@@ -1,3 +1,5 @@
+-- Of send_nodes: what went out are the lines of the nodes so far, and there are 2004 at most; where
+-- a write fails, a prefix of that text has gone out.
 use Rattle.std.proofs.Common.{◌≡◌, ℕ, ◌<◌, ◌≤◌, List, length, flat_map, get_or, Ok, Err, ap, sym, ◌∙◌, subst, arith}
 use Rattle.std.proofs.lemmas.List.{take_all}
 use Rattle.std.proofs.lemmas.List.Folds.{flat_map-map}

@@ -1,3 +1,6 @@
+-- Of operations_at: all instructions of a pattern have its operation, so adding this once does what
+-- adding each of theirs would. What was added so far and what is left make up the definition's
+-- list.
 use Rattle.std.proofs.Common.{◌≡◌, ℕ, List, [], length, sym, ap, ◌∙◌, arith}
 use Rattle.std.specs.Prelude.{flat_map}
 use Rattle.drum_core.specs.declared.instruction.Instruction.{Instruction}

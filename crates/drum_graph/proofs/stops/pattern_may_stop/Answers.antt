@@ -1,3 +1,5 @@
+-- Of pattern_may_stop: up to `same_ways_end` all instructions have the same ways, so the first one
+-- tells of all. None before d may stop.
 use Rattle.std.proofs.Common.{◌≡◌, true, false, sym, ap, ◌∙◌, arith}
 use Rattle.std.specs.List.{list_any}
 use Rattle.drum_core.specs.declared.instruction.Instruction.{Instruction}

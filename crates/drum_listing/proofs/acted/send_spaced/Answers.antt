@@ -1,3 +1,5 @@
+-- Of send_spaced: what went out are the words so far, each with a space before it; where a write
+-- fails, a prefix of that text has gone out.
 use Rattle.std.proofs.Common.{ℕ, List, ◌∷◌, get_or, length, Ok, Err, ap, ◌∙◌, subst, arith}
 use Rattle.std.proofs.lemmas.List.{append-nil}
 use Rattle.std.proofs.lemmas.Result.{err_from_is_err_and}

@@ -1,3 +1,5 @@
+-- Of send_held: the text is that of the registers, of what the step did, and the end of the line,
+-- one behind the other; where a write fails, a prefix of that text has gone out.
 use Rattle.std.proofs.Common.{List, ◌++◌, Ok, Err, subst}
 use Rattle.std.specs.Prelude.{codes}
 use Rattle.std.proofs.lemmas.Result.{err_from_is_err_and}

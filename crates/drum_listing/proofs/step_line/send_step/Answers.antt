@@ -1,3 +1,6 @@
+-- Of send_step: the line is the course of the step and what the machine holds after it, one behind
+-- the other. Both are those of the stride that the step is of; where a write fails, a prefix of
+-- that text has gone out.
 use Rattle.std.proofs.Common.{[], ◌++◌, Err, subst}
 use Rattle.std.proofs.lemmas.Result.{err_from_is_err_and}
 use Rattle.drum_times.specs.Entries.{entry_in}

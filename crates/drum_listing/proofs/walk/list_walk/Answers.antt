@@ -1,3 +1,5 @@
+-- Of list_walk: the text is the lines of the walk's hops and the line of the bound, one behind the
+-- other; where a write fails, a prefix of that text has gone out.
 use Rattle.std.proofs.Common.{◌≡◌, ℕ, List, flat_map, map, Ok, Err, ap, ◌∙◌, subst}
 use Rattle.std.proofs.lemmas.Result.{err_from_is_err_and}
 use Rattle.drum_core.specs.declared.op.Op.{Op}

@@ -1,3 +1,6 @@
+-- Of report: the tallies are those of the walk, so the lines written from them are those of the
+-- definition: cards, other locations, marks and bound, one behind the other. Where a write fails, a
+-- prefix of that text has gone out.
 use Rattle.std.proofs.Common.{◌≡◌, ℕ, List, ◌++◌, flat_map, map, Ok, Err, ap, sym, ◌∙◌, subst, arith}
 use Rattle.std.proofs.lemmas.Result.{err_from_is_err_and}
 use Rattle.std.specs.Prelude.{codes, decimal}

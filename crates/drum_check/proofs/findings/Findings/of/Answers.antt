@@ -1,3 +1,5 @@
+-- Of Findings::of: the findings are put together in the order of the definition, one kind behind
+-- the other. They are of the flow's deck and notes, which are the arguments.
 use Rattle.std.proofs.Common.{◌≡◌, List, ◌++◌, flat_map, map, refl, ap, sym, ◌∙◌}
 use Rattle.std.proofs.lemmas.List.{append_assoc}
 use Rattle.drum_core.specs.declared.deck.Deck.{Deck}

@@ -1,3 +1,5 @@
+-- Of Lacking::add_word: the places have the words' numbers, each once. A word that is there keeps
+-- what both writers leave of it; another stands behind the others.
 use Rattle.std.proofs.Common.{◌≡◌, ℕ, List, [], ◌∷◌, ◌++◌, map, Some, ap, sym, ◌∙◌, subst}
 use Rattle.std.specs.Prelude.{Contains, slice_get}
 use Rattle.std.proofs.Math.Seq.{map-set_same}

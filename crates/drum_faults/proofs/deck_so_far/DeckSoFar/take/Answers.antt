@@ -1,3 +1,6 @@
+-- Of DeckSoFar::take: a line that spells nothing has the fault Card and counts as a comment; a
+-- comment adds nothing; of a start or a card it is as `take_start` and `take_card` say, for the
+-- bytes that spell it.
 use Rattle.std.proofs.Common.{◌≡◌, ℕ, ◌+◌, List, [], ◌∷◌, ◌++◌, length, take, subst}
 use Rattle.drum_core.specs.DeckText as text
 use Rattle.drum_core.specs.declared.deck.line.Line as read

@@ -1,3 +1,6 @@
+-- Of DeckSoFar::take_card: a card that goes past the drum, or one of whose locations has a word,
+-- has that fault and counts as a comment. Any other gives its locations its own line, and the lines
+-- so far stay sound.
 use Rattle.std.proofs.Common.{◌≡◌, ℕ, ◌+◌, ◌<◌, ◌≤◌, ◌⊎◌, List, length, take, slice_get, Some, sym, ◌∙◌, ap, arith}
 use Rattle.std.proofs.Common.{subst}
 use Rattle.std.proofs.lemmas.Option.{slice_get_read}

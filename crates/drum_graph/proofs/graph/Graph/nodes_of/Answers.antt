@@ -1,3 +1,4 @@
+-- Of Graph::nodes_of: the nodes so far are those of the executed locations so far, in order.
 use Rattle.std.proofs.Common.{◌≡◌, List, [], ◌∷◌, ◌++◌, ℕ, map, length, ap, ◌∙◌, Some, arith, length-append}
 use Rattle.std.specs.Prelude.{slice_get}
 use Rattle.std.proofs.lemmas.List.{length-map, map-append}

@@ -1,3 +1,6 @@
+-- Of send_rows: what has gone out and what is gathered on the page are together the lines of the
+-- rows so far. Each line passes through the page, and at the end the page goes out too; where a
+-- write fails, a prefix of that text has gone out.
 use Rattle.std.proofs.Common.{◌≡◌, ◌+◌, ℕ, List, ◌++◌, flat_map, take, drop, Err, ap, sym, ◌∙◌, subst, arith}
 use Rattle.std.proofs.lemmas.List.{append-nil}
 use Rattle.std.proofs.lemmas.Result.{err_from_is_err_and}

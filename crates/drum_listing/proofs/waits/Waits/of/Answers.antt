@@ -1,3 +1,5 @@
+-- Of Waits::of: sorting moves the sums of the kinds, and its key puts the dearest first, and of
+-- those that cost the same the one that the walk comes to first.
 use Rattle.std.proofs.Common.{map, ap, ◌∙◌, arith, ◌<◌, ◌^◌, refl, rules}
 use Rattle.std.proofs.lemmas.List.Sorted.{answers_always}
 use Rattle.std.specs.Prelude.{sum_by}

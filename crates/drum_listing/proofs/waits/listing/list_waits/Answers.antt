@@ -1,3 +1,6 @@
+-- Of list_waits: the text is the lines of the waits and the line of the bound, one behind the
+-- other; the rows are those of the kinds, the dearest first. Where a write fails, a prefix of that
+-- text has gone out.
 use Rattle.std.proofs.Common.{ℕ, flat_map, Ok, Err, subst}
 use Rattle.std.proofs.lemmas.Result.{err_from_is_err_and}
 use Rattle.drum_times.specs.Entries.{entry_in}

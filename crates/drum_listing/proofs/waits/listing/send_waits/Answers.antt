@@ -1,3 +1,5 @@
+-- Of send_waits: what went out are the lines of the rows so far, each of which is short; where a
+-- write fails, a prefix of that text has gone out.
 use Rattle.std.proofs.Common.{ℕ, List, get_or, Ok, Err, ap, subst, arith}
 use Rattle.std.proofs.lemmas.Result.{err_from_is_err_and}
 use Rattle.drum_times.specs.Entries.{entry_in}

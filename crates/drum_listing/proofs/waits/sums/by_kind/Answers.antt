@@ -1,3 +1,5 @@
+-- Of by_kind: each kind that the walk so far has come to has the sums over its hops, and no other
+-- has any. The walk's hops are few and its time is short, so the sums have room.
 use Rattle.std.proofs.Common.{◌≡◌, ◌+◌, ℕ, cond, Some, None, Option, ap, subst, sym, ◌∙◌, List, [], ◌∷◌, ◌++◌, take, arith}
 use Rattle.std.proofs.Common.{◌<◌, ◌≤◌, Bool, true, false, length, is_some, if◌then◌else◌}
 use Rattle.std.proofs.lemmas.List.{length-take-le}

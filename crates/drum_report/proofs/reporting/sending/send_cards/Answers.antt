@@ -1,3 +1,5 @@
+-- Of send_cards: what went out are the lines of the cards so far, each of which says what the tally
+-- at its number has; where a write fails, a prefix of that text has gone out.
 use Rattle.std.proofs.Common.{◌≡◌, ℕ, ◌<◌, ◌≤◌, List, length, get_or, Ok, Err, ap, ◌∙◌, subst, arith}
 use Rattle.std.proofs.lemmas.Option.{get_or_from_slice_get}
 use Rattle.std.proofs.lemmas.Result.{err_from_is_err_and}
@@ -15,7 +17,7 @@ use Rattle.drum_report.proofs.reporting.sending.send_cards.Goals as goal
 abbrev past : Tally
 past = record { visits = 0; time = 0 }
 
--- the line of a card is what its tally tells
+-- the line of a card is what its tally says
 is_line : (deck : Deck) (walk : List Visited) (tallies : List Tally) (line : ℕ) → AreByLine deck walk tallies
     → line ≤ 4000
     → told_of_card line (get_or tallies line past) ≡ card_line deck walk line

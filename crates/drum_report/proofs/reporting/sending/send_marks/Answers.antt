@@ -1,3 +1,5 @@
+-- Of send_marks: what went out are the lines of the marks so far, each of which says how often the
+-- walk passes it; where a write fails, a prefix of that text has gone out.
 use Rattle.std.proofs.Common.{◌≡◌, ℕ, ◌<◌, List, length, get_or, Ok, Err, Some, ap, sym, ◌∙◌, subst, arith}
 use Rattle.std.proofs.lemmas.Option.{slice_get-get_or}
 use Rattle.std.proofs.lemmas.Result.{err_from_is_err_and}
@@ -10,7 +12,7 @@ use Rattle.drum_report.specs.TalliesOf.{ArePasses, told_of_mark}
 use Rattle.drum_lines.proofs.Sending.{sent_more, sent_cut}
 use Rattle.drum_report.proofs.reporting.sending.send_marks.Goals as goal
 
--- the line of a mark is what its number tells
+-- the line of a mark is what its number says
 line_told : (marks : List Mark) (walk : List Visited) (passed : List ℕ) (place : ℕ) (mark : Mark)
     → ArePasses marks walk passed → place < length marks
     → mark ≡ get_or marks place mark

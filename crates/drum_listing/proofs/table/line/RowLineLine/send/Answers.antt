@@ -1,3 +1,5 @@
+-- Of RowLine's send: the line is place, counts and time, one behind the other, and the counts are
+-- those that the row's number stands for; where a write fails, a prefix of that text has gone out.
 use Rattle.std.proofs.Common.{◌≡◌, ℕ, List, ◌++◌, flat_map, Ok, Err, ap, ◌∙◌, subst}
 use Rattle.std.proofs.lemmas.Result.{err_from_is_err_and}
 use Rattle.drum_bound.specs.RowOf.{row_in}

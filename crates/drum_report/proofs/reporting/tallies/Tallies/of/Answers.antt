@@ -1,3 +1,5 @@
+-- Of Tallies::of: each tally has the visits and the time of the hops so far that are of its card,
+-- or of none. The walk is short, so no sum overflows.
 use Rattle.std.proofs.Common.{ℕ, ◌+◌, ◌≤◌, length, map, take, ap, sym, ◌∙◌, subst, arith}
 use Rattle.std.proofs.Math.ListN.{length-set}
 use Rattle.std.proofs.lemmas.Option.{get_or_from_slice_get}
