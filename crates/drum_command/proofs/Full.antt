@@ -1,5 +1,26 @@
 -- A walk of clap's over words, at a command all of whose options ask for help: each argument that
 -- it finds has a value.
+--
+-- This file names 79 things of clap, and has to. What clap states of the words that it is given is
+-- a function, `rows_after` of its specs/Walk: a walk that takes word after word and keeps, for each
+-- argument that it met, a row with the values found. Of rows it states nowhere that they have
+-- values; but the code takes the command's files from these rows, and a file without a value would
+-- lead to an `unreachable!()`. (Its clause `parsed` says of the entries of a parse that each has a
+-- value or may go without one. The proofs here go by its clause `matches`, which is about rows.) So
+-- the walk is gone through here, once for each function that it is made of, and each is shown to
+-- leave all rows with values if they had them. Only `rows_after-full`, at the end, is used
+-- elsewhere: Accepted concludes from it that words which clap accepts name a command and all of its
+-- files. (That lines of the right form are taken is shown in Lines and Named, which follow the walk
+-- of such words alone.)
+--
+-- A new version of clap breaks this file where one of these functions has another name, other
+-- arguments or one case more: first the `use` lines, then the lemma of that function. A lemma is
+-- called after its function, as `pushed-full` after `pushed`, and they stand in the order in which
+-- the functions are built, from the rows upward. Begin with clap's specs/Walk, from `rows_after`
+-- downward, and see which functions lie between it and `at_row`, the one that changes a row; then
+-- mend the lemmas here from the top of the file, each by the cases of its function. If the new clap
+-- itself states that the rows have values, `rows_after-full` follows from that, and the rest of
+-- this file can go.
 use Rattle.std.proofs.Common.{◌≡◌, ◌∙◌, ◌&&◌, ◌||◌, ℕ, Bool, cond, true, false, not, zero, suc, ap, refl, arith, length}
 use Rattle.std.proofs.Common.{drop, List, [], ◌∷◌, ◌++◌, Option, Some, None, is_some, nat_lt}
 use Rattle.std.specs.Prelude.{encode_utf8, fold, slice_get}

@@ -9,7 +9,7 @@ use Rattle.drum_command.specs.declared.refused.Refused.{Refused}
 use Rattle.drum_command.specs.declared.refused.Refused.TheVariants.{Help, Usage, Memory}
 use Rattle.drum_command.specs.Refusal.{FitsAmong, FitsKind}
 
--- want of memory is refused as such
+-- a lack of memory is refused as such
 pub fits_memory : (kind : ErrorKind) (refused : Refused) → FitsKind kind refused → kind ≡ OutOfMemory → refused ≡ Memory
 fits_memory kind (Help text) fits memory = cc
 fits_memory kind (Usage text) fits memory = absurd (fits.1 memory)

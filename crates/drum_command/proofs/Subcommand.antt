@@ -7,7 +7,7 @@ use Rattle.clap.specs.declared.parser.matches.ArgMatches.TheViews.{out-SubComman
 use Rattle.clap.specs.declared.parser.matches.SubCommand.{SubCommand}
 
 module _ {Z : Type 0} where
-  -- its name and its rows, told one by one
+  -- its name and its rows, stated one by one
   pub subcommand_rows-is : (o : Option (Box SubCommand Z)) (name : Text) (rows : List Row)
       → Some name ≡ option_map (λ b. (out-SubCommand (box_value b)).name.now) o
       → Some rows ≡ option_map (λ p. p.1) (subcommand_rows o)

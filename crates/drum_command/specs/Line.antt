@@ -9,10 +9,11 @@ use Rattle.clap.specs.Simple.{new_shape}
 use Rattle.clap.specs.Walk.{is_empty}
 use Rattle.clap.specs.declared.builder.action.ArgAction.TheVariants.{Set}
 use Rattle.drum_command.specs.declared.command.Command.{Command}
-use Rattle.drum_command.specs.declared.command.Command.TheVariants.{Bound, Check, Report, Walk}
-use Rattle.drum_command.specs.declared.command.Command.TheVariants.{Waits, Table, Graph, Draw}
-use Rattle.drum_command.specs.declared.command.Command.TheVariants.{Ceiling, Replay, Trace}
+use Rattle.drum_command.specs.declared.command.Command.TheVariants.{Answer, Check, Replay, Trace}
 use Rattle.drum_command.specs.declared.command.Files.{Files}
+use Rattle.drum_command.specs.declared.command.Question.{Question}
+use Rattle.drum_command.specs.declared.command.Question.TheVariants.{Bound, Report, Walk, Waits}
+use Rattle.drum_command.specs.declared.command.Question.TheVariants.{Table, Graph, Draw, Ceiling}
 
 -- a file that a command names: what it is called, and whether it has to be named
 pub record File : Type 0 where
@@ -126,18 +127,22 @@ common files = files.deck.now ∷ files.times.now ∷ files.notes.now ∷ []
 abbrev pub with_inputs : Files → Text → List Text
 with_inputs files inputs = files.deck.now ∷ files.times.now ∷ files.notes.now ∷ inputs ∷ []
 
+-- the name of the command that asks this
+abbrev pub asked_by : Question → Text
+asked_by Bound = codes "bound"
+asked_by Report = codes "report"
+asked_by Walk = codes "walk"
+asked_by Waits = codes "waits"
+asked_by Table = codes "table"
+asked_by Graph = codes "graph"
+asked_by Draw = codes "draw"
+asked_by Ceiling = codes "ceiling"
+
 -- what a command says: its name, and its files in their order
 abbrev pub said_by : Command → Text × List (Option Text)
-said_by (Bound files) = (codes "bound", map Some (common files))
+said_by (Answer question files) = (asked_by question, map Some (common files))
 said_by (Check files inputs) =
     (codes "check", map Some (common files) ++ option_map (λ name. name.now) inputs ∷ [])
-said_by (Report files) = (codes "report", map Some (common files))
-said_by (Walk files) = (codes "walk", map Some (common files))
-said_by (Waits files) = (codes "waits", map Some (common files))
-said_by (Table files) = (codes "table", map Some (common files))
-said_by (Graph files) = (codes "graph", map Some (common files))
-said_by (Draw files) = (codes "draw", map Some (common files))
-said_by (Ceiling files) = (codes "ceiling", map Some (common files))
 said_by (Replay files inputs) = (codes "replay", map Some (with_inputs files inputs.now))
 said_by (Trace files inputs) = (codes "trace", map Some (with_inputs files inputs.now))
 

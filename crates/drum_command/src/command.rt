@@ -11,29 +11,36 @@ pub struct Files<'a> {
     pub notes: &'a str,
 }
 
+/// What is asked of a deck with its timing table and notes.
+#[derive(Clone, Copy, Debug, PartialEq, Eq)]
+pub enum Question {
+    /// The most word times that any run takes that keeps to the notes.
+    Bound,
+    /// Where the worst walk spends the word times of the bound, by card.
+    Report,
+    /// The worst walk itself, visit by visit.
+    Walk,
+    /// Where the worst walk waits, and for what, by instruction.
+    Waits,
+    /// The table of worst times: when a location is come to at the latest, with counts of marks.
+    Table,
+    /// The flow graph, of whatever the deck and the notes are.
+    Graph,
+    /// A picture of the worst walk.
+    Draw,
+    /// A number of word times that no run which keeps to the notes passes, however much the notes
+    /// let the deck's loops run.
+    Ceiling,
+}
+
 /// What a command line asks for.
 #[derive(Clone, Copy, Debug, PartialEq, Eq)]
 pub enum Command<'a> {
-    /// The most word times that any run takes that keeps to the notes.
-    Bound(Files<'a>),
+    /// The answer to a question.
+    Answer(Question, Files<'a>),
     /// All that keeps the deck from having a bound under the notes; and what is wrong with the
     /// inputs of the last file, if it is named.
     Check(Files<'a>, Option<&'a str>),
-    /// Where the worst walk spends the word times of the bound, by card.
-    Report(Files<'a>),
-    /// The worst walk itself, visit by visit.
-    Walk(Files<'a>),
-    /// Where the worst walk waits, and for what, by instruction.
-    Waits(Files<'a>),
-    /// The table of worst times: when a location is come to at the latest, with counts of marks.
-    Table(Files<'a>),
-    /// The flow graph, of whatever the deck and the notes are.
-    Graph(Files<'a>),
-    /// A picture of the worst walk.
-    Draw(Files<'a>),
-    /// A number of word times that no run which keeps to the notes passes, however much the notes
-    /// let the deck's loops run.
-    Ceiling(Files<'a>),
     /// The verdict on one run, which is given the inputs of the last file.
     Replay(Files<'a>, &'a str),
     /// That run, step by step, and the verdict on it.

@@ -6,7 +6,7 @@ ghost use Rattle.clap.specs.Words.{first_of, found_of, rows_of, subcommand_rows_
 ghost use Rattle.drum_command.specs.Line.{common, common_files, is_there, is_whole};
 ghost use Rattle.drum_command.specs.Line.{said_by, said_in};
 
-use crate::command::{Command, Files};
+use crate::command::{Command, Files, Question};
 use crate::entries::{DECK, FileWord, INPUTS, NOTES, TIMES};
 use clap::ArgMatches;
 
@@ -27,15 +27,15 @@ fn command_of<'a>(name: &str, found: &ArgMatches<'a>) -> Command<'a>
     ensures { said_in (name.now, rows_of (found_of found.now)) ≡ said_by result }
 {
     match name {
-        "bound" => Command::Bound(files_in(found)),
+        "bound" => Command::Answer(Question::Bound, files_in(found)),
         "check" => Command::Check(files_in(found), file_if_named(found, INPUTS)),
-        "report" => Command::Report(files_in(found)),
-        "walk" => Command::Walk(files_in(found)),
-        "waits" => Command::Waits(files_in(found)),
-        "table" => Command::Table(files_in(found)),
-        "graph" => Command::Graph(files_in(found)),
-        "draw" => Command::Draw(files_in(found)),
-        "ceiling" => Command::Ceiling(files_in(found)),
+        "report" => Command::Answer(Question::Report, files_in(found)),
+        "walk" => Command::Answer(Question::Walk, files_in(found)),
+        "waits" => Command::Answer(Question::Waits, files_in(found)),
+        "table" => Command::Answer(Question::Table, files_in(found)),
+        "graph" => Command::Answer(Question::Graph, files_in(found)),
+        "draw" => Command::Answer(Question::Draw, files_in(found)),
+        "ceiling" => Command::Answer(Question::Ceiling, files_in(found)),
         "replay" => Command::Replay(files_in(found), file_in(found, INPUTS)),
         "trace" => Command::Trace(files_in(found), file_in(found, INPUTS)),
         _ => unreachable!(),

@@ -16,7 +16,8 @@ use std::alloc::Global;
 ///
 /// # Errors
 ///
-/// `Help` where they ask for help, `Usage` where they are no command line, `Memory`.
+/// `Help` where they ask for help, `Usage` where they are no command line, `Memory` where there is
+/// no memory.
 pub fn read_words<'a>(alloc: Global, words: &'a [&'a str]) -> Result<Command<'a>, Refused>
     // A command's name with its files, none of which begins with a hyphen, is that command with
     // these files, unless there is no memory.
@@ -29,7 +30,7 @@ pub fn read_words<'a>(alloc: Global, words: &'a [&'a str]) -> Result<Command<'a>
         said_by_words (texts words.entry.now) ≡ Some (said_by command)) }
     // It comes only of words without a fault.
     ensures faultless { IfOk result (λ _. fault_of drum650 (texts words.entry.now) ≡ []) }
-    // Words that are a command line are refused for want of memory alone.
+    // Words that are a command line are refused only where there is no memory.
     ensures taken { IfErr result (λ refused.
         takes drum650 (texts words.entry.now) ≡ true → refused ≡ Refused.Memory) }
     // Help and usage come of a fault of theirs.

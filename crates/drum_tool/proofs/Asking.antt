@@ -2,10 +2,6 @@
 use Rattle.std.proofs.Common.{◌≡◌, ℕ, ◌+◌, ◌≤◌, List, [], ◌∷◌, ◌++◌, Option, Some, None, Result, Ok, Err}
 use Rattle.std.proofs.Common.{IfErr, ◌⊎◌, refl, inl, inr, ap, sym, ◌∙◌, subst, arith, append_assoc}
 use Rattle.std.proofs.Common.{append-nil}
-use Rattle.drum_ceiling.specs.CeilingOf.{IsCeilingRefusal}
-use Rattle.drum_core.specs.Loads.{loads_in, start_in}
-use Rattle.drum_flow.specs.declared.refusal.Refusal.{Refusal}
-use Rattle.drum_flow.specs.Acceptance.{IsRefusal}
 use Rattle.drum_flow.specs.Walk.{Setting}
 use Rattle.drum_lines.specs.declared.fault.Fault.{Fault}
 use Rattle.drum_lines.specs.declared.fault.Fault.TheVariants as faults
@@ -18,12 +14,10 @@ use Rattle.drum_tool.specs.declared.documents.Documents.{Documents}
 use Rattle.drum_tool.specs.Asked.{AreLookedAt, AreLookedAtUpTo, Asked, AsksFor, IsLookedAt, IsOfText, IsRead, Looks, MayWant}
 use Rattle.drum_tool.specs.Asked.{Named, Reading, failures_told, fault_in, most_of, part_of, reading}
 use Rattle.drum_tool.specs.Asked.{returned, sought}
-use Rattle.drum_flow.specs.Bounded.{IsDeckAccepted}
-use Rattle.drum_tool.specs.Documents.{IsAnalysisFault, IsCeilingFault, IsLimit, IsLimitRefusal, IsRefusedFor}
 use Rattle.drum_tool.specs.Documents.{setting_of}
 use Rattle.drum_tool.specs.Files.{AreTold, FilesTold, Held, behind}
-use Rattle.drum_tool.specs.Replay.{Given, IsReplayFault, IsRunFault, IsTraceFault}
-use Rattle.drum_tool.specs.Reply.{IsLineOf, IsWanting, LooksAsTold, Reply, SaysTrace, SaysStrides, cut_reply, fault_reply}
+use Rattle.drum_tool.specs.Replay.{Given}
+use Rattle.drum_tool.specs.Reply.{IsLineOf, LooksAsTold, Reply, SaysTrace, SaysStrides, cut_reply, fault_reply}
 use Rattle.drum_tool.specs.Reply.{lists, says, trace_reply}
 
 -- what is asked is also something else
@@ -245,57 +239,3 @@ pub no_line_of_trace : (documents : Documents) (given : Given) (reply : Reply) �
     → IsLineOf None reply
 no_line_of_trace documents given reply traced =
     no_line_of_strides (setting_of documents) traced.1.0 traced.1.1 given reply traced.1.3
-
--- neither a refusal nor a run has a fault of a file
-refusal_of_none : (Is : Refusal → Type 0) (told : Fault) → IsRefusedFor Is told → part_of told ≡ None
-refusal_of_none Is (faults.Refused refusal) is = refl
-refusal_of_none Is faults.NoPart is = absurd is
-refusal_of_none Is (faults.Part part what) is = absurd is
-refusal_of_none Is faults.Memory is = absurd is
-refusal_of_none Is (faults.Deck fault) is = absurd is
-refusal_of_none Is (faults.Times fault) is = absurd is
-refusal_of_none Is (faults.Notes fault) is = absurd is
-refusal_of_none Is (faults.Inputs fault) is = absurd is
-refusal_of_none Is (faults.Loaded location) is = absurd is
-
-pub analysis_of_none : (documents : Documents) (told : Fault) → IsAnalysisFault documents told → part_of told ≡ None
-analysis_of_none documents told is =
-    refusal_of_none (IsRefusal (loads_in documents.deck) documents.notes (start_in documents.deck)) told is
-
-pub ceiling_of_none : (documents : Documents) (told : Fault) → IsCeilingFault documents told → part_of told ≡ None
-ceiling_of_none documents told is =
-    refusal_of_none (IsCeilingRefusal documents.deck documents.times documents.notes) told is
-
-module _ (g : Setting) (given : Given) (Refuses : Refusal → Type 0) (IsLimited : Type 0) where
-  run_of_none : (told : Fault) → IsRunFault g given Refuses IsLimited told → part_of told ≡ None
-  run_of_none (faults.Refused refusal) is = refl
-  run_of_none faults.NoPart is = absurd is
-  run_of_none (faults.Part part what) is = absurd is
-  run_of_none faults.Memory is = refl
-  run_of_none (faults.Deck fault) is = absurd is
-  run_of_none (faults.Times fault) is = absurd is
-  run_of_none (faults.Notes fault) is = absurd is
-  run_of_none (faults.Inputs fault) is = absurd is
-  run_of_none (faults.Loaded location) is = refl
-
-pub replay_of_none : (g : Setting) (given : Given) (told : Fault) → IsReplayFault g given told → part_of told ≡ None
-replay_of_none g given told is =
-    run_of_none g given (IsRefusal g.loads g.notes g.start) (IsDeckAccepted g) told is
-
-pub trace_of_none : (documents : Documents) (given : Given) (told : Fault) → IsTraceFault documents given told
-    → part_of told ≡ None
-trace_of_none documents given told is =
-    run_of_none (setting_of documents) given (IsLimitRefusal documents)
-    ((limit : Limit) × (most : ℕ) × IsLimit documents limit most) told is
-
--- nor has want of memory
-pub wanting_of_none : (told : Fault) → IsWanting told → part_of told ≡ None
-wanting_of_none (faults.Refused refusal) is = refl
-wanting_of_none faults.NoPart is = absurd is
-wanting_of_none (faults.Part part what) is = absurd is
-wanting_of_none faults.Memory is = refl
-wanting_of_none (faults.Deck fault) is = absurd is
-wanting_of_none (faults.Times fault) is = absurd is
-wanting_of_none (faults.Notes fault) is = absurd is
-wanting_of_none (faults.Inputs fault) is = absurd is
-wanting_of_none (faults.Loaded location) is = absurd is

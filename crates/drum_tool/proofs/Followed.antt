@@ -9,7 +9,7 @@ use Rattle.drum_machine.specs.declared.feed.Feed.{Feed}
 use Rattle.drum_machine.specs.declared.left.Left as lefts
 use Rattle.drum_machine.specs.declared.left.Left.TheVariants as left
 use Rattle.drum_machine.specs.declared.machine.Machine.{Machine}
-use Rattle.drum_machine.specs.declared.monitor.Monitor.{Monitor}
+use Rattle.drum_monitor.specs.declared.monitor.Monitor.{Monitor}
 use Rattle.drum_machine.specs.declared.setup.Setup.{Setup}
 use Rattle.drum_machine.specs.declared.step.Step as answers
 use Rattle.drum_machine.specs.declared.step.Step.TheVariants as answer
@@ -21,7 +21,9 @@ use Rattle.drum_machine.specs.Feed.{cards_left, waits_left}
 use Rattle.drum_machine.specs.Keeps.{IsAsDeclared, Leaves, reads_load}
 use Rattle.drum_machine.specs.Machine.{GoesOn, Tells, Becomes, TakesStep, state_in, used_by, sought_by, op_in}
 use Rattle.drum_machine.specs.Machine.{held_by, punched_with}
-use Rattle.drum_machine.specs.Monitor.{HasSeen, IsToldOf, answer_of, counts_over}
+use Rattle.drum_monitor.specs.Monitor.{HasSeen, answer_of}
+use Rattle.drum_machine.specs.Machine.{IsToldOf}
+use Rattle.drum_machine.specs.Keeps.{counts_over}
 use Rattle.drum_machine.specs.Run.{Stride, IsFirstState, time_after, used_from}
 use Rattle.drum_machine.specs.Step.{State, Stepped, on, stopped, contents_after, fetched}
 use Rattle.drum_flow.specs.Walk.{Setting}

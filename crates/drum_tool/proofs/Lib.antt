@@ -1,12 +1,14 @@
-pub mod Answering
+pub mod Refusing
 pub mod Asking
 pub mod Beginning
 pub mod Cuts
+pub mod Doing
 pub mod Followed
 pub mod Giving
 pub mod Joining
 pub mod Leading
 pub mod Limits
+pub mod OfNoFile
 pub mod OneRun
 pub mod OneVerdict
 pub mod Replies

@@ -3,24 +3,24 @@ use Rattle.std.proofs.Common.{◌≡◌, ℕ, true, List, [], ◌∷◌, Option,
 use Rattle.std.specs.Prelude.{codes}
 use Rattle.clap.specs.Words.{Text, takes}
 use Rattle.drum_command.specs.declared.command.Command.{Command}
-use Rattle.drum_command.specs.declared.command.Command.TheVariants.{Bound, Check, Report, Walk, Waits, Table, Graph, Draw}
-use Rattle.drum_command.specs.declared.command.Command.TheVariants.{Ceiling, Replay, Trace}
+use Rattle.drum_command.specs.declared.command.Command.TheVariants.{Answer, Check, Replay, Trace}
+use Rattle.drum_command.specs.declared.command.Question.TheVariants.{Bound, Report, Walk, Waits, Table, Graph, Draw, Ceiling}
 use Rattle.drum_command.specs.declared.refused.Refused.{Refused}
 use Rattle.drum_command.specs.Line.{drum650, said_by}
 use Rattle.drum_tool.specs.declared.documents.Documents.{Documents}
 use Rattle.drum_lines.specs.declared.fault.Fault.{Fault}
 use Rattle.drum_lines.specs.declared.fault.Fault.TheVariants as faults
-use Rattle.drum_tool.specs.Documents.{IsBound}
+use Rattle.drum_tool.specs.Documents.{IsAnalysisFault, IsBound}
 use Rattle.drum_tool.specs.Asked.{files_of, named, named_in}
 use Rattle.drum_tool.specs.Files.{AreHeld, AreNotHeld, AreTold, FilesTold, Held}
 use Rattle.drum_lines.specs.declared.part.Part.TheVariants as part
-use Rattle.drum_tool.specs.Reply.{AnswersCommand, AnswersOn, Reply, SaysBound, bound_reply, fault_reply}
+use Rattle.drum_tool.specs.Reply.{AnswersCommand, Replies, Reply, SaysBound, bound_reply, fault_reply}
 use Rattle.drum_tool.specs.Told.{IsBoundOfFiles}
 use Rattle.drum_tool.specs.Words.{AreRefused, refused_reply}
 
 -- a reply to `bound` is the line of documents that are given, or a fault's
 pub reply_of_bound : (Are : Documents → Type 0) (No : Fault → Type 0) (failures : ℕ) (reply : Reply)
-    → AnswersOn SaysBound Are No failures reply
+    → Replies Are No SaysBound IsAnalysisFault failures reply
     → ((documents : Documents) × Are documents × (bound : ℕ) × IsBound documents bound × (reply ≡ bound_reply bound))
     ⊎ ((fault : Fault) × (reply ≡ fault_reply fault))
 reply_of_bound Are No failures reply (inl (documents, are, none, (bound, is, so))) = inl (documents, are, bound, is, so)
@@ -65,7 +65,7 @@ pub of_files : (told_of : FilesTold) (held : Held) (deck times notes : Text)
     → ((bound : ℕ) × IsBoundOfFiles (held part.Deck) (held part.Times) (held part.Notes) bound
     × (reply ≡ bound_reply bound))
     ⊎ ((fault : Fault) × (reply ≡ fault_reply fault))
-of_files told_of held deck times notes (Bound files) failures reply told said answers =
+of_files told_of held deck times notes (Answer Bound files) failures reply told said answers =
     let names = ap files_in said in
     let deck_is : files.deck.now ≡ deck = ap file_in names in
     let times_is : files.times.now ≡ times = ap (λ (files : List (Option Text)). file_in (behind_file files)) names in
@@ -94,19 +94,19 @@ of_files told_of held deck times notes (Bound files) failures reply told said an
     ]
 of_files told_of held deck times notes (Check files inputs) failures reply told said answers =
     absurd (let bad : 99 ≡ 98 = same_first _ _ said in omega (arith, bad))
-of_files told_of held deck times notes (Report files) failures reply told said answers =
+of_files told_of held deck times notes (Answer Report files) failures reply told said answers =
     absurd (let bad : 114 ≡ 98 = same_first _ _ said in omega (arith, bad))
-of_files told_of held deck times notes (Walk files) failures reply told said answers =
+of_files told_of held deck times notes (Answer Walk files) failures reply told said answers =
     absurd (let bad : 119 ≡ 98 = same_first _ _ said in omega (arith, bad))
-of_files told_of held deck times notes (Waits files) failures reply told said answers =
+of_files told_of held deck times notes (Answer Waits files) failures reply told said answers =
     absurd (let bad : 119 ≡ 98 = same_first _ _ said in omega (arith, bad))
-of_files told_of held deck times notes (Table files) failures reply told said answers =
+of_files told_of held deck times notes (Answer Table files) failures reply told said answers =
     absurd (let bad : 116 ≡ 98 = same_first _ _ said in omega (arith, bad))
-of_files told_of held deck times notes (Graph files) failures reply told said answers =
+of_files told_of held deck times notes (Answer Graph files) failures reply told said answers =
     absurd (let bad : 103 ≡ 98 = same_first _ _ said in omega (arith, bad))
-of_files told_of held deck times notes (Draw files) failures reply told said answers =
+of_files told_of held deck times notes (Answer Draw files) failures reply told said answers =
     absurd (let bad : 100 ≡ 98 = same_first _ _ said in omega (arith, bad))
-of_files told_of held deck times notes (Ceiling files) failures reply told said answers =
+of_files told_of held deck times notes (Answer Ceiling files) failures reply told said answers =
     absurd (let bad : 99 ≡ 98 = same_first _ _ said in omega (arith, bad))
 of_files told_of held deck times notes (Replay files inputs) failures reply told said answers =
     absurd (let bad : 114 ≡ 98 = same_first _ _ said in omega (arith, bad))

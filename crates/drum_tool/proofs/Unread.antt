@@ -4,13 +4,11 @@ use Rattle.std.proofs.Common.{ap, sym, arith, IfSome}
 use Rattle.drum_core.specs.declared.device.whole.WholeError.{WholeError}
 use Rattle.drum_core.specs.declared.device.whole.WholeError.TheVariants as why
 use Rattle.drum_lines.specs.declared.fault.Fault.{Fault}
-use Rattle.drum_lines.specs.declared.fault.Fault.TheVariants as faults
 use Rattle.drum_lines.specs.declared.part.Part as parts
 use Rattle.drum_lines.specs.declared.part.Part.TheVariants as part
-use Rattle.drum_lines.specs.declared.part.PartFault.TheVariants as what
 use Rattle.drum_lines.specs.FaultStatus.{reads_failed}
 use Rattle.drum_tool.specs.Asked.{IsOfText, IsRead, MayWant, failures_told, most_of, reading}
-use Rattle.drum_tool.specs.TextsHeld.{HoldsNoText, HoldsText, fault_by}
+use Rattle.drum_tool.specs.Files.{HoldsNoText, HoldsText, fault_by}
 use Rattle.drum_tool.proofs.Asking.{text_read}
 
 -- a text within the limit
@@ -71,7 +69,7 @@ fault_of_text part.Inputs why.Read = (inl refl, λ e. cc)
 fault_of_text part.Inputs why.Memory = (inl refl, λ e. cc)
 fault_of_text part.Inputs why.TooLong = (inl refl, λ e. cc)
 
--- and want of memory may be told
+-- and lack of memory may be told
 pub wants : (of : parts.Part) → MayWant (Some (fault_by of why.Memory))
 wants part.Input = tt
 wants part.Deck = tt

@@ -1,12 +1,9 @@
--- What is asked of a source: which files, in which order, and how they are read (this project's
--- choice).
+-- What is asked of a source: which files, in which order, and how they are read.
 use Rattle.std.specs.Prelude.{◌≡◌, ◌≢◌, ℕ, ◌+◌, ◌≤◌, List, [], ◌∷◌, ◌++◌, Option, Some, None}
 use Rattle.std.specs.Prelude.{Result, Ok, Err, ◌⊎◌, option_map}
 use Rattle.std.specs.Borrow.{Bor}
 use Rattle.drum_command.specs.declared.command.Command.{Command}
-use Rattle.drum_command.specs.declared.command.Command.TheVariants.{Bound, Check, Report, Walk}
-use Rattle.drum_command.specs.declared.command.Command.TheVariants.{Waits, Table, Graph, Draw}
-use Rattle.drum_command.specs.declared.command.Command.TheVariants.{Ceiling, Replay, Trace}
+use Rattle.drum_command.specs.declared.command.Command.TheVariants.{Answer, Check, Replay, Trace}
 use Rattle.drum_command.specs.declared.command.Files.{Files}
 use Rattle.drum_core.specs.declared.deck.fault.DeckFault.TheVariants as of_deck
 use Rattle.drum_inputs.specs.declared.fault.InputFault.TheVariants as of_inputs
@@ -52,7 +49,7 @@ most_of part.Times = 8388609
 most_of part.Notes = 8388609
 most_of part.Inputs = 804001
 
--- how many failed reads are told, and whether want of memory may be
+-- how many failed reads a fault tells of, and whether it is lack of memory
 abbrev pub failures_told : Option Fault → ℕ
 failures_told None = 0
 failures_told (Some why) = reads_failed why
@@ -64,7 +61,7 @@ MayWant (Some (fault.Inputs of_inputs.Memory)) = Unit {0}
 MayWant _ = ⊥
 
 -- How a text is read, so many bytes at most, where this fault of it is told, or none: one read at
--- most gives no byte, and all of the text is read, unless a read fails or memory is wanting. Once
+-- most gives no byte, and all of the text is read, unless a read fails or there is no memory. Once
 -- the most bytes were given, no read fails.
 pub record IsRead (most : ℕ) (told : Option Fault) (read : Reading) : Type 0 where
   pub failures : read.failures ≡ failures_told told
@@ -76,7 +73,7 @@ pub record IsRead (most : ℕ) (told : Option Fault) (read : Reading) : Type 0 w
   pub full : read.bytes ≡ most → read.failures ≡ 0
   pub whole : (read.ends ≡ 1) ⊎ (read.bytes ≡ most) ⊎ (read.failures ≡ 1) ⊎ MayWant told
 
--- the part that a fault is of, where it is of one that is told
+-- the part whose file or text the fault is of; none for a fault of no part
 abbrev pub part_of : Fault → Option parts.Part
 part_of (fault.Part one why) = Some one
 part_of (fault.Deck why) = Some part.Deck
@@ -132,15 +129,8 @@ abbrev pub named_with : Files → Option (List ℕ) → List Named
 named_with files inputs = named_in files ++ inputs_named inputs
 
 abbrev pub files_of : Command → List Named
-files_of (Bound files) = named_in files
+files_of (Answer question files) = named_in files
 files_of (Check files inputs) = named_with files (name_in inputs)
-files_of (Report files) = named_in files
-files_of (Walk files) = named_in files
-files_of (Waits files) = named_in files
-files_of (Table files) = named_in files
-files_of (Graph files) = named_in files
-files_of (Draw files) = named_in files
-files_of (Ceiling files) = named_in files
 files_of (Replay files inputs) = all_named_in files inputs.now
 files_of (Trace files inputs) = all_named_in files inputs.now
 
@@ -159,13 +149,14 @@ AreLookedAtUpTo (file ∷ files) told asked =
     ⊎ ((first later : List Asked) × (asked ≡ first ++ later)
     × IsLookedAt file.part file.name None first × AreLookedAtUpTo files told later)
 
--- So it comes to what is told: no fault, or this one, which may be of no file.
+-- What is looked at where this fault is told, or none: the files up to the fault's, or all of them
+-- where the fault is of none.
 abbrev pub Looks : List Named → Option Fault → List Asked → Type 0
 Looks files None asked = AreLookedAt files asked
 Looks files (Some told) asked =
     AreLookedAtUpTo files told asked ⊎ ((part_of told ≡ None) × AreLookedAt files asked)
 
--- and by what comes of reading them
+-- the same by a result
 abbrev pub LooksFor : {A : Type 0} → List Named → Result A Fault → List Asked → Type 0
 LooksFor files (Ok found) asked = AreLookedAt files asked
 LooksFor files (Err told) asked = AreLookedAtUpTo files told asked

@@ -9,6 +9,11 @@ use Rattle.drum_core.specs.Holds.{IsDeckOf}
 use Rattle.drum_core.specs.Loads.{loads_in, start_in}
 use Rattle.drum_times.specs.declared.times.Times.{Times}
 use Rattle.drum_times.specs.Says.{SayTimes, SayNotes, AreNoTimes, AreNoNotes}
+use Rattle.drum_inputs.specs.declared.fault.InputFault.{InputFault}
+use Rattle.drum_inputs.specs.declared.fault.InputFault.TheVariants as of_inputs
+use Rattle.drum_inputs.specs.declared.inputs.Inputs.{Inputs}
+use Rattle.drum_inputs.specs.Inputs.{AreInputsOf}
+use Rattle.drum_inputs.specs.InputsText as replay
 use Rattle.drum_flow.specs.declared.refusal.Refusal.{Refusal}
 use Rattle.drum_flow.specs.Acceptance.{IsRefusal}
 use Rattle.drum_flow.specs.Accepted.{IsTooLarge}
@@ -84,10 +89,37 @@ IsLimitFault documents = IsRefusedFor (IsLimitRefusal documents)
 abbrev pub SaysDeck : List ℕ → Deck → Type 0
 SaysDeck bytes deck = (lines : List text.Line) × text.IsDeck bytes lines × IsDeckOf deck lines
 
--- why a text is no deck (that memory was wanting is tested, not said)
+-- why a text is no deck (that the program is out of memory is tested, not stated)
 abbrev pub IsNoDeck : List ℕ → DeckFault → Type 0
 IsNoDeck bytes of_deck.Memory = Unit {0}
 IsNoDeck bytes one = text.IsRefused bytes one
+
+-- the text is that of inputs
+abbrev pub SayInputs : List ℕ → Inputs → Type 0
+SayInputs bytes inputs =
+    (lines : List replay.Line) × replay.AreInputs bytes lines × AreInputsOf inputs lines
+
+-- why a text is no inputs (that the program is out of memory is tested, not stated)
+abbrev pub AreNoInputs : List ℕ → InputFault → Type 0
+AreNoInputs bytes of_inputs.Memory = Unit {0}
+AreNoInputs bytes one = replay.IsRefused bytes one
+
+-- the fault of a text that is refused
+abbrev pub RefusesDeck : List ℕ → Fault → Type 0
+RefusesDeck bytes (fault.Deck one) = IsNoDeck bytes one
+RefusesDeck bytes _ = ⊥
+
+abbrev pub RefusesTimes : List ℕ → Fault → Type 0
+RefusesTimes bytes (fault.Times one) = AreNoTimes bytes one
+RefusesTimes bytes _ = ⊥
+
+abbrev pub RefusesNotes : List ℕ → Fault → Type 0
+RefusesNotes bytes (fault.Notes one) = AreNoNotes bytes one
+RefusesNotes bytes _ = ⊥
+
+abbrev pub RefusesInputs : List ℕ → Fault → Type 0
+RefusesInputs bytes (fault.Inputs one) = AreNoInputs bytes one
+RefusesInputs bytes _ = ⊥
 
 -- the texts of documents
 pub record Texts : Type 0 where

@@ -1,25 +1,24 @@
--- Files, each by its name (this project's choice): the documents and the inputs that they hold, and
--- why they hold none.
+-- Files, each by its name: the documents and the inputs that they hold, and why they hold none.
 use Rattle.std.specs.Prelude.{◌≡◌, ℕ, ◌+◌, ◌<◌, ◌≤◌, List, [], ◌∷◌, length, Option, Some, None}
 use Rattle.std.specs.Prelude.{IsSome, ◌⊎◌}
 use Rattle.drum_core.specs.declared.deck.Deck.{Deck}
 use Rattle.drum_core.specs.declared.deck.fault.DeckFault.TheVariants as of_deck
+use Rattle.drum_core.specs.declared.device.whole.WholeError.{WholeError}
+use Rattle.drum_core.specs.declared.device.whole.WholeError.TheVariants as why
 use Rattle.drum_times.specs.declared.times.Times.{Times}
 use Rattle.drum_times.specs.Allowed.{Notes}
-use Rattle.drum_times.specs.Says.{SayTimes, SayNotes, AreNoTimes, AreNoNotes}
-use Rattle.drum_inputs.specs.declared.fault.InputFault.{InputFault}
+use Rattle.drum_times.specs.Says.{SayTimes, SayNotes}
 use Rattle.drum_inputs.specs.declared.fault.InputFault.TheVariants as of_inputs
 use Rattle.drum_inputs.specs.declared.inputs.Inputs.{Inputs}
-use Rattle.drum_inputs.specs.Inputs.{AreInputsOf}
-use Rattle.drum_inputs.specs.InputsText as text
 use Rattle.drum_tool.specs.declared.documents.Documents.{Documents}
 use Rattle.drum_lines.specs.declared.fault.Fault.{Fault}
 use Rattle.drum_lines.specs.declared.fault.Fault.TheVariants as fault
 use Rattle.drum_lines.specs.declared.part.Part as parts
 use Rattle.drum_lines.specs.declared.part.Part.TheVariants as part
 use Rattle.drum_lines.specs.declared.part.PartFault.TheVariants as what
-use Rattle.drum_tool.specs.Asked.{Named}
-use Rattle.drum_tool.specs.Documents.{SaysDeck, IsNoDeck}
+use Rattle.drum_tool.specs.Asked.{Named, most_of}
+use Rattle.drum_tool.specs.Documents.{SaysDeck, SayInputs, RefusesDeck, RefusesTimes, RefusesNotes}
+use Rattle.drum_tool.specs.Documents.{RefusesInputs}
 
 -- What a source tells of its files, by how many are sought before and by the name: nothing; that
 -- the file can't be opened; or its bytes. (A name may give other bytes when it is sought again, as
@@ -48,49 +47,72 @@ AreTold files held [] = Unit {0}
 AreTold files held (one ∷ others) =
     (files 0 one.name ≡ Some (held one.part)) × AreTold (behind files) held others
 
--- a file's bytes, within the limit of a timing table and of notes
-abbrev pub Holds : Option (List ℕ) → List ℕ → Type 0
-Holds file bytes = (file ≡ Some bytes) × (length bytes ≤ 8388608)
+-- the fault of a part whose text isn't read
+abbrev pub fault_by : parts.Part → WholeError → Fault
+fault_by part.Deck why.Read = fault.Deck of_deck.Read
+fault_by part.Deck why.Memory = fault.Deck of_deck.Memory
+fault_by part.Deck why.TooLong = fault.Deck of_deck.TooLong
+fault_by part.Inputs why.Read = fault.Inputs of_inputs.Read
+fault_by part.Inputs why.Memory = fault.Inputs of_inputs.Memory
+fault_by part.Inputs why.TooLong = fault.Inputs of_inputs.TooLong
+fault_by of why.Read = fault.Part of what.Read
+fault_by of why.Memory = fault.Memory
+fault_by of why.TooLong = fault.Part of what.TooLong
 
--- Why the bytes of a part can't be had: its file can't be opened; a reading of it failed (that one
--- did is said by the number of failed reads, `reads_failed`); it is past its limit; or memory was
--- wanting (which is tested, not said).
-abbrev pub HoldsNone : parts.Part → Option (List ℕ) → Fault → Type 0
-HoldsNone of file (fault.Part one what.Open) = (one ≡ of) × (file ≡ None)
-HoldsNone of file (fault.Part one what.Read) = (one ≡ of) × IsSome file
-HoldsNone of file (fault.Part one what.TooLong) =
-    (one ≡ of) × ((bytes : List ℕ) × (file ≡ Some bytes) × (8388608 < length bytes))
-HoldsNone of file fault.Memory = IsSome file
-HoldsNone of file _ = ⊥
+-- a file's bytes, within the limit of its part
+abbrev pub HoldsText : parts.Part → Option (List ℕ) → List ℕ → Type 0
+HoldsText of file bytes = (file ≡ Some bytes) × (length bytes < most_of of)
 
--- the file is that of a deck
+-- Why a file that can be opened isn't read: a reading of it failed (that one did is said by the
+-- number of failed reads, `reads_failed`); it is past its part's limit; or the program is out of
+-- memory (which is tested, not stated here).
+abbrev pub IsUnread : parts.Part → Option (List ℕ) → WholeError → Type 0
+IsUnread of file why.Read = IsSome file
+IsUnread of file why.Memory = IsSome file
+IsUnread of file why.TooLong =
+    (bytes : List ℕ) × (file ≡ Some bytes) × (most_of of ≤ length bytes)
+
+-- why the text of a part can't be had: its file can't be opened, or isn't read
+abbrev pub HoldsNoText : parts.Part → Option (List ℕ) → Fault → Type 0
+HoldsNoText of file one =
+    ((one ≡ fault.Part of what.Open) × (file ≡ None))
+    ⊎ ((error : WholeError) × (one ≡ fault_by of error) × IsUnread of file error)
+
+-- the part's file holds a text that says this
+abbrev pub Holds : {A : Type 0} → parts.Part → (List ℕ → A → Type 0) → Option (List ℕ) → A → Type 0
+Holds of Says file said = (bytes : List ℕ) × HoldsText of file bytes × Says bytes said
+
+-- why it holds none: its text can't be had, or is refused
+abbrev pub HoldsNone : parts.Part → (List ℕ → Fault → Type 0) → Option (List ℕ) → Fault → Type 0
+HoldsNone of Refuses file one =
+    HoldsNoText of file one
+    ⊎ ((bytes : List ℕ) × HoldsText of file bytes × Refuses bytes one)
+
+-- the file is that of a deck, a timing table, notes, inputs
 abbrev pub HoldsDeck : Option (List ℕ) → Deck → Type 0
-HoldsDeck file deck = (bytes : List ℕ) × (file ≡ Some bytes) × SaysDeck bytes deck
+HoldsDeck = Holds part.Deck SaysDeck
 
--- why it is that of none: it can't be opened, a reading of it failed, or its text is no deck
-abbrev pub HoldsNoDeck : Option (List ℕ) → Fault → Type 0
-HoldsNoDeck file (fault.Part part.Deck what.Open) = file ≡ None
-HoldsNoDeck file (fault.Deck of_deck.Read) = IsSome file
-HoldsNoDeck file (fault.Deck one) = (bytes : List ℕ) × (file ≡ Some bytes) × IsNoDeck bytes one
-HoldsNoDeck file _ = ⊥
-
--- the file is that of a timing table
 abbrev pub HoldsTimes : Option (List ℕ) → Times → Type 0
-HoldsTimes file times = (bytes : List ℕ) × Holds file bytes × SayTimes bytes times
+HoldsTimes = Holds part.Times SayTimes
 
--- why it is that of none
-abbrev pub HoldsNoTimes : Option (List ℕ) → Fault → Type 0
-HoldsNoTimes file (fault.Times one) = (bytes : List ℕ) × Holds file bytes × AreNoTimes bytes one
-HoldsNoTimes file one = HoldsNone part.Times file one
-
--- the file is that of notes
 abbrev pub HoldsNotes : Option (List ℕ) → Notes → Type 0
-HoldsNotes file notes = (bytes : List ℕ) × Holds file bytes × SayNotes bytes notes
+HoldsNotes = Holds part.Notes SayNotes
+
+abbrev pub HoldsInputs : Option (List ℕ) → Inputs → Type 0
+HoldsInputs = Holds part.Inputs SayInputs
 
 -- why it is that of none
+abbrev pub HoldsNoDeck : Option (List ℕ) → Fault → Type 0
+HoldsNoDeck = HoldsNone part.Deck RefusesDeck
+
+abbrev pub HoldsNoTimes : Option (List ℕ) → Fault → Type 0
+HoldsNoTimes = HoldsNone part.Times RefusesTimes
+
 abbrev pub HoldsNoNotes : Option (List ℕ) → Fault → Type 0
-HoldsNoNotes file (fault.Notes one) = (bytes : List ℕ) × Holds file bytes × AreNoNotes bytes one
-HoldsNoNotes file one = HoldsNone part.Notes file one
+HoldsNoNotes = HoldsNone part.Notes RefusesNotes
+
+abbrev pub HoldsNoInputs : Option (List ℕ) → Fault → Type 0
+HoldsNoInputs = HoldsNone part.Inputs RefusesInputs
 
 -- the files of three parts are those of documents
 pub record AreHeld (held : Held) (documents : Documents) : Type 0 where
@@ -107,28 +129,12 @@ AreNotHeld held one =
     ⊎ ((times : Times) × HoldsTimes (held part.Times) times
     × HoldsNoNotes (held part.Notes) one)))
 
--- the file is that of inputs
-abbrev pub HoldsInputs : Option (List ℕ) → Inputs → Type 0
-HoldsInputs file inputs =
-    (bytes : List ℕ) × (file ≡ Some bytes)
-    × (lines : List text.Line) × text.AreInputs bytes lines × AreInputsOf inputs lines
+-- and a fourth is that of inputs
+abbrev pub AreHeldWithInputs : Held → Documents × Inputs → Type 0
+AreHeldWithInputs held read = AreHeld held read.0 × HoldsInputs (held part.Inputs) read.1
 
--- the file of the inputs' part is that of inputs
-abbrev pub AreInputsHeld : Held → Inputs → Type 0
-AreInputsHeld held = HoldsInputs (held part.Inputs)
-
--- why a text is no inputs (that memory was wanting is tested, not said)
-abbrev pub AreNoInputs : List ℕ → InputFault → Type 0
-AreNoInputs bytes of_inputs.Memory = Unit {0}
-AreNoInputs bytes one = text.IsRefused bytes one
-
--- why a file is that of none: it can't be opened, a reading of it failed, or its text is no inputs
-abbrev pub HoldsNoInputs : Option (List ℕ) → Fault → Type 0
-HoldsNoInputs file (fault.Part part.Inputs what.Open) = file ≡ None
-HoldsNoInputs file (fault.Inputs of_inputs.Read) = IsSome file
-HoldsNoInputs file (fault.Inputs one) =
-    (bytes : List ℕ) × (file ≡ Some bytes) × AreNoInputs bytes one
-HoldsNoInputs file _ = ⊥
-
-abbrev pub AreNoInputsHeld : Held → Fault → Type 0
-AreNoInputsHeld held = HoldsNoInputs (held part.Inputs)
+-- why they are not: one of the three is refused, or else that of the inputs
+abbrev pub AreNotHeldWithInputs : Held → Fault → Type 0
+AreNotHeldWithInputs held one =
+    AreNotHeld held one
+    ⊎ (((documents : Documents) × AreHeld held documents) × HoldsNoInputs (held part.Inputs) one)

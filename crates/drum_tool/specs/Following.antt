@@ -6,7 +6,7 @@ use Rattle.drum_machine.specs.Feed.{cards_left, waits_left}
 use Rattle.drum_machine.specs.FirstState.{IsSetUp}
 use Rattle.drum_machine.specs.Keeps.{IsAsDeclared}
 use Rattle.drum_machine.specs.Machine.{GoesOn, op_in, state_in, used_by, wait_with, waits_with}
-use Rattle.drum_machine.specs.Monitor.{HasSeen, answer_of}
+use Rattle.drum_monitor.specs.Monitor.{HasSeen, answer_of}
 use Rattle.drum_machine.specs.Run.{Stride, IsStride, IsFirstState}
 use Rattle.drum_machine.specs.Step.{State, Stepped, on, stopped, step}
 use Rattle.drum_flow.specs.Accepted.{IsFixed}

@@ -1,5 +1,4 @@
--- The joined form (this project's choice): a deck, a timing table and notes in one text, told apart
--- by lines.
+-- The joined form: a deck, a timing table and notes in one text, told apart by lines.
 use Rattle.std.specs.Prelude.{◌≡◌, ℕ, ◌<◌, ◌≤◌, List, [], ◌++◌, codes, length, Contains, ◌⊎◌}
 use Rattle.std.specs.Prelude.{Result, IsErrOf}
 use Rattle.drum_core.specs.Lines.{lines_of}
@@ -52,15 +51,15 @@ JoinsNone text one = (parts : Texts) × AreParts text parts × SayNone parts one
 abbrev pub Gives : List ℕ → Documents → Type 0
 Gives bytes documents = (length bytes ≤ 16777216) × Joins bytes documents
 
--- Why an input gives none: a read failed; there are too many bytes; memory is wanting (which is
--- tested, not said); else they join none.
+-- Why an input gives none: a read failed; there are too many bytes; there is no memory (which is
+-- tested, not stated); else they join none.
 abbrev pub GivesNone : List ℕ → Fault → Type 0
 GivesNone bytes (fault.Part part.Input what.Read) = Unit {0}
 GivesNone bytes (fault.Part part.Input what.TooLong) = 16777216 < length bytes
 GivesNone bytes fault.Memory = Unit {0}
 GivesNone bytes one = (length bytes ≤ 16777216) × JoinsNone bytes one
 
--- the input is past its limit, or memory was wanting
+-- the input is past its limit, or there was no memory
 abbrev pub IsPastLimit : {A : Type 0} → Result A Fault → Type 0
 IsPastLimit result =
     IsErrOf result (fault.Part part.Input what.TooLong) ⊎ IsErrOf result fault.Memory

@@ -2,6 +2,7 @@ pub mod Asked
 pub mod Begun
 pub mod Checked
 pub mod Documents
+pub mod Does
 pub mod Files
 pub mod Following
 pub mod Given

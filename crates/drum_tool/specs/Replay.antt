@@ -1,4 +1,4 @@
--- The run that a setup and a feed fix, and the verdict of its replay (this project's choice).
+-- The run that a setup and a feed fix, and the verdict of its replay.
 use Rattle.std.specs.Prelude.{◌≡◌, ℕ, ◌+◌, ◌≤◌, List, [], ◌∷◌, ◌++◌, length, Some, None}
 use Rattle.drum_core.specs.declared.op.Op.{Op}
 use Rattle.drum_times.specs.declared.entry.Entry.{Entry}
@@ -12,7 +12,7 @@ use Rattle.drum_machine.specs.Counts.{no_counts}
 use Rattle.drum_machine.specs.FirstState.{IsSetUp}
 use Rattle.drum_machine.specs.Keeps.{IsAsDeclared, AreKept, Leaves}
 use Rattle.drum_machine.specs.Machine.{op_in, wait_with, waits_with}
-use Rattle.drum_machine.specs.Monitor.{counts_over}
+use Rattle.drum_machine.specs.Keeps.{counts_over}
 use Rattle.drum_machine.specs.Run.{Stride, IsRun, used_from}
 use Rattle.drum_machine.specs.Setup.{first_loaded}
 use Rattle.drum_machine.specs.Step.{State, stopped}
@@ -142,7 +142,7 @@ pub record IsTracedInPart (g : Setting) (given : Given) (strides : List Stride) 
 
 -- Why there is no verdict: a word is given that the deck loads too, of which the first is told;
 -- else this is what refuses the documents; else there is what limits the run, and the fault is
--- Memory. (That memory was wanting then is tested, not said.)
+-- Memory. (That there was none then is tested, not stated.)
 abbrev pub IsRunFault : Setting → Given → (Refusal → Type 0) → Type 0 → fails.Fault → Type 0
 IsRunFault g given Refuses IsLimited (fault.Loaded location) =
     first_loaded g.loads given.setup.words.items ≡ Some location

@@ -1,4 +1,4 @@
--- What the program has to say, and when it says it (this project's choice).
+-- What the program has to say, and when it says it.
 use Rattle.std.specs.Prelude.{◌≡◌, ◌≢◌, ℕ, ◌+◌, if◌then◌else◌, List, [], ◌++◌, Option, Some}
 use Rattle.std.specs.Prelude.{None, ◌⊎◌}
 use Rattle.std.specs.List.{list_all}
@@ -16,9 +16,10 @@ use Rattle.drum_check.specs.Findings.{AreFindings, Finding, may_be_meant}
 use Rattle.drum_check.specs.Lacking.{check_text}
 use Rattle.drum_command.specs.declared.command.Command.{Command}
 use Rattle.drum_command.specs.declared.command.Files.{Files}
-use Rattle.drum_command.specs.declared.command.Command.TheVariants.{Bound, Check, Report, Walk}
-use Rattle.drum_command.specs.declared.command.Command.TheVariants.{Waits, Table, Graph, Draw}
-use Rattle.drum_command.specs.declared.command.Command.TheVariants.{Ceiling, Replay, Trace}
+use Rattle.drum_command.specs.declared.command.Command.TheVariants.{Answer, Check, Replay, Trace}
+use Rattle.drum_command.specs.declared.command.Question.{Question}
+use Rattle.drum_command.specs.declared.command.Question.TheVariants.{Bound, Report, Walk, Waits}
+use Rattle.drum_command.specs.declared.command.Question.TheVariants.{Table, Graph, Draw, Ceiling}
 use Rattle.drum_faults.specs.FaultLines as printed
 use Rattle.drum_inputs.specs.declared.inputs.Inputs.{Inputs}
 use Rattle.drum_tool.specs.declared.documents.Documents.{Documents}
@@ -48,7 +49,8 @@ use Rattle.drum_flow.specs.Bounded.{IsDeckAccepted}
 use Rattle.drum_tool.specs.Documents.{IsAnalysisFault, IsBound, IsCeiling, IsCeilingFault, IsLimit}
 use Rattle.drum_tool.specs.Documents.{IsWorstWalk, Say, Texts}
 use Rattle.drum_tool.specs.Documents.{setting_of}
-use Rattle.drum_tool.specs.Files.{AreHeld, AreInputsHeld, AreNoInputsHeld, AreNotHeld, Held}
+use Rattle.drum_tool.specs.Files.{AreHeld, AreHeldWithInputs, AreNotHeld, AreNotHeldWithInputs}
+use Rattle.drum_tool.specs.Files.{Held}
 use Rattle.drum_tool.specs.Given.{given}
 use Rattle.drum_tool.specs.Joined.{Gives, GivesNone}
 use Rattle.drum_tool.specs.Asked.{name_in}
@@ -122,10 +124,10 @@ abbrev pub LooksAsTold : List Named → Reply → List Asked → Type 0
 LooksAsTold files reply asked =
     (told : Option Fault) × IsLineOf told reply × Looks files told asked
 
--- Unless the reply tells that a read of the input failed, or that memory is wanting, the input was
+-- Unless the reply tells that a read of the input failed, or that there is no memory, the input was
 -- read to its end, or one byte past the limit: by how many reads met the end, and how many bytes it
--- gave, before and after. Of one that is past its limit the reply tells so, or that memory is
--- wanting.
+-- gave, before and after. Of one that is past its limit the reply tells so, or that there is no
+-- memory.
 abbrev pub ReadsAll : Reply → ℕ → ℕ → ℕ → ℕ → Type 0
 ReadsAll reply ended ended' given given' =
     (reply ≢ fault_reply (fault.Part part.Input what.Read) → reply ≢ fault_reply fault.Memory
@@ -203,6 +205,35 @@ SaysFindings documents reply =
     × AreFindings (loads_in documents.deck) documents.notes (start_in documents.deck) findings
     × (reply ≡ findings_reply findings)
 
+-- what is said of documents, where this is asked of them
+abbrev pub Says : Question → Documents → Reply → Type 0
+Says Bound = SaysBound
+Says Report = SaysReport
+Says Walk = SaysWalk
+Says Waits = SaysWaits
+Says Table = SaysTable
+Says Graph = SaysGraph
+Says Draw = SaysPicture
+Says Ceiling = SaysCeiling
+
+-- the program is out of memory (which is tested, not stated)
+abbrev pub IsWanting : Fault → Type 0
+IsWanting fault.Memory = Unit {0}
+IsWanting (fault.Refused refusal.Memory) = Unit {0}
+IsWanting _ = ⊥
+
+-- why nothing is said of them: the deck with its notes is refused; of the flow graph, which any
+-- deck has, that the program is out of memory, and nothing else
+abbrev pub Refuses : Question → Documents → Fault → Type 0
+Refuses Bound = IsAnalysisFault
+Refuses Report = IsAnalysisFault
+Refuses Walk = IsAnalysisFault
+Refuses Waits = IsAnalysisFault
+Refuses Table = IsAnalysisFault
+Refuses Graph = λ documents. IsWanting
+Refuses Draw = IsAnalysisFault
+Refuses Ceiling = IsCeilingFault
+
 -- ---- what is said of texts
 
 -- a text with its file's name
@@ -223,12 +254,6 @@ SaysCheck files texts inputs reply =
     ((lines : List ℕ) × (lines ≢ []) × AreLinesOfFaults files texts inputs lines
     × (reply ≡ lists lines))
     ⊎ ((documents : Documents) × Say texts documents × SaysFindings documents reply)
-
--- memory is wanting (which is tested, not said)
-abbrev pub IsWanting : Fault → Type 0
-IsWanting fault.Memory = Unit {0}
-IsWanting (fault.Refused refusal.Memory) = Unit {0}
-IsWanting _ = ⊥
 
 -- ---- what is said of a run
 
@@ -255,127 +280,43 @@ SaysTrace documents given reply =
 
 -- ---- to commands
 
--- why there are no documents, or why those that there are get no answer
-abbrev pub IsFaultBy : (Documents → Fault → Type 0) → (Documents → Type 0) → (Fault → Type 0)
-    → Fault → Type 0
-IsFaultBy Refuses Are AreNone fault =
-    AreNone fault ⊎ ((documents : Documents) × Are documents × Refuses documents fault)
-
--- To a command on documents, where so many reads failed: what it says of them, or why there is
--- nothing to say.
-abbrev pub AnswersBy : (Documents → Fault → Type 0) → (Documents → Reply → Type 0)
-    → (Documents → Type 0) → (Fault → Type 0) → ℕ → Reply → Type 0
-AnswersBy Refuses Says Are AreNone failures reply =
-    ((documents : Documents) × Are documents × (failures ≡ 0) × Says documents reply)
-    ⊎ ((fault : Fault) × IsFaultBy Refuses Are AreNone fault
+-- The reply to a command, where so many reads failed: what it says of what it has read; or the line
+-- of a fault, why that can't be had, or why nothing is said of it.
+abbrev pub Replies : {A : Type 0} → (A → Type 0) → (Fault → Type 0) → (A → Reply → Type 0)
+    → (A → Fault → Type 0) → ℕ → Reply → Type 0
+Replies {A = A} Are AreNone Says Refuses failures reply =
+    ((read : A) × Are read × (failures ≡ 0) × Says read reply)
+    ⊎ ((fault : Fault) × (AreNone fault ⊎ ((read : A) × Are read × Refuses read fault))
     × (failures ≡ reads_failed fault) × (reply ≡ fault_reply fault))
 
--- the same, where the analysis refuses documents
-abbrev pub IsFault : (Documents → Type 0) → (Fault → Type 0) → Fault → Type 0
-IsFault = IsFaultBy IsAnalysisFault
-
-abbrev pub AnswersOn : (Documents → Reply → Type 0) → (Documents → Type 0) → (Fault → Type 0)
-    → ℕ → Reply → Type 0
-AnswersOn = AnswersBy IsAnalysisFault
-
--- why there are no documents, else why there are no inputs
-abbrev pub IsFaultBefore : (Documents → Type 0) → (Fault → Type 0) → (Fault → Type 0) → Fault
-    → Type 0
-IsFaultBefore Are AreNone NoInputs fault =
-    AreNone fault ⊎ ((documents : Documents) × Are documents × NoInputs fault)
-
--- or else why there is no run
-abbrev pub IsFaultWith : (Documents → Given → Fault → Type 0) → (Documents → Type 0)
-    → (Fault → Type 0) → (Inputs → Type 0) → (Fault → Type 0) → Fault → Type 0
-IsFaultWith Refuses Are AreNone AreInputs NoInputs fault =
-    IsFaultBefore Are AreNone NoInputs fault
-    ⊎ ((documents : Documents) × Are documents × (inputs : Inputs) × AreInputs inputs
-    × Refuses documents (given inputs) fault)
-
--- To a command that lets the deck run: what it says of the run that the inputs fix, or why there is
--- nothing to say.
-abbrev pub AnswersRun : (Documents → Given → Fault → Type 0)
-    → (Documents → Given → Reply → Type 0) → (Documents → Type 0)
-    → (Fault → Type 0) → (Inputs → Type 0) → (Fault → Type 0) → ℕ → Reply → Type 0
-AnswersRun Refuses Says Are AreNone AreInputs NoInputs failures reply =
-    ((documents : Documents) × Are documents × (inputs : Inputs) × AreInputs inputs
-    × (failures ≡ 0) × Says documents (given inputs) reply)
-    ⊎ ((fault : Fault) × IsFaultWith Refuses Are AreNone AreInputs NoInputs fault
-    × (failures ≡ reads_failed fault) × (reply ≡ fault_reply fault))
-
--- why documents with what is given have no replay
-abbrev pub IsReplayRefused : Documents → Given → Fault → Type 0
-IsReplayRefused documents = IsReplayFault (setting_of documents)
-
--- the reply to a joined form, where so many reads failed
+-- the reply to a joined form
 abbrev pub AnswersJoined : List ℕ → ℕ → Reply → Type 0
-AnswersJoined bytes = AnswersOn SaysBound (Gives bytes) (GivesNone bytes)
+AnswersJoined bytes = Replies (Gives bytes) (GivesNone bytes) SaysBound IsAnalysisFault
 
--- the reply to a command on documents in files, and to one that lets a deck in files run
-abbrev pub AnswersOnFiles : (Documents → Reply → Type 0) → Held → ℕ → Reply → Type 0
-AnswersOnFiles Says held = AnswersOn Says (AreHeld held) (AreNotHeld held)
+-- the reply to a question about three files
+abbrev pub AnswersQuestion : Held → Question → ℕ → Reply → Type 0
+AnswersQuestion held question =
+    Replies (AreHeld held) (AreNotHeld held) (Says question) (Refuses question)
 
--- the same, where what refuses them is that they have no ceiling
-abbrev pub AnswersCeilingOfFiles : Held → ℕ → Reply → Type 0
-AnswersCeilingOfFiles held =
-    AnswersBy IsCeilingFault SaysCeiling (AreHeld held) (AreNotHeld held)
+-- to a check of texts in files, and in one of inputs, if it is named
+abbrev pub AnswersCheck : Held → Files → Option (List ℕ) → ℕ → Reply → Type 0
+AnswersCheck held files name =
+    Replies {A = Texts × Option printed.Named}
+    (λ read. AreTextsHeld held read.0 × IsInputsText held name read.1) (AreNoneHeld held name)
+    (λ read. SaysCheck files read.0 read.1) (λ read. IsWanting)
 
--- the same, where nothing refuses them but want of memory
-abbrev pub AnswersGraphOfFiles : Held → ℕ → Reply → Type 0
-AnswersGraphOfFiles held =
-    AnswersBy (λ documents. IsWanting) SaysGraph (AreHeld held) (AreNotHeld held)
-
--- why texts in files aren't checked: they can't be had, or memory is wanting
-abbrev pub IsCheckFaultOfFiles : Option (List ℕ) → Held → Fault → Type 0
-IsCheckFaultOfFiles name held fault =
-    AreNoneHeld held name fault
-    ⊎ (((texts : Texts) × AreTextsHeld held texts
-    × ((inputs : Option printed.Named) × IsInputsText held name inputs)) × IsWanting fault)
-
--- the reply to a check of texts in files, where so many reads failed
-abbrev pub AnswersCheckOfFiles : Files → Option (List ℕ) → Held → ℕ → Reply → Type 0
-AnswersCheckOfFiles files name held failures reply =
-    ((texts : Texts) × AreTextsHeld held texts
-    × ((inputs : Option printed.Named) × IsInputsText held name inputs
-    × (failures ≡ 0) × SaysCheck files texts inputs reply))
-    ⊎ ((fault : Fault) × IsCheckFaultOfFiles name held fault
-    × (failures ≡ reads_failed fault) × (reply ≡ fault_reply fault))
-
-abbrev pub AnswersRunOfFiles : (Documents → Given → Fault → Type 0)
-    → (Documents → Given → Reply → Type 0) → Held → ℕ → Reply → Type 0
-AnswersRunOfFiles Refuses Says held =
-    AnswersRun Refuses Says (AreHeld held) (AreNotHeld held)
-    (AreInputsHeld held) (AreNoInputsHeld held)
-
--- and why there is nothing to say
-abbrev pub IsFaultOfFiles : Held → Fault → Type 0
-IsFaultOfFiles held = IsFault (AreHeld held) (AreNotHeld held)
-
-abbrev pub IsCeilingFaultOfFiles : Held → Fault → Type 0
-IsCeilingFaultOfFiles held = IsFaultBy IsCeilingFault (AreHeld held) (AreNotHeld held)
-
-abbrev pub IsGraphFaultOfFiles : Held → Fault → Type 0
-IsGraphFaultOfFiles held = IsFaultBy (λ documents. IsWanting) (AreHeld held) (AreNotHeld held)
-
-abbrev pub IsFaultBeforeOfFiles : Held → Fault → Type 0
-IsFaultBeforeOfFiles held = IsFaultBefore (AreHeld held) (AreNotHeld held) (AreNoInputsHeld held)
-
-abbrev pub IsRunFaultOfFiles : (Documents → Given → Fault → Type 0) → Held → Fault → Type 0
-IsRunFaultOfFiles Refuses held =
-    IsFaultWith Refuses (AreHeld held) (AreNotHeld held)
-    (AreInputsHeld held) (AreNoInputsHeld held)
+-- To a command that lets the deck run: of the documents and the inputs, what it says of the run
+-- that the inputs fix.
+abbrev pub AnswersRun : Held → (Documents → Given → Reply → Type 0)
+    → (Documents → Given → Fault → Type 0) → ℕ → Reply → Type 0
+AnswersRun held Says Refuses =
+    Replies {A = Documents × Inputs} (AreHeldWithInputs held) (AreNotHeldWithInputs held)
+    (λ read. Says read.0 (given read.1)) (λ read. Refuses read.0 (given read.1))
 
 -- the reply to a command, where the files of its parts hold this and so many reads failed
 abbrev pub AnswersCommand : Held → Command → ℕ → Reply → Type 0
-AnswersCommand held (Bound files) = AnswersOnFiles SaysBound held
-AnswersCommand held (Check files inputs) =
-    AnswersCheckOfFiles files (name_in inputs) held
-AnswersCommand held (Report files) = AnswersOnFiles SaysReport held
-AnswersCommand held (Walk files) = AnswersOnFiles SaysWalk held
-AnswersCommand held (Waits files) = AnswersOnFiles SaysWaits held
-AnswersCommand held (Table files) = AnswersOnFiles SaysTable held
-AnswersCommand held (Graph files) = AnswersGraphOfFiles held
-AnswersCommand held (Draw files) = AnswersOnFiles SaysPicture held
-AnswersCommand held (Ceiling files) = AnswersCeilingOfFiles held
-AnswersCommand held (Replay files inputs) = AnswersRunOfFiles IsReplayRefused SaysVerdict held
-AnswersCommand held (Trace files inputs) = AnswersRunOfFiles IsTraceFault SaysTrace held
+AnswersCommand held (Answer question files) = AnswersQuestion held question
+AnswersCommand held (Check files inputs) = AnswersCheck held files (name_in inputs)
+AnswersCommand held (Replay files inputs) =
+    AnswersRun held SaysVerdict (λ documents. IsReplayFault (setting_of documents))
+AnswersCommand held (Trace files inputs) = AnswersRun held SaysTrace IsTraceFault

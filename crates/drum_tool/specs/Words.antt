@@ -1,4 +1,4 @@
--- What the program says to its words (this project's choice).
+-- What the program says to its words.
 use Rattle.std.specs.Prelude.{◌≡◌, ℕ, true, List, [], ◌∷◌, Option, Some, string_bytes, ◌⊎◌}
 use Rattle.clap.specs.Words.{Text, fault_of, takes}
 use Rattle.drum_command.specs.declared.command.Command.{Command}
@@ -20,7 +20,7 @@ refused_reply (Usage text) = complains (string_bytes text) status.Usage
 refused_reply Memory = fault_reply fault.Memory
 
 -- Words are refused for a fault that clap states of them, and a command line that it takes is
--- refused for want of memory alone.
+-- refused for lack of memory alone.
 pub record AreRefused (words : List Text) (refused : Refused) : Type 0 where
   pub fits : FitsAmong (fault_of drum650 words) refused
   pub taken : takes drum650 words ≡ true → refused ≡ Memory

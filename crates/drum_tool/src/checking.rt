@@ -70,7 +70,7 @@ pub fn named_inputs<'a>(name: Option<&'a str>, text: &'a Option<Vec<u8>>) -> Opt
 ///
 /// # Errors
 ///
-/// Where memory is wanting.
+/// Where the program is out of memory.
 pub fn check(
     alloc: Global,
     files: Files<'_>,
@@ -88,7 +88,7 @@ pub fn check(
         return Ok(Checked::Faulty(lines));
     }
     let Ok(documents) = Documents::of_texts(alloc, &texts.deck, &texts.times, &texts.notes) else {
-        // No text has a fault: only memory can be wanting.
+        // No text has a fault: only memory can be lacking.
         return Err(Fault::Memory);
     };
     let (findings, lacking) = documents.findings(alloc)?;

@@ -6,8 +6,6 @@ ghost use Rattle.drum_check.specs.Findings.{AreFindings};
 ghost use Rattle.drum_check.specs.FindingsOf.{found_in};
 ghost use Rattle.drum_check.specs.Lacking.{words_altered};
 ghost use Rattle.drum_check.specs.LackingOf.{words_in};
-ghost use Rattle.drum_graph.specs.Graph.{AreNodes};
-ghost use Rattle.drum_graph.specs.GraphOf.{nodes_in, start_of};
 ghost use Rattle.drum_tool.specs.Documents.{
   IsAnalysisFault,
   IsBound,
@@ -17,16 +15,18 @@ ghost use Rattle.drum_tool.specs.Documents.{
   IsLimitFault,
   IsTooLargeForBound,
   IsWorstWalk,
+  Say,
+  SayNone,
   setting_of,
+  texts_of,
 };
 
 use drum_bound::{Analysis, Refusal, analyse, bound};
 use drum_ceiling::{Ceiling, ceiling};
 use drum_check::{Findings, Lacking};
-use drum_core::Deck;
-use drum_graph::Graph;
+use drum_core::{Deck, deck_of};
 use drum_lines::{Fault, Limit};
-use drum_times::{Notes, Times};
+use drum_times::{Notes, Times, read_notes, read_times};
 use std::alloc::Global;
 
 /// What a run that is followed may take at most is below this, in word times: 3,400 years.
@@ -41,11 +41,36 @@ pub struct Documents {
 }
 
 impl Documents {
+    /// The documents that three texts say, checked one after the other.
+    ///
+    /// # Errors
+    ///
+    /// The fault of the first text that has one.
+    pub fn of_texts(
+        alloc: Global,
+        deck: &[u8],
+        times: &[u8],
+        notes: &[u8],
+    ) -> Result<Documents, Fault>
+        ensures said { IfOk result (Say (texts_of deck.now times.now notes.now)) }
+        ensures fault { IfErr result (SayNone (texts_of deck.now times.now notes.now)) }
+    {
+        let deck = deck_of(alloc, deck)?;
+        let times = match read_times(alloc, times) {
+            Ok(times) => times,
+            Err(fault) => return Err(Fault::Times(fault)),
+        };
+        match read_notes(alloc, notes) {
+            Ok(notes) => Ok(Documents { deck, times, notes }),
+            Err(fault) => Err(Fault::Notes(fault)),
+        }
+    }
+
     /// Their analysis.
     ///
     /// # Errors
     ///
-    /// [`Fault::Refused`] where the deck with its notes isn't accepted, or memory is wanting.
+    /// [`Fault::Refused`] where the deck with its notes isn't accepted, or there is no memory.
     pub(crate) fn analyse(&self, alloc: Global) -> Result<Analysis, Fault>
         ensures bound { IfOk result (λ analysis. IsBound self.now (bound_of analysis)) }
         ensures walk { IfOk result (λ analysis.
@@ -54,10 +79,7 @@ impl Documents {
             IsTable (setting_of self.now) (rows_of analysis)) }
         ensures fault { IfErr result (IsAnalysisFault self.now) }
     {
-        match analyse(alloc, &self.deck, &self.times, &self.notes) {
-            Ok(analysis) => Ok(analysis),
-            Err(refusal) => Err(Fault::Refused(refusal)),
-        }
+        Ok(analyse(alloc, &self.deck, &self.times, &self.notes)?)
     }
 
     /// Their bound.
@@ -70,10 +92,7 @@ impl Documents {
         ensures below { IfOk result (λ bound. bound < 2 ^ 50) }
         ensures fault { IfErr result (IsAnalysisFault self.now) }
     {
-        match bound(alloc, &self.deck, &self.times, &self.notes) {
-            Ok(most) => Ok(most),
-            Err(refusal) => Err(Fault::Refused(refusal)),
-        }
+        Ok(bound(alloc, &self.deck, &self.times, &self.notes)?)
     }
 
     /// Their ceiling.
@@ -81,22 +100,19 @@ impl Documents {
     /// # Errors
     ///
     /// [`Fault::Refused`] where the deck with its notes isn't accepted, but for its size; where
-    /// what the ceiling comes to is too large; or memory is wanting.
+    /// what the ceiling comes to is too large; or there is no memory.
     pub(crate) fn ceiling(&self, alloc: Global) -> Result<Ceiling, Fault>
         ensures ceiling { IfOk result (IsCeiling self.now) }
         ensures fault { IfErr result (IsCeilingFault self.now) }
     {
-        match ceiling(alloc, &self.deck, &self.times, &self.notes) {
-            Ok(found) => Ok(found),
-            Err(refusal) => Err(Fault::Refused(refusal)),
-        }
+        Ok(ceiling(alloc, &self.deck, &self.times, &self.notes)?)
     }
 
     /// All that keeps them from having a bound, and what is lacking.
     ///
     /// # Errors
     ///
-    /// [`Fault::Refused`] where memory is wanting.
+    /// [`Fault::Refused`] where there is no memory.
     pub(crate) fn findings(&self, alloc: Global) -> Result<(Findings, Lacking), Fault>
         ensures findings { IfOk result (λ checked. AreFindings (loads_in self.now.deck)
             self.now.notes (start_in self.now.deck) (found_in checked.0)) }
@@ -104,30 +120,9 @@ impl Documents {
             words_in checked.1 ≡ words_altered (found_in checked.0)) }
         ensures wanting { IfErr result (λ fault. fault ≡ Fault.Refused Refusal.Memory) }
     {
-        let Ok(findings) = Findings::of(alloc, &self.deck, &self.notes) else {
-            return Err(Fault::Refused(Refusal::Memory));
-        };
-        let Ok(lacking) = Lacking::of(alloc, &findings) else {
-            return Err(Fault::Refused(Refusal::Memory));
-        };
+        let findings = Findings::of(alloc, &self.deck, &self.notes)?;
+        let lacking = Lacking::of(alloc, &findings)?;
         Ok((findings, lacking))
-    }
-
-    /// Their flow graph, whether they have a bound or not.
-    ///
-    /// # Errors
-    ///
-    /// [`Fault::Refused`] where memory is wanting.
-    pub(crate) fn graph(&self, alloc: Global) -> Result<Graph, Fault>
-        ensures nodes { IfOk result (λ graph. AreNodes (loads_in self.now.deck) self.now.notes
-            (start_in self.now.deck) (nodes_in graph)) }
-        ensures start { IfOk result (λ graph. start_of graph ≡ start_in self.now.deck) }
-        ensures wanting { IfErr result (λ fault. fault ≡ Fault.Refused Refusal.Memory) }
-    {
-        match Graph::of(alloc, &self.deck, &self.notes) {
-            Ok(graph) => Ok(graph),
-            Err(_) => Err(Fault::Refused(Refusal::Memory)),
-        }
     }
 
     /// What a run of theirs that keeps to the notes uses at most, in word times, and how that is
@@ -136,7 +131,7 @@ impl Documents {
     /// # Errors
     ///
     /// [`Fault::Refused`] where the deck with its notes isn't accepted, but for its size; where the
-    /// ceiling that is found comes to 2^50 word times or more; or memory is wanting.
+    /// ceiling that is found comes to 2^50 word times or more; or there is no memory.
     pub(crate) fn limit(&self, alloc: Global) -> Result<(Limit, u64), Fault>
         ensures limit { IfOk result (λ found. IsLimit self.now found.0 found.1) }
         ensures below { IfOk result (λ found. found.1 < 2 ^ 50) }

@@ -1,54 +1,81 @@
 //! Files read, each to its limit, and checked one after the other.
 
-ghost use Rattle.std.specs.Prelude.{◌≡◌, ◌+◌, ◌^◌, ◌≤◌, ◌↔◌, ℕ, List, Option, Some, IfOk, IfErr};
-ghost use Rattle.std.specs.Prelude.{IfSome, IsErrOf};
+ghost use Rattle.std.specs.Prelude.{◌≡◌, ◌+◌, ◌^◌, ◌≤◌, ℕ, List, Option, Some, IfOk, IfErr};
+ghost use Rattle.std.specs.Prelude.{IfSome};
 ghost use Rattle.drum_lines.specs.FaultStatus.{failed_by};
 ghost use Rattle.drum_tool.specs.Asked.{AsksFor, IsLookedAt, IsOfText, IsRead, LooksFor, fault_in};
 ghost use Rattle.drum_tool.specs.Asked.{most_of, named_in, reading};
-ghost use Rattle.drum_tool.specs.Files.{AreHeld, AreNotHeld, AreTold, Held, Holds, HoldsDeck};
-ghost use Rattle.drum_tool.specs.Files.{HoldsInputs, HoldsNoDeck, HoldsNoInputs, HoldsNone};
-ghost use Rattle.drum_tool.specs.Files.{HoldsNoNotes, HoldsNotes, HoldsNoTimes, HoldsTimes, behind};
+ghost use Rattle.drum_tool.specs.Files.{AreHeld, AreNotHeld, AreTold, Held, HoldsDeck};
+ghost use Rattle.drum_tool.specs.Files.{HoldsInputs, HoldsNoDeck, HoldsNoInputs, HoldsNoNotes};
+ghost use Rattle.drum_tool.specs.Files.{HoldsNotes, HoldsNoText, HoldsNoTimes, HoldsText};
+ghost use Rattle.drum_tool.specs.Files.{HoldsTimes, behind};
+ghost use Rattle.drum_tool.specs.Files as said;
 
 use crate::documents::Documents;
 use crate::source::Source;
 use drum_command::Files;
-use drum_core::{Deck, Input, WholeError, read_deck, read_whole};
-use drum_inputs::{Inputs, read_inputs};
+use drum_core::{Deck, DeckFault, Input, WholeError, deck_of, read_whole};
+use drum_inputs::{InputFault, Inputs, inputs_of};
 use drum_lines::{Fault, Part, PartFault};
 use drum_times::{Notes, Times, read_notes, read_times};
 use std::alloc::Global;
 
-/// The most bytes of a timing table and of notes.
-const BYTES: usize = 8_388_608;
-
-/// The bytes of a timing table or of notes, 8,388,608 at most. That reading failed is told exactly
-/// where a read did.
-fn bytes_of<I: Input>(alloc: Global, part: Part, text: &mut I) -> Result<Vec<u8>, Fault>
-    requires { I.called text.old ≤ 2 ^ 62 }
-    ensures bytes { IfOk result (λ bytes. IfSome (I.left text.old) (λ all.
-        Holds (Some all) bytes.items)) }
-    ensures fault { IfErr result (λ fault. IfSome (I.left text.old) (λ all.
-        HoldsNone part (Some all) fault)) }
-    ensures read { IsErrOf result (Fault.Part part PartFault.Read)
-        ↔ (I.failed text.new ≡ I.failed text.old + 1) }
-    ensures counted { I.failed text.old ≡ 0 → I.failed text.new ≡ failed_by result }
-    ensures asked { I.called text.new ≤ I.called text.old + 8388609 }
-    ensures of { IsOfText part (fault_in result) }
-    ensures all { I.called text.old ≡ 0 → I.failed text.old ≡ 0 → I.ended text.old ≡ 0
-        → I.given text.old ≡ 0 → I.idle text.old ≡ 0 → IsRead 8388609 (fault_in result)
-        (reading (I.called text.new) (I.failed text.new) (I.ended text.new) (I.given text.new)
-        (I.idle text.new)) }
+/// The most bytes of a text of this part.
+fn limit_of(part: Part) -> usize
+    ensures { result + 1 ≡ most_of part }
 {
-    match read_whole(alloc, text, BYTES) {
-        Ok(bytes) => Ok(bytes),
-        Err(WholeError::Read) => Err(Fault::Part(part, PartFault::Read)),
-        Err(WholeError::Memory) => Err(Fault::Memory),
-        Err(WholeError::TooLong) => Err(Fault::Part(part, PartFault::TooLong)),
+    match part {
+        Part::Input => 16_777_216,
+        Part::Deck => Deck::BYTES,
+        Part::Times | Part::Notes => 8_388_608,
+        Part::Inputs => Inputs::BYTES,
     }
 }
 
-/// The bytes of a timing table or of notes, the part, from its file.
-pub(crate) fn read_part<S: Source>(
+/// The fault of a part whose text isn't read.
+fn fault_by(part: Part, error: WholeError) -> Fault
+    ensures { result ≡ said.fault_by part error }
+{
+    match (part, error) {
+        (Part::Deck, WholeError::Read) => Fault::Deck(DeckFault::Read),
+        (Part::Deck, WholeError::Memory) => Fault::Deck(DeckFault::Memory),
+        (Part::Deck, WholeError::TooLong) => Fault::Deck(DeckFault::TooLong),
+        (Part::Inputs, WholeError::Read) => Fault::Inputs(InputFault::Read),
+        (Part::Inputs, WholeError::Memory) => Fault::Inputs(InputFault::Memory),
+        (Part::Inputs, WholeError::TooLong) => Fault::Inputs(InputFault::TooLong),
+        (_, WholeError::Read) => Fault::Part(part, PartFault::Read),
+        (_, WholeError::Memory) => Fault::Memory,
+        (_, WholeError::TooLong) => Fault::Part(part, PartFault::TooLong),
+    }
+}
+
+/// Reads the whole text of a part, as many bytes as it may have. The fault says that a read failed
+/// exactly where one did.
+fn text_of<I: Input>(alloc: Global, part: Part, text: &mut I) -> Result<Vec<u8>, Fault>
+    requires { I.called text.old ≤ 2 ^ 62 }
+    ensures bytes { IfOk result (λ bytes. IfSome (I.left text.old) (λ all.
+        HoldsText part (Some all) bytes.items)) }
+    ensures fault { IfErr result (λ fault. IfSome (I.left text.old) (λ all.
+        HoldsNoText part (Some all) fault)) }
+    ensures counted { I.failed text.old ≡ 0 → I.failed text.new ≡ failed_by result }
+    ensures of { IsOfText part (fault_in result) }
+    ensures all { I.called text.old ≡ 0 → I.failed text.old ≡ 0 → I.ended text.old ≡ 0
+        → I.given text.old ≡ 0 → I.idle text.old ≡ 0 → IsRead (most_of part) (fault_in result)
+        (reading (I.called text.new) (I.failed text.new) (I.ended text.new) (I.given text.new)
+        (I.idle text.new)) }
+{
+    match read_whole(alloc, text, limit_of(part)) {
+        Ok(bytes) => Ok(bytes),
+        Err(error) => Err(fault_by(part, error)),
+    }
+}
+
+/// The text of a part, from its file.
+///
+/// # Errors
+///
+/// The file can't be opened or read, is past the part's limit, or the program is out of memory.
+pub fn read_text<S: Source>(
     alloc: Global,
     source: &mut S,
     part: Part,
@@ -58,22 +85,22 @@ pub(crate) fn read_part<S: Source>(
     ensures behind { S.files source.new ≡ behind (S.files source.old) }
     ensures counted { S.failed source.new ≡ S.failed source.old + failed_by result }
     ensures bytes { IfOk result (λ bytes. (file : Option (List ℕ))
-        → S.files source.old 0 name.now ≡ Some file → Holds file bytes.items) }
+        → S.files source.old 0 name.now ≡ Some file → HoldsText part file bytes.items) }
     ensures fault { IfErr result (λ fault. (file : Option (List ℕ))
-        → S.files source.old 0 name.now ≡ Some file → HoldsNone part file fault) }
-    ensures asked { most_of part ≡ 8388609 → AsksFor (S.asked source.old) (S.asked source.new)
+        → S.files source.old 0 name.now ≡ Some file → HoldsNoText part file fault) }
+    ensures asked { AsksFor (S.asked source.old) (S.asked source.new)
         (IsLookedAt part name.now (fault_in result)) }
 {
     let Some(mut text) = source.fetch(name) else {
         return Err(Fault::Part(part, PartFault::Open));
     };
-    let bytes = bytes_of(alloc, part, &mut text);
+    let bytes = text_of(alloc, part, &mut text);
     source.close(text);
     bytes
 }
 
 /// The deck of a file.
-fn deck_of<S: Source>(alloc: Global, source: &mut S, name: &str) -> Result<Deck, Fault>
+fn deck_in<S: Source>(alloc: Global, source: &mut S, name: &str) -> Result<Deck, Fault>
     requires few { S.failed source.old ≤ 2 ^ 62 }
     ensures behind { S.files source.new ≡ behind (S.files source.old) }
     ensures counted { S.failed source.new ≡ S.failed source.old + failed_by result }
@@ -84,19 +111,13 @@ fn deck_of<S: Source>(alloc: Global, source: &mut S, name: &str) -> Result<Deck,
     ensures asked { AsksFor (S.asked source.old) (S.asked source.new)
         (IsLookedAt Part.Deck name.now (fault_in result)) }
 {
-    let Some(mut text) = source.fetch(name) else {
-        return Err(Fault::Part(Part::Deck, PartFault::Open));
-    };
-    let deck = read_deck(alloc, &mut text);
-    source.close(text);
-    match deck {
-        Ok(deck) => Ok(deck),
-        Err(fault) => Err(Fault::Deck(fault)),
-    }
+    let text = read_text(alloc, source, Part::Deck, name)?;
+    let deck = deck_of(alloc, &text)?;
+    Ok(deck)
 }
 
 /// The timing table of a file.
-fn times_of<S: Source>(alloc: Global, source: &mut S, name: &str) -> Result<Times, Fault>
+fn times_in<S: Source>(alloc: Global, source: &mut S, name: &str) -> Result<Times, Fault>
     requires few { S.failed source.old ≤ 2 ^ 62 }
     ensures behind { S.files source.new ≡ behind (S.files source.old) }
     ensures counted { S.failed source.new ≡ S.failed source.old + failed_by result }
@@ -107,15 +128,15 @@ fn times_of<S: Source>(alloc: Global, source: &mut S, name: &str) -> Result<Time
     ensures asked { AsksFor (S.asked source.old) (S.asked source.new)
         (IsLookedAt Part.Times name.now (fault_in result)) }
 {
-    let bytes = read_part(alloc, source, Part::Times, name)?;
-    match read_times(alloc, &bytes) {
+    let text = read_text(alloc, source, Part::Times, name)?;
+    match read_times(alloc, &text) {
         Ok(times) => Ok(times),
         Err(fault) => Err(Fault::Times(fault)),
     }
 }
 
 /// The notes of a file.
-fn notes_of<S: Source>(alloc: Global, source: &mut S, name: &str) -> Result<Notes, Fault>
+fn notes_in<S: Source>(alloc: Global, source: &mut S, name: &str) -> Result<Notes, Fault>
     requires few { S.failed source.old ≤ 2 ^ 62 }
     ensures behind { S.files source.new ≡ behind (S.files source.old) }
     ensures counted { S.failed source.new ≡ S.failed source.old + failed_by result }
@@ -126,8 +147,8 @@ fn notes_of<S: Source>(alloc: Global, source: &mut S, name: &str) -> Result<Note
     ensures asked { AsksFor (S.asked source.old) (S.asked source.new)
         (IsLookedAt Part.Notes name.now (fault_in result)) }
 {
-    let bytes = read_part(alloc, source, Part::Notes, name)?;
-    match read_notes(alloc, &bytes) {
+    let text = read_text(alloc, source, Part::Notes, name)?;
+    match read_notes(alloc, &text) {
         Ok(notes) => Ok(notes),
         Err(fault) => Err(Fault::Notes(fault)),
     }
@@ -139,7 +160,7 @@ fn notes_of<S: Source>(alloc: Global, source: &mut S, name: &str) -> Result<Note
 ///
 /// [`Fault::Part`] where it can't be opened; [`Fault::Inputs`] where it can't be read, or is
 /// refused.
-pub fn inputs_of<S: Source>(alloc: Global, source: &mut S, name: &str) -> Result<Inputs, Fault>
+pub fn inputs_in<S: Source>(alloc: Global, source: &mut S, name: &str) -> Result<Inputs, Fault>
     requires few { S.failed source.old ≤ 2 ^ 62 }
     ensures behind { S.files source.new ≡ behind (S.files source.old) }
     ensures counted { S.failed source.new ≡ S.failed source.old + failed_by result }
@@ -150,43 +171,35 @@ pub fn inputs_of<S: Source>(alloc: Global, source: &mut S, name: &str) -> Result
     ensures asked { AsksFor (S.asked source.old) (S.asked source.new)
         (IsLookedAt Part.Inputs name.now (fault_in result)) }
 {
-    let Some(mut text) = source.fetch(name) else {
-        return Err(Fault::Part(Part::Inputs, PartFault::Open));
-    };
-    let inputs = read_inputs(alloc, &mut text);
-    source.close(text);
-    match inputs {
-        Ok(inputs) => Ok(inputs),
-        Err(fault) => Err(Fault::Inputs(fault)),
-    }
+    let text = read_text(alloc, source, Part::Inputs, name)?;
+    let inputs = inputs_of(alloc, &text)?;
+    Ok(inputs)
 }
 
-impl Documents {
-    /// The documents of three files, read and checked one after the other.
-    ///
-    /// # Errors
-    ///
-    /// The fault of the first file that has one: that it can't be opened or read or is past its
-    /// limit, or why its text is refused.
-    pub fn of_files<S: Source>(
-        alloc: Global,
-        source: &mut S,
-        files: Files<'_>,
-    ) -> Result<Documents, Fault>
-        requires few { S.failed source.old ≤ 2 ^ 61 }
-        ensures behind { IfOk result (λ _.
-            S.files source.new ≡ behind (behind (behind (S.files source.old)))) }
-        ensures counted { S.failed source.new ≡ S.failed source.old + failed_by result }
-        ensures held { IfOk result (λ documents. (held : Held)
-            → AreTold (S.files source.old) held (named_in files.entry) → AreHeld held documents) }
-        ensures fault { IfErr result (λ fault. (held : Held)
-            → AreTold (S.files source.old) held (named_in files.entry) → AreNotHeld held fault) }
-        ensures asked { AsksFor (S.asked source.old) (S.asked source.new)
-            (LooksFor (named_in files.entry) result) }
-    {
-        let deck = deck_of(alloc, source, files.deck)?;
-        let times = times_of(alloc, source, files.times)?;
-        let notes = notes_of(alloc, source, files.notes)?;
-        Ok(Documents { deck, times, notes })
-    }
+/// The documents of three files, read and checked one after the other.
+///
+/// # Errors
+///
+/// The fault of the first file that has one: that it can't be opened or read or is past its
+/// limit, or why its text is refused.
+pub fn documents_in<S: Source>(
+    alloc: Global,
+    source: &mut S,
+    files: Files<'_>,
+) -> Result<Documents, Fault>
+    requires few { S.failed source.old ≤ 2 ^ 61 }
+    ensures behind { IfOk result (λ _.
+        S.files source.new ≡ behind (behind (behind (S.files source.old)))) }
+    ensures counted { S.failed source.new ≡ S.failed source.old + failed_by result }
+    ensures held { IfOk result (λ documents. (held : Held)
+        → AreTold (S.files source.old) held (named_in files.entry) → AreHeld held documents) }
+    ensures fault { IfErr result (λ fault. (held : Held)
+        → AreTold (S.files source.old) held (named_in files.entry) → AreNotHeld held fault) }
+    ensures asked { AsksFor (S.asked source.old) (S.asked source.new)
+        (LooksFor (named_in files.entry) result) }
+{
+    let deck = deck_in(alloc, source, files.deck)?;
+    let times = times_in(alloc, source, files.times)?;
+    let notes = notes_in(alloc, source, files.notes)?;
+    Ok(Documents { deck, times, notes })
 }

@@ -5,7 +5,7 @@ ghost use Rattle.std.specs.Prelude.{◌++◌};
 ghost use Rattle.drum_times.specs.Entries.{entry_in};
 ghost use Rattle.drum_machine.specs.Feed.{cards_left};
 ghost use Rattle.drum_machine.specs.Machine.{GoesOn, held_by};
-ghost use Rattle.drum_machine.specs.Monitor.{IsToldOf};
+ghost use Rattle.drum_machine.specs.Machine.{IsToldOf};
 ghost use Rattle.drum_machine.specs.Run.{Stride};
 ghost use Rattle.drum_machine.specs.Step.{State, contents_after};
 ghost use Rattle.drum_flow.specs.SettingOf.{setting};
@@ -23,7 +23,8 @@ ghost use Rattle.drum_tool.specs.Following.{
 
 use drum_core::Deck;
 use drum_lines::Verdict;
-use drum_machine::{Feed, Machine, Monitor, Step};
+use drum_machine::{Feed, Machine, Step};
+use drum_monitor::Monitor;
 use drum_times::{Notes, Times};
 
 /// A run, as far as it was followed.

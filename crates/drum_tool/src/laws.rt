@@ -60,7 +60,7 @@ pub fn bound_is_of_the_files()
 }
 
 /// Words in which `clap` finds a fault are answered by why they are refused, and by nothing else:
-/// by help, by what is wrong with them, or by want of memory.
+/// by help, by what is wrong with them, or by the line that memory has run out.
 pub fn faulty_words_are_refused()
     ensures { (words : List Text) (input : Option (List ℕ))
         (files : FilesTold) (failures : ℕ) (reply : Reply) → words ≢ []

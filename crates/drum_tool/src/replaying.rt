@@ -12,7 +12,8 @@ use drum_bound::bound;
 use drum_core::Deck;
 use drum_inputs::Inputs;
 use drum_lines::{Fault, Limit, Verdict};
-use drum_machine::{Left, Machine, Monitor};
+use drum_machine::{Left, Machine};
+use drum_monitor::Monitor;
 use drum_times::{Notes, Times};
 use std::alloc::Global;
 
@@ -50,7 +51,7 @@ fn verdict_before(left: Option<Left>) -> Option<Verdict>
 ///
 /// # Errors
 ///
-/// [`Fault::Memory`] where memory for the machine is wanting.
+/// [`Fault::Memory`] where there is no memory for the machine.
 pub fn begin(
     alloc: Global,
     deck: &Deck,
@@ -93,7 +94,7 @@ pub fn begin(
 ///
 /// [`Fault::Loaded`] for the first word of the inputs that the deck loads too; else
 /// [`Fault::Refused`] where the deck with its notes isn't accepted ([`bound`]); else
-/// [`Fault::Memory`] where memory for the machine is wanting.
+/// [`Fault::Memory`] where there is no memory for the machine.
 pub fn replay(
     alloc: Global,
     deck: &Deck,
@@ -109,10 +110,7 @@ pub fn replay(
     if let Some(location) = inputs.setup.loaded_by(deck) {
         return Err(Fault::Loaded(location));
     }
-    let bound = match bound(alloc, deck, times, notes) {
-        Ok(bound) => bound,
-        Err(refusal) => return Err(Fault::Refused(refusal)),
-    };
+    let bound = bound(alloc, deck, times, notes)?;
     let Begun {
         following,
         most,

@@ -12,7 +12,7 @@ ghost use Rattle.drum_command.specs.Refusal.{IsShort};
 ghost use Rattle.drum_tool.specs.Words.{Answers, Asks, refused_reply};
 
 use crate::commands::obey;
-use crate::documents::Documents;
+use crate::joined_input::documents_of;
 use crate::source::Source;
 use crate::telling::{tell_bound, tell_fault, tell_text, tell_usage};
 use drum_command::{Refused, read_words};
@@ -41,7 +41,7 @@ fn joined_bound<I: Input>(alloc: Global, input: &mut I) -> Result<u64, Fault>
     ensures each { I.called input.new + I.given input.old
         ≤ I.called input.old + I.given input.new + 1 }
 {
-    let documents = Documents::of_input(alloc, input)?;
+    let documents = documents_of(alloc, input)?;
     documents.bound(alloc)
 }
 

@@ -81,7 +81,7 @@ fn send_steps<O: Output>(
 ///
 /// [`Fault::Loaded`] for the first word of the inputs that the deck loads too; else
 /// [`Fault::Refused`] where there is neither a bound nor a ceiling to go by ([`Documents::limit`]);
-/// else [`Fault::Memory`] where memory for the machine is wanting.
+/// else [`Fault::Memory`] where there is no memory for the machine.
 pub fn begin_trace(alloc: Global, documents: &Documents, inputs: Inputs) -> Result<Begun, Fault>
     ensures begun { IfOk result (IsTraceBegun documents.now (given inputs)) }
     ensures refused { IfErr result (IsTraceFault documents.now (given inputs)) }

@@ -1,3 +1,6 @@
+-- Of read_words: clap's contract is about the words and the command line that it is given, and that
+-- line is drum650. So what clap finds, and the faults that it finds, are those of the definitions
+-- (Accepted, Named, Refusals).
 use Rattle.std.proofs.Common.{◌≡◌, ◌∙◌, ap, false, [], slice_index_or, subst, sym}
 use Rattle.std.specs.Prelude.{option_map}
 use Rattle.std.specs.Option.{option_map_or}

@@ -1,3 +1,6 @@
+-- Of texts_with_inputs: the texts are read first, and that of the inputs behind them where a file
+-- is named. What the source says of the files that are asked for first says it of the texts, and
+-- the rest of the inputs.
 use Rattle.std.proofs.Common.{inl, inr, sym, subst}
 use Rattle.std.proofs.lemmas.Result.{err_from_is_err_and}
 use Rattle.drum_tool.specs.Asked.{inputs_named, name_in, named_in}

@@ -1,9 +1,12 @@
+-- Of begin: the machine is set up as the inputs say, the monitor has seen no stride, and no verdict
+-- has come but for a switch that isn't as declared. So this is a run of the setting before its
+-- first step.
 use Rattle.std.proofs.Common.{◌≡◌, ◌∙◌, refl, sym, ap, None}
 use Rattle.std.specs.Prelude.{option_map}
 use Rattle.drum_core.specs.Loads.{loads_in}
 use Rattle.drum_machine.specs.Feed.{cards_left}
 use Rattle.drum_machine.specs.Machine.{state_in}
-use Rattle.drum_machine.specs.Monitor.{answer_of}
+use Rattle.drum_monitor.specs.Monitor.{answer_of}
 use Rattle.drum_flow.specs.SettingOf.{setting}
 use Rattle.drum_tool.specs.Begun.{left_before}
 use Rattle.drum_tool.specs.declared.following.Following.{Following}

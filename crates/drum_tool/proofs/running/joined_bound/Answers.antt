@@ -1,27 +1,29 @@
-use Rattle.std.proofs.Common.{inl, inr, sym, ◌∙◌}
+-- Of joined_bound: the documents are those that the input's bytes give, and the bound is theirs. A
+-- fault is one of the bytes, or the refusal of these documents.
+use Rattle.std.proofs.Common.{inl, inr, refl, sym, ◌∙◌}
 use Rattle.std.proofs.lemmas.Result.{err_from_is_err_and}
 use Rattle.drum_tool.proofs.Giving.{past_limit}
-use Rattle.drum_tool.proofs.Replies.{analysed_unread, bound_refused, bound_with, bound_without, err_map, ok_map}
-use Rattle.drum_tool.proofs.Replies.{some_map}
+use Rattle.drum_tool.proofs.OfNoFile.{refused_of_none, unread}
+use Rattle.drum_tool.proofs.Replies.{err_map, ok_map, some_map}
 use Rattle.drum_tool.proofs.running.joined_bound.Goals as goal
 
 pub returns-in_err-documents-clause-fault : goal.returns-in_err-documents-clause-fault
 returns-in_err-documents-clause-fault g c =
     let p = err_from_is_err_and c.from_residual.result c.from_residual.ensures.1 in
     rw (p.1, p.2) (some_map (g.I.Input.left c.args.input.now) _ _ c.in_err-documents.ensures.fault
-    (λ bytes none. bound_without c.in_err-documents.field-0.0 none))
+    (λ bytes none. inr (c.in_err-documents.field-0.0, inl none, refl, refl)))
 
 pub returns-clause-bound : goal.returns-clause-bound
 returns-clause-bound g c =
     ok_map _ _ c.bound.result c.bound.ensures.bound (λ bound is.
     some_map (g.I.Input.left c.args.input.now) _ _ c.in_ok-documents.ensures.gives
-    (λ bytes gives. bound_with c.in_ok-documents.documents gives bound is))
+    (λ bytes gives. inl (c.in_ok-documents.documents, gives, refl, (bound, is, refl))))
 
 pub returns-clause-fault : goal.returns-clause-fault
 returns-clause-fault g c =
     err_map _ _ c.bound.result c.bound.ensures.fault (λ fault is.
     some_map (g.I.Input.left c.args.input.now) _ _ c.in_ok-documents.ensures.gives
-    (λ bytes gives. bound_refused c.in_ok-documents.documents gives fault is))
+    (λ bytes gives. inr (fault, inr (c.in_ok-documents.documents, gives, is), refl, refl)))
 
 pub returns-in_err-documents-clause-counted : goal.returns-in_err-documents-clause-counted
 returns-in_err-documents-clause-counted g c =
@@ -31,7 +33,7 @@ returns-in_err-documents-clause-counted g c =
 pub returns-clause-counted : goal.returns-clause-counted
 returns-clause-counted g c failures failed =
     c.in_ok-documents.ensures.counted failures failed
-    ∙ sym (analysed_unread c.in_ok-documents.documents c.bound.result c.bound.ensures.fault)
+    ∙ sym (unread c.bound.result (err_map _ _ c.bound.result c.bound.ensures.fault (refused_of_none _)))
 
 pub returns-in_err-documents-clause-full : goal.returns-in_err-documents-clause-full
 returns-in_err-documents-clause-full g c =

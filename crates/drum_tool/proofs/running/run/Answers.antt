@@ -1,3 +1,6 @@
+-- Of run: without words the reply is that of run_joined; with words that name a command, that of
+-- obey for this command; else that of a refusal of the words. The first reads no file, the others
+-- don't read the input.
 use Rattle.std.proofs.Common.{◌≡◌, ℕ, refl, sym, subst, arith}
 use Rattle.drum_tool.specs.Reply.{TellsOfReads}
 use Rattle.drum_tool.specs.Words.{refused_reply}

@@ -1,3 +1,6 @@
+-- Of run_joined: the bound or the fault of the joined form is the reply, which answers the input's
+-- bytes; it goes out to the one output or the other, and tells of a failed read exactly where there
+-- was one.
 use Rattle.std.proofs.Common.{◌≡◌, ℕ, List, Err, refl, inl, inr, ap, sym, ◌∙◌, subst}
 use Rattle.drum_lines.specs.declared.fault.Fault.{Fault}
 use Rattle.drum_lines.specs.declared.fault.Fault.TheVariants as faults

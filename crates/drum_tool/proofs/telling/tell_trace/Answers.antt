@@ -1,3 +1,6 @@
+-- Of tell_trace: the lines of the strides go out first and the verdict's behind them, so together
+-- they are the reply of a trace. Where a write fails, the reply has gone out in part, and the
+-- status says so.
 use Rattle.std.proofs.Common.{arith, inl, inr, refl}
 use Rattle.drum_listing.specs.TraceText.{stride_lines}
 use Rattle.drum_lines.specs.Status.{status_of}

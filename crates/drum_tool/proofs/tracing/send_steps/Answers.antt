@@ -1,3 +1,6 @@
+-- Of send_steps: what has gone out and what is gathered on the page are together the lines of the
+-- strides so far, which keep to the notes. With the verdict's step the page goes out too; each step
+-- that goes on uses some time, and the limit bounds it, so the loop ends.
 use Rattle.std.proofs.Common.{◌≡◌, ℕ, ◌+◌, List, [], ◌∷◌, ◌++◌, length, refl, ap, sym, subst, ◌∙◌, arith, append_assoc, Option, Ok, Err}
 use Rattle.std.specs.Prelude.{MatchOption}
 use Rattle.std.proofs.KnownBytes.{Appends-nil}

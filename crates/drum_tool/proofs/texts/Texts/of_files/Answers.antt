@@ -1,4 +1,6 @@
-use Rattle.std.proofs.Common.{[], ◌∷◌, inl, inr, refl, ap, ◌∙◌}
+-- Of Texts::of_files: the texts of deck, timing table and notes are read in this order. A fault of
+-- one is told where those before it could be had, and where all can, they are what the files hold.
+use Rattle.std.proofs.Common.{[], ◌∷◌, inl, inr, ap, ◌∙◌}
 use Rattle.std.proofs.lemmas.Result.{err_from_is_err_and}
 use Rattle.drum_lines.specs.declared.part.Part.TheVariants as part
 use Rattle.drum_tool.specs.Asked.{in_file}
@@ -68,10 +70,10 @@ returns-in_err-times-clause-asked g c =
     let notes = in_file part.Notes c.args.files.notes.now in
     let s = g.S.Source.asked c.args.source.now in
     let s1 = g.S.Source.asked c.read_text.new.source in
-    let s2 = g.S.Source.asked c.read_part.new.source in
+    let s2 = g.S.Source.asked c.read_text-2.new.source in
     let told = c.in_err-times.field-0.0 in
     rw (p.1, p.2) (looked_first deck (times ∷ notes ∷ []) told s s1 s2 c.in_ok-deck.ensures.asked
-    (looked_faulty times (notes ∷ []) told s1 s2 (c.in_err-times.ensures.asked refl)))
+    (looked_faulty times (notes ∷ []) told s1 s2 c.in_err-times.ensures.asked))
 
 pub returns-in_err-notes-clause-asked : goal.returns-in_err-notes-clause-asked
 returns-in_err-notes-clause-asked g c =
@@ -81,12 +83,12 @@ returns-in_err-notes-clause-asked g c =
     let notes = in_file part.Notes c.args.files.notes.now in
     let s = g.S.Source.asked c.args.source.now in
     let s1 = g.S.Source.asked c.read_text.new.source in
-    let s2 = g.S.Source.asked c.read_part.new.source in
-    let s3 = g.S.Source.asked c.read_part-2.new.source in
+    let s2 = g.S.Source.asked c.read_text-2.new.source in
+    let s3 = g.S.Source.asked c.read_text-3.new.source in
     let told = c.in_err-notes.field-0.0 in
     rw (p.1, p.2) (looked_first deck (times ∷ notes ∷ []) told s s1 s3 c.in_ok-deck.ensures.asked
-    (looked_first times (notes ∷ []) told s1 s2 s3 (c.in_ok-times.ensures.asked refl)
-    (looked_faulty notes [] told s2 s3 (c.in_err-notes.ensures.asked refl))))
+    (looked_first times (notes ∷ []) told s1 s2 s3 c.in_ok-times.ensures.asked
+    (looked_faulty notes [] told s2 s3 c.in_err-notes.ensures.asked)))
 
 pub returns-clause-asked : goal.returns-clause-asked
 returns-clause-asked g c =
@@ -95,8 +97,8 @@ returns-clause-asked g c =
     let notes = in_file part.Notes c.args.files.notes.now in
     let s = g.S.Source.asked c.args.source.now in
     let s1 = g.S.Source.asked c.read_text.new.source in
-    let s2 = g.S.Source.asked c.read_part.new.source in
-    let s3 = g.S.Source.asked c.read_part-2.new.source in
+    let s2 = g.S.Source.asked c.read_text-2.new.source in
+    let s3 = g.S.Source.asked c.read_text-3.new.source in
     looked_well deck (times ∷ notes ∷ []) s s1 s3 c.in_ok-deck.ensures.asked
-    (looked_well times (notes ∷ []) s1 s2 s3 (c.in_ok-times.ensures.asked refl)
-    (looked_last notes s2 s3 (c.in_ok-notes.ensures.asked refl)))
+    (looked_well times (notes ∷ []) s1 s2 s3 c.in_ok-times.ensures.asked
+    (looked_last notes s2 s3 c.in_ok-notes.ensures.asked))

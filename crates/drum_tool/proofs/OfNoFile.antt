@@ -1,0 +1,84 @@
+-- Faults of no file: the refusal of a deck with its notes, that of a run, and lack of memory. None
+-- of them says that a read failed.
+use Rattle.std.proofs.Common.{◌≡◌, ℕ, None, Result, Ok, Err, IfErr, refl}
+use Rattle.drum_command.specs.declared.command.Question.{Question}
+use Rattle.drum_command.specs.declared.command.Question.TheVariants.{Bound, Report, Walk, Waits, Table, Graph, Draw, Ceiling}
+use Rattle.drum_flow.specs.declared.refusal.Refusal.{Refusal}
+use Rattle.drum_flow.specs.Acceptance.{IsRefusal}
+use Rattle.drum_flow.specs.Bounded.{IsDeckAccepted}
+use Rattle.drum_flow.specs.Walk.{Setting}
+use Rattle.drum_lines.specs.declared.fault.Fault.{Fault}
+use Rattle.drum_lines.specs.declared.fault.Fault.TheVariants as faults
+use Rattle.drum_lines.specs.declared.limit.Limit.{Limit}
+use Rattle.drum_lines.specs.FaultStatus.{failed_by}
+use Rattle.drum_tool.specs.declared.documents.Documents.{Documents}
+use Rattle.drum_tool.specs.Asked.{part_of}
+use Rattle.drum_tool.specs.Documents.{IsLimit, IsLimitRefusal, IsRefusedFor, setting_of}
+use Rattle.drum_tool.specs.Does.{IsOfNoFile}
+use Rattle.drum_tool.specs.Replay.{Given, IsReplayFault, IsRunFault, IsTraceFault}
+use Rattle.drum_tool.specs.Reply.{IsWanting, Refuses}
+
+pub refused_of_none : (Is : Refusal → Type 0) (fault : Fault) → IsRefusedFor Is fault → IsOfNoFile fault
+refused_of_none Is (faults.Refused refusal) is = record { part = refl; reads = refl }
+refused_of_none Is faults.NoPart is = absurd is
+refused_of_none Is (faults.Part part what) is = absurd is
+refused_of_none Is faults.Memory is = absurd is
+refused_of_none Is (faults.Deck fault) is = absurd is
+refused_of_none Is (faults.Times fault) is = absurd is
+refused_of_none Is (faults.Notes fault) is = absurd is
+refused_of_none Is (faults.Inputs fault) is = absurd is
+refused_of_none Is (faults.Loaded location) is = absurd is
+
+pub wanting_of_none : (fault : Fault) → IsWanting fault → IsOfNoFile fault
+wanting_of_none (faults.Refused refusal) is = record { part = refl; reads = refl }
+wanting_of_none faults.NoPart is = absurd is
+wanting_of_none (faults.Part part what) is = absurd is
+wanting_of_none faults.Memory is = record { part = refl; reads = refl }
+wanting_of_none (faults.Deck fault) is = absurd is
+wanting_of_none (faults.Times fault) is = absurd is
+wanting_of_none (faults.Notes fault) is = absurd is
+wanting_of_none (faults.Inputs fault) is = absurd is
+wanting_of_none (faults.Loaded location) is = absurd is
+
+run_of_none : (g : Setting) (given : Given) (Refuses : Refusal → Type 0) (IsLimited : Type 0) (fault : Fault)
+    → IsRunFault g given Refuses IsLimited fault → IsOfNoFile fault
+run_of_none g given Refuses IsLimited (faults.Refused refusal) is = record { part = refl; reads = refl }
+run_of_none g given Refuses IsLimited faults.NoPart is = absurd is
+run_of_none g given Refuses IsLimited (faults.Part part what) is = absurd is
+run_of_none g given Refuses IsLimited faults.Memory is = record { part = refl; reads = refl }
+run_of_none g given Refuses IsLimited (faults.Deck fault) is = absurd is
+run_of_none g given Refuses IsLimited (faults.Times fault) is = absurd is
+run_of_none g given Refuses IsLimited (faults.Notes fault) is = absurd is
+run_of_none g given Refuses IsLimited (faults.Inputs fault) is = absurd is
+run_of_none g given Refuses IsLimited (faults.Loaded location) is = record { part = refl; reads = refl }
+
+pub replay_of_none : (g : Setting) (given : Given) (fault : Fault) → IsReplayFault g given fault → IsOfNoFile fault
+replay_of_none g given fault is =
+    run_of_none g given (IsRefusal g.loads g.notes g.start) (IsDeckAccepted g) fault is
+
+pub trace_of_none : (documents : Documents) (given : Given) (fault : Fault) → IsTraceFault documents given fault
+    → IsOfNoFile fault
+trace_of_none documents given fault is =
+    run_of_none (setting_of documents) given (IsLimitRefusal documents)
+    ((limit : Limit) × (most : ℕ) × IsLimit documents limit most) fault is
+
+pub question_of_none : (question : Question) (documents : Documents) (fault : Fault) → Refuses question documents fault
+    → IsOfNoFile fault
+question_of_none Bound documents fault is = refused_of_none _ fault is
+question_of_none Report documents fault is = refused_of_none _ fault is
+question_of_none Walk documents fault is = refused_of_none _ fault is
+question_of_none Waits documents fault is = refused_of_none _ fault is
+question_of_none Table documents fault is = refused_of_none _ fault is
+question_of_none Graph documents fault is = wanting_of_none fault is
+question_of_none Draw documents fault is = refused_of_none _ fault is
+question_of_none Ceiling documents fault is = refused_of_none _ fault is
+
+-- so a result with such a fault says of no read that it failed
+pub unread : {A : Type 0} (result : Result A Fault) → IfErr result IsOfNoFile → failed_by result ≡ 0
+unread (Ok found) of = refl
+unread (Err fault) of = of.reads
+
+pub of_no_part : {A : Type 0} (result : Result A Fault) → IfErr result IsOfNoFile
+    → IfErr result (λ fault. part_of fault ≡ None)
+of_no_part (Ok found) of = tt
+of_no_part (Err fault) of = of.part

@@ -1,0 +1,21 @@
+use Rattle.std.proofs.Common.{refl}
+use Rattle.std.proofs.lemmas.Result.{err_from_is_err_and}
+use Rattle.drum_bound.specs.AnalysisOf.{angle_of, bound_of, visits_of}
+use Rattle.drum_tool.specs.Reply.{report_reply}
+use Rattle.drum_tool.proofs.Asking.{no_line}
+use Rattle.drum_tool.proofs.answering.say_report.Goals as goal
+
+pub returns-in_err-analysis-clause-does : goal.returns-in_err-analysis-clause-does
+returns-in_err-analysis-clause-does g c =
+    let p = err_from_is_err_and c.from_residual.result c.from_residual.ensures.1 in
+    rw (p.1, p.2) (λ err. c.in_err-analysis.ensures.fault)
+
+pub returns-clause-does : goal.returns-clause-does
+returns-clause-does g c err =
+    let analysis = c.in_ok-analysis.analysis in
+    let is = c.in_ok-analysis.ensures in (
+      report_reply c.args.documents.now (visits_of analysis),
+      (bound_of analysis, is.bound, angle_of analysis, visits_of analysis, is.walk, refl),
+      no_line _ _,
+      (c.tell_report.ensures, refl),
+    )

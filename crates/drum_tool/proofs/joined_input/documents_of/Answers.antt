@@ -1,0 +1,24 @@
+use Rattle.std.proofs.Common.{inl, inr, sym, ◌∙◌, arith}
+use Rattle.drum_tool.proofs.Giving.{joined_unread, known_documents, known_none, unfailing}
+use Rattle.drum_tool.proofs.Replies.{err_map, ok_map}
+use Rattle.drum_tool.proofs.joined_input.documents_of.Goals as goal
+
+pub returns-in-Ok-clause-fault : goal.returns-in-Ok-clause-fault
+returns-in-Ok-clause-fault g c =
+    err_map _ _ c.joined.result c.joined.ensures.fault (λ fault is.
+    known_none (g.I.Input.left c.args.input.now) c.deref.result.now fault
+    (rw c.deref.ensures.value c.in-Ok.ensures.all) (omega (arith, c.deref.ensures.len, c.in-Ok.ensures.within)) is)
+
+pub returns-in-Ok-clause-counted : goal.returns-in-Ok-clause-counted
+returns-in-Ok-clause-counted g c failures failed =
+    unfailing _ _ failures failed c.in-Ok.ensures.once (λ one. let is = c.in-Ok.ensures.read.1 one in cc)
+    ∙ sym (joined_unread c.deref.result.now c.joined.result c.joined.ensures.fault)
+
+pub returns-in-Ok-clause-gives : goal.returns-in-Ok-clause-gives
+returns-in-Ok-clause-gives g c =
+    ok_map _ _ c.joined.result c.joined.ensures.joins (λ documents is.
+    known_documents (g.I.Input.left c.args.input.now) c.deref.result.now documents
+    (rw c.deref.ensures.value c.in-Ok.ensures.all) (omega (arith, c.deref.ensures.len, c.in-Ok.ensures.within)) is)
+
+pub returns-in-Ok-clause-full : goal.returns-in-Ok-clause-full
+returns-in-Ok-clause-full g c given = absurd (elim (c.in-Ok.ensures.full (omega (arith, given))) [ inl is ↦ cc | inr is ↦ cc ])
