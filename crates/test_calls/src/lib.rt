@@ -1,6 +1,8 @@
-//! Tests of library calls that no command shows by itself: single steps of the machine, what decks,
-//! timing tables, notes and inputs answer that were read, the hops of a flow graph, and the tables
-//! of an analysis. The answers are worked out by hand.
+//! Tests of library calls that no command shows by itself. The answers are worked out by hand.
+//!
+//! `steps` has single steps of the machine. `answers` has what decks, timing tables, notes and
+//! inputs answer that were read. `hops` has the hops of a flow graph, and `tables` the tables of an
+//! analysis.
 #![tactic(auto)]
 
 #[cfg(test)]

@@ -34,7 +34,7 @@ fn setup(alloc: Global, distributor: &str, accumulator: i128, on_overflow: bool)
     )
 }
 
-/// The last of so many steps of a machine, and the word times used by the first.
+/// The last of `count` steps of a machine, and the word times used by the first.
 fn nth_step(
     rt: &(impl AllocGlobal + Abort),
     deck: &str,

@@ -104,7 +104,7 @@ fn add_each(alloc: Global, text: &mut Vec<u8>, said: &str) -> Result<bool, Alloc
     Ok(true)
 }
 
-/// A line so many times.
+/// A line, as many times as the number before it says.
 fn add_repeated(text: &mut Vec<u8>, said: &str) -> Result<bool, AllocError> {
     let Some((count, line)) = said.split_once(' ') else {
         return Ok(false);
@@ -135,7 +135,7 @@ fn add_parts(text: &mut Vec<u8>, said: &str) -> Result<(), AllocError> {
     add_line(text, "")
 }
 
-/// A comment without a line feed, with which the text has so many bytes.
+/// A comment without a line feed, with which the text has `bytes` bytes.
 fn add_comment(text: &mut Vec<u8>, bytes: usize) -> Result<(), AllocError> {
     text.push(b'#')?;
     for _ in text.len()..bytes {

@@ -4,8 +4,8 @@ use std::alloc::Global;
 use std::io;
 use std::io::{ErrorKind, Read, Write};
 
-/// A reader of some bytes and of stars behind them. It gives so many bytes a call at most, and
-/// fails once it has served so many calls.
+/// A reader of some bytes and of stars behind them. It gives `most` bytes a call at most, and fails
+/// once it has served `calls` calls.
 #[derive(Clone, Copy)]
 pub struct Tap<'a> {
     pub bytes: &'a [u8],
@@ -31,7 +31,7 @@ impl<'a> Tap<'a> {
         }
     }
 
-    /// The same, and so many stars behind the bytes.
+    /// The same, and `stars` stars behind the bytes.
     pub fn with_stars(bytes: &'a [u8], stars: usize) -> Tap<'a> {
         Tap {
             stars,
@@ -40,7 +40,7 @@ impl<'a> Tap<'a> {
     }
 
     /// A reader of these bytes that gives one a call and fails, as one that was interrupted, once
-    /// it has served so many calls.
+    /// it has served `calls` calls.
     pub fn failing(bytes: &'a [u8], calls: u64) -> Tap<'a> {
         Tap {
             most: 1,
@@ -49,7 +49,7 @@ impl<'a> Tap<'a> {
         }
     }
 
-    /// A reader of stars that never ends, with so many bytes a call at most.
+    /// A reader of stars that never ends, with `most` bytes a call at most.
     pub fn endless(most: usize) -> Tap<'a> {
         Tap {
             most,
@@ -77,7 +77,7 @@ impl Read for Tap<'_> {
     }
 }
 
-/// A writer that takes so many bytes a call at most, and fails where it has no room.
+/// A writer that takes `most` bytes a call at most, and fails where it has no room.
 #[derive(Drop)]
 pub struct Full {
     pub taken: Vec<u8>,
@@ -86,7 +86,7 @@ pub struct Full {
 }
 
 impl Full {
-    /// A writer with so much room, which takes so many bytes a call at most.
+    /// A writer with room for `room` bytes, which takes `most` bytes a call at most.
     pub fn new(alloc: Global, room: usize, most: usize) -> Full {
         let taken = Vec::new(alloc);
         Full { taken, room, most }

@@ -78,7 +78,7 @@ fn replayed(alloc: Global, place: usize, text: Tap<'_>) -> (Ran, u64, u128, u64)
     (ran, shelf.calls, shelf.bytes, shelf.failures)
 }
 
-/// That a reading of a part which fails after so many calls, or not at all, is told.
+/// That a read of a part which fails after the text's calls, or doesn't fail, is told of as such.
 fn is_told(rt: &(impl AllocGlobal + Abort), part: &Part, text: Tap<'_>, fails: bool) {
     let (ran, _, _, failures) = replayed(rt.alloc(), part.place, text);
     let is_so = if fails {

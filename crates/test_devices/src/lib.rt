@@ -1,8 +1,10 @@
-//! Tests of devices that give or take few bytes, fail or never end: of files, of the joined form on
-//! the input, of both outputs, and of which files are opened at all.
+//! Tests of devices that give or take few bytes, fail or never end.
 //!
 //! `devices` are readers and writers that do so, and `shelf` a source of files; other crates of
-//! tests use both. `subjects` has the commands whose texts are known, and `running` runs one.
+//! tests use both. `told` is a source of files in memory which tells what they hold, as contracts
+//! ask it to be told; its definitions are in `Told`. `subjects` has the commands whose texts are
+//! known, and `running` runs one. The tests are of `files`, of the joined form on the `input`, of
+//! both `outputs`, of which files are `opened` at all, and of `library` calls over devices.
 #![tactic(auto)]
 
 pub mod devices;

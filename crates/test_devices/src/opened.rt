@@ -18,7 +18,7 @@ const FILES: [(&str, &str); 8] = [
     ("no inputs", "ANGLE 50\n"),
 ];
 
-/// That words seek so many names, and don't read the input.
+/// That words seek `sought` names, and don't read the input.
 fn seeks(rt: &(impl AllocGlobal + Abort), words: &[&str], sought: u64) {
     let files = FILES.map(|(name, text)| (name, Tap::of(text.as_bytes())));
     let mut shelf = Shelf::of(&files);

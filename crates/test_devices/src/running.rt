@@ -31,8 +31,8 @@ impl Ran {
     }
 }
 
-/// Runs words over a shelf of which nothing was read and an input, with outputs that have so much
-/// room and take so many bytes a call.
+/// Runs words over a shelf of which nothing was read and an input, with outputs that have as much
+/// room, and take as many bytes a call, as the two `limits` say.
 pub(crate) fn run_over(
     alloc: Global,
     words: &[&str],

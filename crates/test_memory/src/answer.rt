@@ -28,7 +28,7 @@ pub(crate) enum Answer<'a> {
     Ran(Status, Page, Page),
 }
 
-/// The lines of want of memory.
+/// The lines that say that there is no memory.
 const WANTS: [&str; 6] = [
     "fault 2 deck memory\n",
     "fault 12 times memory\n",
@@ -39,7 +39,7 @@ const WANTS: [&str; 6] = [
 ];
 
 impl Answer<'_> {
-    /// Whether it says that memory is wanting, and nothing else.
+    /// Whether it says that there is no memory, and nothing else.
     pub(crate) fn is_wanting(&self) -> bool {
         match self {
             Answer::Whole(Err(WholeError::Memory))

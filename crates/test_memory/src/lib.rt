@@ -1,6 +1,9 @@
-//! Tests of want of memory. `checks/refuse-memory` runs each with its requests for memory refused:
-//! calls that take memory answer that it is wanting, or what they answer ever (`calls`, a table of
-//! them, and `watched`), and calls that take none make no request (`spared`).
+//! Tests of want of memory. `checks/refuse-memory` runs each with its requests for memory refused.
+//!
+//! Calls that take memory answer that it is wanting, or what they answer ever: `calls` is a table
+//! of them, and `watched` tries each in a `window`, where memory may be refused. `subjects` are the
+//! decks, and an `answer` is what a call answered. Calls that take none make no request: `spared`
+//! has these. `page` has room for a small text, with no memory.
 #![tactic(auto)]
 
 #[cfg(test)]

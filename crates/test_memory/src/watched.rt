@@ -11,7 +11,7 @@ use std::test::Fail;
 use test_devices::devices::Tap;
 use test_texts::{BACK, BRANCH_BACK, NOTES, ROADS, STORES, TIMES, TWO_ROADS, TWO_WORDS};
 
-/// That a call answers in each round that memory is wanting, where it was refused, or what it
+/// That a call answers in each round that there is no memory, where it was refused, or what it
 /// answers in the first.
 fn holds(rt: &(impl AllocGlobal + Abort), call: Call<'_>) -> Result<(), Fail> {
     let mut known = String::new(rt.alloc());

@@ -1,4 +1,4 @@
-//! The window that a test opens round the call that is to want memory.
+//! The window that a test opens round the call for which there is to be no memory.
 //!
 //! `checks/refuse-memory` runs the tests over a library that refuses requests for memory within a
 //! window. By the sizes of two blocks, which nothing else asks for, the library knows where a
@@ -53,7 +53,7 @@ impl Round {
         }
     }
 
-    /// Ends the round, right behind the call: it answers that memory is wanting only where memory
+    /// Ends the round, right behind the call: it answers that there is no memory only where memory
     /// was refused.
     pub(crate) fn end(self, rt: &(impl AllocGlobal + Abort), is_wanting: bool) {
         let was_refused = self == Round::Watched && close(rt);

@@ -1,3 +1,6 @@
+-- Of bound_of_files: the source tells what the files of these names hold. The status Done shows
+-- that no fault was told, so by the contract of `run` the line that went out is that of the bound
+-- of what they hold.
 use Rattle.std.proofs.Common.{◌≡◌, ℕ, ◌+◌, List, None, Some, ap, sym, ◌∙◌, subst, inl, inr, arith}
 use Rattle.drum_lines.specs.declared.status.Status.TheVariants.{Done, Failed}
 use Rattle.drum_tool.specs.Output.{Tells, device}
