@@ -18,6 +18,6 @@ first_among (suc more) property clock =
     if property (clock % 50) then clock else first_among more property (clock + 1)
 
 -- the first moment from a clock on at which the angle has the property: a revolution shows every
--- angle
+-- angle; where none has it, a revolution later
 unfoldable pub first : (ℕ → Bool) → ℕ → ℕ
 first property clock = first_among 50 property clock

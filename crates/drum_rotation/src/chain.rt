@@ -11,13 +11,13 @@ use crate::at_parity::AtParity;
 use crate::clockwork::Clockwork;
 use crate::seek::Seek;
 
-/// One wait and then another never lets an earlier clock overtake a later one.
-pub fn never_overtakes<A: Clockwork, B: Clockwork>()
+/// Of one wait and then another, what begins later never ends earlier.
+pub fn later_never_earlier<A: Clockwork, B: Clockwork>()
     ensures { (first : A) (second : B) (s t : ℕ) → s ≤ t
         → B.moment second (A.moment first s) ≤ B.moment second (A.moment first t) }
 {}
 
-/// A longer delay between two waits never ends earlier.
+/// With a longer delay between two waits, the second never ends earlier.
 pub fn longer_never_earlier<A: Clockwork, B: Clockwork>()
     ensures { (first : A) (second : B) (t shorter longer : ℕ) → shorter ≤ longer
         → B.moment second (A.moment first t + shorter)

@@ -1,13 +1,13 @@
 ghost use Rattle.std.specs.Prelude.{◌≡◌, ℕ, ◌+◌, ◌^◌, ◌≤◌};
 
-/// Something that takes time: from a clock it goes on to a later moment.
+/// Something that takes time: from a clock it goes on to a moment, which is never before the clock.
 ///
 /// A clock counts word times from a moment of angle 0 on; 50 of them are a revolution.
 pub trait Clockwork {
     /// The moment that it goes on to from a clock.
     ghost moment: { Self → ℕ → ℕ };
 
-    /// The most word times that it takes.
+    /// A number of word times that it never takes more than, whatever the clock.
     ghost most: { Self → ℕ };
 
     /// The moment that it goes on to from this clock.
@@ -17,7 +17,7 @@ pub trait Clockwork {
         ensures later { clock ≤ result }
         ensures near { result ≤ clock + most self.now };
 
-    /// The most word times that it takes, whatever the clock.
+    /// A number of word times that it never takes more than, whatever the clock.
     fn span(&self) -> u64
         ensures { result ≡ most self.now };
 
@@ -27,7 +27,7 @@ pub trait Clockwork {
     // it takes its span at most
     ghost within_span: { (c : Self) (t : ℕ) → moment c t ≤ t + most c };
 
-    // an earlier clock never overtakes a later one
+    // what begins later never ends earlier
     ghost monotone: { (c : Self) (s t : ℕ) → s ≤ t → moment c s ≤ moment c t };
 
     // a revolution later it goes to a moment a revolution later

@@ -11,8 +11,8 @@
 //! stands on the drum. `Recurs` and `Waits` have the laws of all waits, and `Span` says how long
 //! each takes at most.
 //!
-//! Proofs. `Waited`, of waits, and `Clockworks`, the laws of any chain, serve other crates; `Firsts`
-//! shows that each wait finds the first moment.
+//! Proofs. `Waited`, of waits, and `Clockworks`, the laws of any chain, serve other crates;
+//! `Firsts` shows that each wait finds the first moment.
 #![tactic(auto)]
 
 mod at_angle;

@@ -1,4 +1,4 @@
-use Rattle.drum_rotation.proofs.chain.never_overtakes.Goals as goal
+use Rattle.drum_rotation.proofs.chain.later_never_earlier.Goals as goal
 
 pub returns : goal.returns
 returns g c first second s t before =
