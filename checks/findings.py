@@ -219,7 +219,7 @@ def is_check(text, files):
     return is_one and are_closing(told, flow)
 
 
-def is_unmeant(line):
+def is_loose_end(line):
     return line.startswith(("unused ", "inside "))
 
 

@@ -5,7 +5,7 @@ from collections import namedtuple
 
 from damage import CHECKS, FILES, files_of_joined, joined
 from faults import fault_of, has_its_form, is_accepted, names_what_is_there
-from findings import is_check, is_first_of, is_unmeant
+from findings import is_check, is_first_of, is_loose_end
 from results import (
     bound_of,
     ceiling_of,
@@ -172,7 +172,7 @@ def is_said_first(ran, told, bound, files):
     other = told_of(("bound", files), bound)
     if other is None or told.fault:
         return other is not None and told.fault == other.fault
-    if all(map(is_unmeant, ran.out.decode().splitlines())):
+    if all(map(is_loose_end, ran.out.decode().splitlines())):
         return other.fault is None
     is_refused = other.fault is not None and other.fault.about == "analysis"
     return is_refused and is_first_of(bound.err.decode(), ran.out.decode())

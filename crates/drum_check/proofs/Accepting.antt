@@ -10,16 +10,16 @@ use Rattle.drum_flow.specs.Graph.{LeadRound}
 use Rattle.drum_flow.proofs.Acceptances.{one_order}
 use Rattle.drum_flow.proofs.Lists.{contains_here}
 use Rattle.drum_flow.proofs.Orders.{lead_push}
-use Rattle.drum_loops.specs.Loops.{IsLeft, LeadBy}
+use Rattle.drum_loops.specs.Loops.{IsFreeBeside, LeadBy}
 use Rattle.drum_check.specs.Findings.{AreFindings, Finding, too_large}
-use Rattle.drum_check.specs.Findings.{altering, too_many, unfit, AreUnmeant}
+use Rattle.drum_check.specs.Findings.{altering, too_many, unfit, AreLooseEnds}
 use Rattle.drum_check.proofs.Fits.{good_fit, unaltering}
 use Rattle.drum_check.proofs.Nothing.{all_nothing}
 use Rattle.drum_check.proofs.Tellings.{none_told}
 
 -- edges that lead back close a list of edges free of marks
 round_back : (loads : ℕ → Option Word) (notes : Notes) (edges : List (ℕ × ℕ)) (first node last : ℕ) (through : List ℕ)
-    → LeadBy (IsLeft loads notes edges) node through last → IsFree loads notes last first
+    → LeadBy (IsFreeBeside loads notes edges) node through last → IsFree loads notes last first
     → LeadRound (IsFree loads notes) first node through
 round_back loads notes edges first node last [] lead free =
     subst (λ (n : ℕ). IsFree loads notes n first) (sym lead) free
@@ -51,14 +51,14 @@ module _ (loads : ℕ → Option Word) (notes : Notes) (start : ℕ) (executed :
       (from.0 ++ edge.1 ∷ [], lead_push loads notes start start edge.0 edge.1 from.0 from.1 free.0)
       (round_back loads notes a.edges edge.1 edge.1 edge.0 back.0 back.1 free))
 
-  pub accepted_silent : AreUnmeant loads notes start executed findings
+  pub accepted_silent : AreLooseEnds loads notes start executed findings
   accepted_silent =
       let same : a.executed ≡ executed =
       one_order loads notes start a.executed executed a.found.order accepted.admitted.order in
       let small : product_of a.executed notes.marks ≤ 4000000 =
       subst (λ (all : List ℕ). product_of all notes.marks ≤ 4000000) (sym same) accepted.small in
-      let rest : List Finding = a.unmeant in
-      let nothing_else : findings ≡ a.unmeant = a.all
+      let rest : List Finding = a.loose in
+      let nothing_else : findings ≡ a.loose = a.all
       ∙ ap (λ (xs : List Finding). xs ++ flat_map (altering loads notes a.executed) a.executed
       ++ too_many (product_of a.executed notes.marks) ++ a.loops ++ rest)
       (all_nothing (unfit loads notes) a.executed nothing_unfit)
@@ -68,5 +68,5 @@ module _ (loads : ℕ → Option Word) (notes : Notes) (start : ℕ) (executed :
       (le-ltb 4000000 (product_of a.executed notes.marks) small)
       ∙ ap (λ (xs : List Finding). xs ++ rest)
       (none_told loads notes start a.executed a.edges a.loops (no_edge a.edges refl) a.told) in
-      subst (λ (all : List Finding). AreUnmeant loads notes start executed all) (sym nothing_else)
-      (subst (λ (places : List ℕ). AreUnmeant loads notes start places a.unmeant) same a.are_unmeant)
+      subst (λ (all : List Finding). AreLooseEnds loads notes start executed all) (sym nothing_else)
+      (subst (λ (places : List ℕ). AreLooseEnds loads notes start places a.loose) same a.are_loose)

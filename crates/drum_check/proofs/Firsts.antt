@@ -96,7 +96,7 @@ module _ (loads : ℕ → Option Word) (notes : Notes) (start : ℕ) where
     told_first x begins =
         subst (λ (all : List Finding). BeginsWith all x) (sym a.all)
         (begins_left (first_part ++ second_part ++ third_part ++ a.loops)
-        a.unmeant x
+        a.loose x
         (begins_left (first_part ++ second_part ++ third_part) a.loops x
         (begins_left (first_part ++ second_part) third_part x (begins_left first_part second_part x begins))))
 
@@ -104,7 +104,7 @@ module _ (loads : ℕ → Option Word) (notes : Notes) (start : ℕ) where
     told_second x none begins =
         subst (λ (all : List Finding). BeginsWith all x) (sym a.all)
         (begins_left (first_part ++ second_part ++ third_part ++ a.loops)
-        a.unmeant x
+        a.loose x
         (begins_left (first_part ++ second_part ++ third_part) a.loops x
         (begins_left (first_part ++ second_part) third_part x (begins_behind first_part second_part x none begins))))
 
@@ -112,7 +112,7 @@ module _ (loads : ℕ → Option Word) (notes : Notes) (start : ℕ) where
     told_third x none nor begins =
         subst (λ (all : List Finding). BeginsWith all x) (sym a.all)
         (begins_left (first_part ++ second_part ++ third_part ++ a.loops)
-        a.unmeant x
+        a.loose x
         (begins_left (first_part ++ second_part ++ third_part) a.loops x
         (begins_behind (first_part ++ second_part) third_part x
         (ap (λ (xs : List Finding). xs ++ second_part) none ∙ nor) begins)))
@@ -122,7 +122,7 @@ module _ (loads : ℕ → Option Word) (notes : Notes) (start : ℕ) where
     told_fourth x none nor neither begins =
         subst (λ (all : List Finding). BeginsWith all x) (sym a.all)
         (begins_left (first_part ++ second_part ++ third_part ++ a.loops)
-        a.unmeant x
+        a.loose x
         (begins_behind (first_part ++ second_part ++ third_part) a.loops x
         (ap (λ (xs : List Finding). xs ++ second_part ++ third_part) none
         ∙ ap (λ (xs : List Finding). xs ++ third_part) nor ∙ neither) begins))

@@ -15,8 +15,8 @@ use Rattle.drum_check.specs.declared.kept.Kept.{Kept}
 use Rattle.drum_check.specs.declared.lacking.Lack.{Lack}
 use Rattle.drum_check.specs.Findings.{Finding, alters}
 use Rattle.drum_check.specs.FindingsOf.{seen}
-use Rattle.drum_check.specs.Kept.{both_leave}
-use Rattle.drum_check.specs.Lacking.{altered_word, leaves, words_altered}
+use Rattle.drum_check.specs.Kept.{both_keep}
+use Rattle.drum_check.specs.Lacking.{altered_word, kept_in, words_altered}
 use Rattle.drum_check.specs.LackingOf.{pair_of}
 use Rattle.drum_check.proofs.Words.{at_places, different, none_more, places, there_more}
 
@@ -43,7 +43,7 @@ number_there items k n was at here =
 -- a word that is there, with what one more writer leaves of it
 pub lack_met : (before : List Finding) (writer : ℕ) (word : Location) (kept left : Kept) (items : List Lack) (k : ℕ)
     (was : Lack) → slice_get (map number_of items) k ≡ Some word.number → was ≡ get_or items k was
-    → left ≡ both_leave was.kept kept → map pair_of items ≡ words_altered before
+    → left ≡ both_keep was.kept kept → map pair_of items ≡ words_altered before
     → map pair_of (set items k (record { word = word; kept = left }))
     ≡ words_altered (before ++ alters writer word.number kept ∷ [])
 lack_met before writer word kept left items k was at here is are =
@@ -54,7 +54,7 @@ lack_met before writer word kept left items k was at here is are =
     (slice_get-map pair_of items k ∙ ap (option_map pair_of) (slice_get-get_or items k was within ∙ ap Some (sym here))) in
     map-set pair_of items k (record { word = word; kept = left })
     ∙ ap (λ (one : Kept). set (map pair_of items) k (word.number, one))
-    (is ∙ ap (λ (lack : ℕ × Kept). both_leave lack.1 kept) (sym read))
+    (is ∙ ap (λ (lack : ℕ × Kept). both_keep lack.1 kept) (sym read))
     ∙ there_more before writer word.number kept (map pair_of items) are k (pair_of was)
     (sym (ap (λ (ns : List ℕ). slice_get ns k) (same_places before items are)) ∙ at)
 
@@ -75,7 +75,7 @@ few_words before items are =
 -- a finding that no word is altered
 tells_none : (one : held.Finding)
     → ((writer word : Location) (kept : Kept) → one ≡ finding.Alters writer word kept → ⊥)
-    → (altered_word (seen one) ≡ []) × ((word : ℕ) → leaves word (seen one) ≡ [])
+    → (altered_word (seen one) ≡ []) × ((word : ℕ) → kept_in word (seen one) ≡ [])
 tells_none (finding.NotLoaded location) other = (refl, λ word. refl)
 tells_none (finding.NotInProfile location op) other = (refl, λ word. refl)
 tells_none (finding.Alters writer word kept) other = absurd (other writer word kept refl)

@@ -14,7 +14,7 @@ use Rattle.drum_core.specs.declared.word.Word.{Word}
 use Rattle.drum_times.specs.Allowed.{Notes}
 use Rattle.drum_flow.specs.Graph.{LeadRound}
 use Rattle.drum_flow.proofs.Lists.{contains_cases, contains_here, contains_none, contains_there}
-use Rattle.drum_loops.specs.Loops.{AreApart, AreClosing, IsLeft, LeadBy}
+use Rattle.drum_loops.specs.Loops.{AreApart, AreClosing, IsFreeBeside, LeadBy}
 use Rattle.drum_check.specs.Among.{AreThose}
 use Rattle.drum_check.specs.Insides.{AreOuterFirst, AreSoMany}
 use Rattle.drum_check.proofs.Unsaids.{those_one}
@@ -207,12 +207,12 @@ module _ (loads : ℕ → Option Word) (notes : Notes) (start : ℕ) (xs ys : Li
     needed =
         λ from onto there. let lead = closing.needed from onto (back (from, onto) there) in (
           lead.0,
-          lead_along (IsLeft loads notes xs) (IsLeft loads notes ys)
+          lead_along (IsFreeBeside loads notes xs) (IsFreeBeside loads notes ys)
               (λ a b left. (left.0, λ one. left.1 (back (a, b) one))) onto lead.0 from lead.1,
         );
     enough =
         λ first others executed closed. closing.enough first others executed
-        (round_along (IsLeft loads notes ys) (IsLeft loads notes xs)
+        (round_along (IsFreeBeside loads notes ys) (IsFreeBeside loads notes xs)
         (λ a b left. (left.0, λ one. left.1 (forth (a, b) one))) first first others closed);
     apart =
         once_apart ys (λ x. omega (

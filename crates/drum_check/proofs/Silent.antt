@@ -14,20 +14,20 @@ use Rattle.drum_flow.specs.Graph.{LeadRound}
 use Rattle.drum_flow.specs.Hops.{IsExecuted}
 use Rattle.drum_flow.proofs.Acceptances.{one_order}
 use Rattle.drum_flow.proofs.Lists.{contains_here, contains_none}
-use Rattle.drum_loops.specs.Loops.{IsLeft}
+use Rattle.drum_loops.specs.Loops.{IsFreeBeside}
 use Rattle.drum_check.specs.Findings.{AreFindings, Finding, not_loaded, not_in_profile, alters, too_large}
 use Rattle.drum_check.specs.Findings.{altered, altered_by, altering, is_fixed, not_there, operations_outside}
 use Rattle.drum_check.specs.Kept.{kept_of}
-use Rattle.drum_check.specs.Findings.{outside, too_many, unfit, unused, inside_at, AreUnmeant, IsUnsaid, pairs_of}
+use Rattle.drum_check.specs.Findings.{outside, too_many, unfit, unused, inside_at, AreLooseEnds, IsUnsaid, pairs_of}
 use Rattle.drum_check.proofs.Fixeds.{fixed_so}
 use Rattle.drum_check.proofs.Nothing.{before_nothing, both_nothing, each_nothing, in_filter, in_flat_map, none_added, of_nothing}
 use Rattle.drum_check.proofs.Outsides.{outside_of}
 use Rattle.drum_check.proofs.Tellings.{told_none}
 use Rattle.drum_check.proofs.Unsaids.{those_one}
 
--- edges that are left where there are none that close loops
+-- edges free of marks where there are none that close loops
 pub round_left : (loads : ℕ → Option Word) (notes : Notes) (edges : List (ℕ × ℕ)) (first node : ℕ) (xs : List ℕ)
-    → edges ≡ [] → LeadRound (IsFree loads notes) first node xs → LeadRound (IsLeft loads notes edges) first node xs
+    → edges ≡ [] → LeadRound (IsFree loads notes) first node xs → LeadRound (IsFreeBeside loads notes edges) first node xs
 round_left loads notes edges first node [] none round =
     (round, λ there. contains_none _ (subst (λ (all : List (ℕ × ℕ)). Contains all (node, first)) none there))
 round_left loads notes edges first node (x ∷ xs) none round = (
@@ -69,10 +69,10 @@ told_small product none = elim (cases_lt 4000000 product) [
   | inr small ↦ small
 ]
 
--- what isn't meant is one list
-pub one_unmeant : (loads : ℕ → Option Word) (notes : Notes) (start : ℕ) (executed : List ℕ) (some others : List Finding)
-    → AreUnmeant loads notes start executed some → AreUnmeant loads notes start executed others → some ≡ others
-one_unmeant loads notes start executed some others one other =
+-- the loose ends are one list
+pub one_loose : (loads : ℕ → Option Word) (notes : Notes) (start : ℕ) (executed : List ℕ) (some others : List Finding)
+    → AreLooseEnds loads notes start executed some → AreLooseEnds loads notes start executed others → some ≡ others
+one_loose loads notes start executed some others one other =
     one.all
     ∙ ap (λ (pairs : List (ℕ × ℕ)). unused loads notes executed ++ map (inside_at notes.marks) pairs)
     (those_one (IsUnsaid loads notes start executed) (pairs_of notes.marks) one.pairs other.pairs one.unsaid other.unsaid)
@@ -80,7 +80,7 @@ one_unmeant loads notes start executed some others one other =
 
 module _ (loads : ℕ → Option Word) (notes : Notes) (start : ℕ) (executed : List ℕ) (findings : List Finding)
     (found : AreFound loads notes start executed) (a : AreFindings loads notes start findings)
-    (alone : AreUnmeant loads notes start executed findings) where
+    (alone : AreLooseEnds loads notes start executed findings) where
   -- an instruction that isn't found to alter anything alters nothing
   told_unaltered : (place : ℕ) (ins : Instruction) (at : ℕ) → altered loads notes a.executed place ≡ []
       → Contains (allowed loads notes place) ins → Contains (writes ins) at → ¬ IsFixed loads notes start at
@@ -100,10 +100,10 @@ module _ (loads : ℕ → Option Word) (notes : Notes) (start : ℕ) (executed :
 
   none_in_the_way : in_the_way ≡ []
   none_in_the_way =
-      let here : AreUnmeant loads notes start a.executed findings =
-      subst (λ (places : List ℕ). AreUnmeant loads notes start places findings) same_executed alone in
-      before_nothing in_the_way a.unmeant
-      (one_unmeant loads notes start a.executed a.unmeant findings a.are_unmeant here ∙ a.all)
+      let here : AreLooseEnds loads notes start a.executed findings =
+      subst (λ (places : List ℕ). AreLooseEnds loads notes start places findings) same_executed alone in
+      before_nothing in_the_way a.loose
+      (one_loose loads notes start a.executed a.loose findings a.are_loose here ∙ a.all)
 
   pub silent_accepted : IsAccepted loads notes start executed
   silent_accepted =

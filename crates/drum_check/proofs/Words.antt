@@ -17,8 +17,8 @@ use Rattle.drum_flow.proofs.Orders.{any_contains, contains_any, with_new_differe
 use Rattle.drum_check.specs.declared.kept.Kept.{Kept}
 use Rattle.drum_check.specs.Findings.{Finding, not_loaded, not_in_profile, alters, too_large, closes, unused_mark}
 use Rattle.drum_check.specs.Findings.{unused_list, inside}
-use Rattle.drum_check.specs.Kept.{both_leave}
-use Rattle.drum_check.specs.Lacking.{altered_word, kept_by_all, lacking_list, leaves, stays, words_altered}
+use Rattle.drum_check.specs.Kept.{both_keep}
+use Rattle.drum_check.specs.Lacking.{altered_word, kept_by_all, lacking_list, kept_in, stays, words_altered}
 use Rattle.drum_check.proofs.Nothing.{all_nothing, in_flat_map}
 
 -- two functions that are alike on a list
@@ -49,7 +49,7 @@ places findings = with_new [] (flat_map altered_word findings)
 
 -- a finding is about one altered word, or about none
 abbrev TellsNone : Finding → Type 0
-TellsNone finding = (altered_word finding ≡ []) × ((word : ℕ) → leaves word finding ≡ [])
+TellsNone finding = (altered_word finding ≡ []) × ((word : ℕ) → kept_in word finding ≡ [])
 
 abbrev Tells : Finding → Type 0
 Tells finding = (writer : ℕ) × (word : ℕ) × (kept : Kept) × (finding ≡ alters writer word kept)
@@ -65,10 +65,10 @@ none_or_one (unused_list place) = inl (refl, λ word. refl)
 none_or_one (inside inner outer) = inl (refl, λ word. refl)
 
 -- what is left of the word that a writer alters, and of another one
-leaves_it : (writer word : ℕ) (kept : Kept) → leaves word (alters writer word kept) ≡ kept ∷ []
+leaves_it : (writer word : ℕ) (kept : Kept) → kept_in word (alters writer word kept) ≡ kept ∷ []
 leaves_it writer word kept = ap (λ (b : Bool). cond b (kept ∷ []) []) (eq-eqb word word refl)
 
-leaves_other : (writer word other : ℕ) (kept : Kept) → ¬ (other ≡ word) → leaves other (alters writer word kept) ≡ []
+leaves_other : (writer word other : ℕ) (kept : Kept) → ¬ (other ≡ word) → kept_in other (alters writer word kept) ≡ []
 leaves_other writer word other kept different = go (eqb word other) refl
   where
     go : (b : Bool) → eqb word other ≡ b → cond (eqb word other) (kept ∷ []) [] ≡ []
@@ -77,11 +77,11 @@ leaves_other writer word other kept different = go (eqb word other) refl
 
 -- a word that no finding is about has no writers
 none_left : (word : ℕ) (before : List Finding) → ¬ Contains (flat_map altered_word before) word
-    → flat_map (leaves word) before ≡ []
+    → flat_map (kept_in word) before ≡ []
 none_left word before none =
-    all_nothing (leaves word) before (λ finding there. elim (none_or_one finding) [
+    all_nothing (kept_in word) before (λ finding there. elim (none_or_one finding) [
       | inl nothing ↦ nothing.1 word
-      | inr tells ↦ ap (leaves word) tells.3 ∙ leaves_other tells.0 tells.1 word tells.2
+      | inr tells ↦ ap (kept_in word) tells.3 ∙ leaves_other tells.0 tells.1 word tells.2
           (λ e. none (in_flat_map altered_word before finding word there
           (subst (λ (f : Finding). Contains (altered_word f) word) (sym tells.3)
           (subst (λ (z : ℕ). Contains (tells.1 ∷ []) z) (sym e) (contains_here tells.1 [])))))
@@ -89,7 +89,7 @@ none_left word before none =
 
 -- and one that some finding is about has some
 abbrev HasWriter : ℕ → List Finding → Type 0
-HasWriter word before = (kept : Kept) × (others : List Kept) × (flat_map (leaves word) before ≡ kept ∷ others)
+HasWriter word before = (kept : Kept) × (others : List Kept) × (flat_map (kept_in word) before ≡ kept ∷ others)
 
 some_left : (word : ℕ) (before : List Finding) → Contains (flat_map altered_word before) word → HasWriter word before
 some_left word [] there = absurd (contains_none word there)
@@ -99,7 +99,7 @@ some_left word (finding ∷ before) there = elim (none_or_one finding) [
       (subst (λ (xs : List ℕ). Contains (xs ++ flat_map altered_word before) word) nothing.0 there) in (
         behind.0,
         behind.1,
-        ap (λ (ks : List Kept). ks ++ flat_map (leaves word) before) (nothing.1 word) ∙ behind.2,
+        ap (λ (ks : List Kept). ks ++ flat_map (kept_in word) before) (nothing.1 word) ∙ behind.2,
       ))
   | inr tells ↦ one tells.0 tells.1 tells.2 tells.3 (eqb tells.1 word) refl (some_left word before)
 ]
@@ -108,9 +108,9 @@ some_left word (finding ∷ before) there = elim (none_or_one finding) [
         → (Contains (flat_map altered_word before) word → HasWriter word before) → HasWriter word (finding ∷ before)
     one writer at kept is true e more = (
       kept,
-      flat_map (leaves word) before,
-      ap (λ (f : Finding). leaves word f ++ flat_map (leaves word) before) is
-          ∙ ap (λ (b : Bool). cond b (kept ∷ []) [] ++ flat_map (leaves word) before) e,
+      flat_map (kept_in word) before,
+      ap (λ (f : Finding). kept_in word f ++ flat_map (kept_in word) before) is
+          ∙ ap (λ (b : Bool). cond b (kept ∷ []) [] ++ flat_map (kept_in word) before) e,
     )
     one writer at kept is false e more =
         let behind = more (elim (contains_cases at word (flat_map altered_word before)
@@ -120,8 +120,8 @@ some_left word (finding ∷ before) there = elim (none_or_one finding) [
         ]) in (
           behind.0,
           behind.1,
-          ap (λ (f : Finding). leaves word f ++ flat_map (leaves word) before) is
-              ∙ ap (λ (b : Bool). cond b (kept ∷ []) [] ++ flat_map (leaves word) before) e ∙ behind.2,
+          ap (λ (f : Finding). kept_in word f ++ flat_map (kept_in word) before) is
+              ∙ ap (λ (b : Bool). cond b (kept ∷ []) [] ++ flat_map (kept_in word) before) e ∙ behind.2,
         )
 
 -- one writer more behind some
@@ -138,7 +138,7 @@ stays_more part kept others more =
     go false None = refl
 
 all_more : (kept : Kept) (others : List Kept) (more : Kept)
-    → kept_by_all (kept ∷ (others ++ more ∷ [])) ≡ both_leave (kept_by_all (kept ∷ others)) more
+    → kept_by_all (kept ∷ (others ++ more ∷ [])) ≡ both_keep (kept_by_all (kept ∷ others)) more
 all_more kept others more =
     with_parts (stays_more (λ k. k.op) kept others more) (stays_more (λ k. k.d) kept others more)
     (stays_more (λ k. k.i) kept others more)
@@ -176,20 +176,20 @@ module _ (before : List Finding) (finding : Finding) where
       ∙ with_new_append [] (flat_map altered_word before) (altered_word finding)
 
   leaves_more : (word : ℕ)
-      → flat_map (leaves word) (before ++ finding ∷ []) ≡ flat_map (leaves word) before ++ leaves word finding
+      → flat_map (kept_in word) (before ++ finding ∷ []) ≡ flat_map (kept_in word) before ++ kept_in word finding
   leaves_more word =
-      flat_map-append (leaves word) before (finding ∷ [])
-      ∙ ap (λ (ks : List Kept). flat_map (leaves word) before ++ ks) (append-nil (leaves word finding))
+      flat_map-append (kept_in word) before (finding ∷ [])
+      ∙ ap (λ (ks : List Kept). flat_map (kept_in word) before ++ ks) (append-nil (kept_in word finding))
 
   -- of a word that the finding isn't about
-  same_left : (word : ℕ) → leaves word finding ≡ []
+  same_left : (word : ℕ) → kept_in word finding ≡ []
       → lacking_list (before ++ finding ∷ []) word ≡ lacking_list before word
   same_left word none =
       ap (λ (ks : List Kept). (word, kept_by_all ks)) (leaves_more word
-      ∙ ap (λ (ks : List Kept). flat_map (leaves word) before ++ ks) none ∙ append-nil (flat_map (leaves word) before))
+      ∙ ap (λ (ks : List Kept). flat_map (kept_in word) before ++ ks) none ∙ append-nil (flat_map (kept_in word) before))
 
   -- a finding that is about no word
-  pub none_more : altered_word finding ≡ [] → ((word : ℕ) → leaves word finding ≡ [])
+  pub none_more : altered_word finding ≡ [] → ((word : ℕ) → kept_in word finding ≡ [])
       → words_altered before ≡ words_altered (before ++ finding ∷ [])
   none_more no_word none =
       sym (ap (map (lacking_list (before ++ finding ∷ []))) (places_more ∙ ap (with_new (places before)) no_word)
@@ -205,14 +205,14 @@ module _ (before : List Finding) (writer word : ℕ) (kept : Kept) (lacks : List
   other_same other different =
       same_left before (alters writer word kept) other (leaves_other writer word other kept different)
 
-  it_left : flat_map (leaves word) after ≡ flat_map (leaves word) before ++ kept ∷ []
+  it_left : flat_map (kept_in word) after ≡ flat_map (kept_in word) before ++ kept ∷ []
   it_left =
       leaves_more before (alters writer word kept) word
-      ∙ ap (λ (ks : List Kept). flat_map (leaves word) before ++ ks) (leaves_it writer word kept)
+      ∙ ap (λ (ks : List Kept). flat_map (kept_in word) before ++ ks) (leaves_it writer word kept)
 
   -- one more that is about a word which is there
   pub there_more : (k : ℕ) (d : ℕ × Kept) → slice_get (places before) k ≡ Some word
-      → set lacks k (word, both_leave (get_or lacks k d).1 kept) ≡ words_altered after
+      → set lacks k (word, both_keep (get_or lacks k d).1 kept) ≡ words_altered after
   there_more k d at =
       let there : Contains (places before) word = contains_from_get (places before) k word at in
       let some = some_left word before (elim (with_new_only [] (flat_map altered_word before) word there) [
@@ -224,15 +224,15 @@ module _ (before : List Finding) (writer word : ℕ) (kept : Kept) (lacks : List
       let was : get_or lacks k d ≡ lacking_list before word =
       ap (λ (all : List (ℕ × Kept)). get_or all k d) are
       ∙ get_or_from_slice_get (words_altered before) k (lacking_list before word) d found in
-      let met : lacking_list after word ≡ (word, both_leave (get_or lacks k d).1 kept) =
+      let met : lacking_list after word ≡ (word, both_keep (get_or lacks k d).1 kept) =
       ap (λ (ks : List Kept). (word, kept_by_all ks)) (it_left ∙ ap (λ (ks : List Kept). ks ++ kept ∷ []) some.2)
       ∙ ap (λ (one : Kept). (word, one)) (all_more some.0 some.1 kept)
-      ∙ sym (ap (λ (lack : ℕ × Kept). (word, both_leave lack.1 kept)) (was
+      ∙ sym (ap (λ (lack : ℕ × Kept). (word, both_keep lack.1 kept)) (was
       ∙ ap (λ (ks : List Kept). (word, kept_by_all ks)) some.2)) in
       let same_places : places after ≡ places before =
       places_more before (alters writer word kept)
       ∙ ap (λ (b : Bool). cond b (places before) (places before ++ word ∷ [])) (contains_any (places before) word there) in
-      ap (λ (all : List (ℕ × Kept)). set all k (word, both_leave (get_or lacks k d).1 kept)) are
+      ap (λ (all : List (ℕ × Kept)). set all k (word, both_keep (get_or lacks k d).1 kept)) are
       ∙ ap (set (words_altered before) k) (sym met)
       ∙ set_alike (lacking_list before) (lacking_list after) (places before) k word (different before) at other_same
       ∙ sym (ap (map (lacking_list after)) same_places)
@@ -240,7 +240,7 @@ module _ (before : List Finding) (writer word : ℕ) (kept : Kept) (lacks : List
   -- one that is about a word which isn't
   pub new_more : ¬ Contains (places before) word → lacks ++ (word, kept) ∷ [] ≡ words_altered after
   new_more none =
-      let no_writer : flat_map (leaves word) before ≡ [] =
+      let no_writer : flat_map (kept_in word) before ≡ [] =
       none_left word before (λ there. none (with_new_has [] (flat_map altered_word before) word there)) in
       let alone : lacking_list after word ≡ (word, kept) =
       ap (λ (ks : List Kept). (word, kept_by_all ks)) (it_left ∙ ap (λ (ks : List Kept). ks ++ kept ∷ []) no_writer) in

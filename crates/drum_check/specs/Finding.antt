@@ -3,8 +3,8 @@ use Rattle.std.specs.Prelude.{ℕ, Option}
 use Rattle.drum_check.specs.declared.kept.Kept.{Kept}
 
 -- something that was found, by the numbers of its locations, its operation or its product; with
--- what a writer leaves of the word that it alters; and of an edge that closes a loop with the
--- number, from 1, of the mark that a mark on it is to say it stands inside of
+-- what a writer keeps of the word that it alters; and of an edge that closes a loop, and so needs a
+-- mark, with the number, from 1, of the mark that this new one stands inside of
 pub data Finding : Type 0 where
   not_loaded : ℕ → Finding
   not_in_profile : ℕ → ℕ → Finding

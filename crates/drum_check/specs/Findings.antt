@@ -1,4 +1,4 @@
--- All that keeps a deck from having a bound under its notes, and what of the notes isn't meant.
+-- All that keeps a deck from having a bound under its notes, and the loose ends of the notes.
 -- `loads` says which word the deck loads into a location.
 use Rattle.std.specs.Prelude.{◌≡◌, ℕ, nat_lt, if◌then◌else◌, ◌||◌, ◌&&◌, not, Bool, true, false}
 use Rattle.std.specs.Prelude.{List, [], ◌∷◌, ◌++◌, map, filter, flat_map, length, slice_get}
@@ -49,7 +49,7 @@ unfit loads notes place =
 abbrev pub is_fixed : Notes → List ℕ → ℕ → Bool
 is_fixed notes executed place = is_among executed place && not (is_listed notes place)
 
--- the words that an instruction alters: those of these that it writes
+-- the words that an instruction alters: of those that it writes the executed ones without a list
 abbrev pub altered_by : Notes → List ℕ → Instruction → List ℕ
 altered_by notes executed ins = filter (is_fixed notes executed) (writes ins)
 
@@ -58,7 +58,7 @@ abbrev pub altered : (ℕ → Option Word) → Notes → List ℕ → ℕ → Li
 altered loads notes executed place =
     with_new [] (flat_map (altered_by notes executed) (allowed loads notes place))
 
--- that they do, and what they leave of each
+-- that they do, and what they keep of each
 abbrev pub altering : (ℕ → Option Word) → Notes → List ℕ → ℕ → List Finding
 altering loads notes executed place =
     map (λ word. alters place word (kept_of loads notes place word))
@@ -90,31 +90,31 @@ unused loads notes executed =
     flat_map (astray loads notes executed) notes.marks
     ++ flat_map (idle notes executed) all_locations
 
--- the edge of the mark at a place
+-- the edge of the mark with this index
 abbrev pub edge_at : List Mark → ℕ → ℕ × ℕ
-edge_at marks place =
-    elim (slice_get marks place) [
+edge_at marks index =
+    elim (slice_get marks index) [
       | None ↦ (0, 0)
       | Some mark ↦ (mark.from.number, mark.onto.number)
     ]
 
--- whether the flow graph has the edge of the mark at a place
+-- whether the flow graph has the edge of the mark with this index
 abbrev pub is_on_edge : (ℕ → Option Word) → Notes → List ℕ → ℕ → Bool
-is_on_edge loads notes executed place =
-    has_edge loads notes executed (edge_at notes.marks place).0 (edge_at notes.marks place).1
+is_on_edge loads notes executed index =
+    has_edge loads notes executed (edge_at notes.marks index).0 (edge_at notes.marks index).1
 
--- Of two marks, by their places: the loop that the first one's edge closes stands inside the loop
+-- Of two marks, by their indices: the loop that the first one's edge closes stands inside the loop
 -- of the second one's, and the first doesn't say that it stands inside the second, directly or
 -- through others.
 pub record IsUnsaid (loads : ℕ → Option Word) (notes : Notes) (start : ℕ) (executed : List ℕ)
-    (places : ℕ × ℕ) : Type 0 where
-  pub inner : is_on_edge loads notes executed places.0 ≡ true
-  pub outer : is_on_edge loads notes executed places.1 ≡ true
-  pub nested : IsNested loads notes start (edge_at notes.marks places.1)
-      (edge_at notes.marks places.0)
-  pub unsaid : is_inside notes.marks places.0 places.1 ≡ false
+    (pair : ℕ × ℕ) : Type 0 where
+  pub inner : is_on_edge loads notes executed pair.0 ≡ true
+  pub outer : is_on_edge loads notes executed pair.1 ≡ true
+  pub nested : IsNested loads notes start (edge_at notes.marks pair.1)
+      (edge_at notes.marks pair.0)
+  pub unsaid : is_inside notes.marks pair.0 pair.1 ≡ false
 
--- all pairs of places of marks, by the first and then by the second
+-- all pairs of marks' indices, by the first and then by the second
 abbrev pub pairs_of : List Mark → List (ℕ × ℕ)
 pairs_of marks =
     flat_map (λ inner. map (λ outer. (inner, outer)) (range_with_len 0 (length marks)))
@@ -122,15 +122,15 @@ pairs_of marks =
 
 -- that the loop of the first mark of a pair stands inside that of the second
 abbrev pub inside_at : List Mark → ℕ × ℕ → Finding
-inside_at marks places = inside (edge_at marks places.0) (edge_at marks places.1)
+inside_at marks pair = inside (edge_at marks pair.0) (edge_at marks pair.1)
 
--- What of the notes isn't meant: what nothing comes to, and each pair of marks whose loops stand
--- one inside the other where the notes don't say so.
-pub record AreUnmeant (loads : ℕ → Option Word) (notes : Notes) (start : ℕ)
-    (executed : List ℕ) (unmeant : List Finding) : Type 0 where
+-- The loose ends of the notes: the marks and the lists that are unused, and each pair of marks
+-- whose loops stand one inside the other where the notes don't say so.
+pub record AreLooseEnds (loads : ℕ → Option Word) (notes : Notes) (start : ℕ)
+    (executed : List ℕ) (loose : List Finding) : Type 0 where
   pub pairs : List (ℕ × ℕ)
   pub unsaid : AreThose (IsUnsaid loads notes start executed) (pairs_of notes.marks) pairs
-  pub all : unmeant ≡ unused loads notes executed ++ map (inside_at notes.marks) pairs
+  pub all : loose ≡ unused loads notes executed ++ map (inside_at notes.marks) pairs
 
 -- Something that may be meant as it is: that a mark's loop stands inside another one's, and the
 -- notes don't say so. The mark may count the whole run.
@@ -140,7 +140,7 @@ may_be_meant _ = false
 
 -- These are all the findings: of each executed location, in the order of discovery, what is wrong
 -- with it, then what each alters, then the size, the loops of the edges that close them, and last
--- what of the notes isn't meant.
+-- the loose ends of the notes.
 pub record AreFindings (loads : ℕ → Option Word) (notes : Notes) (start : ℕ)
     (findings : List Finding) : Type 0 where
   pub executed : List ℕ
@@ -149,8 +149,8 @@ pub record AreFindings (loads : ℕ → Option Word) (notes : Notes) (start : �
   pub closing : AreClosing loads notes start edges
   pub loops : List Finding
   pub told : AreLoops loads notes start executed edges loops
-  pub unmeant : List Finding
-  pub are_unmeant : AreUnmeant loads notes start executed unmeant
+  pub loose : List Finding
+  pub are_loose : AreLooseEnds loads notes start executed loose
   pub all : findings ≡ flat_map (unfit loads notes) executed
       ++ flat_map (altering loads notes executed) executed
-      ++ too_many (product_of executed notes.marks) ++ loops ++ unmeant
+      ++ too_many (product_of executed notes.marks) ++ loops ++ loose

@@ -1,6 +1,6 @@
 -- The notes that are lacking, as TOML: a mark for each edge that closes a loop, with the number of
 -- the mark inside which it stands, and a list for each word that is altered, with as much of its
--- own instruction as all of its writers leave. What has to be thought about is left empty, and no
+-- own instruction as all of its writers keep. What has to be thought about is left empty, and no
 -- notes are read before it is filled in.
 use Rattle.std.specs.Prelude.{ℕ, ◌==◌, if◌then◌else◌, List, [], ◌∷◌, ◌++◌, codes, decimal, map}
 use Rattle.std.specs.Prelude.{flat_map, Option, Some, None, is_some}
@@ -17,12 +17,12 @@ abbrev pub altered_word : Finding → List ℕ
 altered_word (alters writer word kept) = word ∷ []
 altered_word _ = []
 
--- what a finding says that a writer of the word leaves of it
-abbrev pub leaves : ℕ → Finding → List Kept
-leaves word (alters writer other kept) = if other == word then kept ∷ [] else []
-leaves word _ = []
+-- what a finding says that a writer of the word keeps of it
+abbrev pub kept_in : ℕ → Finding → List Kept
+kept_in word (alters writer other kept) = if other == word then kept ∷ [] else []
+kept_in word _ = []
 
--- a part that all of some writers leave
+-- a part that all of some writers keep
 abbrev pub stays : (Kept → Option ℕ) → List Kept → Option ℕ
 stays part [] = None
 stays part (kept ∷ others) =
@@ -33,7 +33,7 @@ abbrev pub loaded_by : List Kept → Option Word
 loaded_by [] = None
 loaded_by (kept ∷ others) = kept.loaded
 
--- what they all leave
+-- what they all keep
 abbrev pub kept_by_all : List Kept → Kept
 kept_by_all all = record {
   op = stays (λ kept. kept.op) all;
@@ -42,9 +42,9 @@ kept_by_all all = record {
   loaded = loaded_by all;
 }
 
--- a word that is altered, with what all of its writers leave of it
+-- a word that is altered, with what all of its writers keep of it
 abbrev pub lacking_list : List Finding → ℕ → ℕ × Kept
-lacking_list findings word = (word, kept_by_all (flat_map (leaves word) findings))
+lacking_list findings word = (word, kept_by_all (flat_map (kept_in word) findings))
 
 -- those of all words, each once, in order
 abbrev pub words_altered : List Finding → List (ℕ × Kept)

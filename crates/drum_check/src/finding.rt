@@ -2,8 +2,7 @@ use crate::kept::Kept;
 use drum_core::Location;
 use drum_loops::Edge;
 
-/// Something that keeps a deck from having a bound under its notes, or something in the notes that
-/// isn't meant.
+/// Something that keeps a deck from having a bound under its notes, or a loose end of the notes.
 #[derive(Clone, Copy, Debug, PartialEq, Eq)]
 pub enum Finding {
     /// This executed location is neither loaded nor listed.
@@ -11,7 +10,7 @@ pub enum Finding {
     /// At this executed location an operation is allowed, with this number of two digits, that is
     /// outside the profile.
     NotInProfile(Location, u8),
-    /// An instruction at an executed location alters an executed word that isn't listed, and leaves
+    /// An instruction at an executed location alters an executed word that isn't listed, and keeps
     /// these parts of it.
     Alters {
         writer: Location,
@@ -21,10 +20,10 @@ pub enum Finding {
     /// Executed words times counts, the product of `most + 1` over the marks, is this product,
     /// which is more than 4,000,000.
     TooLarge(u128),
-    /// An edge free of marks closes a loop of edges that are free of marks. A mark on it is to say
-    /// that it stands inside the mark of this number, if there is one. The first mark has number 1;
-    /// those on the edges that close loops stand behind those of the notes, in the order in which
-    /// they are found.
+    /// An edge free of marks closes a loop of such edges, and needs a mark. `inside` is the number
+    /// of the mark that the new mark stands inside of, if there is one: the marks of the notes have
+    /// the first numbers, from 1, and then each of these edges has one, in the order in which they
+    /// are found.
     Loop {
         edge: Edge,
         inside: Option<usize>,

@@ -22,7 +22,7 @@ const LIMIT: usize = 1 << 40;
 /// The most that executed words times counts may be.
 const PRODUCT_LIMIT: u128 = 4_000_000;
 
-/// All that keeps a deck from having a bound under its notes, and what of the notes isn't meant.
+/// All that keeps a deck from having a bound under its notes, and the loose ends of the notes.
 #[derive(Debug, Drop)]
 pub struct Findings {
     pub(crate) all: Vec<Finding>,
@@ -90,7 +90,7 @@ impl Findings {
         Ok(())
     }
 
-    /// Adds words that the instructions of a location alter, each with what they leave of it.
+    /// Adds words that the instructions of a location alter, each with what they keep of it.
     fn add_words(
         &mut self,
         flow: &Flow<'_>,
@@ -265,12 +265,12 @@ impl Findings {
         self.add_all_idle(flow, 8000, 8004)
     }
 
-    /// All that keeps the deck from having a bound under these notes: first what is wrong with
-    /// each executed location by itself, in the order of discovery, then what the instructions of
-    /// each alter, then the size, and then the edges that close loops, those first whose loop
-    /// stands inside the fewest others; and last what of the notes isn't meant: the marks and the
-    /// lists that nothing comes to, each mark in order and each list by its location, and the marks
-    /// that don't say inside which other one they stand.
+    /// All that keeps the deck from having a bound under these notes: first what is wrong with each
+    /// executed location by itself, in the order of discovery, then what the instructions of each
+    /// alter, then the size, and then the edges that close loops, those first whose loop stands
+    /// inside the fewest others (in any order, where there would be more than 8 marks); and last
+    /// the loose ends of the notes: the marks and the lists that are unused, each mark in order and
+    /// each list by its location, and the marks that don't say inside which other one they stand.
     ///
     /// # Errors
     ///

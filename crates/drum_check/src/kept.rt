@@ -6,8 +6,8 @@ use drum_core::{Deck, Instruction, Location, Word};
 use drum_flow::place::is_listed;
 use drum_times::Notes;
 
-/// What is left of a word's own instruction by what writes it: each part that none of the writers
-/// changes, and `None` for one that may be changed.
+/// What the writers of a word keep of its own instruction: each part that none of them changes, and
+/// `None` for one that may be changed.
 #[derive(Clone, Copy, Debug, PartialEq, Eq)]
 pub struct Kept {
     /// The operation's two digits.
@@ -33,9 +33,9 @@ impl Kept {
         }
     }
 
-    /// What an operation that writes a word leaves of the instruction there.
-    fn left_by(op: u8, instruction: Instruction, loaded: Option<Word>) -> Kept
-        ensures { result ≡ said.left_by op instruction loaded }
+    /// What an operation that writes a word keeps of the instruction there.
+    fn by_op(op: u8, instruction: Instruction, loaded: Option<Word>) -> Kept
+        ensures { result ≡ said.kept_by_op op instruction loaded }
     {
         match op {
             22 => Kept {
@@ -54,20 +54,21 @@ impl Kept {
         }
     }
 
-    /// What the word of a writer leaves of a word, where both are loaded.
-    fn left_in(writer: Option<Word>, loaded: Option<Word>) -> Kept
-        ensures { result ≡ said.left_in writer loaded }
+    /// What the word of a writer keeps of a word, where both are loaded.
+    fn by_word(writer: Option<Word>, loaded: Option<Word>) -> Kept
+        ensures { result ≡ said.kept_by_word writer loaded }
     {
         match (writer, loaded) {
             (Some(writer), Some(word)) => {
-                Kept::left_by(Instruction::of(writer).op, Instruction::of(word), loaded)
+                Kept::by_op(Instruction::of(writer).op, Instruction::of(word), loaded)
             }
             _ => Kept::nothing(loaded),
         }
     }
 
-    /// What the writer at one location leaves of the instruction that is loaded at another. Of a
-    /// writer that has a list, and of what isn't loaded, nothing is sure to stay.
+    /// What the writer at one location keeps of the instruction that is loaded at another. A writer
+    /// that has a list may keep nothing; and where the writer or the word isn't loaded, nothing is
+    /// sure.
     pub fn of(deck: &Deck, notes: &Notes, writer: Location, word: Location) -> Kept
         ensures { result ≡ said.kept_of (loads_in deck.now) notes.now writer.number word.number }
     {
@@ -75,12 +76,12 @@ impl Kept {
         if is_listed(notes, writer) {
             return Kept::nothing(loaded);
         }
-        Kept::left_in(deck.word(writer), loaded)
+        Kept::by_word(deck.word(writer), loaded)
     }
 
-    /// What is left of a word that another one writes too.
+    /// What is kept of a word that another one writes too.
     pub(crate) fn meet(self, other: Kept) -> Kept
-        ensures { result ≡ said.both_leave self other }
+        ensures { result ≡ said.both_keep self other }
     {
         Kept {
             op: other.op.and(self.op),

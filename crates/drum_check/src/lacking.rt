@@ -7,7 +7,7 @@ use drum_core::Location;
 use drum_flow::executed::Executed;
 use std::alloc::{AllocError, Global};
 
-/// A word that lacks a list, with what all of its writers leave of it.
+/// A word that lacks a list, with what all of its writers keep of it.
 #[derive(Clone, Copy, Debug)]
 pub(crate) struct Lack {
     pub(crate) word: Location,
@@ -15,7 +15,7 @@ pub(crate) struct Lack {
 }
 
 /// The words that lack a list: those that are altered, each once, in the order in which they were
-/// found; each with as much of its own instruction as all of its writers leave.
+/// found; each with as much of its own instruction as all of its writers keep.
 #[derive(Debug, Drop)]
 pub struct Lacking {
     pub(crate) words: Vec<Lack>,
@@ -49,7 +49,7 @@ impl Lacking {
     }
 
     /// Adds the word that a finding says is altered, with what is kept of it; of one that is there,
-    /// what this writer leaves too stays. The words stand in these places.
+    /// what this writer keeps too stays. The words have these indices.
     fn add(
         places: &mut Executed,
         words: &mut Vec<Lack>,
@@ -69,7 +69,7 @@ impl Lacking {
         }
     }
 
-    /// Adds a word, with what a writer leaves of it.
+    /// Adds a word, with what a writer keeps of it.
     fn add_word(
         places: &mut Executed,
         words: &mut Vec<Lack>,

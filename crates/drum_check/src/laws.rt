@@ -7,21 +7,20 @@ ghost use Rattle.drum_flow.specs.declared.refusal.Refusal.{Refusal};
 ghost use Rattle.drum_flow.specs.Acceptance.{IsRefusal};
 ghost use Rattle.drum_flow.specs.Accepted.{IsAccepted};
 ghost use Rattle.drum_flow.specs.Flow.{AreFound};
-ghost use Rattle.drum_check.specs.Findings.{AreFindings, AreUnmeant, Finding};
+ghost use Rattle.drum_check.specs.Findings.{AreFindings, AreLooseEnds, Finding};
 ghost use Rattle.drum_check.specs.First.{IsFoundFirst};
 
-/// Nothing is found, but what of the notes isn't meant, exactly where the deck with its notes is
-/// accepted.
+/// Nothing is found but loose ends of the notes exactly where the deck with its notes is accepted.
 pub fn none_found_where_accepted()
     ensures accepted { (loads : ℕ → Option Word) (notes : Notes) (start : ℕ) (executed : List ℕ)
         (findings : List Finding) → AreFound loads notes start executed
         → AreFindings loads notes start findings
-        → AreUnmeant loads notes start executed findings
+        → AreLooseEnds loads notes start executed findings
         → IsAccepted loads notes start executed }
     ensures none { (loads : ℕ → Option Word) (notes : Notes) (start : ℕ) (executed : List ℕ)
         (findings : List Finding) → IsAccepted loads notes start executed
         → AreFindings loads notes start findings
-        → AreUnmeant loads notes start executed findings }
+        → AreLooseEnds loads notes start executed findings }
 {}
 
 /// What refuses the analysis of a deck is found first, by its numbers; where edges free of marks

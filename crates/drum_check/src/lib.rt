@@ -1,20 +1,22 @@
 //! All that keeps a deck from having a bound under its notes, at once, where an analysis tells the
-//! first of it alone; and what of the notes isn't meant.
+//! first of it alone; and the loose ends of the notes: marks and lists that are unused, and marks
+//! that don't say inside which other one they stand.
 //!
 //! Code, from the bottom up. A `finding` is one of these things. `operations` are those of a
 //! location that are outside the profile. `altered` are the words that its instructions alter, and
-//! `kept` is what is left of such a word. `edges` tells whether a mark's edge is there, and
-//! `nested` inside which loops of others that of an edge stands. `loops` finds the loops that lack
-//! a mark, with the mark inside which one on each stands, and `unsaid` the marks that don't say
-//! inside which other they stand. `findings` gathers what is found. `listing` writes a line for
-//! each. `lacking` are the words that lack a list, and `pasting` writes the notes that are lacking
-//! behind the lines. `laws` has laws of the definitions.
+//! `kept` is how much of its instruction such a word keeps. `edges` tells whether a mark's edge is
+//! there, and `nested` inside which loops of others that of an edge stands. `loops` finds the loops
+//! that lack a mark, and puts them in order, with the mark inside which one on each stands;
+//! `unsaid` finds the marks that don't say inside which other they stand. `findings` gathers what
+//! is found. `listing` writes a line for each. `lacking` are the words that lack a list, and
+//! `pasting` writes the notes that are lacking behind the lines. `laws` has laws of the
+//! definitions.
 //!
 //! Definitions, in the order to read them: `Finding` is what may be found, `Findings` all that is
 //! found, and `First` what is found first of a deck that is refused. `Among` is what is among
 //! executed locations, and `Insides` in which order loops are told, and inside which mark each
 //! stands. `FindingsText` is the lines. `Lacking` are the notes that are lacking, with `Kept`, what
-//! a writer leaves of a word that it alters. `FindingsOf` and `LackingOf` say what the code's types
+//! a writer keeps of a word that it alters. `FindingsOf` and `LackingOf` say what the code's types
 //! mean by these.
 //!
 //! Proofs. There is a file for each part of what is found (`Unsaids` on pairs of marks), and

@@ -17,7 +17,7 @@ use drum_loops::{Edge, is_nested};
 use drum_machine::is_inside;
 use std::alloc::{AllocError, Global};
 
-/// The edge of the mark at a place.
+/// The edge of the mark with this index.
 fn marked_edge(flow: &Flow<'_>, place: usize) -> Edge
     requires { place < length flow.now.notes.now.marks }
     ensures { edge_of result ≡ edge_at flow.now.notes.now.marks place }
@@ -29,7 +29,7 @@ fn marked_edge(flow: &Flow<'_>, place: usize) -> Edge
     }
 }
 
-/// Whether the flow graph has the edge of the mark at a place.
+/// Whether the flow graph has the edge of the mark with this index.
 fn is_on_its_edge(alloc: Global, flow: &Flow<'_>, place: usize) -> Result<bool, AllocError>
     requires { place < length flow.now.notes.now.marks }
     ensures { IfOk result (λ has. has ≡ is_on_edge (loads_in flow.now.deck.now)
@@ -39,7 +39,7 @@ fn is_on_its_edge(alloc: Global, flow: &Flow<'_>, place: usize) -> Result<bool, 
     has_edge(alloc, flow, edge.from, edge.onto)
 }
 
-/// Whether the loop of the mark at one place stands inside that of the mark at another, and the
+/// Whether the loop of the mark with one index stands inside that of the mark with another, and the
 /// notes don't say so.
 fn is_unsaid(alloc: Global, flow: &Flow<'_>, inner: usize, outer: usize) -> Result<bool, AllocError>
     requires inner { inner < length flow.now.notes.now.marks }
@@ -64,7 +64,7 @@ fn is_unsaid(alloc: Global, flow: &Flow<'_>, inner: usize, outer: usize) -> Resu
     )
 }
 
-/// Adds those marks inside which the one at a place stands, and doesn't say so.
+/// Adds those marks inside which the one with this index stands, and doesn't say so.
 fn add_unsaid_of(
     found: &mut Vec<Finding>,
     alloc: Global,
@@ -91,7 +91,7 @@ fn add_unsaid_of(
     Ok(())
 }
 
-/// The pairs of marks of which the one stands inside the other, and doesn't say so: by the place of
+/// The pairs of marks of which the one stands inside the other, and doesn't say so: by the index of
 /// the one, and then of the other. For each pair it takes as long as discovery, twice.
 pub fn unsaid_marks(alloc: Global, flow: &Flow<'_>) -> Result<Vec<Finding>, AllocError>
     ensures { IfOk result (λ found. (pairs : List (ℕ × ℕ))

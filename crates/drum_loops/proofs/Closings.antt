@@ -16,7 +16,7 @@ use Rattle.drum_flow.proofs.Lists.{contains_at, contains_from_get}
 use Rattle.drum_flow.proofs.Translations.{executed_closed}
 use Rattle.drum_loops.specs.Arranged.{GoesOn, IsArranged}
 use Rattle.drum_loops.specs.Closing.{AreBack}
-use Rattle.drum_loops.specs.Loops.{LeadBy, LeadsTo, IsLeft, AreClosing}
+use Rattle.drum_loops.specs.Loops.{LeadBy, LeadsTo, IsFreeBeside, AreClosing}
 use Rattle.drum_loops.specs.Ranks.{AreRanks}
 use Rattle.drum_loops.proofs.Befores.{before_places}
 use Rattle.drum_loops.proofs.Rankings.{before_ranked}
@@ -28,7 +28,7 @@ module _ (loads : ℕ → Option Word) (notes : Notes) (start : ℕ) (executed :
     (back : AreBack row ranks executed (length executed) edges) where
   -- an edge that goes on is left
   left : (node next : ℕ) → GoesOn row order node next
-      → IsLeft loads notes edges (slice_index executed node) (slice_index executed next)
+      → IsFreeBeside loads notes edges (slice_index executed node) (slice_index executed next)
   left node next on =
       let places = before_places order node next on.1 in
       let inside : node < length executed =
@@ -54,12 +54,12 @@ module _ (loads : ℕ → Option Word) (notes : Notes) (start : ℕ) (executed :
       )
 
   lead_left : (node : ℕ) (through : List ℕ) (last : ℕ) → LeadBy (GoesOn row order) node through last
-      → LeadBy (IsLeft loads notes edges) (slice_index executed node)
+      → LeadBy (IsFreeBeside loads notes edges) (slice_index executed node)
       (map (λ place. slice_index executed place) through) (slice_index executed last)
   lead_left node [] last lead = ap (λ (n : ℕ). slice_index executed n) lead
   lead_left node (next ∷ nexts) last lead = (left node next lead.0, lead_left next nexts last lead.1)
 
-  needed : (from onto : ℕ) → Contains edges (from, onto) → LeadsTo (IsLeft loads notes edges) onto from
+  needed : (from onto : ℕ) → Contains edges (from, onto) → LeadsTo (IsFreeBeside loads notes edges) onto from
   needed from onto there =
       let is = back.only from onto there in
       let member : Contains order is.node = arranged.all is.node (omega (arith, is.early, long)) in
@@ -67,10 +67,10 @@ module _ (loads : ℕ → Option Word) (notes : Notes) (start : ℕ) (executed :
         | inl before ↦ absurd (omega (arith, is.back, before_ranked order ranks is.node is.next ranked before))
         | inr lead ↦ (
           map (λ place. slice_index executed place) lead.0,
-          subst (λ (n : ℕ). LeadBy (IsLeft loads notes edges) n (map (λ place. slice_index executed place) lead.0) from)
+          subst (λ (n : ℕ). LeadBy (IsFreeBeside loads notes edges) n (map (λ place. slice_index executed place) lead.0) from)
               (get_or_from_slice_get executed is.next onto 0 is.ends)
               (subst
-              (λ (n : ℕ). LeadBy (IsLeft loads notes edges) (slice_index executed is.next)
+              (λ (n : ℕ). LeadBy (IsFreeBeside loads notes edges) (slice_index executed is.next)
               (map (λ place. slice_index executed place) lead.0) n)
               (get_or_from_slice_get executed is.node from 0 is.begins) (lead_left is.next lead.0 is.node lead.1)),
         )
@@ -78,7 +78,7 @@ module _ (loads : ℕ → Option Word) (notes : Notes) (start : ℕ) (executed :
 
   -- an edge that is left leads to a higher rank
   rises : (node next from onto : ℕ) → slice_get executed node ≡ Some from → slice_get executed next ≡ Some onto
-      → IsLeft loads notes edges from onto → slice_index ranks node < slice_index ranks next
+      → IsFreeBeside loads notes edges from onto → slice_index ranks node < slice_index ranks next
   rises node next from onto begins ends is_left =
       elim (cases_lt (slice_index ranks node) (slice_index ranks next)) [
         | inl less ↦ less
@@ -94,7 +94,7 @@ module _ (loads : ℕ → Option Word) (notes : Notes) (start : ℕ) (executed :
       ]
 
   round_rises : (head node first from : ℕ) (others : List ℕ) → slice_get executed head ≡ Some first
-      → slice_get executed node ≡ Some from → LeadRound (IsLeft loads notes edges) first from others
+      → slice_get executed node ≡ Some from → LeadRound (IsFreeBeside loads notes edges) first from others
       → slice_index ranks node < slice_index ranks head
   round_rises head node first from [] heads begins round = rises node head from first begins heads round
   round_rises head node first from (onto ∷ others) heads begins round =
@@ -107,7 +107,7 @@ module _ (loads : ℕ → Option Word) (notes : Notes) (start : ℕ) (executed :
       omega (arith, less, more)
 
   enough : (first : ℕ) (others : List ℕ) → IsExecuted loads notes start first
-      → ¬ IsClosed (IsLeft loads notes edges) (first ∷ others)
+      → ¬ IsClosed (IsFreeBeside loads notes edges) (first ∷ others)
   enough first others is_executed closed =
       let at : (k : ℕ) × (slice_get executed k ≡ Some first) = contains_at executed first (found.all first is_executed) in
       let less = round_rises at.0 at.0 first first others at.1 at.1 closed in

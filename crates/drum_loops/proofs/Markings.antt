@@ -14,7 +14,7 @@ use Rattle.drum_times.specs.declared.notes.programmed.Programmed.{Programmed}
 use Rattle.drum_flow.specs.Accepted.{IsFree}
 use Rattle.drum_flow.specs.Graph.{IsClosed, LeadRound}
 use Rattle.drum_flow.specs.Hops.{Hop, hops, hops_of, IsEdge, IsExecuted, Lead}
-use Rattle.drum_loops.specs.Loops.{AreClosing, IsLeft}
+use Rattle.drum_loops.specs.Loops.{AreClosing, IsFreeBeside}
 use Rattle.drum_loops.specs.Marked.{AreMarked}
 
 -- the ways of an instruction go by the switch and the load cards alone
@@ -69,7 +69,7 @@ module _ (loads : ℕ → Option Word) (notes : Notes) (edges : List (ℕ × ℕ
   same_lead from (next ∷ nexts) last lead = (same_edge from next lead.0, same_lead next nexts last lead.1)
 
   -- an edge that is free under more marks is left
-  free_left : (from onto : ℕ) → IsFree loads marked from onto → IsLeft loads notes edges from onto
+  free_left : (from onto : ℕ) → IsFree loads marked from onto → IsFreeBeside loads notes edges from onto
   free_left from onto free = (
     (same_edge from onto free.0, are.kept from onto free.1),
     λ there. none_is_some (mark_on marked.marks from onto) free.1 (are.marks from onto there),
@@ -80,7 +80,7 @@ module _ (loads : ℕ → Option Word) (notes : Notes) (edges : List (ℕ × ℕ
       none_is_some (Some place) none some = cc
 
   round_left : (first node : ℕ) (xs : List ℕ) → LeadRound (IsFree loads marked) first node xs
-      → LeadRound (IsLeft loads notes edges) first node xs
+      → LeadRound (IsFreeBeside loads notes edges) first node xs
   round_left first node [] round = free_left node first round
   round_left first node (x ∷ xs) round = (free_left node x round.0, round_left first x xs round.1)
 

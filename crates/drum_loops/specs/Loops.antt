@@ -26,9 +26,9 @@ LeadBy IsLink node (next ∷ nexts) last = IsLink node next × LeadBy IsLink nex
 abbrev pub LeadsTo : (ℕ → ℕ → Type 0) → ℕ → ℕ → Type 0
 LeadsTo IsLink node last = (through : List ℕ) × LeadBy IsLink node through last
 
--- an edge free of marks that is none of these
-abbrev pub IsLeft : (ℕ → Option Word) → Notes → List (ℕ × ℕ) → ℕ → ℕ → Type 0
-IsLeft loads notes edges from onto =
+-- the edge is free of marks, and is none of these
+abbrev pub IsFreeBeside : (ℕ → Option Word) → Notes → List (ℕ × ℕ) → ℕ → ℕ → Type 0
+IsFreeBeside loads notes edges from onto =
     IsFree loads notes from onto × ¬ Contains edges (from, onto)
 
 -- These edges close the loops: edges free of marks between executed locations, none of them twice.
@@ -37,10 +37,10 @@ pub record AreClosing (loads : ℕ → Option Word) (notes : Notes) (start : ℕ
     (edges : List (ℕ × ℕ)) : Type 0 where
   pub executed : (from onto : ℕ) → Contains edges (from, onto) → IsExecuted loads notes start from
   pub free : (from onto : ℕ) → Contains edges (from, onto) → IsFree loads notes from onto
-  -- each is needed: edges that are left lead from its end back to its beginning
+  -- each is needed: other edges free of marks lead from its end back to its beginning
   pub needed : (from onto : ℕ) → Contains edges (from, onto)
-      → LeadsTo (IsLeft loads notes edges) onto from
-  -- they are enough: edges that are left close nothing
+      → LeadsTo (IsFreeBeside loads notes edges) onto from
+  -- they are enough: the other edges free of marks close nothing
   pub enough : (first : ℕ) (others : List ℕ) → IsExecuted loads notes start first
-      → ¬ IsClosed (IsLeft loads notes edges) (first ∷ others)
+      → ¬ IsClosed (IsFreeBeside loads notes edges) (first ∷ others)
   pub apart : AreApart edges

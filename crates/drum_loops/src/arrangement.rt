@@ -150,14 +150,14 @@ impl Arrangement {
     }
 }
 
-/// The node at a place of a row; `None` past its end.
+/// The node with this index in a row; `None` past its end.
 fn node_at(row: &[usize], at: usize) -> Option<usize>
     ensures { result ≡ slice_get row.now at }
 {
     row.get(at).copied()
 }
 
-/// The place of the first node of a row, from a place on, that isn't met; the row's length where
+/// The index of the first node of a row, from an index on, that isn't met; the row's length where
 /// all are.
 fn first_new(met: &[bool], row: &[usize], from: usize) -> usize
     requires within { (next : ℕ) → Contains row.now next → next < length met.now }

@@ -58,8 +58,8 @@ fn edges_back(
 
 /// The edges that close the loops of a flow graph. With a mark on each of them, no list of edges
 /// that leads round is free of marks; and whichever of these marks is left out, some such list is.
-/// The time that it takes grows as that of discovery, with the number of edges, and with the square
-/// of the number of locations.
+/// It takes the time of discovery, and besides a time that grows with the number of edges and with
+/// the square of the number of locations.
 ///
 /// # Errors
 ///

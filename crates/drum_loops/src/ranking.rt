@@ -4,7 +4,7 @@ ghost use Rattle.drum_loops.specs.Ranks.{AreRanks};
 
 use std::alloc::{AllocError, Global};
 
-/// The place of each node, below a size, in an order.
+/// The index of each node, below a size, in an order.
 pub(crate) fn ranks_in(
     alloc: Global,
     order: &[usize],

@@ -39,8 +39,8 @@ returns c =
       closing = loops.1;
       loops = map seen c.in_ok-loops.loops.items;
       told = loops.2;
-      unmeant = unused loads notes executed ++ meant;
-      are_unmeant = record { pairs = unsaid.0; unsaid = unsaid.1; all = refl };
+      loose = unused loads notes executed ++ meant;
+      are_loose = record { pairs = unsaid.0; unsaid = unsaid.1; all = refl };
       all = in_turn (found_in c.none-findings.result) (found_in c.add_all_unfit.new.self)
           (found_in c.add_all_altering.new.self) sized (found_in c.add_all.new.self) (found_in c.add_all-2.new.self)
           (flat_map (unfit loads notes) executed) (flat_map (altering loads notes executed) executed)
