@@ -191,7 +191,7 @@ pub arrive_under : (g : Setting) (rows : List Row) (executed : List ℕ) (s : St
     → IsRun g.times s strides
     → IsKept g.loads g.notes s strides → ArriveUnder g.notes rows (no_counts g.notes.marks) strides
 arrive_under g rows executed s strides table proper accepted first is_run kept =
-    let walk : IsWalk g s.start (hops_taken strides) =
+    let walk : IsWalk g s.first_angle (hops_taken strides) =
     (kept_walk g executed s strides proper accepted first is_run kept).0 in
-    turns_under g rows table s.start walk.on_drum strides [] g.start 0 (no_counts g.notes.marks) tt (refl, refl, refl)
+    turns_under g rows table s.first_angle walk.on_drum strides [] g.start 0 (no_counts g.notes.marks) tt (refl, refl, refl)
     walk.from_start

@@ -56,7 +56,7 @@ words_of analysis = analysis.cells.words
 abbrev pub turns_of : Analysis → ℕ
 turns_of analysis = analysis.cells.made
 
--- how often the walk passes each mark, by its place in the notes
+-- how often the walk passes each mark, by its index in the notes
 abbrev pub passed_of : Analysis → List ℕ
 passed_of analysis = analysis.passed
 
@@ -76,13 +76,13 @@ pub record Backs (cells : Cells) (visits : List Visited) : Type 0 where
 
 -- An analysis of the walks of a setting is right.
 pub record IsAnalysis (g : Setting) (analysis : Analysis) : Type 0 where
-  -- the bound is the time of some walk, and none passes it; the walk that is handed out has it
+  -- the bound is the time of some walk, and none takes longer; the walk that is handed out has it
   pub worst : IsWorst g (bound_of analysis)
   pub walk : IsWalkOf g (angle_of analysis) (bound_of analysis) (visits_of analysis)
   -- each of its hops for as long as it can take
   pub longest : AreLongest g (angle_of analysis) (visits_of analysis)
   -- the table has an entry for each location and counts that some walk arrives at, and these are
-  -- few; so is each walk short
+  -- few (`fifty`, the limit of a table by angles too, follows from `few`); so is each walk short
   pub table : IsTable g (rows_of analysis)
   pub few : length (rows_of analysis) ≤ words_of analysis * counts_in_all analysis
   pub fifty : length (rows_of analysis) ≤ words_of analysis * 50 * counts_in_all analysis
@@ -106,7 +106,7 @@ pub record IsAnalysisOf (deck : Deck) (times : Times) (notes : Notes) (analysis 
       × (words_of analysis ≡ length executed)
   -- of the walks of the flow graph it is right
   pub walks : IsAnalysis (setting deck times notes) analysis
-  -- no run that keeps to the notes passes the bound at any moment, nor an entry where it arrives
+  -- no run that keeps to the notes exceeds the bound at any moment, nor an entry where it arrives
   pub kept : IsBounded (setting deck times notes) (bound_of analysis)
   pub under : (s : State) (steps : List Stride)
       → IsFirstState (loads_in deck) (IsFixed (loads_in deck) notes (start_in deck)) (start_in deck)

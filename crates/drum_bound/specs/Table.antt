@@ -40,7 +40,7 @@ pub record IsReached (g : Setting) (angle place counts time : ℕ) : Type 0 wher
   pub number : number_of g.notes.marks passes ≡ counts
   pub arrives : Arrive g g.start 0 (no_counts g.notes.marks) hops place time passes
 
--- the one start angle of the table, that behind the start's
+-- the one start angle of the table: one past the angle of the deck's start
 abbrev pub start_angle : ℕ → ℕ
 start_angle start = (start + 1) % 50
 
@@ -51,8 +51,8 @@ pub record Row : Type 0 where
   pub counts : ℕ
   pub time : ℕ
 
--- The entry is right: some walk from the angle behind the start's arrives so, at this time and
--- angle, and no walk from any angle arrives so later.
+-- The entry is right: some walk from the table's start angle arrives at this place with these
+-- counts, at this time and angle, and no walk from any angle arrives there with them later.
 pub record IsRow (g : Setting) (row : Row) : Type 0 where
   pub reached : IsReached g (start_angle g.start) row.place row.counts row.time
   pub most : (angle time : ℕ) → IsReached g angle row.place row.counts time → time ≤ row.time

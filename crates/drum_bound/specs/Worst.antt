@@ -1,4 +1,4 @@
--- The bound: the time that some walk has and none passes.
+-- The time of the longest walk: some walk has it, and none has more.
 use Rattle.std.specs.Prelude.{◌≡◌, ℕ, ◌≤◌, List}
 use Rattle.drum_flow.specs.Walk.{Setting, Taken, IsWalk, time_of}
 

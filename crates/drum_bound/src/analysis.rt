@@ -17,8 +17,8 @@ use drum_times::Mark;
 pub struct Analysis {
     cells: Cells,
     walk: Vec<Visit>,
-    /// How often the walk passes each mark, by the marks' places in the notes; what stands past the
-    /// last mark means nothing.
+    /// How often the walk passes each mark, by the marks' indices in the notes; what stands past
+    /// the last mark means nothing.
     passed: [u64; Mark::MOST],
     ghost in_time: { ∥ AreInTime 0 (map seen_visit walk.items)
         (cells.last.clock - cells.entries.angle) ∥₁ },
@@ -107,8 +107,8 @@ impl Analysis {
         self.cells.made()
     }
 
-    /// How often the whole walk passes the mark at a place of the notes, from 0, whatever the mark
-    /// stands inside of. For a place past the last mark the number means nothing.
+    /// How often the whole walk passes the mark with this index in the notes, from 0, whatever the
+    /// mark stands inside of. For an index past the last mark the number means nothing.
     pub fn passed(&self, mark: usize) -> u64
         requires { mark < 8 }
         ensures { result ≡ slice_index (passed_of self.now) mark }

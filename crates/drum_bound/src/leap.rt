@@ -28,12 +28,12 @@ pub struct Leap {
     pub time: u32,
     /// The index of the location that it goes on at; of a hop that stops it means nothing.
     pub index: u32,
-    /// The place of the mark on its edge.
+    /// The index of the mark on its edge.
     pub mark: Option<u8>,
 }
 
 impl Keys<'_> {
-    /// The place of the mark on an edge.
+    /// The index of the mark on an edge.
     fn mark_between(&self, from: Location, onto: Location) -> Option<u8>
         requires { AreKeys self.now }
         ensures { mark_on (marks_in self.now) from.number onto.number ≡ result }

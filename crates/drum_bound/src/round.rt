@@ -28,7 +28,7 @@ pub struct Counted {
 pub struct Round {
     /// Their own counts.
     pub own: Counted,
-    /// The counts after a pass of each mark, by the marks' places; `None` where it is full.
+    /// The counts after a pass of each mark, by the marks' indices; `None` where it is full.
     passed: [Option<Counted>; Mark::MOST],
 }
 

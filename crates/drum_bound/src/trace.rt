@@ -21,7 +21,7 @@ use drum_flow::Hop;
 use drum_times::Mark;
 use std::alloc::{AllocError, Global};
 
-/// A walk, and how often it passes each mark, by the marks' places; what stands past the last mark
+/// A walk, and how often it passes each mark, by the marks' indices; what stands past the last mark
 /// means nothing.
 #[derive(Debug, Drop)]
 pub struct Trace {

@@ -45,7 +45,7 @@ impl Visit {
         }
     }
 
-    /// Counts the hop's passes of marks, by their places.
+    /// Counts the hop's passes of marks, by their indices.
     #[inline(always)]
     pub fn count_passes(&self, marks: &[Mark], passed: &mut [u64; Mark::MOST])
         requires marks { length marks.now ≤ 8 }

@@ -128,12 +128,12 @@ is_ceiling deck times notes ceiling executed sound admitted prices passes total 
       passed = few;
       kept = λ s steps first is_run kept.
           let walked = kept_walk g executed s steps proper admitted first is_run kept in
-          omega (arith, below s.start (hops_taken steps) walked.0, walked.1);
+          omega (arith, below s.first_angle (hops_taken steps) walked.0, walked.1);
       kept_passed = λ s steps k first is_run kept within.
           let walked = kept_walk g executed s steps proper admitted first is_run kept in
           omega (
             arith,
-            few s.start k (hops_taken steps) walked.0 within,
+            few s.first_angle k (hops_taken steps) walked.0 within,
             ap (passes_of notes.marks k) (run_edges steps),
           );
     }

@@ -44,7 +44,7 @@ impl Ceiling {
         self.base
     }
 
-    /// The price of the mark at a place of the notes, counted from 0: what one pass of it costs at
+    /// The price of the mark with this index in the notes, from 0: what one pass of it costs at
     /// most, in word times.
     pub fn price(&self, mark: usize) -> u64
         requires { mark < length (prices_of self.now) }
@@ -53,7 +53,7 @@ impl Ceiling {
         self.prices[mark]
     }
 
-    /// How often the mark at a place of the notes, counted from 0, can be passed at most in a whole
+    /// How often the mark with this index in the notes, from 0, can be passed at most in a whole
     /// run.
     pub fn passes(&self, mark: usize) -> u128
         requires { mark < length (passes_in self.now) }

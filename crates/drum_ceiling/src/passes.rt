@@ -8,7 +8,8 @@ use drum_machine::is_inside;
 use drum_times::Mark;
 use std::alloc::{AllocError, Global};
 
-/// What the mark at a place, with this most, lends to the passes of the one at place `passed`.
+/// What the mark with this index, with this most, lends to the passes of the one with index
+/// `passed`.
 fn factor(marks: &[Mark], passed: usize, place: usize, most: u16) -> u128
     requires { most ≤ 9999 }
     ensures value { result ≡ said.factor marks.now passed place most }
@@ -23,8 +24,8 @@ fn factor(marks: &[Mark], passed: usize, place: usize, most: u16) -> u128
     }
 }
 
-/// How often a walk can pass the mark at a place at most: its most times one more than the most of
-/// each mark that it stands inside of; at most 10^32.
+/// How often a walk can pass the mark with this index at most: its most times one more than the
+/// most of each mark that it stands inside of; at most 10^32.
 fn most_passes(marks: &[Mark], passed: usize) -> u128
     requires { length marks.now ≤ 8 }
     ensures value { result ≡ said.most_passes marks.now passed }

@@ -10,7 +10,7 @@ pub struct Edge {
     /// The most word times that they take, from when the one instruction is found to when the other
     /// is.
     pub time: u32,
-    /// The place of the mark that stands on the edge of their locations.
+    /// The index of the mark that stands on the edge of their locations.
     pub mark: Option<u8>,
 }
 

@@ -28,7 +28,7 @@ fn is_shut(marks: &[Mark], from: Location, onto: Location) -> bool
     }
 }
 
-/// The place of the mark on an edge.
+/// The index of the mark on an edge.
 fn mark_between(marks: &[Mark], from: Location, onto: Location) -> Option<u8>
     requires { length marks.now ≤ 8 }
     ensures { result ≡ mark_on marks.now from.number onto.number }

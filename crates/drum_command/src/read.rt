@@ -33,9 +33,9 @@ pub fn read_words<'a>(alloc: Global, words: &'a [&'a str]) -> Result<Command<'a>
     // Words that are a command line are refused only where there is no memory.
     ensures taken { IfErr result (λ refused.
         takes drum650 (texts words.entry.now) ≡ true → refused ≡ Refused.Memory) }
-    // Help and usage come of a fault of theirs.
+    // Help and Usage each answer a fault that clap states of these words.
     ensures kinds { IfErr result (FitsAmong (fault_of drum650 (texts words.entry.now))) }
-    // Their texts can be counted.
+    // The texts of Help and Usage have at most 2^61 bytes.
     ensures short { IfErr result IsShort }
 {
     let Ok(line) = command_line(alloc) else {

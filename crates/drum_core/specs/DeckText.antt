@@ -116,9 +116,9 @@ pub record IsDeck (text : List ℕ) (lines : List Line) : Type 0 where
   pub sound : AreSound lines
   pub one_start : length (starts lines) ≡ 1
 
--- Behind sound lines, the line of this number and this text has this fault. On one line PastDrum
--- comes before TwoStarts, and before Twice, which has the lowest location of the card that is given
--- before.
+-- After sound lines, the line of this number and this text has this fault. On one line PastDrum
+-- comes before TwoStarts and before Twice. Twice names the card's lowest location that an earlier
+-- line gives too.
 abbrev pub IsFaultOfLine : List Line → ℕ → List ℕ → DeckFault → Type 0
 IsFaultOfLine before number text (Card n) = (n ≡ number) × ((line : Line) → ¬ IsLine text line)
 IsFaultOfLine before number text (PastDrum n) =

@@ -23,7 +23,7 @@ pub record Holds (image : List (Option held.Given)) (cards : List ℕ) (start : 
   pub begins : starts lines ≡ started start
   pub sound : AreSound lines
 
--- Some lines hold so: what texts say, as many as a deck may have at most.
+-- The image, the cards and the start are those of some lines that texts say, 4000 at most.
 pub record AreOfLines (image : List (Option held.Given)) (cards : List ℕ) (start : Location) :
     Type 0 where
   pub texts : List (List ℕ)

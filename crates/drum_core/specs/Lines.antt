@@ -7,8 +7,8 @@ abbrev pub with_front : ℕ → List (List ℕ) → List (List ℕ)
 with_front byte [] = (byte ∷ []) ∷ []
 with_front byte (line ∷ lines) = (byte ∷ line) ∷ lines
 
--- Its parts between line feeds. The last may lack its line feed, and no empty line follows the last
--- one.
+-- The lines of a text: its parts between line feeds. The last may lack its line feed, and a text
+-- that ends with one has no empty line after it.
 abbrev pub lines_of : List ℕ → List (List ℕ)
 lines_of [] = []
 lines_of (byte ∷ bytes) =

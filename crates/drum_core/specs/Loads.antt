@@ -6,7 +6,7 @@ use Rattle.drum_core.specs.declared.deck.Given.{Given}
 use Rattle.drum_core.specs.declared.deck.Deck.{Deck}
 use Rattle.drum_core.specs.declared.word.Word.{Word}
 
--- what is given at a place of the image
+-- what is given at an index of the image
 abbrev pub found_in : Option (Option Given) → Option Given
 found_in None = None
 found_in (Some one) = one

@@ -32,7 +32,7 @@ earlier_for before Memory = None
 earlier_for before NoStart = None
 earlier_for before TooLong = None
 
--- What was done to a line that has this fault: it is asked of one that is no line of a deck alone.
+-- What was done to a line that has this fault: looked for only where it is no line of a deck.
 abbrev pub slip_for : List ℕ → DeckFault → Option Slip
 slip_for text (Card n) = slip_in text
 slip_for text (Twice location) = None

@@ -72,7 +72,8 @@ complaint_text name line column message =
     name ++ codes ":" ++ decimal line ++ codes ":" ++ decimal column ++ codes ": " ++ message
     ++ codes "\n"
 
--- the text is that line, where bytes are no document; else it is nothing
+-- where bytes are no document, the text is such a line, with some place in the bytes and some
+-- message (that they are those of `toml` isn't stated); else it is nothing
 abbrev pub IsComplaint : List ℕ → List ℕ → List ℕ → Type 0
 IsComplaint name bytes text =
     (((document : Members) × IsDocument bytes document) × (text ≡ []))

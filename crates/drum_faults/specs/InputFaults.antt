@@ -30,7 +30,7 @@ IsEarlier before text faults.Read earlier = earlier ≡ None
 IsEarlier before text faults.Memory earlier = earlier ≡ None
 IsEarlier before text faults.TooLong earlier = earlier ≡ None
 
--- What was done to a line that has this fault: it is asked of one that is no line of inputs alone.
+-- What was done to a line that has this fault: looked for only where it is no line of inputs.
 abbrev pub slip_for : List ℕ → InputFault → Option Slip
 slip_for text (faults.Line n) = slip_in text
 slip_for text (faults.PastDrum n) = None

@@ -4,7 +4,7 @@ use Rattle.drum_times.specs.declared.complaint.Complaint.{Complaint}
 use Rattle.drum_faults.specs.declared.named_text.NamedText.{NamedText}
 use Rattle.drum_faults.specs.FaultLines.{Named, complaint_text}
 
--- a text and its file's name, out of memory
+-- the name and the bytes of a text, as the code has it
 abbrev pub named : NamedText → Named
 named text = record { name = text.name.now; bytes = text.bytes.now }
 

@@ -2,13 +2,14 @@
 //! that tells all of them at once.
 //!
 //! Code, from the bottom up. `first_past` is the first line of a text that is past a limit. `slip`
-//! is what was done to a line that is none of its text. `placed_fault` is a fault of a line, with
-//! the earlier line that it points at. `deck_so_far` is what the lines of a deck so far have given,
-//! and the fault of the next one. `faults_of_deck` has all faults of a deck's text, in the order of
-//! its lines, and `faults_of_inputs` those of a text of inputs. `loaded` are the locations that
-//! both a deck and inputs load. `named_text` is a text with its file's name, and `behind` a text in
-//! memory, with what is said of a fault behind it. `lines_of_faults` has the lines of all faults of
-//! a deck, a timing table, notes and inputs. `laws` has laws of the definitions.
+//! is what was done to a line that is no line of a deck or of inputs. `placed_fault` is a fault of
+//! a line, with the earlier line that it points at. `deck_so_far` is what the lines of a deck so
+//! far have given, and the fault of the next one. `faults_of_deck` has all faults of a deck's text,
+//! in the order of its lines, and `faults_of_inputs` those of a text of inputs. `loaded` are the
+//! locations that both a deck and inputs load. `named_text` is a text with its file's name, and
+//! `behind` a text in memory, with what is said of a fault behind it. `lines_of_faults` has the
+//! lines of all faults of a deck, a timing table, notes and inputs. `laws` has laws of the
+//! definitions.
 //!
 //! Definitions, in the order to read them: `ByLine` says what all faults of a text by lines are,
 //! `DeckFaults` which those of a deck's text, `InputFaults` those of inputs, `Slip` (with

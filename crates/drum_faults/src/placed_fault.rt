@@ -9,6 +9,6 @@ pub struct PlacedFault<F> {
     pub line: Option<u16>,
     /// The number of the earlier line that says what this one says again, if that is its fault.
     pub earlier: Option<u16>,
-    /// What was done to the line, where it is none of its text and that is known.
+    /// What was done to the line, where it is no line of a deck or of inputs and that is known.
     pub slip: Option<Slip>,
 }

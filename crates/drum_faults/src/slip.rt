@@ -1,7 +1,7 @@
 ghost use Rattle.std.specs.Prelude.{◌≡◌};
 ghost use Rattle.drum_faults.specs.SlipTests as sign;
 
-/// What an editor or a transfer did to a line that is no line of a deck.
+/// What an editor or a transfer did to a line that is no line of a deck, or of inputs.
 #[derive(Clone, Copy, Debug, PartialEq, Eq)]
 pub enum Slip {
     /// The line begins with the three bytes that some editors put before a text in UTF-8.

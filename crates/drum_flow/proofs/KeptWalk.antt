@@ -137,7 +137,7 @@ nothing_follows why.Next Right hops none = none
 -- What is so of each state of a kept run: it seeks an executed location, its switch is as declared, and it has the
 -- deck's word at each executed location without a list.
 record Stays (g : Setting) (angle : ℕ) (s : State) : Type 0 where
-  start : s.start ≡ angle
+  start : s.first_angle ≡ angle
   executed : IsExecuted g.loads g.notes g.start s.sought
   as_declared : IsAsDeclared g.notes.programmed s.contents.programmed_stops
   agrees : (place : ℕ) (w : Word) → IsFixed g.loads g.notes g.start place → g.loads place ≡ Some w
@@ -176,7 +176,7 @@ module _ (g : Setting) (executed : List ℕ) (angle : ℕ) (proper : IsProper g)
   next_stays : (s next : State) (wait : ℕ) → Stays g angle s
       → Contains (allowed g.loads g.notes s.sought) (instruction_in s)
       → step g.times s wait ≡ on next → Contains (ways g.notes (instruction_in s)) (to next.sought)
-      → next.start ≡ s.start → Stays g angle next
+      → next.first_angle ≡ s.first_angle → Stays g angle next
   next_stays s next wait stays may_be goes_on by same_start = record {
     start = same_start ∙ stays.start;
     executed =
@@ -208,7 +208,7 @@ module _ (g : Setting) (executed : List ℕ) (angle : ℕ) (proper : IsProper g)
       (is : op_of (instruction_in stride.origin).op ≡ Some op)
       (may_be : Contains (allowed g.loads g.notes stride.origin.sought) (instruction_in stride.origin))
       (may_wait : MayWait g.times (op_of (instruction_in stride.origin).op) stride.wait)
-      (ends : Ends (ways g.notes (instruction_in stride.origin)) stride.origin.start
+      (ends : Ends (ways g.notes (instruction_in stride.origin)) stride.origin.first_angle
       (ready (g.times op) stride.origin.sought (clock_of stride.origin))
       (ended (g.times op) op (instruction_in stride.origin).d stride.origin.sought
       (units_of op (instruction_in stride.origin).d stride.origin.contents) stride.wait (clock_of stride.origin))
@@ -222,7 +222,7 @@ module _ (g : Setting) (executed : List ℕ) (angle : ℕ) (proper : IsProper g)
         let Right : ℕ → ℕ → Type 0 = λ begin units. MayHaveUnits op ins.d units × IsWait op (g.times op) stride.wait
         × (begin + run.time_after stride.outcome
         ≡ end_by way (g.times op) op ins.d stride.origin.sought units stride.wait (begin + stride.origin.time)) in
-        let at : Right stride.origin.start (units_of op ins.d stride.origin.contents) = (
+        let at : Right stride.origin.first_angle (units_of op ins.d stride.origin.contents) = (
           units_right op ins.d stride.origin.contents,
           waits,
           ends.at ∙ sym (same_end way (g.times op) op ins.d stride.origin.sought (units_of op ins.d stride.origin.contents)
@@ -247,7 +247,7 @@ module _ (g : Setting) (executed : List ℕ) (angle : ℕ) (proper : IsProper g)
   -- what follows a stride is right if what follows a step that goes on is
   follows : (s : State) (wait : ℕ) (counts : List ℕ) (strides : List Stride) (outcome : Stepped) → Stays g angle s
       → Contains (allowed g.loads g.notes s.sought) (instruction_in s) → outcome ≡ step g.times s wait
-      → Contains (ways g.notes (instruction_in s)) (ended_by outcome) → KeepsStart s.start outcome
+      → Contains (ways g.notes (instruction_in s)) (ended_by outcome) → KeepsStart s.first_angle outcome
       → run.FollowStep outcome (λ next. IsRun g.times next strides) strides
       → AreWithin g.notes.marks (counts_by g.notes counts s.sought outcome)
       → ((next : State) → Stays g angle next → IsRun g.times next strides
@@ -284,7 +284,7 @@ module _ (g : Setting) (executed : List ℕ) (angle : ℕ) (proper : IsProper g)
       go may_be None is some = absurd (cc)
       go may_be (Some op) is some =
           let ends =
-          subst (Ends (ways g.notes (instruction_in stride.origin)) stride.origin.start
+          subst (Ends (ways g.notes (instruction_in stride.origin)) stride.origin.first_angle
           (ready (g.times op) stride.origin.sought (clock_of stride.origin))
           (ended (g.times op) op (instruction_in stride.origin).d stride.origin.sought
           (units_of op (instruction_in stride.origin).d stride.origin.contents) stride.wait (clock_of stride.origin)))
@@ -315,16 +315,16 @@ pub kept_walk : (g : Setting) (executed : List ℕ) (s : State) (strides : List 
     → IsAdmitted g.loads g.notes g.start executed
     → IsFirstState g.loads (IsFixed g.loads g.notes g.start) g.start s → IsRun g.times s strides
     → IsKept g.loads g.notes s strides
-    → IsWalk g s.start (hops_taken strides) × (time_of (hops_taken strides) ≡ used_from 0 strides)
+    → IsWalk g s.first_angle (hops_taken strides) × (time_of (hops_taken strides) ≡ used_from 0 strides)
 kept_walk g executed s strides proper admitted first is_run kept =
-    let stays : Stays g s.start s =
+    let stays : Stays g s.first_angle s =
     record { start = refl; executed = ([], sym first.seeks); as_declared = kept.declared; agrees = first.agrees } in
-    let walks : IsWalkFrom g s.start s.sought s.time (no_counts g.notes.marks) (hops_taken strides) =
-    walk_from g executed s.start proper admitted strides s (no_counts g.notes.marks) stays is_run kept.kept in
-    let seeking : IsWalkFrom g s.start g.start s.time (no_counts g.notes.marks) (hops_taken strides) =
-    subst (λ (place : ℕ). IsWalkFrom g s.start place s.time (no_counts g.notes.marks) (hops_taken strides)) first.seeks
+    let walks : IsWalkFrom g s.first_angle s.sought s.time (no_counts g.notes.marks) (hops_taken strides) =
+    walk_from g executed s.first_angle proper admitted strides s (no_counts g.notes.marks) stays is_run kept.kept in
+    let seeking : IsWalkFrom g s.first_angle g.start s.time (no_counts g.notes.marks) (hops_taken strides) =
+    subst (λ (place : ℕ). IsWalkFrom g s.first_angle place s.time (no_counts g.notes.marks) (hops_taken strides)) first.seeks
     walks in
-    let at_once : IsWalkFrom g s.start g.start 0 (no_counts g.notes.marks) (hops_taken strides) =
-    subst (λ (time : ℕ). IsWalkFrom g s.start g.start time (no_counts g.notes.marks) (hops_taken strides)) first.at_once
+    let at_once : IsWalkFrom g s.first_angle g.start 0 (no_counts g.notes.marks) (hops_taken strides) =
+    subst (λ (time : ℕ). IsWalkFrom g s.first_angle g.start time (no_counts g.notes.marks) (hops_taken strides)) first.at_once
     seeking in
     (record { on_drum = first.angle; from_start = at_once }, same_time 0 strides)

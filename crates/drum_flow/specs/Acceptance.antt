@@ -20,7 +20,8 @@ IsRefusal loads notes start (Unbounded cycle) =
     IsUnbounded loads notes start (map (λ location. location.number) cycle.locations.items)
 IsRefusal loads notes start Memory = Unit {0}
 
--- so where the size is no cause
+-- the refusal is that of the deck with its notes, where the size isn't looked at; or there is no
+-- memory
 abbrev pub IsAdmissionRefusal : (ℕ → Option Word) → Notes → ℕ → Refusal → Type 0
 IsAdmissionRefusal loads notes start (NotLoaded location) =
     IsNotLoaded loads notes start location.number

@@ -40,7 +40,9 @@ IsFree loads notes place next =
 abbrev pub product_of : List ℕ → List Mark → ℕ
 product_of executed marks = length executed * counts_of marks
 
--- The deck with its notes is admitted, whatever its size; these are its executed locations.
+-- Admitted, whatever the size: each executed location is loaded or listed, has operations of the
+-- profile alone, and is written by an executed instruction only if it has a list; and no edges free
+-- of marks lead round. These are the executed locations, in the order of discovery.
 pub record IsAdmitted (loads : ℕ → Option Word) (notes : Notes) (start : ℕ)
     (executed : List ℕ) : Type 0 where
   pub order : IsOrder loads notes start executed
@@ -126,13 +128,13 @@ pub record IsAltered (loads : ℕ → Option Word) (notes : Notes)
   pub first : IsFirstIn (allowed loads notes writer) (Alters loads notes start) ins
   pub lowest : IsLowestAltered loads notes start ins altered
 
--- nothing above is wrong
+-- each executed location is good, and no instruction allowed there alters one without a list
 pub record IsSound (loads : ℕ → Option Word) (notes : Notes) (start : ℕ) : Type 0 where
   pub good : (place : ℕ) → IsExecuted loads notes start place → IsGood loads notes place
   pub unaltered : (place : ℕ) (ins : Instruction) → IsExecuted loads notes start place
       → Contains (allowed loads notes place) ins → ¬ Alters loads notes start ins
 
--- TooLarge: nothing above is wrong, and this is the product.
+-- TooLarge: the deck with its notes is sound, and this is its product, above 4,000,000.
 abbrev pub IsTooLarge : (ℕ → Option Word) → Notes → ℕ → ℕ → Type 0
 IsTooLarge loads notes start product =
     IsSound loads notes start × (4000000 < product)
@@ -144,7 +146,7 @@ abbrev pub IsSmallestFirst : List ℕ → Type 0
 IsSmallestFirst [] = ⊥
 IsSmallestFirst (first ∷ places) = (place : ℕ) → Contains places place → first < place
 
--- Nothing but the size is wrong, and these executed locations, without repeats and the smallest
+-- It is sound, whatever its size; and these executed locations, without repeats and the smallest
 -- first, lead round by edges free of marks.
 pub record IsFreeRound (loads : ℕ → Option Word) (notes : Notes) (start : ℕ)
     (cycle : List ℕ) : Type 0 where
@@ -154,7 +156,7 @@ pub record IsFreeRound (loads : ℕ → Option Word) (notes : Notes) (start : �
   pub different : AreDifferent cycle
   pub smallest : IsSmallestFirst cycle
 
--- Unbounded: nothing above is wrong, and these lead round.
+-- Unbounded: it is sound, its product is 4,000,000 at most, and these lead round.
 pub record IsUnbounded (loads : ℕ → Option Word) (notes : Notes) (start : ℕ)
     (cycle : List ℕ) : Type 0 where
   pub small : (executed : List ℕ) → IsOrder loads notes start executed

@@ -24,12 +24,12 @@ with_new places (next ∷ nexts) =
     if list_any (λ place. place == next) places then with_new places nexts
     else with_new (places ++ next ∷ []) nexts
 
--- the successors of the member at a place of the list, if it has one
+-- the successors of a member of the list, if there is one
 abbrev pub added_by : (ℕ → Option Word) → Notes → Option ℕ → List ℕ
 added_by loads notes None = []
 added_by loads notes (Some place) = successors loads notes place
 
--- the list after as many of its members as the number says have added theirs
+-- the list, once its first members, as many as the number says, have added their successors
 abbrev pub found_after : (ℕ → Option Word) → Notes → ℕ → ℕ → List ℕ
 found_after loads notes start zero = start ∷ []
 found_after loads notes start (suc count) =

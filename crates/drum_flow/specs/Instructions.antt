@@ -1,11 +1,11 @@
--- The instructions of patterns, from a place of the first one's on.
+-- The instructions of patterns, from an index of the first one's on.
 use Rattle.std.specs.Prelude.{ℕ, List, [], ◌∷◌, ◌++◌, drop, flat_map, option_to_list}
 use Rattle.drum_core.specs.declared.instruction.Instruction.{Instruction}
 use Rattle.drum_times.specs.declared.notes.pattern.Pattern.{Pattern}
 use Rattle.drum_times.specs.Allowed.{matching}
 use Rattle.drum_flow.specs.declared.instructions.Instructions.{Instructions}
 
--- the instructions of patterns, from this place of the first one's on
+-- the instructions of patterns, from this index of the first one's on
 abbrev pub listed_from : ℕ → List Pattern → List Instruction
 listed_from place [] = []
 listed_from place (pattern ∷ patterns) = drop place (matching pattern) ++ flat_map matching patterns

@@ -6,20 +6,20 @@ use Rattle.drum_machine.specs.Since.{Edge}
 use Rattle.drum_machine.specs.Ways.{Way, early, to, late}
 use Rattle.drum_flow.specs.Walk.{Taken}
 
--- what the mark at a place lends to the passes of the one at place k: that itself its most; each
--- that k stands inside of one more than its most, since k's count begins anew with each of its
--- passes, and at first
+-- The factor of the mark with this index in the most passes of mark k. For k itself it is its most;
+-- for a mark that k stands inside of its most and one, since k's count begins anew with each of
+-- that mark's passes, and once at first; for any other mark 1.
 abbrev pub factor : List Mark → ℕ → ℕ → ℕ → ℕ
-factor all k place most =
-    if place == k then most else (if is_inside all k place then most + 1 else 1)
+factor all k index most =
+    if index == k then most else (if is_inside all k index then most + 1 else 1)
 
--- the product over these marks, the first of which has this place
+-- the product over these marks, the first of which has this index
 abbrev pub passes_from : List Mark → ℕ → ℕ → List Mark → ℕ
-passes_from all k place [] = 1
-passes_from all k place (mark ∷ marks) =
-    factor all k place mark.most * passes_from all k (place + 1) marks
+passes_from all k index [] = 1
+passes_from all k index (mark ∷ marks) =
+    factor all k index mark.most * passes_from all k (index + 1) marks
 
--- how often a walk can pass the mark at place k at most
+-- how often a walk can pass mark k at most
 abbrev pub most_passes : List Mark → ℕ → ℕ
 most_passes marks k = passes_from marks k 0 marks
 

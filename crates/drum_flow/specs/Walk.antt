@@ -44,13 +44,14 @@ end_by late entry op d place units wait clock = ended entry op d place units wai
 
 -- the units, the wait and the end of a hop are right, from this start angle
 abbrev pub IsTimed : (Op → Entry) → ℕ → Taken → Option Op → Type 0
-IsTimed times start hop None = ⊥
-IsTimed times start hop (Some op) =
+IsTimed times angle hop None = ⊥
+IsTimed times angle hop (Some op) =
     MayHaveUnits op hop.ins.d hop.units × IsWait op (times op) hop.wait
-    × (start + hop.ended
-    ≡ end_by hop.way (times op) op hop.ins.d hop.place hop.units hop.wait (start + hop.begun))
+    × (angle + hop.ended
+    ≡ end_by hop.way (times op) op hop.ins.d hop.place hop.units hop.wait (angle + hop.begun))
 
--- what a walk is in
+-- What walks are walks of: a deck, its notes and a timing table. (A line of a replay's inputs that
+-- sets a switch is another thing.)
 pub record Setting : Type 0 where
   -- the word that the deck loads into a location
   pub loads : ℕ → Option Word

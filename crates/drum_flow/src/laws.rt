@@ -65,7 +65,7 @@ pub fn kept_run_is_a_walk()
         → IsAdmitted g.loads g.notes g.start executed
         → IsFirstState g.loads (IsFixed g.loads g.notes g.start) g.start s → IsRun g.times s strides
         → IsKept g.loads g.notes s strides
-        → IsWalk g s.start (hops_taken strides)
+        → IsWalk g s.first_angle (hops_taken strides)
         × (time_of (hops_taken strides) ≡ used_from 0 strides) }
 {}
 

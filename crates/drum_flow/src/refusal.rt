@@ -16,8 +16,8 @@ pub enum Refusal {
     /// This executed location is neither loaded nor listed.
     #[error("location {0} is neither loaded nor listed")]
     NotLoaded(Location),
-    /// An instruction at the executed location `writer` alters the executed location `word`, which
-    /// isn't listed, and may be the same.
+    /// An instruction at the executed location `writer` alters what stands at the executed location
+    /// `word`, which isn't listed. The two may be one.
     #[error("{writer} alters {word}, which isn't listed")]
     Alters { writer: Location, word: Location },
     /// Edges free of marks lead round: nothing bounds how often this cycle is gone through.

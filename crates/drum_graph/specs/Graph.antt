@@ -32,7 +32,7 @@ stops early = true
 stops (to next) = false
 stops late = true
 
--- whether some instruction of a location may stop the run
+-- whether some instruction of a location, with an operation of the profile, may stop the run
 abbrev pub may_stop : (ℕ → Option Word) → Notes → ℕ → Bool
 may_stop loads notes place = list_any (λ hop. stops hop.way) (hops loads notes place)
 

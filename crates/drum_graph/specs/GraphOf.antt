@@ -28,6 +28,6 @@ nodes_in graph = map node_of graph.nodes.items
 abbrev pub start_of : Graph → ℕ
 start_of graph = graph.start.number
 
--- whether an instruction may stop the run
+-- whether an instruction, with an operation of the profile, may stop the run
 abbrev pub has_stop_by : Notes → Instruction → Bool
 has_stop_by notes ins = list_any stops (ways notes ins)

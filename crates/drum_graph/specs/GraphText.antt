@@ -29,11 +29,11 @@ box_text node =
     digits_of 4 node.place ++ codes " [label=\"" ++ label_text node ++ codes "\""
     ++ dash_text node.is_listed ++ border_text node.may_stop ++ codes "]\n"
 
--- the most of the mark at a place
+-- the most of the mark with this index
 abbrev pub most_at : List Mark → ℕ → ℕ
 most_at marks place = elim (slice_get marks place) [ None ↦ 0 | Some mark ↦ mark.most ]
 
--- what is said of the mark at a place: its number, from 1, and its most
+-- what is said of the mark with this index: its number, from 1, and its most
 abbrev pub mark_label : List Mark → Option ℕ → List ℕ
 mark_label marks None = []
 mark_label marks (Some place) =

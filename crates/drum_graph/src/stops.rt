@@ -43,7 +43,7 @@ fn pattern_may_stop(notes: &Notes, pattern: Pattern) -> bool
     false
 }
 
-/// Whether some instruction of a location may stop the run.
+/// Whether some instruction of a location, with an operation of the profile, may stop the run.
 pub fn may_stop(deck: &Deck, notes: &Notes, location: Location) -> bool
     ensures { result ≡ said.may_stop (loads_in deck.now) notes.now location.number }
 {

@@ -30,7 +30,7 @@ pub data Line : Type 0 where
   words : ℕ → List Word → Line
   -- a card, with the load mark or without, and its words
   card : Bool → List Word → Line
-  -- how long the card machine lets the machine wait
+  -- how long the card machine keeps the machine waiting
   wait : ℕ → Line
 
 -- How each kind of line is spelled. Words for locations are spelled as on a card of a deck.
@@ -160,7 +160,7 @@ abbrev pub IsTooLong : List ℕ → Type 0
 IsTooLong text = IsLonger 4000 200 text
 
 -- The text is inputs, and these are its lines: it isn't too long, each line is of one of the kinds,
--- no location is past the drum, and nothing is said twice.
+-- no location is past the drum, no setting is stated twice, and no location is given a word twice.
 pub record AreInputs (text : List ℕ) (lines : List Line) : Type 0 where
   pub short : ¬ IsTooLong text
   pub said : Say (lines_of text) lines

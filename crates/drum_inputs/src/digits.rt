@@ -25,7 +25,7 @@ pub fn read_angle(line: &[u8]) -> Option<u8>
     }
 }
 
-/// How long a line lets the machine wait, in word times.
+/// How long a line keeps the machine waiting, in word times.
 pub fn read_wait(line: &[u8]) -> Option<u32>
     ensures found { IfSome result (λ n. text.IsLine line.now (text.wait n)) }
     ensures none { IfNone result ((n : ℕ) → ¬ text.IsLine line.now (text.wait n)) }

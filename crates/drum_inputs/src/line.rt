@@ -25,7 +25,7 @@ pub enum Line {
     Words(DeckCard),
     /// A card for the card reader.
     Card(Card),
-    /// How long the card machine lets the machine wait, in word times.
+    /// How long the card machine keeps the machine waiting, in word times.
     Wait(u32),
 }
 

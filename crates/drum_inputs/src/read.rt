@@ -11,8 +11,8 @@ use crate::stating::Stating;
 use drum_core::{Input, Lines, WholeError, is_longer, read_whole};
 use std::alloc::Global;
 
-/// Reads the inputs of a replay. The whole text is read first, 804,001 bytes at most: a device that
-/// gives as many as that is too long, and may have no end.
+/// Reads the inputs of a replay. The whole text is read first, 804,001 bytes at most. A text of as
+/// many as that is too long, or there is no memory for it: so a device may have no end.
 ///
 /// # Errors
 ///
@@ -20,10 +20,10 @@ use std::alloc::Global;
 /// then the fault of the first line that has one (Line before PastDrum before Repeated).
 pub fn read_inputs<I: Input>(alloc: Global, reader: &mut I) -> Result<Inputs, InputFault>
     requires { I.called reader.old ≤ 2 ^ 62 }
-    ensures inputs { IfOk result (λ inputs. IfSome (I.left reader.old) (λ bytes.
+    ensures inputs { IfOk result (λ inputs. IfSome (I.unread reader.old) (λ bytes.
         (lines : List Line) × AreInputs bytes lines × AreInputsOf inputs lines)) }
     ensures refused { IfErr result (λ fault. fault ≢ InputFault.Read → fault ≢ InputFault.Memory
-        → IfSome (I.left reader.old) (λ bytes. IsRefused bytes fault)) }
+        → IfSome (I.unread reader.old) (λ bytes. IsRefused bytes fault)) }
     ensures full { I.given reader.new ≡ I.given reader.old + 804001
         → IsErrOf result InputFault.TooLong ⊎ IsErrOf result InputFault.Memory }
     ensures read { IsErrOf result InputFault.Read
@@ -32,6 +32,9 @@ pub fn read_inputs<I: Input>(alloc: Global, reader: &mut I) -> Result<Inputs, In
     ensures whole { ¬ IsErrOf result InputFault.Read → ¬ IsErrOf result InputFault.Memory
         → (I.ended reader.new ≡ I.ended reader.old + 1)
         ⊎ (I.given reader.new ≡ I.given reader.old + 804001) }
+    // Of the reads at most one meets the end, at most one gives no byte, and at most one fails.
+    // They are 804,001 at most, and so are their bytes; and there is at most one more of them
+    // than there are bytes.
     ensures ended { I.ended reader.new ≤ I.ended reader.old + 1 }
     ensures idle { I.idle reader.new ≤ I.idle reader.old + 1 }
     ensures once { I.failed reader.new ≤ I.failed reader.old + 1 }

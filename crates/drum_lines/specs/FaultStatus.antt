@@ -1,4 +1,4 @@
--- How the program ends after a fault: a part whose bytes can't be had, and want of memory, are
+-- How the program ends after a fault: a part whose bytes can't be had, and lack of memory, are
 -- failures; all else is a refusal.
 use Rattle.std.specs.Prelude.{ℕ, Result, Ok, Err}
 use Rattle.drum_core.specs.declared.deck.fault.DeckFault.{DeckFault}
@@ -41,7 +41,7 @@ reads_failed (Deck deck.Read) = 1
 reads_failed (Inputs input.Read) = 1
 reads_failed _ = 0
 
--- and what comes of reading: none where there is no fault
+-- how many failed reads the outcome of a reading tells of: none where there is no fault
 abbrev pub failed_by : {A : Type 0} → Result A Fault → ℕ
 failed_by (Ok found) = 0
 failed_by (Err fault) = reads_failed fault

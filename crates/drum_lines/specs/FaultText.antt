@@ -21,7 +21,7 @@ use Rattle.drum_lines.specs.declared.part.PartFault.TheVariants as bytes
 
 -- what a part is called
 abbrev pub part_name : parts.Part → List ℕ
-part_name part.Input = codes "input"
+part_name part.Joined = codes "input"
 part_name part.Deck = codes "deck"
 part_name part.Times = codes "times"
 part_name part.Notes = codes "notes"

@@ -4,7 +4,9 @@
 //! Code. `fault` (with the status after each) and `part` are why a command has no answer. `verdict`
 //! is what a replay or a trace found, and `limit` by what its time is limited. `status` is how the
 //! program ends, and `failed_write` how much of a text went out. `print` has the parts of a line;
-//! `print/` writes each line, that of a fault in `print/fault_line`.
+//! `print/` writes each line. `print/fault_line` hands a fault to the one of its kind:
+//! `print/deck_fault`, `note_fault`, `input_fault`, `part_fault`, and `refusal_line` for what
+//! refuses an analysis (faults 31 to 36).
 //!
 //! Definitions, in the order to read them: `BoundText`, `VerdictText` and `FaultText` are the
 //! lines. `Status` is the number of each status, and `FaultStatus` which comes after which fault,

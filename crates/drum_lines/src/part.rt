@@ -4,7 +4,7 @@
 #[derive(Clone, Copy, Debug, PartialEq, Eq)]
 pub enum Part {
     /// The joined form, on standard input.
-    Input,
+    Joined,
     /// The deck.
     Deck,
     /// The timing table.

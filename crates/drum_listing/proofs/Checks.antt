@@ -88,7 +88,7 @@ state first = record {
   };
   sought = 100;
   time = 0;
-  start = 1;
+  first_angle = 1;
 }
 
 abbrev stride : Word → Stride

@@ -143,14 +143,14 @@ visit_told times angle visit moments told =
 -- the line of a stride
 pub stride_told : (times : Op → Entry) (number angle : ℕ) (stride : Stride) (visit : Visited) (word : Word)
     (moments : Moments) (held : Contents)
-    → visit ≡ visited (hop_of stride) → word ≡ fetched stride.origin → stride.origin.start ≡ angle
+    → visit ≡ visited (hop_of stride) → word ≡ fetched stride.origin → stride.origin.first_angle ≡ angle
     → moments ≡ moments_of times angle visit.place visit.ins visit.way visit.begun
     → held ≡ contents_after stride.outcome
     → (fetch_text number visit.place word ++ times_text moments visit.ended []) ++ held_text visit held
     ≡ stride_line times number stride
 stride_told times number angle stride visit word moments held same is start told after =
     let s = stride.origin in
-    let at_start : moments ≡ moments_of times s.start s.sought (instruction_in s) (ended_by stride.outcome) s.time =
+    let at_start : moments ≡ moments_of times s.first_angle s.sought (instruction_in s) (ended_by stride.outcome) s.time =
     told ∙ ap (λ (v : Visited). moments_of times angle v.place v.ins v.way v.begun) same
     ∙ ap (λ (a : ℕ). moments_of times a s.sought (instruction_in s) (ended_by stride.outcome) s.time) (sym start) in
     let hop : Visited = visited (hop_of stride) in
@@ -159,10 +159,10 @@ stride_told times number angle stride visit word moments held same is start told
     ∙ ap (λ (some : Moments). (fetch_text number s.sought (fetched s) ++ times_text some hop.ended [])
     ++ held_text hop held) at_start
     ∙ ap (λ (c : Contents). (fetch_text number s.sought (fetched s)
-    ++ times_text (moments_of times s.start s.sought (instruction_in s) (ended_by stride.outcome) s.time) hop.ended [])
+    ++ times_text (moments_of times s.first_angle s.sought (instruction_in s) (ended_by stride.outcome) s.time) hop.ended [])
     ++ held_text hop c) after
     ∙ line_grouped (codes "step ") (codes " ") (decimal number) (digits_of 4 s.sought) (spelling (fetched s))
-    (moments_text (moments_of times s.start s.sought (instruction_in s) (ended_by stride.outcome) s.time))
+    (moments_text (moments_of times s.first_angle s.sought (instruction_in s) (ended_by stride.outcome) s.time))
     (codes " ended ") (decimal (time_after stride.outcome)) (registers_text (contents_after stride.outcome))
     (stride_acted stride) (codes "\n")
 

@@ -15,7 +15,7 @@ use Rattle.drum_machine.specs.Step.{contents_after}
 pub record IsStepOf (times : Op → Entry) (angle before : ℕ) (step : Step) (machine : Machine)
     (stride : Stride) : Type 0 where
   pub told : IsToldOf times stride step
-  pub start : stride.origin.start ≡ angle
+  pub start : stride.origin.first_angle ≡ angle
   pub time : stride.origin.time ≡ before
   pub cards : List Card
   pub held : held_by machine cards ≡ contents_after stride.outcome

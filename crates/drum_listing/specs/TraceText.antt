@@ -28,7 +28,7 @@ stride_line times number stride =
     codes "step " ++ decimal number ++ codes " " ++ digits_of 4 s.sought
     ++ codes " " ++ spelling (fetched s)
     ++ moments_text
-    (moments_of times s.start s.sought (instruction_in s) (ended_by stride.outcome) s.time)
+    (moments_of times s.first_angle s.sought (instruction_in s) (ended_by stride.outcome) s.time)
     ++ codes " ended " ++ decimal (time_after stride.outcome)
     ++ registers_text (contents_after stride.outcome) ++ stride_acted stride ++ codes "\n"
 

@@ -180,7 +180,7 @@ pub fn send_step<O: Output>(
     requires few { sent ≤ 2 ^ 60 }
     requires early { before ≤ 2 ^ 62 }
     ensures sent { (stride : Stride) → IsToldOf (entry_in times.now) stride step.now
-        → stride.origin.start ≡ angle → stride.origin.time ≡ before
+        → stride.origin.first_angle ≡ angle → stride.origin.time ≡ before
         → (cards : List Card) → held_by machine.now cards ≡ contents_after stride.outcome
         → IsSent (O.written writer.old) (O.written writer.new) sent result
         (stride_line (entry_in times.now) number stride) }

@@ -26,7 +26,7 @@ use Rattle.drum_machine.specs.Ending.{ended_by, stops_by, clock_by, declared, ow
 use Rattle.drum_machine.specs.Keeps.{IsAsDeclared, IsWithoutLoad, is_load, reads_load, reads_with}
 use Rattle.drum_machine.specs.Run.{time_after}
 use Rattle.drum_machine.specs.Step.{State, Stepped, on, stopped, step, step_with, step_of, instruction_in, is_read}
-use Rattle.drum_machine.specs.Step.{has_cards, lacks_card, leaves, clock_of}
+use Rattle.drum_machine.specs.Step.{has_cards, lacks_card, stepped_by, clock_of}
 use Rattle.drum_machine.specs.Timing.{found, ready, reached, ended, units_of, waits_for_operand}
 use Rattle.drum_machine.specs.Ways.{Way, early, to, late, in_order, ways_of_stop, ways_of, ways_with, ways}
 
@@ -168,7 +168,7 @@ effect_ends notes c (BranchOnDigit p) d i as_declared card without = digit_ends 
 
 -- a step that goes on keeps the angle at time 0
 abbrev pub KeepsStart : ℕ → Stepped → Type 0
-KeepsStart start (on next) = next.start ≡ start
+KeepsStart start (on next) = next.first_angle ≡ start
 KeepsStart start (stopped held because moment) = Unit {0}
 
 -- How a step ends: by one of these ways, at x if Early and else at e.
@@ -177,8 +177,8 @@ pub record Ends (among : List Way) (start x e : ℕ) (outcome : Stepped) : Type 
   pub at : start + time_after outcome ≡ clock_by (ended_by outcome) x e
   pub from : KeepsStart start outcome
 
-left_ends : (among : List Way) (s : State) (x e : ℕ) (outcome : Outcome) → s.start ≤ e → EndsIn among outcome
-    → Ends among s.start x e (leaves s e outcome)
+left_ends : (among : List Way) (s : State) (x e : ℕ) (outcome : Outcome) → s.first_angle ≤ e → EndsIn among outcome
+    → Ends among s.first_angle x e (stepped_by s e outcome)
 left_ends among s x e (stops held because) later p = record {
   by = subst (Contains among) (sym p.0) p.1;
   at =
@@ -189,9 +189,9 @@ left_ends among s x e (stops held because) later p = record {
 left_ends among s x e (goes after next) later p = go (is_location next) p
   where
     go : (b : Bool) → Contains among (if b then to next else late)
-        → Ends among s.start x e
-        (if b then on (record { contents = after; sought = next; time = e - s.start; start = s.start })
-        else stopped after why.Next (e - s.start))
+        → Ends among s.first_angle x e
+        (if b then on (record { contents = after; sought = next; time = e - s.first_angle; first_angle = s.first_angle })
+        else stopped after why.Next (e - s.first_angle))
     go true q = record { by = q; at = omega (arith, later); from = refl }
     go false q = record { by = q; at = omega (arith, later); from = tt }
 
@@ -231,7 +231,7 @@ without_load notes s op is wanted without read none =
 
 op_ends : (times : Op → Entry) (s : State) (wait : ℕ) (op : Op) (notes : Notes) → op_of (instruction_in s).op ≡ Some op
     → IsAsDeclared notes.programmed s.contents.programmed_stops → IsWithoutLoad notes s
-    → Ends (ways_with notes (Some op) (instruction_in s).d (instruction_in s).i) s.start
+    → Ends (ways_with notes (Some op) (instruction_in s).d (instruction_in s).i) s.first_angle
     (ready (times op) s.sought (clock_of s))
     (ended (times op) op (instruction_in s).d s.sought (units_of op (instruction_in s).d s.contents) wait (clock_of s))
     (step_of times s wait op)
@@ -248,10 +248,10 @@ op_ends times s wait op notes is as_declared without =
         ended (times op) op (instruction_in s).d s.sought (units_of op (instruction_in s).d s.contents) wait
         (clock_of s)
 
-    before_x : s.start ≤ ready (times op) s.sought (clock_of s)
+    before_x : s.first_angle ≤ ready (times op) s.sought (clock_of s)
     before_x = omega (arith, found_later s.sought (clock_of s))
 
-    before_e : s.start ≤ ended (times op) op (instruction_in s).d s.sought (units_of op (instruction_in s).d s.contents)
+    before_e : s.first_angle ≤ ended (times op) op (instruction_in s).d s.sought (units_of op (instruction_in s).d s.contents)
         wait (clock_of s)
     before_e =
         omega (
@@ -285,9 +285,9 @@ op_ends times s wait op notes is as_declared without =
 
     go : (wanted lacks : Bool) → (wanted ≡ true → lacks ≡ false → EndsIn among outcome)
         → (lacks ≡ true → Contains among early)
-        → Ends (if wanted then among else early ∷ []) s.start x e
-        (if not wanted then stopped s.contents why.Operand (x - s.start)
-        else (if lacks then stopped s.contents why.Card (x - s.start) else leaves s e outcome))
+        → Ends (if wanted then among else early ∷ []) s.first_angle x e
+        (if not wanted then stopped s.contents why.Operand (x - s.first_angle)
+        else (if lacks then stopped s.contents why.Card (x - s.first_angle) else stepped_by s e outcome))
     go false lacks acts stops_early = record { by = here early []; at = omega (arith, before_x); from = tt }
     go true true acts stops_early = record { by = stops_early refl; at = omega (arith, before_x); from = tt }
     go true false acts stops_early = left_ends among s x e outcome before_e (acts refl refl)
@@ -297,11 +297,11 @@ op_ends times s wait op notes is as_declared without =
 pub step_ends : (times : Op → Entry) (s : State) (wait : ℕ) (op : Op) (notes : Notes)
     → op_of (instruction_in s).op ≡ Some op
     → IsAsDeclared notes.programmed s.contents.programmed_stops → IsWithoutLoad notes s
-    → Ends (ways notes (instruction_in s)) s.start (ready (times op) s.sought (clock_of s))
+    → Ends (ways notes (instruction_in s)) s.first_angle (ready (times op) s.sought (clock_of s))
     (ended (times op) op (instruction_in s).d s.sought (units_of op (instruction_in s).d s.contents) wait (clock_of s))
     (step times s wait)
 step_ends times s wait op notes is as_declared without =
-    subst (λ (o : Option Op). Ends (ways_with notes o (instruction_in s).d (instruction_in s).i) s.start
+    subst (λ (o : Option Op). Ends (ways_with notes o (instruction_in s).d (instruction_in s).i) s.first_angle
     (ready (times op) s.sought (clock_of s))
     (ended (times op) op (instruction_in s).d s.sought (units_of op (instruction_in s).d s.contents) wait (clock_of s))
     (step_with times s wait o))
@@ -326,7 +326,7 @@ ends_by_its_own times s wait op is =
 
 -- and so it ends at x or at e
 pub ends_then : (times : Op → Entry) (s : State) (wait : ℕ) (op : Op) → op_of (instruction_in s).op ≡ Some op
-    → s.start + time_after (step times s wait)
+    → s.first_angle + time_after (step times s wait)
     ≡ clock_by (ended_by (step times s wait)) (ready (times op) s.sought (clock_of s))
     (ended (times op) op (instruction_in s).d s.sought (units_of op (instruction_in s).d s.contents) wait (clock_of s))
 ends_then times s wait op is =

@@ -10,7 +10,7 @@ use Rattle.drum_machine.specs.declared.why.Why.TheVariants as why
 use Rattle.drum_machine.specs.Contents.{Contents}
 use Rattle.drum_machine.specs.Effect.{Outcome, goes, stops, effect, becomes, overflows, keeps, branches_on}
 use Rattle.drum_machine.specs.Step.{State, on, stopped, contents_after, step, step_with, step_of, instruction_in}
-use Rattle.drum_machine.specs.Step.{lacks_card, leaves, clock_of}
+use Rattle.drum_machine.specs.Step.{lacks_card, stepped_by, clock_of}
 use Rattle.drum_machine.specs.Timing.{ready, ended, units_of}
 
 -- what an outcome leaves
@@ -50,13 +50,13 @@ digit_left Right c digit d i p =
     left_if Right (digit == 8) (goes c d) _ p (left_if Right (digit == 9) (goes c i) (stops c why.Digit) p p)
 
 of_outcome : (Right : Contents → Type 0) (s : State) (clock : ℕ) (outcome : Outcome) → Right (left_by outcome)
-    → Right (contents_after (leaves s clock outcome))
+    → Right (contents_after (stepped_by s clock outcome))
 of_outcome Right s clock (stops held because) p = p
 of_outcome Right s clock (goes after next) p = go (is_location next)
   where
     go : (b : Bool) → Right (contents_after
-        (if b then on (record { contents = after; sought = next; time = clock - s.start; start = s.start })
-        else stopped after why.Next (clock - s.start)))
+        (if b then on (record { contents = after; sought = next; time = clock - s.first_angle; first_angle = s.first_angle })
+        else stopped after why.Next (clock - s.first_angle)))
     go true = p
     go false = p
 
@@ -78,8 +78,8 @@ of_op Right times s wait op before p = go (is_operand (operand_of op) (instructi
     outcome = effect s.contents op (instruction_in s).d (instruction_in s).i
 
     go : (wanted lacks : Bool) → (wanted ≡ true → Right (left_by outcome))
-        → Right (contents_after (if not wanted then stopped s.contents why.Operand (x - s.start)
-        else (if lacks then stopped s.contents why.Card (x - s.start) else leaves s clock outcome)))
+        → Right (contents_after (if not wanted then stopped s.contents why.Operand (x - s.first_angle)
+        else (if lacks then stopped s.contents why.Card (x - s.first_angle) else stepped_by s clock outcome)))
     go false lacks q = before
     go true true q = before
     go true false q = of_outcome Right s clock outcome (q refl)

@@ -103,7 +103,7 @@ state first second distributor accumulator overflow_stops = record {
   };
   sought = 100;
   time = 0;
-  start = 1;
+  first_angle = 1;
 }
 
 abbrev pub zero_word : Word

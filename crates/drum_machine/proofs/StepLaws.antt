@@ -15,8 +15,8 @@ use Rattle.drum_machine.proofs.Alone.{writes_no_other}
 use Rattle.drum_machine.specs.Ending.{ended_by, own_notes}
 use Rattle.drum_machine.proofs.Ends.{ends_by_its_own}
 use Rattle.drum_machine.specs.Feed.{cards_left, waits_left}
-use Rattle.drum_machine.specs.Machine.{Tells, Becomes, TakesStep, WritesAlone, EndsByAWay, state_in, op_in, way_told}
-use Rattle.drum_machine.specs.Machine.{wait_with}
+use Rattle.drum_machine.specs.Fed.{op_in, wait_with}
+use Rattle.drum_machine.specs.Machine.{Tells, Becomes, TakesStep, WritesAlone, EndsByAWay, state_in, way_told}
 use Rattle.drum_machine.specs.Step.{State, Stepped, on, stopped, contents_after, step, fetched, instruction_in}
 use Rattle.drum_machine.specs.Ways.{Way, to, ways}
 

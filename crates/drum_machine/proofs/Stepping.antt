@@ -12,16 +12,16 @@ use Rattle.drum_times.specs.declared.entry.Entry.{Entry}
 use Rattle.drum_machine.specs.declared.card.Card.{Card}
 use Rattle.drum_machine.specs.Contents.{Contents}
 use Rattle.drum_machine.specs.Effect.{Outcome, effect}
-use Rattle.drum_machine.specs.Feed.{is_load}
+use Rattle.drum_machine.specs.Fed.{is_load, op_in}
 use Rattle.drum_machine.specs.Keeps as keeps
 use Rattle.drum_machine.specs.declared.machine.Machine.{Machine}
 use Rattle.drum_machine.specs.declared.step.Step as answers
-use Rattle.drum_machine.specs.Machine.{op_in, Tells, Becomes}
+use Rattle.drum_machine.specs.Machine.{Tells, Becomes}
 use Rattle.drum_core.specs.declared.location.Location.{Location}
 use Rattle.drum_core.specs.declared.word.Word.{Word}
 use Rattle.drum_rotation.specs.Available.{has_parity}
 use Rattle.drum_rotation.specs.Moment.{first}
-use Rattle.drum_machine.specs.Step.{State, Stepped, step, step_with, step_of, leaves, instruction_in, lacks_card}
+use Rattle.drum_machine.specs.Step.{State, Stepped, step, step_with, step_of, stepped_by, instruction_in, lacks_card}
 use Rattle.drum_machine.specs.Step.{clock_of}
 use Rattle.drum_machine.specs.Timing.{units_of, ended, reached, IsWait}
 
@@ -29,7 +29,7 @@ use Rattle.drum_machine.specs.Timing.{units_of, ended, reached, IsWait}
 pub acts : (times : Op → Entry) (s : State) (op : Op) (wait : ℕ)
     → is_operand (operand_of op) (instruction_in s).d ≡ true → lacks_card op s.contents ≡ false
     → step_of times s wait op
-    ≡ leaves s (ended (times op) op (instruction_in s).d s.sought (units_of op (instruction_in s).d s.contents) wait
+    ≡ stepped_by s (ended (times op) op (instruction_in s).d s.sought (units_of op (instruction_in s).d s.contents) wait
     (clock_of s)) (effect s.contents op (instruction_in s).d (instruction_in s).i)
 acts times s op wait operand card = rw (operand, card) refl
 
@@ -38,11 +38,11 @@ pub step_past_x : (times : Op → Entry) (s : State) (op : Op) (wait end : ℕ) 
     → end ≡ ended (times op) op (instruction_in s).d s.sought (units_of op (instruction_in s).d s.contents) wait
     (clock_of s)
     → effect s.contents op (instruction_in s).d (instruction_in s).i ≡ outcome
-    → step times s wait ≡ leaves s end outcome
+    → step times s wait ≡ stepped_by s end outcome
 step_past_x times s op wait end outcome fetched operand card ends has_effect =
     ap (step_with times s wait) fetched ∙ acts times s op wait operand card
-    ∙ ap (λ (e : ℕ). leaves s e (effect s.contents op (instruction_in s).d (instruction_in s).i)) (sym ends)
-    ∙ ap (leaves s end) has_effect
+    ∙ ap (λ (e : ℕ). stepped_by s e (effect s.contents op (instruction_in s).d (instruction_in s).i)) (sym ends)
+    ∙ ap (stepped_by s end) has_effect
 
 -- where 70 has a card, no card is lacking
 pub not_lacking : (reads some has : Bool) → some ≡ (reads && has) → some ≡ reads → (reads && not has) ≡ false

@@ -4,13 +4,13 @@ use Rattle.std.specs.Prelude.{[], ◌∷◌, map, length, slice_get, Option, Som
 use Rattle.drum_times.specs.declared.notes.mark.Mark.{Mark}
 use Rattle.drum_times.specs.Marks.{mark_on}
 
--- the mark that a mark stands inside of, by their places
+-- the mark that a mark stands inside of, by their indices
 abbrev pub outer_of : Option Mark → Option ℕ
 outer_of None = None
 outer_of (Some mark) = mark.inside
 
--- the mark at a place stands inside the one at another, as many steps outward at most as the number
--- says
+-- the mark with this index stands inside the one with another, as many steps outward at most as the
+-- number says
 abbrev pub is_inside_by : ℕ → List Mark → ℕ → ℕ → Bool
 is_inside_by zero marks inner outer = false
 is_inside_by (suc more) marks inner outer =
@@ -24,12 +24,12 @@ is_inside_by (suc more) marks inner outer =
 abbrev pub is_inside : List Mark → ℕ → ℕ → Bool
 is_inside marks inner outer = is_inside_by (length marks) marks inner outer
 
--- the counts after a pass of the mark at a place: one more of it, none of the marks inside it
+-- the counts after a pass of the mark with this index: one more of it, none of the marks inside it
 abbrev pub passed_from : List Mark → ℕ → ℕ → List ℕ → List ℕ
-passed_from marks passed place [] = []
-passed_from marks passed place (count ∷ counts) =
-    (if place == passed then count + 1 else (if is_inside marks place passed then 0 else count))
-    ∷ passed_from marks passed (place + 1) counts
+passed_from marks passed index [] = []
+passed_from marks passed index (count ∷ counts) =
+    (if index == passed then count + 1 else (if is_inside marks index passed then 0 else count))
+    ∷ passed_from marks passed (index + 1) counts
 
 -- the counts after a step from one location to another
 abbrev pub after_pass : List Mark → ℕ → ℕ → List ℕ → List ℕ

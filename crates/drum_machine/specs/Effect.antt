@@ -94,7 +94,8 @@ rest a v = unsigned_abs a % unsigned_abs v
 abbrev pub is_too_large : ℤ → ℤ → Bool
 is_too_large a v = nat_le (unsigned_abs v) (upper a)
 
--- the word that is stored
+-- The word that is stored. 22 and 23 put four digits of the lower half into the distributor's word,
+-- whose sign and other digits stay.
 abbrev pub stored : stores.Store → Contents → Word
 stored store.Lower c = lower_word c
 stored store.Upper c = upper_word c

@@ -9,7 +9,8 @@ use Rattle.drum_machine.specs.Keeps.{is_load}
 use Rattle.drum_machine.specs.Step.{State, Stepped, on, stopped}
 use Rattle.drum_machine.specs.Ways.{Way, early, to, late}
 
--- a D that isn't what is wanted, and no card, stop at x; what stops otherwise stops at e
+-- a D that isn't what is wanted, and no card, stop when the instruction is ready; an operation
+-- outside the profile stops when it is found, and counts as late here; all else stops at the end
 abbrev pub stops_by : whys.Why → Way
 stops_by why.Operand = early
 stops_by why.Card = early

@@ -25,7 +25,7 @@ pub record IsSetUp (loads : ℕ → Option Word) (start_location : ℕ) (setup :
     (s : State) : Type 0 where
   pub at_once : s.time ≡ 0
   pub seeks : s.sought ≡ start_location
-  pub angle : s.start ≡ setup.angle
+  pub angle : s.first_angle ≡ setup.angle
   pub drum : IsFirstDrum loads setup.words.items s.contents.drum
   pub switches : s.contents.switches ≡ setup.switches
   pub distributor : s.contents.distributor ≡ setup.distributor

@@ -3,6 +3,7 @@ pub mod Counts
 pub mod CountsIn
 pub mod Effect
 pub mod Ending
+pub mod Fed
 pub mod Feed
 pub mod FirstState
 pub mod Keeps

@@ -1,11 +1,9 @@
 -- What a machine is at the beginning of a step, and what its calls answer.
-use Rattle.std.specs.Prelude.{◌≡◌, ℕ, Bool, not, ◌&&◌, if◌then◌else◌, List, slice_get, Option, Some}
-use Rattle.std.specs.Prelude.{None, Contains}
+use Rattle.std.specs.Prelude.{◌≡◌, ℕ, Bool, List, slice_get, Option, Some, None, Contains}
 use Rattle.drum_core.specs.declared.location.Location.{Location}
 use Rattle.drum_core.specs.declared.op.Op.{Op}
 use Rattle.drum_core.specs.declared.op.Op.TheVariants.{Punch}
 use Rattle.drum_core.specs.declared.word.Word.{Word}
-use Rattle.drum_core.specs.Op.{op_of, operand_of, is_operand}
 use Rattle.drum_times.specs.declared.entry.Entry.{Entry}
 use Rattle.drum_machine.specs.declared.card.Card.{Card}
 use Rattle.drum_machine.specs.declared.feed.Feed.{Feed}
@@ -16,12 +14,13 @@ use Rattle.drum_machine.specs.declared.why.Why as whys
 use Rattle.drum_machine.specs.Contents.{Contents}
 use Rattle.drum_machine.specs.Effect.{punched}
 use Rattle.drum_machine.specs.Ending.{own_notes, stops_by}
-use Rattle.drum_machine.specs.Feed.{cards_left, waits_left, wait_for, cards_after, waits_after}
+use Rattle.drum_machine.specs.Fed.{op_in, wait_with, cards_with, waits_with}
+use Rattle.drum_machine.specs.Feed.{cards_left, waits_left}
 use Rattle.drum_machine.specs.Keeps.{reads_load}
 use Rattle.drum_machine.specs.Registers.{contents_with}
 use Rattle.drum_machine.specs.Run.{Stride}
 use Rattle.drum_machine.specs.Step.{State, Stepped, on, stopped, step, fetched, instruction_in}
-use Rattle.drum_machine.specs.Step.{lacks_card, MayWait}
+use Rattle.drum_machine.specs.Step.{MayWait}
 use Rattle.drum_machine.specs.Ways.{Way, to, ways}
 use Rattle.drum_machine.specs.Writes.{writes}
 
@@ -45,13 +44,14 @@ used_by m = m.used
 abbrev pub held_by : Machine → List Card → Contents
 held_by m cards = contents_with m.registers cards
 
--- the state of a machine that goes on, with the cards in the reader
+-- the state of a machine, with these cards in the reader; of one that has stopped, with what it
+-- holds then, and where it sought
 abbrev pub state_in : Machine → List Card → State
 state_in m cards = record {
   contents = contents_with m.registers cards;
   sought = m.sought.number;
   time = m.used;
-  start = m.start;
+  first_angle = m.start;
 }
 
 -- the words that an operation punches
@@ -90,28 +90,6 @@ Becomes (on next) origin word m cards = GoesOn m × (state_in m cards ≡ next)
 Becomes (stopped held because moment) origin word m cards =
     HasStopped m word because × (sought_by m ≡ origin) × (used_by m ≡ moment)
     × (contents_with m.registers cards ≡ held)
-
--- the operation of the fetched word, where the profile has it
-abbrev pub op_in : State → Option Op
-op_in s = op_of (instruction_in s).op
-
--- the wait that the step is given
-abbrev pub wait_with : (Op → Entry) → Option Op → List ℕ → ℕ
-wait_with times None waits = 0
-wait_with times (Some op) waits = wait_for op (times op) waits
-
--- D is what the operation wants, and 70 finds a card: the step goes past x
-abbrev pub goes_past_x : Op → State → Bool
-goes_past_x op s = is_operand (operand_of op) (instruction_in s).d && not (lacks_card op s.contents)
-
--- the cards and the waits that a step leaves
-abbrev pub cards_with : Option Op → State → List Card → List Card
-cards_with None s cards = cards
-cards_with (Some op) s cards = if goes_past_x op s then cards_after op cards else cards
-
-abbrev pub waits_with : Option Op → State → List ℕ → List ℕ
-waits_with None s waits = waits
-waits_with (Some op) s waits = if goes_past_x op s then waits_after op waits else waits
 
 -- A machine takes a step and answers it: a step of the definitions, with the feed's cards as the
 -- cards left, and the wait that the feed gives.

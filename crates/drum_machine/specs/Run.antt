@@ -7,7 +7,8 @@ use Rattle.drum_times.specs.declared.entry.Entry.{Entry}
 use Rattle.drum_machine.specs.Contents.{Contents, word_at}
 use Rattle.drum_machine.specs.Step.{State, Stepped, on, stopped, step, MayWait, instruction_in}
 
--- a step of a run: where it begins, how long the card machine lets it wait, and where it ends
+-- a step of a run: where it begins, how long the card machine keeps it waiting, and where it
+-- ends
 pub record Stride : Type 0 where
   pub origin : State
   pub wait : ℕ
@@ -46,13 +47,14 @@ pub record IsWhole (c : Contents) : Type 0 where
   pub drum : length c.drum ≡ 2000
   pub accumulator : unsigned_abs c.accumulator < 10 ^ 20
 
--- A state in which a run may begin: at time 0, seeking this location from some angle, with the
--- deck's word at each of some locations that the deck loads. All else in it is free.
+-- A state in which a run may begin: at time 0, seeking this location from some angle, with contents
+-- within their limits, and with the deck's word at each of some locations that the deck loads. All
+-- else in it is free.
 pub record IsFirstState (loads : ℕ → Option Word) (Agreed : ℕ → Type 0) (start_location : ℕ)
     (s : State) : Type 0 where
   pub at_once : s.time ≡ 0
   pub seeks : s.sought ≡ start_location
-  pub angle : s.start < 50
+  pub angle : s.first_angle < 50
   pub whole : IsWhole s.contents
   pub agrees : (place : ℕ) (w : Word) → Agreed place → loads place ≡ Some w
       → word_at s.contents place ≡ w

@@ -21,46 +21,47 @@ counts_along marks counts [] = counts
 counts_along marks counts (edge ∷ edges) =
     counts_along marks (after_pass marks edge.from edge.onto counts) edges
 
--- the edge passes the mark at this place
+-- the edge passes the mark with this index
 abbrev pub Passes : List Mark → ℕ → Edge → Type 0
-Passes marks place edge = mark_on marks edge.from edge.onto ≡ Some place
+Passes marks index edge = mark_on marks edge.from edge.onto ≡ Some index
 
--- how many of these edges pass the mark at this place
+-- how many of these edges pass the mark with this index
 abbrev pub passes_of : List Mark → ℕ → List Edge → ℕ
-passes_of marks place edges =
-    count_by (λ edge. option_eq nat_eq (mark_on marks edge.from edge.onto) (Some place)) edges
+passes_of marks index edges =
+    count_by (λ edge. option_eq nat_eq (mark_on marks edge.from edge.onto) (Some index)) edges
 
--- the mark at the one place stands inside of the first of these, each of them inside of the next,
--- and the last inside of the mark at the other place; without any, the one inside of the other
+-- the mark with the one index stands inside of the first of these, each of them inside of the next,
+-- and the last inside of the mark with the other index; without any, the one inside of the other
 abbrev pub LeadsOut : List Mark → ℕ → List ℕ → ℕ → Type 0
 LeadsOut marks inner [] outer = outer_of (slice_get marks inner) ≡ Some outer
 LeadsOut marks inner (next ∷ nexts) outer =
     (outer_of (slice_get marks inner) ≡ Some next) × LeadsOut marks next nexts outer
 
--- the mark at the one place stands inside of the one at the other, directly or through others
+-- the mark with the one index stands inside of the one with the other index, directly or through
+-- others
 abbrev pub StandsInside : List Mark → ℕ → ℕ → Type 0
 StandsInside marks inner outer = (through : List ℕ) × LeadsOut marks inner through outer
 
--- the edge passes a mark that the one at this place stands inside of
+-- the edge passes a mark that the one with this index stands inside of
 abbrev pub Restarts : List Mark → ℕ → Edge → Type 0
-Restarts marks place edge =
-    (outer : ℕ) × Passes marks outer edge × StandsInside marks place outer
+Restarts marks index edge =
+    (outer : ℕ) × Passes marks outer edge × StandsInside marks index outer
 
 -- there is a last one of these edges, and it is such a one
 abbrev pub EndsIn : (Edge → Type 0) → List Edge → Type 0
 EndsIn Such edges =
     (earlier : List Edge) × (last : Edge) × (edges ≡ earlier ++ last ∷ []) × Such last
 
--- How often the mark at this place was passed: since the last of these edges that restarts its
+-- How often the mark with this index was passed: since the last of these edges that restarts its
 -- count, or since the beginning where none does.
-pub record IsCountSince (marks : List Mark) (place : ℕ) (edges : List Edge)
+pub record IsCountSince (marks : List Mark) (index : ℕ) (edges : List Edge)
     (count : ℕ) : Type 0 where
   pub before : List Edge
   pub since : List Edge
   pub split : edges ≡ before ++ since
-  pub begins : (before ≡ []) ⊎ EndsIn (Restarts marks place) before
-  pub unbroken : All (λ edge. ¬ Restarts marks place edge) since
-  pub counted : count ≡ passes_of marks place since
+  pub begins : (before ≡ []) ⊎ EndsIn (Restarts marks index) before
+  pub unbroken : All (λ edge. ¬ Restarts marks index edge) since
+  pub counted : count ≡ passes_of marks index since
 
 -- the edge that a step from a location takes, as a list of one, or of none where the step stops
 abbrev pub edge_by : ℕ → Stepped → List Edge
@@ -71,7 +72,7 @@ edge_by from (stopped held because moment) = []
 abbrev pub edges_of : List Stride → List Edge
 edges_of strides = flat_map (λ stride. edge_by stride.origin.sought stride.outcome) strides
 
--- the counts when the stride at a place begins
+-- the counts when the stride with this index begins
 abbrev pub counts_before : Notes → List Stride → ℕ → List ℕ
-counts_before notes strides place =
-    counts_along notes.marks (no_counts notes.marks) (edges_of (take place strides))
+counts_before notes strides index =
+    counts_along notes.marks (no_counts notes.marks) (edges_of (take index strides))

@@ -24,7 +24,7 @@ pub record State : Type 0 where
   -- the word times used
   pub time : ℕ
   -- the drum's angle at time 0
-  pub start : ℕ
+  pub first_angle : ℕ
 
 -- A step goes on to a state, or it stops: with what the machine that has stopped holds, why, and
 -- the word times used.
@@ -39,7 +39,7 @@ contents_after (stopped held because moment) = held
 
 -- the drum's clock at a time: its angle is what is left of it by 50
 abbrev pub clock_of : State → ℕ
-clock_of s = s.start + s.time
+clock_of s = s.first_angle + s.time
 
 -- the word that is fetched, and its instruction
 abbrev pub fetched : State → Word
@@ -60,34 +60,35 @@ has_cards (card ∷ cards) = true
 abbrev pub lacks_card : Op → Contents → Bool
 lacks_card op c = is_read op && not (has_cards c.cards)
 
--- what an outcome leaves at the clock at which the step ends
-abbrev pub leaves : State → ℕ → Outcome → Stepped
-leaves s clock (stops c because) = stopped c because (clock - s.start)
-leaves s clock (goes c next) =
-    let used = clock - s.start in
+-- the step of an outcome, at the clock at which the step ends
+abbrev pub stepped_by : State → ℕ → Outcome → Stepped
+stepped_by s clock (stops c because) = stopped c because (clock - s.first_angle)
+stepped_by s clock (goes c next) =
+    let used = clock - s.first_angle in
     if is_location next
-    then on (record { contents = c; sought = next; time = used; start = s.start })
+    then on (record { contents = c; sought = next; time = used; first_angle = s.first_angle })
     else stopped c why.Next used
 
--- The step of an operation, with a wait for the card machine: it stops at x if D isn't what the
--- operation wants, or if there is no card, and nothing changes; else it ends at e.
+-- The step of an operation, with a wait for the card machine: it stops when it is ready if D isn't
+-- what the operation wants, or if there is no card, and nothing changes; else it comes to its end.
 abbrev pub step_of : (Op → Entry) → State → ℕ → Op → Stepped
 step_of times s wait op =
     let ins = instruction_in s in
     let entry = times op in
     let x = ready entry s.sought (clock_of s) in
-    if not (is_operand (operand_of op) ins.d) then stopped s.contents why.Operand (x - s.start)
-    else (if lacks_card op s.contents then stopped s.contents why.Card (x - s.start)
+    if not (is_operand (operand_of op) ins.d)
+    then stopped s.contents why.Operand (x - s.first_angle)
+    else (if lacks_card op s.contents then stopped s.contents why.Card (x - s.first_angle)
     else
     (let units = units_of op ins.d s.contents in
-    leaves s (ended entry op ins.d s.sought units wait (clock_of s))
+    stepped_by s (ended entry op ins.d s.sought units wait (clock_of s))
     (effect s.contents op ins.d ins.i)))
 
--- a step, where the fetched operation may be outside the profile: then it stops at f, and nothing
--- changes
+-- a step, where the fetched operation may be outside the profile: then it stops when it is found,
+-- and nothing changes
 abbrev pub step_with : (Op → Entry) → State → ℕ → Option Op → Stepped
 step_with times s wait None =
-    stopped s.contents why.Operation (found s.sought (clock_of s) - s.start)
+    stopped s.contents why.Operation (found s.sought (clock_of s) - s.first_angle)
 step_with times s wait (Some op) = step_of times s wait op
 
 abbrev pub step : (Op → Entry) → State → ℕ → Stepped

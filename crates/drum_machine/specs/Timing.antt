@@ -1,5 +1,7 @@
--- The moments of a step. That a drum word is had at its angle is in the IBM 650 Manual of
--- Operation; nothing else here is. A clock counts word times from a moment of angle 0 on.
+-- The moments of a step, as the drum's clock shows them: the angle at time 0, and the word times
+-- since then. (docs/MACHINE.md counts them from time 0; its f, x, d and e are `found`, `ready`,
+-- `reached` and `ended` here, and the parameter `d` is the data address.) That a drum word is had
+-- at its angle is in the IBM 650 Manual of Operation; nothing else here is.
 use Rattle.std.specs.Prelude.{◌≡◌, ℕ, zero, suc, ◌+◌, ◌*◌, ◌/◌, ◌%◌, ◌≤◌, Bool, true, false}
 use Rattle.std.specs.Prelude.{if◌then◌else◌}
 use Rattle.drum_core.specs.declared.op.Op.{Op}
@@ -12,11 +14,11 @@ use Rattle.drum_times.specs.declared.entry.Entry.{Entry}
 use Rattle.drum_machine.specs.Contents.{Contents, upper, word_at}
 use Rattle.drum_machine.specs.Effect.{places, quotient, is_too_large}
 
--- f: the first moment at which the location can be had
+-- when the instruction is found: the first moment at which its location can be had
 abbrev pub found : ℕ → ℕ → ℕ
 found location clock = first (is_available location) clock
 
--- x
+-- when the instruction is ready
 abbrev pub ready : Entry → ℕ → ℕ → ℕ
 ready entry location clock = found location clock + entry.before
 
@@ -31,12 +33,12 @@ waits_for_operand (Store s) = true
 waits_for_operand LoadDistributor = true
 waits_for_operand _ = false
 
--- d, from x
+-- when its data is reached, from the moment at which it is ready
 abbrev pub reached : Op → ℕ → ℕ → ℕ
-reached op d x = if waits_for_operand op then found d x else x
+reached op d clock = if waits_for_operand op then found d clock else clock
 
--- e: from the first moment of the entry's parity on, what the operation takes, with its units and
--- its wait
+-- when it has ended: from the first moment of the entry's parity on, what the operation takes, with
+-- its units and its wait
 abbrev pub ended : Entry → Op → ℕ → ℕ → ℕ → ℕ → ℕ → ℕ
 ended entry op d location units wait clock =
     first (has_parity entry.parity) (reached op d (ready entry location clock)) + entry.after
@@ -62,7 +64,8 @@ units_of _ d c = 0
 
 -- No step takes more word times: 49 until the instruction is found, 1,000,000 before its
 -- data is sought, 49 until that is found, 1 for the parity, 1,000,000 after it, and 90 units (the
--- digit sum of ten nines) of 1,000,000 each.
+-- digit sum of ten nines) of 1,000,000 each. (A wait for the card machine, 1,000,000 at most, comes
+-- only where there are no units.)
 abbrev pub longest_step : ℕ
 longest_step = 49 + 1000000 + 49 + 1 + 1000000 + 90 * 1000000
 

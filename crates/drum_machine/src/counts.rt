@@ -9,7 +9,7 @@ use drum_core::Location;
 use drum_times::Mark;
 
 /// How often each mark was passed since the last pass of one that it stands inside of, by the
-/// marks' places. The counts past the last mark mean nothing.
+/// marks' indices. The counts past the last mark mean nothing.
 #[derive(Clone, Copy, Debug)]
 pub struct Counts {
     pub passes: [u16; Mark::MOST],

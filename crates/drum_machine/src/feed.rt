@@ -4,16 +4,16 @@ ghost use Rattle.std.specs.Prelude.{◌≡◌, ◌&&◌, is_some};
 ghost use Rattle.drum_machine.specs.Registers.{cards_before};
 ghost use Rattle.drum_machine.specs.Step.{is_read as read_is, has_cards};
 ghost use Rattle.drum_machine.specs.Timing.{IsWait};
-ghost use Rattle.drum_machine.specs.Feed.{is_load as load_of, cards_left, waits_left, card_for};
-ghost use Rattle.drum_machine.specs.Feed.{cards_after, wait_for, waits_after};
+ghost use Rattle.drum_machine.specs.Fed.{is_load as load_of, card_for, cards_after, wait_for, waits_after};
+ghost use Rattle.drum_machine.specs.Feed.{cards_left, waits_left};
 
 use crate::card::Card;
 use drum_core::Op;
 use drum_times::Entry;
 use std::vec::IntoIter;
 
-/// What the card machine is fed with: cards for the reader, and how long it lets the machine wait.
-/// The waits are given one by one.
+/// What the card machine is fed with: cards for the reader, and how long it keeps the machine
+/// waiting. The waits are given one by one.
 #[derive(Debug, Drop)]
 pub struct Feed {
     cards: IntoIter<Card>,
@@ -46,8 +46,8 @@ impl Feed {
         }
     }
 
-    /// The wait of an operation: for 70 and 71 the nearest to the next one that is in the entry's
-    /// range, or the range's longest where none is left; for others none.
+    /// The wait of an operation: for 70 and 71 the number in the entry's range that is nearest to
+    /// the next wait, or the greatest in the range where no wait is left; for others none.
     pub(crate) fn take_wait(&mut self, op: Op, entry: Entry) -> u32
         ensures wait { result ≡ wait_for op entry (waits_left self.old) }
         ensures waits { waits_left self.new ≡ waits_after op (waits_left self.old) }

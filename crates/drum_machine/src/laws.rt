@@ -41,7 +41,7 @@ pub fn ends_then()
     ensures { (times : Op → Entry) (s : State) (wait : ℕ) (op : Op)
         → op_of (instruction_in s).op ≡ Some op
         → let d = (instruction_in s).d in
-        s.start + time_after (step times s wait)
+        s.first_angle + time_after (step times s wait)
         ≡ clock_by (ended_by (step times s wait)) (ready (times op) s.sought (clock_of s))
         (ended (times op) op d s.sought (units_of op d s.contents) wait (clock_of s)) }
 {}

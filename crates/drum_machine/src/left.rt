@@ -3,7 +3,7 @@ use drum_core::{Location, Word};
 /// How a run left the notes.
 #[derive(Clone, Copy, Debug, PartialEq, Eq)]
 pub enum Left {
-    /// The word fetched at a listed location isn't allowed there.
+    /// The word fetched at a location with a list is neither on the list nor the deck's own there.
     Unlisted(Location, Word),
     /// The mark from the one location to the other was passed more often than it allows.
     TooOften(Location, Location),

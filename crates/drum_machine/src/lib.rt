@@ -1,15 +1,16 @@
 //! The timed machine: what a step does and when, what a run is, and when a run keeps to the notes.
 //!
-//! Code, from the bottom up. `setup` and `feed` are what a machine is given; a `card` is for its
-//! reader. `first_drum` is its drum at time 0. `arithmetic` has sums, products, quotients, digit
-//! sums, and how many places a shift goes. `registers` has what each operation does, and the units
-//! of its work. `chain` is what takes time in a step, one after the other; the analysis goes
-//! through it too. `moments` says when, by the parts of that chain. `machine` takes the steps. A
-//! `step` is what it answers, a `stop` that it has stopped, and `why` the reason. `memory` is that
-//! memory was wanted. `ways` has how a step of an instruction may end, and `written` which drum
-//! words it writes. `passes` is what the pass of a mark does to each count. `counts` is how often
-//! marks are passed, and that a full mark isn't passed again; the analysis counts with it too.
-//! `left` is how a run left the notes. `laws` has laws of the definitions.
+//! Code, from the bottom up. `setup` and `feed` are what a machine is given; of the feed the next
+//! card and the next wait are taken. A `card` is for the reader. `first_drum` is its drum at time
+//! 0. `arithmetic` has sums, products, quotients, digit sums, and how many places a shift goes.
+//! `registers` has what each operation does, and the units of its work. `chain` is what takes time
+//! in a step, one after the other; the analysis goes through it too. `moments` says when, by the
+//! parts of that chain. `machine` takes the steps. A `step` is what it answers, a `stop` that it
+//! has stopped, and `why` the reason. `memory` is that memory was wanted. `ways` has how a step of
+//! an instruction may end, and `written` which drum words it writes. `passes` is what the pass of a
+//! mark does to each count. `counts` is how often marks are passed (of as many as `Mark::MOST`
+//! says), and that a full mark isn't passed again; the analysis counts with it too. `left` is how a
+//! run left the notes. `laws` has laws of the definitions.
 //!
 //! Definitions, in the order to read them: `Contents` (what a machine holds), `Effect` (what an
 //! operation does to it, and which stop it meets), `Timing` (the moments of a step: when its word
@@ -17,8 +18,9 @@
 //! Then `Counts` (how often marks are passed), `Since` (what these counts are, over all edges of a
 //! run) and `Keeps` (when a run keeps to the notes, and which way of leaving them comes first).
 //! Then `Writes` and `Ways`, which the flow graph is made of, and `Ending`, by which way a step
-//! ended. The others say what the code's types mean by these: `Registers`, `Feed`, `Setup`,
-//! `FirstState`, `Machine`, `CountsIn`, `WaysLeft`.
+//! ended. Of a replay's run: `Setup` and `FirstState` (how it begins) and `Fed` (which cards and
+//! waits its steps take). The others say what the code's types mean by these: `Registers`, `Feed`,
+//! `Machine`, `CountsIn`, `WaysLeft`.
 //!
 //! Proofs. `Checks` (single steps with their times), `Effects` and `Marks` evaluate the
 //! definitions. These have laws that other crates use: `Alone`, which drum words stay (it stands on

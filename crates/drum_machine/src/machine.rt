@@ -40,11 +40,12 @@ impl Machine {
     ghost use Rattle.drum_machine.specs.declared.card.Card.{Card};
     ghost use Rattle.drum_machine.specs.declared.step.Step.TheVariants as Step;
     ghost use Rattle.drum_machine.specs.Timing.{longest_step, ready as ready_at};
-    ghost use Rattle.drum_machine.specs.Step.{State, leaves, fetched, instruction_in};
+    ghost use Rattle.drum_machine.specs.Step.{State, stepped_by, fetched, instruction_in};
     ghost use Rattle.drum_machine.specs.Registers.{contents_with, outcome_of};
     ghost use Rattle.drum_machine.specs.Machine.{held_by, GoesOn, HasStopped, sought_by, used_by};
     ghost use Rattle.drum_machine.specs.Machine.{Tells, Becomes, TakesStep, WritesAlone};
-    ghost use Rattle.drum_machine.specs.Machine.{EndsByAWay, state_in, op_in, punched_by};
+    ghost use Rattle.drum_machine.specs.Fed.{op_in};
+    ghost use Rattle.drum_machine.specs.Machine.{EndsByAWay, state_in, punched_by};
 
     /// A machine at time 0: it seeks the deck's start; it has the setup's angle, registers, latch
     /// and switches, and no remainder's sign; its drum has the deck's words, elsewhere the setup's,
@@ -178,13 +179,13 @@ impl Machine {
     ) -> Step
         requires on_time { self.old.start ≤ clock }
         requires runs { self.old.stop ≡ None }
-        ensures tells { (s : State) (cards : List Card) → s.start ≡ self.old.start
+        ensures tells { (s : State) (cards : List Card) → s.first_angle ≡ self.old.start
             → let acts = outcome_of acted (contents_with self.old.registers cards) in
-            Tells (leaves s clock acts) self.old.sought word load punched result }
+            Tells (stepped_by s clock acts) self.old.sought word load punched result }
         ensures used { self.new.used ≡ clock - self.old.start }
-        ensures becomes { (s : State) (cards : List Card) → s.start ≡ self.old.start
+        ensures becomes { (s : State) (cards : List Card) → s.first_angle ≡ self.old.start
             → let acts = outcome_of acted (contents_with self.old.registers cards) in
-            Becomes (leaves s clock acts) self.old.sought word self.new cards }
+            Becomes (stepped_by s clock acts) self.old.sought word self.new cards }
     {
         let next = match acted {
             Ok(next) => next,

@@ -6,7 +6,7 @@ ghost use Rattle.drum_machine.specs.Counts as counted;
 
 use drum_times::Mark;
 
-/// The place of the mark that the one at a place stands inside of.
+/// The index of the mark that the one with this index stands inside of.
 fn outer_of(marks: &[Mark], place: usize) -> Option<usize>
     ensures { result ≡ counted.outer_of (slice_get marks.now place) }
 {
@@ -16,8 +16,8 @@ fn outer_of(marks: &[Mark], place: usize) -> Option<usize>
     marks[place].inside
 }
 
-/// Whether the mark at one place of the notes stands inside the one at another, directly or through
-/// others; a place past the last mark stands inside none.
+/// Whether the mark with one index in the notes stands inside that with another, directly or
+/// through others; an index past the last mark stands inside none.
 pub fn is_inside(marks: &[Mark], inner: usize, outer: usize) -> bool
     ensures { result ≡ counted.is_inside marks.now inner outer }
 {
@@ -34,7 +34,7 @@ pub fn is_inside(marks: &[Mark], inner: usize, outer: usize) -> bool
     false
 }
 
-/// The count of the mark at a place after a pass of another, or of itself.
+/// The count of the mark with this index after a pass of another, or of itself.
 fn count_after(marks: &[Mark], passed: usize, place: usize, count: u16) -> u16
     requires { place ≡ passed → count ≤ 9999 }
     ensures { result ≡ (if place == passed then count + 1
@@ -49,7 +49,7 @@ fn count_after(marks: &[Mark], passed: usize, place: usize, count: u16) -> u16
     }
 }
 
-/// Counts a pass of the mark at a place.
+/// Counts a pass of the mark with this index.
 pub fn count_pass(counts: &mut [u16; Mark::MOST], marks: &[Mark], passed: usize)
     requires few { length marks.now ≤ 8 }
     requires inside { passed < length marks.now }

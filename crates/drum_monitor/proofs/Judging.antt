@@ -24,7 +24,7 @@ use Rattle.drum_machine.specs.Keeps.{is_load}
 use Rattle.drum_machine.specs.Machine.{Tells}
 use Rattle.drum_machine.specs.Run.{Stride}
 use Rattle.drum_machine.specs.Step.{State, Stepped, on, stopped, step, step_of, step_with, fetched, instruction_in}
-use Rattle.drum_machine.specs.Step.{leaves, lacks_card, has_cards, clock_of}
+use Rattle.drum_machine.specs.Step.{stepped_by, lacks_card, has_cards, clock_of}
 use Rattle.drum_core.specs.Location.{is_location}
 use Rattle.drum_machine.specs.Contents.{Contents}
 use Rattle.drum_machine.specs.Effect.{goes, reads}
@@ -78,7 +78,7 @@ and_false : (a : Bool) → (a && false) ≡ false
 and_false true = refl
 and_false false = refl
 
-on_there : (s : State) (end : ℕ) (c : Contents) (next : ℕ) → is_location next ≡ true → IsOn (leaves s end (goes c next))
+on_there : (s : State) (end : ℕ) (c : Contents) (next : ℕ) → is_location next ≡ true → IsOn (stepped_by s end (goes c next))
 on_there s end c next there = rw there tt
 
 on_drum : (d : ℕ) → nat_lt d 2000 ≡ true → is_location d ≡ true
@@ -104,7 +104,7 @@ read_stops times s wait held why moment (card ∷ cards) true true same at loads
     let read = ap (λ (left : List Card). reads s.contents left (instruction_in s).d (instruction_in s).i) same in
     let onto = ap (λ (is : Bool). if is then (instruction_in s).d else (instruction_in s).i) loads in
     let goes : IsOn (step_of times s wait Read) =
-    subst IsOn (sym (past ∙ ap (leaves s end) read))
+    subst IsOn (sym (past ∙ ap (stepped_by s end) read))
     (on_there s end _ (if card.load then (instruction_in s).d else (instruction_in s).i)
     (ap is_location onto ∙ on_drum (instruction_in s).d at)) in
     absurd (subst IsOn stops goes)

@@ -9,7 +9,7 @@ use Rattle.drum_machine.specs.declared.left.Left.{Left}
 use Rattle.drum_monitor.specs.declared.monitor.Monitor.{Monitor}
 use Rattle.drum_machine.specs.Counts.{no_counts, AreWithin}
 use Rattle.drum_machine.specs.Keeps.{AreKept, IsKeptStride, Leaves, counts_after}
-use Rattle.drum_monitor.specs.Monitor.{counts_in, HasSeen}
+use Rattle.drum_monitor.specs.Monitor.{counts_in, HasSeenKept}
 use Rattle.drum_machine.specs.Keeps.{counts_over}
 use Rattle.drum_machine.specs.Run.{Stride}
 
@@ -38,11 +38,11 @@ over_more notes counts (first ∷ strides) stride = over_more notes (counts_afte
 
 -- one stride more is seen, or leaves the notes
 pub seen_more : (loads : ℕ → Option Word) (notes : Notes) (m n : Monitor) (strides : List Stride) (stride : Stride)
-    (left : Option Left) → HasSeen loads notes m strides
+    (left : Option Left) → HasSeenKept loads notes m strides
     → MatchOption left (AreWithin notes.marks (counts_in m notes) → IsKeptStride loads notes (counts_in m notes) stride
     × (counts_in n notes ≡ counts_after notes (counts_in m notes) stride))
     (λ l. Leaves loads notes (counts_in m notes) stride l)
-    → MatchOption left (HasSeen loads notes n (strides ++ stride ∷ []))
+    → MatchOption left (HasSeenKept loads notes n (strides ++ stride ∷ []))
     (λ l. Leaves loads notes (counts_over notes (no_counts notes.marks) strides) stride l)
 seen_more loads notes m n strides stride None seen judged =
     let within : AreWithin notes.marks (counts_in m notes) =

@@ -17,8 +17,8 @@ answer_of m = m.left
 abbrev pub counts_in : Monitor → Notes → List ℕ
 counts_in m notes = held.counts_in m.counts notes.marks
 
--- a monitor has seen these strides, which keep to the notes
-pub record HasSeen (loads : ℕ → Option Word) (notes : Notes) (m : Monitor)
+-- a monitor has seen these strides, all of which keep to the notes, and holds their counts
+pub record HasSeenKept (loads : ℕ → Option Word) (notes : Notes) (m : Monitor)
     (strides : List Stride) : Type 0 where
   pub counts : counts_in m notes ≡ counts_over notes (no_counts notes.marks) strides
   pub kept : AreKept loads notes (no_counts notes.marks) strides

@@ -58,7 +58,7 @@ impl Monitor {
     ghost use Rattle.drum_machine.specs.Run.{Stride};
     ghost use Rattle.drum_machine.specs.Counts.{after_pass, no_counts, AreWithin};
     ghost use Rattle.drum_machine.specs.CountsIn.{counts_in as counts_of};
-    ghost use Rattle.drum_monitor.specs.Monitor.{answer_of, counts_in, HasSeen};
+    ghost use Rattle.drum_monitor.specs.Monitor.{answer_of, counts_in, HasSeenKept};
     ghost use Rattle.drum_machine.specs.Keeps.{counts_over};
     ghost use Rattle.drum_machine.specs.Machine.{IsToldOf};
 
@@ -69,7 +69,7 @@ impl Monitor {
             (IsAsDeclared notes.now.programmed setup.now.programmed)
             (λ left. (left ≡ Left.Switch)
             × ¬ IsAsDeclared notes.now.programmed setup.now.programmed) }
-        ensures seen { (loads : ℕ → Option Word) → HasSeen loads notes.now result [] }
+        ensures seen { (loads : ℕ → Option Word) → HasSeenKept loads notes.now result [] }
     {
         prove!(notes.marks().len() <= Mark::MOST);
         let left = if is_as_declared(notes.programmed(), setup.programmed) {
@@ -146,10 +146,10 @@ impl Monitor {
         ensures answered { result ≡ answer_of self.new }
         ensures judged { answer_of self.old ≡ None
             → (times : Op → Entry) (strides : List Stride) (stride : Stride)
-            → HasSeen (loads_in deck.now) notes.now self.old strides
+            → HasSeenKept (loads_in deck.now) notes.now self.old strides
             → IsToldOf times stride step.now
             → MatchOption result
-            (HasSeen (loads_in deck.now) notes.now self.new (strides ++ stride ∷ []))
+            (HasSeenKept (loads_in deck.now) notes.now self.new (strides ++ stride ∷ []))
             (λ left. let counts = counts_over notes.now (no_counts notes.now.marks) strides in
             Leaves (loads_in deck.now) notes.now counts stride left) }
         ensures stays { (left : LeftType) → answer_of self.old ≡ Some left

@@ -62,9 +62,8 @@ fn draw_walk(
 
 /// The picture of an analysis, an SVG document: the drum with the words of the deck and the edges
 /// of the worst walk between them, revolutions of the walk, and where all its word times go.
-/// It is well-formed and has some hundred thousand bytes at most, whatever analysis, deck and
-/// timing table are handed in; it means something where the analysis is of this deck and timing
-/// table.
+/// It means something where the analysis is of this deck and timing table. No clause says what it
+/// is: that it is well-formed, and has some hundred thousand bytes at most, is tested.
 ///
 /// # Errors
 ///

@@ -8,9 +8,10 @@
 //! `operations` tells what stands at a location, and `rows` which revolutions are shown. The drum
 //! is drawn by `drum`, with `rings`, `word`, `labels`, `curves` and `beside` (8000 to 8003), over
 //! `point`, where angles become points. The walk is drawn a revolution a row by `revolutions`, with
-//! `spans`. `page` has what stands around them: the heading and the keys. `bar` draws where the
-//! word times go, with their percentages. `ink` has the colours. `scale` (a share of a length) and
-//! `tenths` (a number with one decimal place) serve them all.
+//! `spans` (the parts of a hop; how wide a word time is, and how far apart the rows are). `page`
+//! has what stands around them: the heading and the keys. `bar` draws where the word times go, with
+//! their percentages. `ink` has the colours. `scale` (a share of a length) and `tenths` (a number
+//! with one decimal place) serve them all.
 #![tactic(auto)]
 
 mod bar;

@@ -50,7 +50,7 @@ pub struct Tallies {
     all: Vec<Tally>,
 }
 
-/// The place of a location's tally.
+/// The index of a location's tally.
 fn place_of(location: Location) -> usize {
     let number = usize::from(location.number());
     if number < usize::from(Location::DRUM) {

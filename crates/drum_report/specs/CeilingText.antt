@@ -14,7 +14,7 @@ price_line mark passes price =
     codes "mark " ++ digits_of 4 mark.from.number ++ codes " " ++ digits_of 4 mark.onto.number
     ++ codes " passes " ++ decimal passes ++ codes " price " ++ decimal price ++ codes "\n"
 
--- the same of a mark at its place in the notes, with what the ceiling has there
+-- the same of a mark with its index in the notes, with what the ceiling has there
 abbrev pub price_line_at : Ceiling → ℕ × Mark → List ℕ
 price_line_at ceiling noted =
     price_line noted.1 (slice_index (passes_in ceiling) noted.0)

@@ -46,7 +46,7 @@ fn send_price<O: Output>(
     send(writer, sent, &pieces)
 }
 
-/// Writes the lines of marks, each with what the ceiling has at its place.
+/// Writes the lines of marks, each with what the ceiling has at its index.
 fn send_prices<O: Output>(
     writer: &mut O,
     marks: &[Mark],

@@ -38,18 +38,19 @@ HaveOwnLocations [] = Unit {0}
 HaveOwnLocations (list ∷ lists) =
     (list_any (λ other. list.location == other.location) lists ≡ false) × HaveOwnLocations lists
 
--- an outer mark, if there is one, stands before this place
+-- an outer mark, if there is one, stands before this index
 abbrev pub IsEarlier : ℕ → Option ℕ → Type 0
-IsEarlier place None = Unit {0}
-IsEarlier place (Some outer) = outer < place
+IsEarlier index None = Unit {0}
+IsEarlier index (Some outer) = outer < index
 
--- each mark, the first of which has this place, stands inside of an earlier one, if of any
+-- each mark, the first of which has this index, stands inside of an earlier one or of none
 abbrev pub StandInEarlier : ℕ → List Mark → Type 0
-StandInEarlier place [] = Unit {0}
-StandInEarlier place (mark ∷ marks) = IsEarlier place mark.inside × StandInEarlier (place + 1) marks
+StandInEarlier index [] = Unit {0}
+StandInEarlier index (mark ∷ marks) = IsEarlier index mark.inside × StandInEarlier (index + 1) marks
 
--- What is so of all notes: at most 8 marks, each with an edge of its own, and inside of an earlier
--- one if of any; lists for locations, each with one of its own, and from 1 to 64 patterns.
+-- What holds of all notes. There are at most 8 marks; no two have one edge, and each stands inside
+-- of an earlier mark or of none. Each list is for a location, no two are for the same one, and each
+-- has 1 to 64 patterns.
 pub record AreSound (notes : Notes) : Type 0 where
   pub few_marks : length notes.marks ≤ 8
   pub own_edges : HaveOwnEdges notes.marks

@@ -7,11 +7,11 @@ use Rattle.drum_times.specs.declared.notes.mark.Mark.{Mark}
 abbrev pub is_on : Mark → ℕ → ℕ → Bool
 is_on mark from onto = mark.from.number == from && mark.onto.number == onto
 
--- the place of the mark on an edge, if there is one, the first of these marks having this place
+-- the index of the mark on an edge, if there is one, the first of these marks having this index
 abbrev pub mark_from : ℕ → List Mark → ℕ → ℕ → Option ℕ
-mark_from place [] from onto = None
-mark_from place (mark ∷ marks) from onto =
-    if is_on mark from onto then Some place else mark_from (place + 1) marks from onto
+mark_from index [] from onto = None
+mark_from index (mark ∷ marks) from onto =
+    if is_on mark from onto then Some index else mark_from (index + 1) marks from onto
 
 abbrev pub mark_on : List Mark → ℕ → ℕ → Option ℕ
 mark_on marks from onto = mark_from 0 marks from onto

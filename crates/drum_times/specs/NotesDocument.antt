@@ -33,20 +33,20 @@ list_keys = codes "location" ∷ codes "pattern" ∷ []
 abbrev pub pattern_keys : List (List ℕ)
 pattern_keys = codes "op" ∷ codes "d_from" ∷ codes "d_to" ∷ codes "i" ∷ []
 
--- the outer mark, by its place: none without the key, which holds the number of an earlier mark,
+-- the outer mark, by its index: none without the key, which holds the number of an earlier mark,
 -- counted from 1
 abbrev pub HasInside : ℕ → Members → Option ℕ → Type 0
-HasInside place fields None = get_member (codes "inside") fields ≡ None
-HasInside place fields (Some outer) = HasNumber fields (codes "inside") (outer + 1)
-    × (outer < place)
+HasInside index fields None = get_member (codes "inside") fields ≡ None
+HasInside index fields (Some outer) = HasNumber fields (codes "inside") (outer + 1)
+    × (outer < index)
 
--- The table says this mark, the one at this place, from 0.
-pub record IsMark (place : ℕ) (fields : Members) (mark : Mark) : Type 0 where
+-- The table says this mark, the one with this index, from 0.
+pub record IsMark (index : ℕ) (fields : Members) (mark : Mark) : Type 0 where
   pub only : unknown_in [] mark_keys fields ≡ []
   pub from : HasNumber fields (codes "from") mark.from.number
   pub onto : HasNumber fields (codes "to") mark.onto.number
   pub most : HasNumber fields (codes "most") mark.most
-  pub inside : HasInside place fields mark.inside
+  pub inside : HasInside index fields mark.inside
 
 -- The table says this pattern.
 pub record IsPattern (fields : Members) (pattern : Pattern) : Type 0 where
@@ -56,17 +56,17 @@ pub record IsPattern (fields : Members) (pattern : Pattern) : Type 0 where
   pub d_to : HasNumber fields (codes "d_to") pattern.d_to
   pub i : HasNumber fields (codes "i") pattern.i
 
--- the value is a table that says this, the element at this place
+-- the value is a table that says this, the element with this index
 abbrev pub IsTable : {A : Type 0} → (ℕ → Members → A → Type 0) → ℕ → Data → A → Type 0
-IsTable Say place value one = (fields : Members) × (value ≡ table fields) × Say place fields one
+IsTable Say index value one = (fields : Members) × (value ≡ table fields) × Say index fields one
 
--- the elements are tables that say these values, the first of which has this place
+-- the elements are tables that say these values, the first of which has this index
 abbrev pub AreTables : {A : Type 0} → (ℕ → Members → A → Type 0) → ℕ → Items → List A → Type 0
-AreTables Say place no_items [] = Unit {0}
-AreTables Say place (item value items) (one ∷ more) = IsTable Say place value one
-    × AreTables Say (place + 1) items more
-AreTables Say place no_items (one ∷ more) = ⊥
-AreTables Say place (item value items) [] = ⊥
+AreTables Say index no_items [] = Unit {0}
+AreTables Say index (item value items) (one ∷ more) = IsTable Say index value one
+    × AreTables Say (index + 1) items more
+AreTables Say index no_items (one ∷ more) = ⊥
+AreTables Say index (item value items) [] = ⊥
 
 -- an array of tables that say these values; without it there are none
 abbrev pub AreFound : {A : Type 0} → (ℕ → Members → A → Type 0) → Option Data → List A → Type 0
@@ -192,7 +192,8 @@ notes_checks document =
     ∷ location_faults [] (map (number_at (codes "location")) (tables_at (codes "list") document))
     ∷ []
 
--- The faults of a document, in their order. The first is why it is refused, and what follows it has
--- no meaning.
+-- The faults of a document, in their order. The first is why it is refused. A later one may be
+-- none: where a table doesn't give an edge or a location, 0 stands for it here. (`all_notes_faults`
+-- has those that are faults.)
 abbrev pub notes_faults : Members → List Fault
 notes_faults document = in_turn (notes_checks document)

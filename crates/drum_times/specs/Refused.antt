@@ -34,7 +34,7 @@ IsFirst faults (TwoMarks from onto) = Begin faults (two_marks from.number onto.n
 IsFirst faults (TwoLists location) = Begin faults (two_lists location.number)
 
 -- Why bytes are refused, where `faults_of` gives the faults of a document: they are no document, or
--- they are one, and this is its first fault.
+-- they are one, and this is its first fault. (Or there is no memory, whatever the bytes are.)
 abbrev pub IsRefused : (Members → List Fault) → List ℕ → NoteFault → Type 0
 IsRefused faults_of bytes Memory = Unit {0}
 IsRefused faults_of bytes Toml = (document : Members) → ¬ IsDocument bytes document

@@ -124,8 +124,8 @@ operations_faults (table operations) =
     ++ flat_map (operation_faults operations) ops
 operations_faults _ = kind (codes "op") ∷ []
 
--- The faults of a document, in their order. The first is why it is refused, and what follows it has
--- no meaning.
+-- The faults of a document, in their order. The first is why it is refused, and a check reports
+-- them all.
 abbrev pub times_faults : Members → List Fault
 times_faults document =
     unknown_in [] (codes "op" ∷ []) document

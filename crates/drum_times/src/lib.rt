@@ -8,13 +8,13 @@
 //! by itself, `document/values` at the values of keys, `document/tables` at arrays of tables.
 //! `entry` is a row of the timing table. `times` is the table, which `times/read` and
 //! `times/read_entry` read. `notes` is what notes answer. Its folder has the types that they are
-//! made of: `notes/mark` (which knows its edge, and which of some marks stands on one),
-//! `notes/listing`, `notes/pattern` and `notes/programmed`. `notes/read`, `notes/read_mark` and
-//! `notes/read_list` read them, and `notes/repeated` looks last for edges and locations that stand
-//! there twice. A check wants all faults. `document/faults` and `document/table_faults` gather
-//! those of tables; `times/faults` and `notes/faults` (with `notes/repeated_faults`) those of a
-//! document. `complaint` has what `toml` says of bytes that are no document. `laws` has laws of the
-//! definitions.
+//! made of: `notes/mark` (which knows its edge, which of some marks stands on one, and how many
+//! there may be), `notes/listing`, `notes/pattern` and `notes/programmed`. `notes/read`,
+//! `notes/read_mark` and `notes/read_list` read them, and `notes/repeated` looks last for edges and
+//! locations that stand there twice. A check wants all faults. `document/faults` and
+//! `document/table_faults` gather those of tables; `times/faults` and `notes/faults` (with
+//! `notes/repeated_faults`) those of a document. `complaint` has what `toml` says of bytes that are
+//! no document. `laws` has laws of the definitions.
 //!
 //! Definitions, in the order to read them: `Document` has what both documents share, the faults of
 //! a table first of all. `TimesDocument` and `NotesDocument` say what each document says, and its

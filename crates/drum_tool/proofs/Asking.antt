@@ -12,12 +12,12 @@ use Rattle.drum_lines.specs.declared.status.Status as statuses
 use Rattle.drum_lines.specs.FaultStatus.{reads_failed}
 use Rattle.drum_tool.specs.declared.documents.Documents.{Documents}
 use Rattle.drum_tool.specs.Asked.{AreLookedAt, AreLookedAtUpTo, Asked, AsksFor, IsLookedAt, IsOfText, IsRead, Looks, MayWant}
-use Rattle.drum_tool.specs.Asked.{Named, Reading, failures_told, fault_in, most_of, part_of, reading}
+use Rattle.drum_tool.specs.Asked.{NamedFile, Reading, failures_told, fault_in, most_of, part_of, reading}
 use Rattle.drum_tool.specs.Asked.{returned, sought}
 use Rattle.drum_tool.specs.Documents.{setting_of}
 use Rattle.drum_tool.specs.Files.{AreTold, FilesTold, Held, behind}
 use Rattle.drum_tool.specs.Replay.{Given}
-use Rattle.drum_tool.specs.Reply.{IsLineOf, LooksAsTold, Reply, SaysTrace, SaysStrides, cut_reply, fault_reply}
+use Rattle.drum_tool.specs.Reply.{IsLineOfFault, LooksAsTold, Reply, SaysTrace, SaysStrides, cut_reply, fault_reply}
 use Rattle.drum_tool.specs.Reply.{lists, says, trace_reply}
 
 -- what is asked is also something else
@@ -121,31 +121,31 @@ met_or_past (inr past) = inr (inl past)
 -- ---- the files of a command
 
 -- nothing is wrong with one file, and the others come to this
-pub looked_well : (one : Named) (others : List Named) (before between after : Option (List Asked))
+pub looked_well : (one : NamedFile) (others : List NamedFile) (before between after : Option (List Asked))
     → AsksFor before between (IsLookedAt one.part one.name None) → AsksFor between after (AreLookedAt others)
     → AsksFor before after (AreLookedAt (one ∷ others))
 looked_well one others before between after first later =
     asks_then before between after _ _ _ (λ asked more is are. (asked, more, refl, is, are)) first later
 
-pub looked_first : (one : Named) (others : List Named) (told : Fault) (before between after : Option (List Asked))
+pub looked_first : (one : NamedFile) (others : List NamedFile) (told : Fault) (before between after : Option (List Asked))
     → AsksFor before between (IsLookedAt one.part one.name None) → AsksFor between after (AreLookedAtUpTo others told)
     → AsksFor before after (AreLookedAtUpTo (one ∷ others) told)
 looked_first one others told before between after first later =
     asks_then before between after _ _ _ (λ asked more is are. inr (asked, more, refl, is, are)) first later
 
 -- one is the last, or has the fault
-pub looked_last : (one : Named) (before after : Option (List Asked))
+pub looked_last : (one : NamedFile) (before after : Option (List Asked))
     → AsksFor before after (IsLookedAt one.part one.name None) → AsksFor before after (AreLookedAt (one ∷ []))
 looked_last one before after asks =
     asks_as before after _ _ (λ asked is. (asked, [], sym (append-nil asked), is, refl)) asks
 
-pub looked_faulty : (one : Named) (others : List Named) (told : Fault) (before after : Option (List Asked))
+pub looked_faulty : (one : NamedFile) (others : List NamedFile) (told : Fault) (before after : Option (List Asked))
     → AsksFor before after (IsLookedAt one.part one.name (Some told))
     → AsksFor before after (AreLookedAtUpTo (one ∷ others) told)
 looked_faulty one others told before after asks = asks_as before after _ _ (λ asked is. inl is) asks
 
 -- other files come behind
-well_then : (files others : List Named) (first later : List Asked) → AreLookedAt files first → AreLookedAt others later
+well_then : (files others : List NamedFile) (first later : List Asked) → AreLookedAt files first → AreLookedAt others later
     → AreLookedAt (files ++ others) (first ++ later)
 well_then [] others first later are is =
     subst (λ (asked : List Asked). AreLookedAt others (asked ++ later)) (sym are) is
@@ -157,7 +157,7 @@ well_then (file ∷ files) others first later are is = (
   well_then files others are.1 later are.4 is,
 )
 
-upto_then : (files others : List Named) (told : Fault) (first later : List Asked) → AreLookedAt files first
+upto_then : (files others : List NamedFile) (told : Fault) (first later : List Asked) → AreLookedAt files first
     → AreLookedAtUpTo others told later → AreLookedAtUpTo (files ++ others) told (first ++ later)
 upto_then [] others told first later are is =
     subst (λ (asked : List Asked). AreLookedAtUpTo others told (asked ++ later)) (sym are) is
@@ -169,14 +169,14 @@ upto_then (file ∷ files) others told first later are is = inr (
   upto_then files others told are.1 later are.4 is,
 )
 
-upto_more : (files others : List Named) (told : Fault) (asked : List Asked) → AreLookedAtUpTo files told asked
+upto_more : (files others : List NamedFile) (told : Fault) (asked : List Asked) → AreLookedAtUpTo files told asked
     → AreLookedAtUpTo (files ++ others) told asked
 upto_more [] others told asked are = absurd are
 upto_more (file ∷ files) others told asked (inl is) = inl is
 upto_more (file ∷ files) others told asked (inr are) =
     inr (are.0, are.1, are.2, are.3, upto_more files others told are.1 are.4)
 
-module _ (files others : List Named) (before between after : Option (List Asked)) where
+module _ (files others : List NamedFile) (before between after : Option (List Asked)) where
   pub all_well : AsksFor before between (AreLookedAt files) → AsksFor between after (AreLookedAt others)
       → AsksFor before after (AreLookedAt (files ++ others))
   all_well first later = asks_then before between after _ _ _ (well_then files others) first later
@@ -191,14 +191,14 @@ module _ (files others : List Named) (before between after : Option (List Asked)
   earlier_faulty told asks = asks_as before after _ _ (upto_more files others told) asks
 
 -- where files are told, the first of them are
-pub first_told : (told_of : FilesTold) (held : Held) (files others : List Named)
+pub first_told : (told_of : FilesTold) (held : Held) (files others : List NamedFile)
     → AreTold told_of held (files ++ others) → AreTold told_of held files
 first_told told_of held [] others told = tt
 first_told told_of held (one ∷ files) others told = (told.0, first_told (behind told_of) held files others told.1)
 
 -- ---- what is told then
 
-module _ (files : List Named) (before after : Option (List Asked)) where
+module _ (files : List NamedFile) (before after : Option (List Asked)) where
   -- a fault of a file, or one of none
   pub of_file : (told : Fault) → AsksFor before after (AreLookedAtUpTo files told)
       → AsksFor before after (Looks files (Some told))
@@ -214,7 +214,7 @@ module _ (files : List Named) (before after : Option (List Asked)) where
   of_result (Err told) none asks = of_none told none asks
 
   -- a result, or the line of a fault
-  pub told_well : (reply : Reply) → IsLineOf None reply → AsksFor before after (AreLookedAt files)
+  pub told_well : (reply : Reply) → IsLineOfFault None reply → AsksFor before after (AreLookedAt files)
       → AsksFor before after (LooksAsTold files reply)
   told_well reply none asks = asks_as before after _ _ (λ asked are. (None, none, are)) asks
 
@@ -222,20 +222,20 @@ module _ (files : List Named) (before after : Option (List Asked)) where
       → AsksFor before after (LooksAsTold files (fault_reply told))
   told_fault told asks = asks_as before after _ _ (λ asked are. (Some told, refl, are)) asks
 
-pub no_line : (text : List ℕ) (ends : statuses.Status) → IsLineOf None (says text ends)
+pub no_line : (text : List ℕ) (ends : statuses.Status) → IsLineOfFault None (says text ends)
 no_line text ends fault is = cc
 
-pub no_line_of_lists : (text : List ℕ) → IsLineOf None (lists text)
+pub no_line_of_lists : (text : List ℕ) → IsLineOfFault None (lists text)
 no_line_of_lists text fault is = cc
 
 no_line_of_strides : (g : Setting) (by : Limit) (most : ℕ) (given : Given) (reply : Reply)
-    → SaysStrides g by most given reply → IsLineOf None reply
+    → SaysStrides g by most given reply → IsLineOfFault None reply
 no_line_of_strides g by most given reply (inl (strides, verdict, traced, is)) fault clash =
     let bad : trace_reply g by strides verdict ≡ fault_reply fault = sym is ∙ clash in cc
 no_line_of_strides g by most given reply (inr (strides, replayed, is)) fault clash =
     let bad : cut_reply g strides ≡ fault_reply fault = sym is ∙ clash in cc
 
 pub no_line_of_trace : (documents : Documents) (given : Given) (reply : Reply) → SaysTrace documents given reply
-    → IsLineOf None reply
+    → IsLineOfFault None reply
 no_line_of_trace documents given reply traced =
     no_line_of_strides (setting_of documents) traced.1.0 traced.1.1 given reply traced.1.3

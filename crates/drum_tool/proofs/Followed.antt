@@ -19,9 +19,10 @@ use Rattle.drum_machine.specs.Counts.{no_counts}
 use Rattle.drum_machine.specs.FirstState.{IsSetUp}
 use Rattle.drum_machine.specs.Feed.{cards_left, waits_left}
 use Rattle.drum_machine.specs.Keeps.{IsAsDeclared, Leaves, reads_load}
-use Rattle.drum_machine.specs.Machine.{GoesOn, Tells, Becomes, TakesStep, state_in, used_by, sought_by, op_in}
+use Rattle.drum_machine.specs.Fed.{op_in}
+use Rattle.drum_machine.specs.Machine.{GoesOn, Tells, Becomes, TakesStep, state_in, used_by, sought_by}
 use Rattle.drum_machine.specs.Machine.{held_by, punched_with}
-use Rattle.drum_monitor.specs.Monitor.{HasSeen, answer_of}
+use Rattle.drum_monitor.specs.Monitor.{HasSeenKept, answer_of}
 use Rattle.drum_machine.specs.Machine.{IsToldOf}
 use Rattle.drum_machine.specs.Keeps.{counts_over}
 use Rattle.drum_machine.specs.Run.{Stride, IsFirstState, time_after, used_from}
@@ -55,7 +56,7 @@ can_begin g setup s (Some what) set_up first declared none = absurd (cc)
 
 -- nothing is followed yet
 pub none_yet : (g : Setting) (bound : ℕ) (f : Following) → CanBegin g (state_of f)
-    → HasSeen g.loads g.notes f.monitor []
+    → HasSeenKept g.loads g.notes f.monitor []
     → answer_of f.monitor ≡ None → GoesOn f.machine → f.steps ≡ 0 → IsFollowing g (state_of f) (waits_of f) bound [] f
 none_yet g bound f begins seen silent goes none = record {
   lead = (refl, refl);
@@ -125,7 +126,7 @@ module _ (g : Setting) where
       module _ (said : answers.Step) (after : Machine) (rest : Feed)
           (takes : TakesStep g.times before.machine before.feed said after rest) where
         -- they use no more than the bound, where they are seen,
-        seen_bounded : (seer : Monitor) → HasSeen g.loads g.notes seer more → time_after stride.outcome ≤ bound
+        seen_bounded : (seer : Monitor) → HasSeenKept g.loads g.notes seer more → time_after stride.outcome ≤ bound
         seen_bounded seer seen =
             subst (λ (used : ℕ). used ≤ bound) (used_more 0 strides stride)
             (bounded first more begins.first
@@ -156,7 +157,7 @@ module _ (g : Setting) where
         further seer = record { machine = after; monitor = seer; feed = rest; steps = before.steps + 1 }
 
         -- A step that doesn't stop, and doesn't leave the notes, is followed.
-        pub goes_on : (seer : Monitor) → HasSeen g.loads g.notes seer more → answer_of seer ≡ None
+        pub goes_on : (seer : Monitor) → HasSeenKept g.loads g.notes seer more → answer_of seer ≡ None
             → (GoesOn after → used_so_far before < used_by after)
             → ((origin : Location) (word : Word) (because : whys.Why) (used : ℕ)
             → said ≡ answer.Stopped origin word because used → ⊥)
@@ -197,7 +198,7 @@ module _ (g : Setting) where
         number = counts_more strides stride before.steps following.counted
 
         -- A step that stops, and doesn't leave the notes, is the last.
-        pub stops_here : (seer : Monitor) → HasSeen g.loads g.notes seer more
+        pub stops_here : (seer : Monitor) → HasSeenKept g.loads g.notes seer more
             → (origin : Location) (word : Word) (because : whys.Why) (used : ℕ)
             → said ≡ answer.Stopped origin word because used
             → IsFollowed g first waits bound more (Kept used bound because)

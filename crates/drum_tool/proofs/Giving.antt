@@ -69,5 +69,5 @@ unfailing old new (suc n) is once never = absurd (never (omega (arith, is, once)
 -- a fault that is past the limit is, whatever there would be without it
 pub past_limit : {A B : Type 0} (fault : Fault) → IsPastLimit {A = A} (Err fault) → IsPastLimit {A = B} (Err fault)
 past_limit fault (inl is) =
-    let same : fault ≡ Part part.Input what.TooLong = cc in inl (ap (λ (f : Fault). Err f) same)
+    let same : fault ≡ Part part.Joined what.TooLong = cc in inl (ap (λ (f : Fault). Err f) same)
 past_limit fault (inr is) = let same : fault ≡ Memory = cc in inr (ap (λ (f : Fault). Err f) same)

@@ -8,7 +8,7 @@ use Rattle.drum_times.specs.declared.entry.Entry.{Entry}
 use Rattle.drum_machine.specs.declared.card.Card.{Card}
 use Rattle.drum_machine.specs.Contents.{Contents}
 use Rattle.drum_machine.specs.FirstState.{IsFirstDrum, IsSetUp}
-use Rattle.drum_machine.specs.Machine.{op_in, wait_with, waits_with}
+use Rattle.drum_machine.specs.Fed.{op_in, wait_with, waits_with}
 use Rattle.drum_machine.specs.Run.{Stride, IsStride, IsRun, FollowStep}
 use Rattle.drum_machine.proofs.Prefixes.{run_prefix}
 use Rattle.drum_machine.specs.Step.{State, Stepped, on, stopped, step}
@@ -61,13 +61,13 @@ same_contents a b drum switches distributor accumulator remainder latch programm
 
 state_alike : (made : Contents → ℕ → ℕ → ℕ → State) (s t : State) → s.contents ≡ t.contents → s.sought ≡ t.sought
     → s.time ≡ t.time
-    → s.start ≡ t.start → made s.contents s.sought s.time s.start ≡ made t.contents t.sought t.time t.start
+    → s.first_angle ≡ t.first_angle → made s.contents s.sought s.time s.first_angle ≡ made t.contents t.sought t.time t.first_angle
 state_alike made s t contents sought time start = cc
 
-same_state : (s t : State) → s.contents ≡ t.contents → s.sought ≡ t.sought → s.time ≡ t.time → s.start ≡ t.start → s ≡ t
+same_state : (s t : State) → s.contents ≡ t.contents → s.sought ≡ t.sought → s.time ≡ t.time → s.first_angle ≡ t.first_angle → s ≡ t
 same_state s t contents sought time start =
     let made : Contents → ℕ → ℕ → ℕ → State =
-    λ c next used angle. record { contents = c; sought = next; time = used; start = angle } in
+    λ c next used angle. record { contents = c; sought = next; time = used; first_angle = angle } in
     state_alike made s t contents sought time start
 
 stride_alike : (made : State → ℕ → Stepped → Stride) (a b : Stride) → a.origin ≡ b.origin → a.wait ≡ b.wait

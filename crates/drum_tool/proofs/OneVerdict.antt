@@ -8,7 +8,7 @@ use Rattle.drum_machine.specs.declared.why.Why as whys
 use Rattle.drum_machine.specs.Contents.{Contents}
 use Rattle.drum_machine.specs.Counts.{no_counts}
 use Rattle.drum_machine.specs.Keeps.{AreKept, IsKeptStride, IsAsDeclared, Leaves, GoesTo, counts_after}
-use Rattle.drum_machine.specs.Machine.{op_in, waits_with}
+use Rattle.drum_machine.specs.Fed.{op_in, waits_with}
 use Rattle.drum_machine.specs.Keeps.{counts_over}
 use Rattle.drum_machine.specs.Run.{Stride, IsRun, FollowStep, used_from}
 use Rattle.drum_machine.specs.Step.{State, Stepped, on, stopped}

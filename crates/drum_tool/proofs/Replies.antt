@@ -19,7 +19,7 @@ use Rattle.drum_lines.specs.declared.fault.Fault.{Fault}
 use Rattle.drum_lines.specs.declared.fault.Fault.TheVariants as faults
 use Rattle.drum_lines.specs.FaultStatus.{after_deck, after_input, after_note, after_refusal, reads_failed}
 use Rattle.drum_lines.specs.FaultStatus.{status_after}
-use Rattle.drum_tool.specs.Asked.{files_of}
+use Rattle.drum_tool.specs.Asked.{files_sought}
 use Rattle.drum_tool.specs.Files.{AreTold, FilesTold, Held}
 use Rattle.drum_tool.specs.Reply.{AnswersCommand, Reply, TellsOfReads}
 use Rattle.drum_tool.specs.Reply.{breaks_off, complains, fault_reply, lists, says}
@@ -141,5 +141,5 @@ refused_of_no_read Memory = fault_of_reads faults.Memory
 abbrev pub Replied : FilesTold → Command → Reply → ℕ → Type 0
 Replied files command reply failures =
     TellsOfReads failures reply
-    × ((held : Held) → AreTold files held (files_of command)
+    × ((held : Held) → AreTold files held (files_sought command)
     → AnswersCommand held command failures reply)

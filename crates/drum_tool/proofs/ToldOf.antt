@@ -11,7 +11,7 @@ use Rattle.drum_tool.specs.declared.documents.Documents.{Documents}
 use Rattle.drum_lines.specs.declared.fault.Fault.{Fault}
 use Rattle.drum_lines.specs.declared.fault.Fault.TheVariants as faults
 use Rattle.drum_tool.specs.Documents.{IsAnalysisFault, IsBound}
-use Rattle.drum_tool.specs.Asked.{files_of, named, named_in}
+use Rattle.drum_tool.specs.Asked.{files_sought, named, named_in}
 use Rattle.drum_tool.specs.Files.{AreHeld, AreNotHeld, AreTold, FilesTold, Held}
 use Rattle.drum_lines.specs.declared.part.Part.TheVariants as part
 use Rattle.drum_tool.specs.Reply.{AnswersCommand, Replies, Reply, SaysBound, bound_reply, fault_reply}
@@ -61,7 +61,7 @@ same_first said other same = ap (λ (s : Option (Text × List (Option Text))). f
 pub of_files : (told_of : FilesTold) (held : Held) (deck times notes : Text)
     (command : Command) (failures : ℕ) (reply : Reply)
     → AreTold told_of held (named deck times notes) → Some (said_by command) ≡ Some (codes "bound", Some deck ∷ Some times ∷ Some notes ∷ [])
-    → (AreTold told_of held (files_of command) → AnswersCommand held command failures reply)
+    → (AreTold told_of held (files_sought command) → AnswersCommand held command failures reply)
     → ((bound : ℕ) × IsBoundOfFiles (held part.Deck) (held part.Times) (held part.Notes) bound
     × (reply ≡ bound_reply bound))
     ⊎ ((fault : Fault) × (reply ≡ fault_reply fault))

@@ -7,9 +7,9 @@ use Rattle.std.specs.Io.KnownBytes.{Appends}
 use Rattle.drum_core.proofs.Bytes.{Appends-then, take_behind}
 use Rattle.drum_core.specs.declared.op.Op.{Op}
 use Rattle.drum_times.specs.declared.entry.Entry.{Entry}
-use Rattle.drum_machine.specs.Machine.{op_in, waits_with}
+use Rattle.drum_machine.specs.Fed.{op_in, waits_with}
 use Rattle.drum_machine.specs.Run.{Stride}
-use Rattle.drum_machine.specs.Step.{State, Stepped, on, stopped, clock_of, instruction_in, lacks_card, leaves, step}
+use Rattle.drum_machine.specs.Step.{State, Stepped, on, stopped, clock_of, instruction_in, lacks_card, stepped_by, step}
 use Rattle.drum_machine.specs.Step.{step_with}
 use Rattle.drum_machine.specs.declared.why.Why.TheVariants as why
 use Rattle.drum_machine.specs.Effect.{Outcome, effect, goes, stops}
@@ -44,32 +44,32 @@ lines_more times number (one ∷ strides) stride =
 
 -- ---- a run keeps its angle at time 0
 
-leaves_start : (s : State) (clock : ℕ) (outcome : Outcome) (next : State) → leaves s clock outcome ≡ on next
-    → next.start ≡ s.start
+leaves_start : (s : State) (clock : ℕ) (outcome : Outcome) (next : State) → stepped_by s clock outcome ≡ on next
+    → next.first_angle ≡ s.first_angle
 leaves_start s clock (stops held because) next is = absurd (let bad = is in cc)
 leaves_start s clock (goes contents place) next is = go (is_location place) is
   where
     went : State
-    went = record { contents = contents; sought = place; time = clock - s.start; start = s.start }
+    went = record { contents = contents; sought = place; time = clock - s.first_angle; first_angle = s.first_angle }
 
-    go : (b : Bool) → (if b then on went else stopped contents why.Next (clock - s.start)) ≡ on next
-        → next.start ≡ s.start
-    go true same = let one : went ≡ next = cc in ap (λ (state : State). state.start) (sym one)
+    go : (b : Bool) → (if b then on went else stopped contents why.Next (clock - s.first_angle)) ≡ on next
+        → next.first_angle ≡ s.first_angle
+    go true same = let one : went ≡ next = cc in ap (λ (state : State). state.first_angle) (sym one)
     go false same = absurd (let bad = same in cc)
 
 acted_start : (s : State) (x e : ℕ) (outcome : Outcome) (next : State) (wanted lacks : Bool)
-    → (if not wanted then stopped s.contents why.Operand (x - s.start)
-    else (if lacks then stopped s.contents why.Card (x - s.start) else leaves s e outcome)) ≡ on next
-    → next.start ≡ s.start
+    → (if not wanted then stopped s.contents why.Operand (x - s.first_angle)
+    else (if lacks then stopped s.contents why.Card (x - s.first_angle) else stepped_by s e outcome)) ≡ on next
+    → next.first_angle ≡ s.first_angle
 acted_start s x e outcome next false lacks is = absurd (let bad = is in cc)
 acted_start s x e outcome next true true is = absurd (let bad = is in cc)
 acted_start s x e outcome next true false is = leaves_start s e outcome next is
 
 step_start : (times : Op → Entry) (s : State) (wait : ℕ) (next : State) → step times s wait ≡ on next
-    → next.start ≡ s.start
+    → next.first_angle ≡ s.first_angle
 step_start times s wait next is = go (op_of (instruction_in s).op) is
   where
-    go : (op : Option Op) → step_with times s wait op ≡ on next → next.start ≡ s.start
+    go : (op : Option Op) → step_with times s wait op ≡ on next → next.first_angle ≡ s.first_angle
     go None same = absurd (let bad = same in cc)
     go (Some op) same =
         let ins = instruction_in s in
@@ -78,16 +78,16 @@ step_start times s wait next is = go (op_of (instruction_in s).op) is
         (effect s.contents op ins.d ins.i) next (is_operand (operand_of op) ins.d) (lacks_card op s.contents) same
 
 goes_start : (s : State) (now : State) (outcome reached : Stepped) (Right : State → Type 0) → outcome ≡ reached
-    → ((next : State) → reached ≡ on next → next.start ≡ s.start)
-    → ((next : State) → Right next → now.start ≡ next.start)
-    → Goes outcome Right → now.start ≡ s.start
+    → ((next : State) → reached ≡ on next → next.first_angle ≡ s.first_angle)
+    → ((next : State) → Right next → now.first_angle ≡ next.first_angle)
+    → Goes outcome Right → now.first_angle ≡ s.first_angle
 goes_start s now (on next) reached Right is here later onward = later next onward ∙ here next (sym is)
 goes_start s now (stopped held because moment) reached Right is here later onward = absurd onward
 
 -- strides that lead on keep it
 pub lead_start : (times : Op → Entry) (s : State) (waits : List ℕ) (strides : List Stride) (now : State) (left : List ℕ)
-    → Lead times s waits strides now left → now.start ≡ s.start
-lead_start times s waits [] now left lead = ap (λ (state : State). state.start) (sym lead.0)
+    → Lead times s waits strides now left → now.first_angle ≡ s.first_angle
+lead_start times s waits [] now left lead = ap (λ (state : State). state.first_angle) (sym lead.0)
 lead_start times s waits (stride ∷ strides) now left lead =
     goes_start s now stride.outcome (step times s stride.wait)
     (λ next. Lead times next (waits_with (op_in stride.origin) stride.origin waits) strides now left) lead.0.stepped

@@ -35,9 +35,9 @@ failed_reads why.Memory = 0
 failed_reads why.TooLong = 0
 
 pub failed_by_fault : (of : parts.Part) (error : WholeError) → reads_failed (fault_by of error) ≡ failed_reads error
-failed_by_fault part.Input why.Read = refl
-failed_by_fault part.Input why.Memory = refl
-failed_by_fault part.Input why.TooLong = refl
+failed_by_fault part.Joined why.Read = refl
+failed_by_fault part.Joined why.Memory = refl
+failed_by_fault part.Joined why.TooLong = refl
 failed_by_fault part.Deck why.Read = refl
 failed_by_fault part.Deck why.Memory = refl
 failed_by_fault part.Deck why.TooLong = refl
@@ -53,9 +53,9 @@ failed_by_fault part.Inputs why.TooLong = refl
 
 -- the fault is one of the text
 pub fault_of_text : (of : parts.Part) (error : WholeError) → IsOfText of (Some (fault_by of error))
-fault_of_text part.Input why.Read = (inl refl, λ e. cc)
-fault_of_text part.Input why.Memory = (inr refl, λ e. cc)
-fault_of_text part.Input why.TooLong = (inl refl, λ e. cc)
+fault_of_text part.Joined why.Read = (inl refl, λ e. cc)
+fault_of_text part.Joined why.Memory = (inr refl, λ e. cc)
+fault_of_text part.Joined why.TooLong = (inl refl, λ e. cc)
 fault_of_text part.Deck why.Read = (inl refl, λ e. cc)
 fault_of_text part.Deck why.Memory = (inl refl, λ e. cc)
 fault_of_text part.Deck why.TooLong = (inl refl, λ e. cc)
@@ -71,7 +71,7 @@ fault_of_text part.Inputs why.TooLong = (inl refl, λ e. cc)
 
 -- and lack of memory may be told
 pub wants : (of : parts.Part) → MayWant (Some (fault_by of why.Memory))
-wants part.Input = tt
+wants part.Joined = tt
 wants part.Deck = tt
 wants part.Times = tt
 wants part.Notes = tt

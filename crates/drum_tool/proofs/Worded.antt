@@ -5,7 +5,7 @@ use Rattle.clap.specs.Walk.{texts}
 use Rattle.clap.specs.Words.{Text}
 use Rattle.drum_command.specs.declared.command.Command.{Command}
 use Rattle.drum_command.specs.declared.refused.Refused.{Refused}
-use Rattle.drum_tool.specs.Asked.{Asked, AsksFor, files_of}
+use Rattle.drum_tool.specs.Asked.{Asked, AsksFor, files_sought}
 use Rattle.drum_tool.specs.Files.{AreTold, FilesTold, Held}
 use Rattle.drum_tool.specs.Reply.{Reply, AnswersCommand, AnswersJoined, LooksAsTold}
 use Rattle.drum_tool.specs.Words.{AreOf, AreRefused, Answers, Asks, refused_reply}
@@ -25,7 +25,7 @@ module _ (input : Option (List ℕ)) (files : FilesTold) (failures : ℕ) (reply
 
   pub with_command : (words : List (Bor Text)) → false ≡ (length words == 0) → (command : Command)
       → AreOf (texts words) command
-      → ((held : Held) → AreTold files held (files_of command)
+      → ((held : Held) → AreTold files held (files_sought command)
       → AnswersCommand held command failures reply)
       → Answers (texts words) input files failures reply
   with_command [] some command said is = absurd (let bad : false ≡ true = some in cc)
@@ -51,6 +51,6 @@ module _ (before : Option (List Asked)) (reply : Reply) where
 
   pub command_asked : (after : Option (List Asked)) (words : List (Bor Text)) → false ≡ (length words == 0)
       → (command : Command) → AreOf (texts words) command
-      → AsksFor before after (LooksAsTold (files_of command) reply) → Asks (texts words) before after reply
+      → AsksFor before after (LooksAsTold (files_sought command) reply) → Asks (texts words) before after reply
   command_asked after [] some command said asks = absurd (let bad : false ≡ true = some in cc)
   command_asked after (word ∷ words) some command said asks = inl (command, said, asks)

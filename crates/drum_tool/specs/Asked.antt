@@ -43,7 +43,7 @@ AsksFor (Some earlier) (Some all) Is =
 
 -- the most bytes that a part is read to: one past its limit
 abbrev pub most_of : parts.Part → ℕ
-most_of part.Input = 16777217
+most_of part.Joined = 16777217
 most_of part.Deck = 404001
 most_of part.Times = 8388609
 most_of part.Notes = 8388609
@@ -60,7 +60,7 @@ MayWant (Some (fault.Deck of_deck.Memory)) = Unit {0}
 MayWant (Some (fault.Inputs of_inputs.Memory)) = Unit {0}
 MayWant _ = ⊥
 
--- How a text is read, so many bytes at most, where this fault of it is told, or none: one read at
+-- How a text is read, `most` bytes at most, where this fault of it is told, or none: one read at
 -- most gives no byte, and all of the text is read, unless a read fails or there is no memory. Once
 -- the most bytes were given, no read fails.
 pub record IsRead (most : ℕ) (told : Option Fault) (read : Reading) : Type 0 where
@@ -98,22 +98,22 @@ IsLookedAt of name told asked =
 -- ---- the files of a command
 
 -- which part is in the file of which name
-pub record Named : Type 0 where
+pub record NamedFile : Type 0 where
   pub part : parts.Part
   pub name : List ℕ
 
-abbrev pub in_file : parts.Part → List ℕ → Named
+abbrev pub in_file : parts.Part → List ℕ → NamedFile
 in_file one file = record { part = one; name = file }
 
-abbrev pub named : List ℕ → List ℕ → List ℕ → List Named
+abbrev pub named : List ℕ → List ℕ → List ℕ → List NamedFile
 named deck times notes =
     in_file part.Deck deck ∷ in_file part.Times times ∷ in_file part.Notes notes ∷ []
 
 -- in the order of a command's words
-abbrev pub named_in : Files → List Named
+abbrev pub named_in : Files → List NamedFile
 named_in files = named files.deck.now files.times.now files.notes.now
 
-abbrev pub all_named_in : Files → List ℕ → List Named
+abbrev pub all_named_in : Files → List ℕ → List NamedFile
 all_named_in files inputs = named_in files ++ in_file part.Inputs inputs ∷ []
 
 -- a name, if there is one
@@ -121,28 +121,28 @@ abbrev pub name_in : Option (Bor (List ℕ)) → Option (List ℕ)
 name_in name = option_map (λ name. name.now) name
 
 -- the file of inputs, if one is named
-abbrev pub inputs_named : Option (List ℕ) → List Named
+abbrev pub inputs_named : Option (List ℕ) → List NamedFile
 inputs_named None = []
 inputs_named (Some inputs) = in_file part.Inputs inputs ∷ []
 
-abbrev pub named_with : Files → Option (List ℕ) → List Named
+abbrev pub named_with : Files → Option (List ℕ) → List NamedFile
 named_with files inputs = named_in files ++ inputs_named inputs
 
-abbrev pub files_of : Command → List Named
-files_of (Answer question files) = named_in files
-files_of (Check files inputs) = named_with files (name_in inputs)
-files_of (Replay files inputs) = all_named_in files inputs.now
-files_of (Trace files inputs) = all_named_in files inputs.now
+abbrev pub files_sought : Command → List NamedFile
+files_sought (Answer question files) = named_in files
+files_sought (Check files inputs) = named_with files (name_in inputs)
+files_sought (Replay files inputs) = all_named_in files inputs.now
+files_sought (Trace files inputs) = all_named_in files inputs.now
 
 -- Files are looked at one after the other, and nothing is wrong with one.
-abbrev pub AreLookedAt : List Named → List Asked → Type 0
+abbrev pub AreLookedAt : List NamedFile → List Asked → Type 0
 AreLookedAt [] asked = asked ≡ []
 AreLookedAt (file ∷ files) asked =
     (first later : List Asked) × (asked ≡ first ++ later)
     × IsLookedAt file.part file.name None first × AreLookedAt files later
 
 -- They are up to the one that the fault is of, and no further.
-abbrev pub AreLookedAtUpTo : List Named → Fault → List Asked → Type 0
+abbrev pub AreLookedAtUpTo : List NamedFile → Fault → List Asked → Type 0
 AreLookedAtUpTo [] told asked = ⊥
 AreLookedAtUpTo (file ∷ files) told asked =
     IsLookedAt file.part file.name (Some told) asked
@@ -151,13 +151,13 @@ AreLookedAtUpTo (file ∷ files) told asked =
 
 -- What is looked at where this fault is told, or none: the files up to the fault's, or all of them
 -- where the fault is of none.
-abbrev pub Looks : List Named → Option Fault → List Asked → Type 0
+abbrev pub Looks : List NamedFile → Option Fault → List Asked → Type 0
 Looks files None asked = AreLookedAt files asked
 Looks files (Some told) asked =
     AreLookedAtUpTo files told asked ⊎ ((part_of told ≡ None) × AreLookedAt files asked)
 
 -- the same by a result
-abbrev pub LooksFor : {A : Type 0} → List Named → Result A Fault → List Asked → Type 0
+abbrev pub LooksFor : {A : Type 0} → List NamedFile → Result A Fault → List Asked → Type 0
 LooksFor files (Ok found) asked = AreLookedAt files asked
 LooksFor files (Err told) asked = AreLookedAtUpTo files told asked
 

@@ -21,7 +21,7 @@ left_before what = Left what 0 0
 pub record IsReady (g : Setting) (begun : Begun) : Type 0 where
   pub bounded : IsBounded g begun.most
   pub below : begun.most < 2 ^ 50
-  pub angle : (state_of begun.following).start ≡ begun.angle
+  pub angle : (state_of begun.following).first_angle ≡ begun.angle
   pub begins : begun.verdict ≡ None → CanBegin g (state_of begun.following)
   pub follows :
       begun.verdict ≡ None

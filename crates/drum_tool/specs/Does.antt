@@ -5,23 +5,23 @@ use Rattle.drum_command.specs.declared.command.Command.{Command}
 use Rattle.drum_lines.specs.declared.fault.Fault.{Fault}
 use Rattle.drum_lines.specs.declared.status.Status.{Status}
 use Rattle.drum_lines.specs.FaultStatus.{reads_failed}
-use Rattle.drum_tool.specs.Asked.{files_of, part_of}
+use Rattle.drum_tool.specs.Asked.{files_sought, part_of}
 use Rattle.drum_tool.specs.Files.{AreTold, FilesTold, Held}
 use Rattle.drum_tool.specs.Output.{Device, Tells}
-use Rattle.drum_tool.specs.Reply.{AnswersCommand, IsLineOf, Reply, fault_reply}
+use Rattle.drum_tool.specs.Reply.{AnswersCommand, IsLineOfFault, Reply, fault_reply}
 
 -- A reply of this kind, which is no fault's line, has gone out, and the program ends with this
 -- status; or there is a fault of this kind.
 abbrev pub Does : (Reply → Type 0) → (Fault → Type 0) → Device → Device → Device → Device
     → Result Status Fault → Type 0
 Does Says Refuses out out' err err' (Ok status) =
-    (reply : Reply) × Says reply × IsLineOf None reply × Tells reply out out' err err' status
+    (reply : Reply) × Says reply × IsLineOfFault None reply × Tells reply out out' err err' status
 Does Says Refuses out out' err err' (Err fault) = Refuses fault
 
 -- the reply to a command, by what its files hold, as far as that is known
 abbrev pub RepliesTo : Command → FilesTold → ℕ → Reply → Type 0
 RepliesTo command files failures reply =
-    (held : Held) → AreTold files held (files_of command)
+    (held : Held) → AreTold files held (files_sought command)
     → AnswersCommand held command failures reply
 
 -- what is done for a command

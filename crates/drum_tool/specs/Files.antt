@@ -16,7 +16,7 @@ use Rattle.drum_lines.specs.declared.fault.Fault.TheVariants as fault
 use Rattle.drum_lines.specs.declared.part.Part as parts
 use Rattle.drum_lines.specs.declared.part.Part.TheVariants as part
 use Rattle.drum_lines.specs.declared.part.PartFault.TheVariants as what
-use Rattle.drum_tool.specs.Asked.{Named, most_of}
+use Rattle.drum_tool.specs.Asked.{NamedFile, most_of}
 use Rattle.drum_tool.specs.Documents.{SaysDeck, SayInputs, RefusesDeck, RefusesTimes, RefusesNotes}
 use Rattle.drum_tool.specs.Documents.{RefusesInputs}
 
@@ -42,7 +42,7 @@ abbrev pub Held : Type 0
 Held = parts.Part → Option (List ℕ)
 
 -- it is told of these files, sought one after the other
-abbrev pub AreTold : FilesTold → Held → List Named → Type 0
+abbrev pub AreTold : FilesTold → Held → List NamedFile → Type 0
 AreTold files held [] = Unit {0}
 AreTold files held (one ∷ others) =
     (files 0 one.name ≡ Some (held one.part)) × AreTold (behind files) held others
@@ -66,17 +66,17 @@ HoldsText of file bytes = (file ≡ Some bytes) × (length bytes < most_of of)
 -- Why a file that can be opened isn't read: a reading of it failed (that one did is said by the
 -- number of failed reads, `reads_failed`); it is past its part's limit; or the program is out of
 -- memory (which is tested, not stated here).
-abbrev pub IsUnread : parts.Part → Option (List ℕ) → WholeError → Type 0
-IsUnread of file why.Read = IsSome file
-IsUnread of file why.Memory = IsSome file
-IsUnread of file why.TooLong =
+abbrev pub IsNotRead : parts.Part → Option (List ℕ) → WholeError → Type 0
+IsNotRead of file why.Read = IsSome file
+IsNotRead of file why.Memory = IsSome file
+IsNotRead of file why.TooLong =
     (bytes : List ℕ) × (file ≡ Some bytes) × (most_of of ≤ length bytes)
 
 -- why the text of a part can't be had: its file can't be opened, or isn't read
 abbrev pub HoldsNoText : parts.Part → Option (List ℕ) → Fault → Type 0
 HoldsNoText of file one =
     ((one ≡ fault.Part of what.Open) × (file ≡ None))
-    ⊎ ((error : WholeError) × (one ≡ fault_by of error) × IsUnread of file error)
+    ⊎ ((error : WholeError) × (one ≡ fault_by of error) × IsNotRead of file error)
 
 -- the part's file holds a text that says this
 abbrev pub Holds : {A : Type 0} → parts.Part → (List ℕ → A → Type 0) → Option (List ℕ) → A → Type 0

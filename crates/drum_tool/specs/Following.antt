@@ -5,8 +5,9 @@ use Rattle.drum_times.specs.declared.entry.Entry.{Entry}
 use Rattle.drum_machine.specs.Feed.{cards_left, waits_left}
 use Rattle.drum_machine.specs.FirstState.{IsSetUp}
 use Rattle.drum_machine.specs.Keeps.{IsAsDeclared}
-use Rattle.drum_machine.specs.Machine.{GoesOn, op_in, state_in, used_by, wait_with, waits_with}
-use Rattle.drum_monitor.specs.Monitor.{HasSeen, answer_of}
+use Rattle.drum_machine.specs.Fed.{op_in, wait_with, waits_with}
+use Rattle.drum_machine.specs.Machine.{GoesOn, state_in, used_by}
+use Rattle.drum_monitor.specs.Monitor.{HasSeenKept, answer_of}
 use Rattle.drum_machine.specs.Run.{Stride, IsStride, IsFirstState}
 use Rattle.drum_machine.specs.Step.{State, Stepped, on, stopped, step}
 use Rattle.drum_flow.specs.Accepted.{IsFixed}
@@ -90,7 +91,7 @@ Lead times s waits (stride ∷ strides) now left =
 pub record IsFollowing (g : Setting) (s : State) (waits : List ℕ) (bound : ℕ)
     (strides : List Stride) (following : Following) : Type 0 where
   pub lead : Lead g.times s waits strides (state_of following) (waits_of following)
-  pub seen : HasSeen g.loads g.notes following.monitor strides
+  pub seen : HasSeenKept g.loads g.notes following.monitor strides
   pub silent : answer_of following.monitor ≡ None
   pub goes : GoesOn following.machine
   pub within : used_so_far following ≤ bound

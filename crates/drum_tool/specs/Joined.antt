@@ -54,12 +54,12 @@ Gives bytes documents = (length bytes ≤ 16777216) × Joins bytes documents
 -- Why an input gives none: a read failed; there are too many bytes; there is no memory (which is
 -- tested, not stated); else they join none.
 abbrev pub GivesNone : List ℕ → Fault → Type 0
-GivesNone bytes (fault.Part part.Input what.Read) = Unit {0}
-GivesNone bytes (fault.Part part.Input what.TooLong) = 16777216 < length bytes
+GivesNone bytes (fault.Part part.Joined what.Read) = Unit {0}
+GivesNone bytes (fault.Part part.Joined what.TooLong) = 16777216 < length bytes
 GivesNone bytes fault.Memory = Unit {0}
 GivesNone bytes one = (length bytes ≤ 16777216) × JoinsNone bytes one
 
 -- the input is past its limit, or there was no memory
 abbrev pub IsPastLimit : {A : Type 0} → Result A Fault → Type 0
 IsPastLimit result =
-    IsErrOf result (fault.Part part.Input what.TooLong) ⊎ IsErrOf result fault.Memory
+    IsErrOf result (fault.Part part.Joined what.TooLong) ⊎ IsErrOf result fault.Memory

@@ -11,7 +11,7 @@ use Rattle.drum_machine.specs.Contents.{Contents}
 use Rattle.drum_machine.specs.Counts.{no_counts}
 use Rattle.drum_machine.specs.FirstState.{IsSetUp}
 use Rattle.drum_machine.specs.Keeps.{IsAsDeclared, AreKept, Leaves}
-use Rattle.drum_machine.specs.Machine.{op_in, wait_with, waits_with}
+use Rattle.drum_machine.specs.Fed.{op_in, wait_with, waits_with}
 use Rattle.drum_machine.specs.Keeps.{counts_over}
 use Rattle.drum_machine.specs.Run.{Stride, IsRun, used_from}
 use Rattle.drum_machine.specs.Setup.{first_loaded}
@@ -58,7 +58,7 @@ pub record IsUnderWay (g : Setting) (given : Given) (strides : List Stride)
   pub replayed : IsReplayed g given (strides ++ last ∷ [])
   pub kept : AreKept g.loads g.notes (no_counts g.notes.marks) strides
 
--- The run keeps to the notes until it stops, at this step, for this reason, with so many word times
+-- The run keeps to the notes until it stops, at this step, for this reason, with `used` word times
 -- used.
 pub record StopsAt (g : Setting) (given : Given) (step used : ℕ) (because : Why) : Type 0 where
   pub declared : IsAsDeclared g.notes.programmed given.setup.programmed
@@ -71,7 +71,7 @@ pub record StopsAt (g : Setting) (given : Given) (step used : ℕ) (because : Wh
   pub stops : last.outcome ≡ stopped held because used
   pub number : step ≡ length strides + 1
 
--- The run keeps to the notes before this step, with so many word times used, and leaves them with
+-- The run keeps to the notes before this step, with `used` word times used, and leaves them with
 -- it.
 pub record LeavesAt (g : Setting) (given : Given) (step used : ℕ) (what : lefts.Left) : Type 0 where
   pub strides : List Stride
@@ -88,8 +88,8 @@ IsLeft g given step used left.Switch =
     ¬ IsAsDeclared g.notes.programmed given.setup.programmed × (step ≡ 0) × (used ≡ 0)
 IsLeft g given step used what = LeavesAt g given step used what
 
--- the verdict on the run, which ends or leaves the notes with this step, where kept runs use so
--- many word times at most
+-- the verdict on the run, which ends or leaves the notes with this step, where kept runs use `most`
+-- word times at most
 abbrev pub IsVerdict : Setting → Given → ℕ → ℕ → Verdict → Type 0
 IsVerdict g given most step (Kept used bound because) =
     (bound ≡ most) × StopsAt g given step used because
@@ -101,7 +101,7 @@ abbrev pub used_in : Verdict → ℕ
 used_in (Kept used bound because) = used
 used_in (Left what step used) = used
 
--- The verdict on the run comes with this step, where kept runs use so many word times at most: no
+-- The verdict on the run comes with this step, where kept runs use `most` word times at most: no
 -- more are used in it, and it has no more steps than those and one.
 pub record IsJudged (g : Setting) (given : Given) (most step : ℕ) (verdict : Verdict) :
     Type 0 where
@@ -109,7 +109,7 @@ pub record IsJudged (g : Setting) (given : Given) (most step : ℕ) (verdict : V
   pub within : used_in verdict ≤ most
   pub short : step ≤ most + 1
 
--- no word is given that the deck loads too
+-- no location is given a word that the deck loads too
 abbrev pub HasOwnWords : Setting → Given → Type 0
 HasOwnWords g given = first_loaded g.loads given.setup.words.items ≡ None
 
@@ -125,7 +125,7 @@ pub record IsReplay (g : Setting) (given : Given) (verdict : Verdict) : Type 0 w
   pub step : ℕ
   pub judged : IsJudged g given worst step verdict
 
--- The strides of a run up to the one with which its verdict comes, where kept runs use so many word
+-- The strides of a run up to the one with which its verdict comes, where kept runs use `most` word
 -- times at most: none, where it comes before any step.
 pub record IsTraced (g : Setting) (given : Given) (most : ℕ) (strides : List Stride)
     (verdict : Verdict) : Type 0 where
@@ -140,9 +140,9 @@ pub record IsTracedInPart (g : Setting) (given : Given) (strides : List Stride) 
   pub all : strides ≡ before ++ last ∷ []
   pub under_way : IsUnderWay g given before last
 
--- Why there is no verdict: a word is given that the deck loads too, of which the first is told;
--- else this is what refuses the documents; else there is what limits the run, and the fault is
--- Memory. (That there was none then is tested, not stated.)
+-- Why there is no verdict: a location is given a word that the deck loads too, and the first such
+-- location is told; else this is what refuses the documents; else there is what limits the run, and
+-- the fault is Memory. (That memory was lacking then is tested, not stated.)
 abbrev pub IsRunFault : Setting → Given → (Refusal → Type 0) → Type 0 → fails.Fault → Type 0
 IsRunFault g given Refuses IsLimited (fault.Loaded location) =
     first_loaded g.loads given.setup.words.items ≡ Some location
@@ -150,12 +150,14 @@ IsRunFault g given Refuses IsLimited (fault.Refused refusal) = HasOwnWords g giv
 IsRunFault g given Refuses IsLimited fault.Memory = HasOwnWords g given × IsLimited
 IsRunFault g given Refuses IsLimited _ = ⊥
 
--- of a replay: the analysis refuses them, or there is a bound
+-- of a replay: what refuses the documents is the analysis, and what limits the run is the bound
+-- that an accepted deck has
 abbrev pub IsReplayFault : Setting → Given → fails.Fault → Type 0
 IsReplayFault g given =
     IsRunFault g given (IsRefusal g.loads g.notes g.start) (IsDeckAccepted g)
 
--- of a trace: there is neither a bound nor a ceiling below 2 ^ 50, or there is one
+-- of a trace: what refuses the documents is that there is neither a bound nor a ceiling below 2 ^
+-- 50, and what limits the run is the one that there is
 abbrev pub IsTraceFault : Documents → Given → fails.Fault → Type 0
 IsTraceFault documents given =
     IsRunFault (setting_of documents) given (IsLimitRefusal documents)

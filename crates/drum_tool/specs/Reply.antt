@@ -44,7 +44,7 @@ use Rattle.drum_listing.specs.TraceText.{stride_lines}
 use Rattle.drum_listing.specs.Waits.{AreDearestFirst}
 use Rattle.drum_listing.specs.WaitsText.{waits_text}
 use Rattle.drum_listing.specs.WalkText.{walk_text}
-use Rattle.drum_tool.specs.Asked.{Asked, Looks, Named}
+use Rattle.drum_tool.specs.Asked.{Asked, Looks, NamedFile}
 use Rattle.drum_flow.specs.Bounded.{IsDeckAccepted}
 use Rattle.drum_tool.specs.Documents.{IsAnalysisFault, IsBound, IsCeiling, IsCeilingFault, IsLimit}
 use Rattle.drum_tool.specs.Documents.{IsWorstWalk, Say, Texts}
@@ -107,32 +107,32 @@ findings_reply findings = says (check_text findings) (status_after_check finding
 abbrev pub fault_reply : Fault → Reply
 fault_reply fault = complains (fault_text fault) (status_after fault)
 
--- That so many reads failed is told by the reply: it is the line of a fault that tells of as many;
--- or none failed, and it is no fault's line.
+-- That this number of reads failed is told by the reply: it is the line of a fault that tells of as
+-- many; or none failed, and it is no fault's line.
 abbrev pub TellsOfReads : ℕ → Reply → Type 0
 TellsOfReads failures reply =
     ((fault : Fault) × (failures ≡ reads_failed fault) × (reply ≡ fault_reply fault))
     ⊎ ((failures ≡ 0) × ((fault : Fault) → reply ≢ fault_reply fault))
 
 -- the reply is the line of this fault, or of none
-abbrev pub IsLineOf : Option Fault → Reply → Type 0
-IsLineOf None reply = (fault : Fault) → reply ≢ fault_reply fault
-IsLineOf (Some fault) reply = reply ≡ fault_reply fault
+abbrev pub IsLineOfFault : Option Fault → Reply → Type 0
+IsLineOfFault None reply = (fault : Fault) → reply ≢ fault_reply fault
+IsLineOfFault (Some fault) reply = reply ≡ fault_reply fault
 
 -- these files are looked at up to the fault that the reply tells, else all
-abbrev pub LooksAsTold : List Named → Reply → List Asked → Type 0
+abbrev pub LooksAsTold : List NamedFile → Reply → List Asked → Type 0
 LooksAsTold files reply asked =
-    (told : Option Fault) × IsLineOf told reply × Looks files told asked
+    (told : Option Fault) × IsLineOfFault told reply × Looks files told asked
 
--- Unless the reply tells that a read of the input failed, or that there is no memory, the input was
--- read to its end, or one byte past the limit: by how many reads met the end, and how many bytes it
--- gave, before and after. Of one that is past its limit the reply tells so, or that there is no
--- memory.
+-- The numbers are how many reads of the input met its end, and how many bytes it gave, each before
+-- and after. Unless the reply tells that a read failed, or that there is no memory, the input was
+-- read to its end, or to one byte past the limit; and if to that byte, the reply tells that it is
+-- too long, or that there is no memory.
 abbrev pub ReadsAll : Reply → ℕ → ℕ → ℕ → ℕ → Type 0
 ReadsAll reply ended ended' given given' =
-    (reply ≢ fault_reply (fault.Part part.Input what.Read) → reply ≢ fault_reply fault.Memory
+    (reply ≢ fault_reply (fault.Part part.Joined what.Read) → reply ≢ fault_reply fault.Memory
     → (ended' ≡ ended + 1) ⊎ (given' ≡ given + 16777217))
-    × (given' ≡ given + 16777217 → (reply ≡ fault_reply (fault.Part part.Input what.TooLong))
+    × (given' ≡ given + 16777217 → (reply ≡ fault_reply (fault.Part part.Joined what.TooLong))
     ⊎ (reply ≡ fault_reply fault.Memory))
 
 -- a verdict, with the strides of its run before it, and strides alone, on which a write fails
@@ -280,8 +280,8 @@ SaysTrace documents given reply =
 
 -- ---- to commands
 
--- The reply to a command, where so many reads failed: what it says of what it has read; or the line
--- of a fault, why that can't be had, or why nothing is said of it.
+-- The reply to a command, where `failures` reads failed: what it says of what it has read; or the
+-- line of a fault, why that can't be had, or why nothing is said of it.
 abbrev pub Replies : {A : Type 0} → (A → Type 0) → (Fault → Type 0) → (A → Reply → Type 0)
     → (A → Fault → Type 0) → ℕ → Reply → Type 0
 Replies {A = A} Are AreNone Says Refuses failures reply =
@@ -313,7 +313,7 @@ AnswersRun held Says Refuses =
     Replies {A = Documents × Inputs} (AreHeldWithInputs held) (AreNotHeldWithInputs held)
     (λ read. Says read.0 (given read.1)) (λ read. Refuses read.0 (given read.1))
 
--- the reply to a command, where the files of its parts hold this and so many reads failed
+-- the reply to a command, where the files of its parts hold this and `failures` reads failed
 abbrev pub AnswersCommand : Held → Command → ℕ → Reply → Type 0
 AnswersCommand held (Answer question files) = AnswersQuestion held question
 AnswersCommand held (Check files inputs) = AnswersCheck held files (name_in inputs)

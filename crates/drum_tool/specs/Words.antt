@@ -8,7 +8,7 @@ use Rattle.drum_command.specs.Line.{drum650, said_by, said_by_words}
 use Rattle.drum_command.specs.Refusal.{FitsAmong}
 use Rattle.drum_lines.specs.declared.fault.Fault.TheVariants as fault
 use Rattle.drum_lines.specs.declared.status.Status.TheVariants as status
-use Rattle.drum_tool.specs.Asked.{Asked, AsksFor, files_of}
+use Rattle.drum_tool.specs.Asked.{Asked, AsksFor, files_sought}
 use Rattle.drum_tool.specs.Files.{AreTold, FilesTold, Held}
 use Rattle.drum_tool.specs.Reply.{Reply, says, complains, fault_reply, AnswersCommand}
 use Rattle.drum_tool.specs.Reply.{AnswersJoined, LooksAsTold}
@@ -30,25 +30,26 @@ pub record AreOf (words : List Text) (command : Command) : Type 0 where
   pub faultless : fault_of drum650 words ≡ []
   pub said : said_by_words words ≡ Some (said_by command)
 
--- The reply to words, where this is told of the input and of files, and so many reads of them
--- failed: with no words that to the joined form, if its bytes are told; else that to the command
--- that they are, if its files are told; else why they are refused.
+-- The reply to words, where this is known of the input and of files, and this number of reads of
+-- them failed. With no words it is the reply to the joined form, if the input's bytes are known.
+-- With words that are a command it is the reply to that command, if what its files hold is known.
+-- With other words it is why they are refused.
 abbrev pub Answers : List Text → Option (List ℕ) → FilesTold → ℕ → Reply → Type 0
 Answers [] input files failures reply =
     (bytes : List ℕ) → input ≡ Some bytes → AnswersJoined bytes failures reply
 Answers (word ∷ words) input files failures reply =
     ((command : Command) × AreOf (word ∷ words) command
-    × ((held : Held) → AreTold files held (files_of command)
+    × ((held : Held) → AreTold files held (files_sought command)
     → AnswersCommand held command failures reply))
     ⊎ ((refused : Refused) × AreRefused (word ∷ words) refused
     × (failures ≡ 0) × (reply ≡ refused_reply refused))
 
--- What is asked of a source for words: with none nothing; else the files of the command that they
--- are, in its order and up to the fault that is told; and nothing where they are refused.
+-- What is asked of a source for words. With no words nothing is. With words that are a command its
+-- files are, in its order and up to the fault that is told. With other words nothing is.
 abbrev pub Asks : List Text → Option (List Asked) → Option (List Asked) → Reply → Type 0
 Asks [] before after reply = after ≡ before
 Asks (word ∷ words) before after reply =
     ((command : Command) × AreOf (word ∷ words) command
-    × AsksFor before after (LooksAsTold (files_of command) reply))
+    × AsksFor before after (LooksAsTold (files_sought command) reply))
     ⊎ ((refused : Refused) × AreRefused (word ∷ words) refused
     × (reply ≡ refused_reply refused) × (after ≡ before))

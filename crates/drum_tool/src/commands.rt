@@ -3,7 +3,7 @@
 ghost use Rattle.std.specs.Prelude.{◌≡◌, ◌+◌, ◌^◌, ◌≤◌, ℕ, Option, IfOk, IfErr, option_map};
 ghost use Rattle.drum_command.specs.declared.command.Command.TheVariants as commands;
 ghost use Rattle.drum_lines.specs.FaultStatus.{failed_by};
-ghost use Rattle.drum_tool.specs.Asked.{AsksFor, Looks, LooksFor, all_named_in, fault_in, files_of};
+ghost use Rattle.drum_tool.specs.Asked.{AsksFor, Looks, LooksFor, all_named_in, fault_in, files_sought};
 ghost use Rattle.drum_tool.specs.Asked.{name_in, named_in, named_with};
 ghost use Rattle.drum_tool.specs.Checked.{inputs_in, texts_in};
 ghost use Rattle.drum_tool.specs.Does.{DoesCommand};
@@ -203,7 +203,7 @@ fn follow<S: Source, O: Output, E: Output>(
     ensures spared { IfErr result (λ _. (out.new ≡ out.old) × (err.new ≡ err.old)) }
     ensures counted { S.failed source.new ≡ S.failed source.old + failed_by result }
     ensures asked { AsksFor (S.asked source.old) (S.asked source.new)
-        (Looks (files_of command.entry) (fault_in result)) }
+        (Looks (files_sought command.entry) (fault_in result)) }
 {
     match command {
         Command::Answer(question, files) => answer_of_files(alloc, question, source, files, out),
@@ -237,10 +237,10 @@ pub fn obey<S: Source, O: Output, E: Output>(
         × ((failures : ℕ) → S.failed source.new ≡ S.failed source.old + failures
         → TellsOfReads failures reply
         × ((held : Held)
-        → AreTold (S.files source.old) held (files_of command.entry)
+        → AreTold (S.files source.old) held (files_sought command.entry)
         → AnswersCommand held command.entry failures reply))
         × AsksFor (S.asked source.old) (S.asked source.new)
-        (LooksAsTold (files_of command.entry) reply) }
+        (LooksAsTold (files_sought command.entry) reply) }
 {
     match follow(alloc, command, source, out, err) {
         Ok(status) => status,

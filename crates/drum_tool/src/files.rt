@@ -12,6 +12,7 @@ ghost use Rattle.drum_tool.specs.Files.{HoldsTimes, behind};
 ghost use Rattle.drum_tool.specs.Files as said;
 
 use crate::documents::Documents;
+use crate::joined_input;
 use crate::source::Source;
 use drum_command::Files;
 use drum_core::{Deck, DeckFault, Input, WholeError, deck_of, read_whole};
@@ -25,7 +26,7 @@ fn limit_of(part: Part) -> usize
     ensures { result + 1 ≡ most_of part }
 {
     match part {
-        Part::Input => 16_777_216,
+        Part::Joined => joined_input::BYTES,
         Part::Deck => Deck::BYTES,
         Part::Times | Part::Notes => 8_388_608,
         Part::Inputs => Inputs::BYTES,
@@ -53,9 +54,9 @@ fn fault_by(part: Part, error: WholeError) -> Fault
 /// exactly where one did.
 fn text_of<I: Input>(alloc: Global, part: Part, text: &mut I) -> Result<Vec<u8>, Fault>
     requires { I.called text.old ≤ 2 ^ 62 }
-    ensures bytes { IfOk result (λ bytes. IfSome (I.left text.old) (λ all.
+    ensures bytes { IfOk result (λ bytes. IfSome (I.unread text.old) (λ all.
         HoldsText part (Some all) bytes.items)) }
-    ensures fault { IfErr result (λ fault. IfSome (I.left text.old) (λ all.
+    ensures fault { IfErr result (λ fault. IfSome (I.unread text.old) (λ all.
         HoldsNoText part (Some all) fault)) }
     ensures counted { I.failed text.old ≡ 0 → I.failed text.new ≡ failed_by result }
     ensures of { IsOfText part (fault_in result) }

@@ -11,7 +11,7 @@ use drum_lines::{Fault, Part, PartFault};
 use std::alloc::Global;
 
 /// The most bytes of the joined form.
-const BYTES: usize = 16_777_216;
+pub const BYTES: usize = 16_777_216;
 
 /// The documents of a joined form. Its parts are checked one after the other.
 ///
@@ -37,12 +37,12 @@ fn joined(alloc: Global, text: &[u8]) -> Result<Documents, Fault>
 pub fn documents_of<I: Input>(alloc: Global, input: &mut I) -> Result<Documents, Fault>
     requires { I.called input.old ≤ 2 ^ 62 }
     ensures gives { IfOk result (λ documents.
-        IfSome (I.left input.old) (λ bytes. Gives bytes documents)) }
+        IfSome (I.unread input.old) (λ bytes. Gives bytes documents)) }
     ensures fault { IfErr result (λ fault.
-        IfSome (I.left input.old) (λ bytes. GivesNone bytes fault)) }
+        IfSome (I.unread input.old) (λ bytes. GivesNone bytes fault)) }
     ensures counted { (failures : ℕ) → I.failed input.new ≡ I.failed input.old + failures
         → failures ≡ failed_by result }
-    ensures whole { ¬ IsErrOf result (Fault.Part Part.Input PartFault.Read)
+    ensures whole { ¬ IsErrOf result (Fault.Part Part.Joined PartFault.Read)
         → ¬ IsErrOf result Fault.Memory → (I.ended input.new ≡ I.ended input.old + 1)
         ⊎ (I.given input.new ≡ I.given input.old + 16777217) }
     ensures ended { I.ended input.new ≤ I.ended input.old + 1 }
@@ -56,8 +56,8 @@ pub fn documents_of<I: Input>(alloc: Global, input: &mut I) -> Result<Documents,
 {
     match read_whole(alloc, input, BYTES) {
         Ok(text) => joined(alloc, &text),
-        Err(WholeError::Read) => Err(Fault::Part(Part::Input, PartFault::Read)),
+        Err(WholeError::Read) => Err(Fault::Part(Part::Joined, PartFault::Read)),
         Err(WholeError::Memory) => Err(Fault::Memory),
-        Err(WholeError::TooLong) => Err(Fault::Part(Part::Input, PartFault::TooLong)),
+        Err(WholeError::TooLong) => Err(Fault::Part(Part::Joined, PartFault::TooLong)),
     }
 }

@@ -3,13 +3,14 @@
 //!
 //! Code, from the top down. `running` has `run` and `run_joined`, the program. `commands` has
 //! `obey`: what each command does with its files. `answering` is what is said of documents where a
-//! question is asked of them. `documents` is a deck with its timing table and notes. `files` reads
-//! them, and inputs, from a `source`; `joined_input` reads them from a joined form, whose parts are
-//! in `joined`. Of a check `texts` reads the texts alone, and `checking` tells their faults or what
-//! is found of the documents. `following` is a run that is followed step by step. `replaying`
-//! begins one and has `replay`, and `tracing` writes a line for each of its steps. `telling` writes
-//! a text to the output that it is for, and tells the status of a failed write. `laws` has laws of
-//! the definitions.
+//! question is asked of them. `documents` is a deck with its timing table and notes, and what is
+//! found of them: `limit` is the bound or, of a trace past the limit, a ceiling. `files` reads
+//! them, and inputs, from a `source`, which opens files and takes each text back; `joined_input`
+//! reads them from a joined form, whose parts are in `joined`. Of a check `texts` reads the texts
+//! alone, and `checking` tells their faults or what is found of the documents. `following` is a run
+//! that is followed step by step. `replaying` begins one and has `replay`, and `tracing` writes a
+//! line for each of its steps. `telling` writes a text to the output that it is for, and tells the
+//! status of a failed write. `laws` has laws of the definitions.
 //!
 //! Definitions, in the order to read them: `Documents`, then which bytes are theirs, in a joined
 //! form (`Joined`) and in files (`Files`, of a check `TextsHeld`). `Asked` is what is asked of a

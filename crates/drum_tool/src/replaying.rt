@@ -92,9 +92,9 @@ pub fn begin(
 ///
 /// # Errors
 ///
-/// [`Fault::Loaded`] for the first word of the inputs that the deck loads too; else
-/// [`Fault::Refused`] where the deck with its notes isn't accepted ([`bound`]); else
-/// [`Fault::Memory`] where there is no memory for the machine.
+/// [`Fault::Loaded`] for the first location of the inputs' words that the deck loads too; else
+/// [`Fault::Refused`] where the deck with its notes isn't accepted, or there is no memory for the
+/// analysis ([`bound`]); else [`Fault::Memory`] where there is no memory for the machine.
 pub fn replay(
     alloc: Global,
     deck: &Deck,

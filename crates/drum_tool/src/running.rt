@@ -23,13 +23,13 @@ use std::alloc::Global;
 /// The bound of the joined form that an input gives.
 fn joined_bound<I: Input>(alloc: Global, input: &mut I) -> Result<u64, Fault>
     requires { I.called input.old ≤ 2 ^ 62 }
-    ensures bound { IfOk result (λ bound. IfSome (I.left input.old) (λ bytes.
+    ensures bound { IfOk result (λ bound. IfSome (I.unread input.old) (λ bytes.
         AnswersJoined bytes 0 (bound_reply bound))) }
-    ensures fault { IfErr result (λ fault. IfSome (I.left input.old) (λ bytes.
+    ensures fault { IfErr result (λ fault. IfSome (I.unread input.old) (λ bytes.
         AnswersJoined bytes (reads_failed fault) (fault_reply fault))) }
     ensures counted { (failures : ℕ) → I.failed input.new ≡ I.failed input.old + failures
         → failures ≡ failed_by result }
-    ensures whole { ¬ IsErrOf result (Fault.Part Part.Input PartFault.Read)
+    ensures whole { ¬ IsErrOf result (Fault.Part Part.Joined PartFault.Read)
         → ¬ IsErrOf result Fault.Memory → (I.ended input.new ≡ I.ended input.old + 1)
         ⊎ (I.given input.new ≡ I.given input.old + 16777217) }
     ensures ended { I.ended input.new ≤ I.ended input.old + 1 }
@@ -67,7 +67,7 @@ pub fn run_joined<I: Input, O: Output, E: Output>(
         (device (E.written err.new) (E.failed err.new)) result
         × ((failures : ℕ) → I.failed input.new ≡ I.failed input.old + failures
         → TellsOfReads failures reply
-        × ((bytes : List ℕ) → I.left input.old ≡ Some bytes
+        × ((bytes : List ℕ) → I.unread input.old ≡ Some bytes
         → AnswersJoined bytes failures reply))
         × ReadsAll reply (I.ended input.old) (I.ended input.new)
         (I.given input.old) (I.given input.new) }
@@ -104,7 +104,7 @@ fn refuse<O: Output, E: Output>(out: &mut O, err: &mut E, refused: &Refused) -> 
     }
 }
 
-/// The program: does what its words say, which are those after its name, and tells how it ends.
+/// The program: does what the words after its name say, and tells how it ends.
 ///
 /// With no words it does what [`run_joined`] does; else it reads a command and its files, as
 /// [`obey`] does, or says why the words name none: help goes to `out`, all else to `err`.
@@ -128,7 +128,7 @@ pub fn run<'a, S: Source, I: Input, O: Output, E: Output>(
         × ((failures : ℕ) → I.failed input.new + S.failed source.new
         ≡ I.failed input.old + S.failed source.old + failures
         → TellsOfReads failures reply
-        × Answers (texts words.entry.now) (I.left input.old) (S.files source.old) failures reply)
+        × Answers (texts words.entry.now) (I.unread input.old) (S.files source.old) failures reply)
         × Asks (texts words.entry.now) (S.asked source.old) (S.asked source.new) reply
         × (length words.entry.now ≡ 0 → ReadsAll reply (I.ended input.old) (I.ended input.new)
         (I.given input.old) (I.given input.new)) }

@@ -11,8 +11,8 @@ pub trait Source {
     /// A file's text.
     type Text: Input;
 
-    /// What is told of the file of a name, where so many are sought before it: nothing, that it
-    /// can't be opened, or its bytes.
+    /// What is told of the file of a name, where this number of files are sought before it:
+    /// nothing, that it can't be opened, or its bytes.
     ghost files: { Self → FilesTold };
 
     /// How many reads failed of the texts that it was given back.
@@ -25,7 +25,7 @@ pub trait Source {
     fn fetch(&mut self, name: &str) -> Option<Self::Text>
         ensures behind { files self.new ≡ behind (files self.old) }
         ensures counted { failed self.new ≡ failed self.old }
-        ensures bytes { IsFetched (files self.old 0 name.now) (option_map Self.Text.left result) }
+        ensures bytes { IsFetched (files self.old 0 name.now) (option_map Self.Text.unread result) }
         ensures asked { AsksFor (asked self.old) (asked self.new)
             (λ more. more ≡ sought name.now ∷ []) }
         ensures calls { IfSome result (λ text. Self.Text.called text ≡ 0) }

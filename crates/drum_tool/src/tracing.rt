@@ -44,7 +44,7 @@ fn send_steps<O: Output>(
     requires called { O.called out.old ≤ 2 ^ 62 }
     requires below { most < 2 ^ 50 }
     requires bounded { IsBounded (setting deck.now times.now notes.now) most }
-    requires angle { (state_of following).start ≡ angle }
+    requires angle { (state_of following).first_angle ≡ angle }
     requires begins { CanBegin (setting deck.now times.now notes.now) (state_of following) }
     requires follows { IsFollowing (setting deck.now times.now notes.now) (state_of following)
         (waits_of following) most [] following }
@@ -79,9 +79,9 @@ fn send_steps<O: Output>(
 ///
 /// # Errors
 ///
-/// [`Fault::Loaded`] for the first word of the inputs that the deck loads too; else
-/// [`Fault::Refused`] where there is neither a bound nor a ceiling to go by ([`Documents::limit`]);
-/// else [`Fault::Memory`] where there is no memory for the machine.
+/// [`Fault::Loaded`] for the first location of the inputs' words that the deck loads too; else
+/// [`Fault::Refused`] where there is neither a bound nor a ceiling to go by, or no memory to find
+/// one ([`Documents::limit`]); else [`Fault::Memory`] where there is no memory for the machine.
 pub fn begin_trace(alloc: Global, documents: &Documents, inputs: Inputs) -> Result<Begun, Fault>
     ensures begun { IfOk result (IsTraceBegun documents.now (given inputs)) }
     ensures refused { IfErr result (IsTraceFault documents.now (given inputs)) }

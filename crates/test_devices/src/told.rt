@@ -113,7 +113,7 @@ impl<'a> Source for Told<'a> {
 
 /// Runs `bound` with the names of three of these files. That it is done tells that standard output
 /// got the line of their bound: the worst of what they hold, which no run that keeps to the notes
-/// ever passes.
+/// ever exceeds.
 pub fn bound_of_files<O: Output, E: Output>(
     alloc: Global,
     files: &[File<'_>],

@@ -1,4 +1,4 @@
-//! Tests of want of memory. `checks/refuse-memory` runs each with its requests for memory refused.
+//! Tests of lack of memory. `checks/refuse-memory` runs each with its requests for memory refused.
 //!
 //! Calls that take memory answer that it is wanting, or what they answer ever: `calls` is a table
 //! of them, and `watched` tries each in a `window`, where memory may be refused. `subjects` are the

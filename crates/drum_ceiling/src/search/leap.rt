@@ -17,7 +17,7 @@ pub struct Head {
 pub struct Leap {
     pub from: Slot,
     pub onto: Slot,
-    /// The mark's place among the marks.
+    /// The mark's index among the marks.
     pub mark: u8,
     /// The word times that it takes.
     pub time: u64,

@@ -56,7 +56,7 @@ fn add_row(list: &mut Vec<Crossing>, from: Slot, row: &Row) -> Result<(), AllocE
 pub struct Leaps {
     pub heads: Vec<Head>,
     pub list: Vec<Leap>,
-    /// The place of the last leap that leads to a slot.
+    /// The index of the last leap that leads to a slot.
     last: BySlot,
 }
 

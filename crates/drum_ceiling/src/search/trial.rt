@@ -12,7 +12,7 @@ use std::alloc::{AllocError, Global};
 pub struct Trial {
     /// The most word times from each head on, less prices.
     pub values: BySlot,
-    /// The place of the leap with which that way begins; none, where it passes no mark.
+    /// The index of the leap with which that way begins; none, where it passes no mark.
     by: BySlot,
     /// How many leaps were looked at, in all trials.
     pub looks: u64,

@@ -13,8 +13,8 @@ use crate::device::input::Input;
 use crate::device::whole::{WholeError, read_whole};
 use std::alloc::Global;
 
-/// Reads a deck. The whole text is read first, 404,001 bytes at most: a device that gives as many
-/// as that is too long, and may have no end.
+/// Reads a deck. The whole text is read first, 404,001 bytes at most. A text of as many as that is
+/// too long, or there is no memory for it: so a device may have no end.
 ///
 /// # Errors
 ///
@@ -23,10 +23,10 @@ use std::alloc::Global;
 /// Twice); NoStart last.
 pub fn read_deck<I: Input>(alloc: Global, reader: &mut I) -> Result<Deck, DeckFault>
     requires { I.called reader.old ≤ 2 ^ 62 }
-    ensures deck { IfOk result (λ deck. IfSome (I.left reader.old) (λ bytes.
+    ensures deck { IfOk result (λ deck. IfSome (I.unread reader.old) (λ bytes.
         (lines : List Line) × IsDeck bytes lines × IsDeckOf deck lines)) }
     ensures refused { IfErr result (λ fault. fault ≢ DeckFault.Read → fault ≢ DeckFault.Memory
-        → IfSome (I.left reader.old) (λ bytes. IsRefused bytes fault)) }
+        → IfSome (I.unread reader.old) (λ bytes. IsRefused bytes fault)) }
     ensures full { I.given reader.new ≡ I.given reader.old + 404001
         → IsErrOf result DeckFault.TooLong ⊎ IsErrOf result DeckFault.Memory }
     ensures read { IsErrOf result DeckFault.Read ↔ (I.failed reader.new ≡ I.failed reader.old + 1) }
@@ -34,6 +34,9 @@ pub fn read_deck<I: Input>(alloc: Global, reader: &mut I) -> Result<Deck, DeckFa
     ensures whole { ¬ IsErrOf result DeckFault.Read → ¬ IsErrOf result DeckFault.Memory
         → (I.ended reader.new ≡ I.ended reader.old + 1)
         ⊎ (I.given reader.new ≡ I.given reader.old + 404001) }
+    // Of the reads at most one meets the end, at most one gives no byte, and at most one fails.
+    // They are 404,001 at most, and so are their bytes; and there is at most one more of them
+    // than there are bytes.
     ensures ended { I.ended reader.new ≤ I.ended reader.old + 1 }
     ensures idle { I.idle reader.new ≤ I.idle reader.old + 1 }
     ensures once { I.failed reader.new ≤ I.failed reader.old + 1 }

@@ -8,7 +8,7 @@ use super::Failed;
 /// A device that bytes come from.
 pub trait Input {
     /// The bytes that reads give from here on, where that is known.
-    ghost left: { Self → Option (List ℕ) };
+    ghost unread: { Self → Option (List ℕ) };
 
     /// How often it was read.
     ghost called: { Self → ℕ };
@@ -34,7 +34,7 @@ pub trait Input {
     fn read(&mut self, buf: &mut [u8]) -> Result<usize, Failed>
         requires { called self.old ≤ 2 ^ 63 }
         ensures bound { ReadsAtMost result buf.new }
-        ensures bytes { ReadConsumes (left self.old) (left self.new) result buf.new }
+        ensures bytes { ReadConsumes (unread self.old) (unread self.new) result buf.new }
         ensures calls { called self.new ≡ called self.old + 1 }
         ensures failures { failed self.new ≡ failed self.old + (if is_err result then 1 else 0) }
         ensures given { given self.new ≡ given self.old + given_by result }

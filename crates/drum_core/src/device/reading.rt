@@ -41,7 +41,7 @@ impl<R: Read> Reading<R> {
 }
 
 impl<R: Read> Input for Reading<R> {
-    ghost left = { λ reading. R.remaining reading.reader };
+    ghost unread = { λ reading. R.remaining reading.reader };
 
     ghost called = { λ reading. reading.calls };
 

@@ -33,14 +33,14 @@ pub fn read_whole<I: Input>(
 ) -> Result<Vec<u8>, WholeError>
     requires small { limit ≤ 2 ^ 32 }
     requires calls { I.called input.old ≤ 2 ^ 62 }
-    ensures all { IfOk result (λ text. IfSome (I.left input.old) (λ bytes. text.items ≡ bytes)) }
+    ensures all { IfOk result (λ text. IfSome (I.unread input.old) (λ bytes. text.items ≡ bytes)) }
     ensures within { IfOk result (λ text. vec_len text ≤ limit) }
     // It has all bytes where the end was met, and an end that is met isn't asked for again.
     ensures whole { OnOk result (I.ended input.new ≡ I.ended input.old + 1) }
     ensures ended { I.ended input.new ≤ I.ended input.old + 1 }
     ensures idle { I.idle input.new ≤ I.idle input.old + 1 }
     ensures long { IsErrOf result WholeError.TooLong
-        → IfSome (I.left input.old) (λ bytes. limit < length bytes) }
+        → IfSome (I.unread input.old) (λ bytes. limit < length bytes) }
     ensures past { IsErrOf result WholeError.TooLong
         → I.given input.new ≡ I.given input.old + limit + 1 }
     ensures full { I.given input.new ≡ I.given input.old + limit + 1

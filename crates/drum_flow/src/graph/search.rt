@@ -223,14 +223,14 @@ fn place_of(path: &[usize], node: usize) -> usize
     unreachable!()
 }
 
-/// The node at a place of a row; `None` past its end.
+/// The node with this index in a row; `None` past its end.
 fn node_at(row: &[usize], at: usize) -> Option<usize>
     ensures { result ≡ slice_get row.now at }
 {
     row.get(at).copied()
 }
 
-/// The place of the first node of a row, from a place on, that isn't finished; the row's length
+/// The index of the first node of a row, from an index on, that isn't finished; the row's length
 /// where all are.
 fn first_unfinished(states: &[Progress], row: &[usize], from: usize) -> usize
     requires within { (next : ℕ) → Contains row.now next → next < length states.now }

@@ -15,7 +15,7 @@ pub fn name_of(part: Part) -> &'static [u8]
     ensures short { length result.now ≤ 6 }
 {
     match part {
-        Part::Input => b"input",
+        Part::Joined => b"input",
         Part::Deck => b"deck",
         Part::Times => b"times",
         Part::Notes => b"notes",

@@ -1,7 +1,7 @@
 use super::spent::Spent;
 use drum_bound::Visit;
 
-/// What the hops of a kind take in all, in word times.
+/// What the hops of a kind take in all, in word times: their work, and their waits for the drum.
 #[derive(Clone, Copy, Debug, PartialEq, Eq)]
 pub struct Wait {
     /// The first of them.
@@ -10,9 +10,9 @@ pub struct Wait {
     pub visits: u64,
     /// In all.
     pub time: u64,
-    /// Until their instruction is found.
+    /// Waits for their instructions, until they are found.
     pub instruction: u64,
-    /// From where their operation can begin until it has its data.
+    /// Waits for their data, from when their instructions are ready.
     pub operand: u64,
 }
 

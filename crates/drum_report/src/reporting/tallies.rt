@@ -19,7 +19,7 @@ pub struct Tallies {
     pub cards: [Tally; LINES],
     /// At locations that no card gives a word.
     pub other: Tally,
-    /// By the marks' places in the notes; what stands past the last mark means nothing.
+    /// By the marks' indices in the notes; what stands past the last mark means nothing.
     pub passed: [u64; Mark::MOST],
 }
 

@@ -20,7 +20,7 @@ pub trait Checked: Sized {
     /// The faults of the table, the element of this number from 1, whose keys' path begins so.
     ghost faults: { ℕ → List ℕ → Members → List Fault };
 
-    /// Adds the faults of the element at a place, from 0.
+    /// Adds the faults of the element with this index, from 0.
     fn check(into: &mut Faults, fields: &Fields<'_>, place: usize) -> Result<(), AllocError>
         ensures { IfOk result (λ _. Adds into.old.all.items into.new.all.items
             (faults (place + 1) fields.now.at.now (table_view fields.now.table.now))) };
@@ -72,7 +72,7 @@ impl Faults {
         Ok(())
     }
 
-    /// Adds those of the element at a place, from 0.
+    /// Adds those of the element with this index, from 0.
     fn element<T: Checked>(
         &mut self,
         alloc: Global,

@@ -18,12 +18,12 @@ use toml::Value;
 
 /// What an element of an array of tables stands for.
 pub trait Element: Sized {
-    /// The table, the element at this place from 0, says the value.
+    /// The table, the element with this index from 0, says the value.
     ghost says: { ℕ → Members → Self → Type 0 };
     /// The faults of the table, the element of this number from 1, whose keys' path begins so.
     ghost faults: { ℕ → List ℕ → Members → List Fault };
 
-    /// The element at a place, from 0.
+    /// The element with this index, from 0.
     fn read(fields: &Fields<'_>, place: usize) -> Result<Self, NoteFault>
         ensures said { IfOk result (says place (table_view fields.now.table.now)) }
         ensures none { IfOk result (λ _. faults (place + 1) fields.now.at.now
@@ -99,7 +99,7 @@ fn read_elements<T: Element + Drop>(
     Ok(elements)
 }
 
-/// The element at a place, from 0, of the array at a path.
+/// The element with this index, from 0, of the array at a path.
 fn read_element<T: Element>(
     alloc: Global,
     path: &str,
@@ -131,7 +131,7 @@ fn read_element<T: Element>(
     )
 }
 
-/// The path of the element at a place, from 0.
+/// The path of the element with this index, from 0.
 pub fn element_path(alloc: Global, path: &str, place: usize) -> Result<String, AllocError>
     requires { place + 1 < 2 ^ 64 }
     ensures { IfOk result (λ at. string_bytes at ≡ path.now ++ codes "." ++ decimal (place + 1)) }

@@ -14,7 +14,7 @@ pub struct Mark {
     /// How often it is passed at most, 0 to 9999, since the last pass of a mark that it stands
     /// inside of, directly or through others, or since the beginning of the run.
     pub most: u16,
-    /// The place, from 0, of the earlier mark that it stands inside of, if there is one.
+    /// The index, from 0, of the earlier mark that it stands inside of, if there is one.
     pub inside: Option<usize>,
     pub ghost four_digits: { most ≤ 9999 },
 }
@@ -32,7 +32,7 @@ impl Mark {
         self.from.number == from.number && self.onto.number == onto.number
     }
 
-    /// The place, from 0, of the first of these marks that stands on the edge from the one location
+    /// The index, from 0, of the first of these marks that stands on the edge from the one location
     /// to the other; `None` where none does.
     pub fn on_edge(marks: &[Mark], from: Location, onto: Location) -> Option<usize>
         ensures value { result ≡ mark_on marks.now from.number onto.number }

@@ -39,8 +39,8 @@ impl Pattern {
         (self.d_to - self.d_from) as usize + 1
     }
 
-    /// The instruction at a place, from 0, of those that match, in ascending order of D; `None` for
-    /// a place from [`Pattern::len`] on.
+    /// The instruction with this index, from 0, of those that match, in ascending order of D;
+    /// `None` for an index from [`Pattern::len`] on.
     pub fn at(self, place: usize) -> Option<Instruction>
         ensures { result ≡ slice_get (matching self) place }
     {

@@ -31,7 +31,7 @@ impl Element for Mark {
     }
 }
 
-/// The place of the mark that the one at this place stands inside of.
+/// The index of the mark that the one with this index stands inside of.
 fn read_inside(fields: &Fields<'_>, place: usize) -> Result<Option<usize>, NoteFault>
     ensures said { IfOk result (said.HasInside place (table_view fields.now.table.now)) }
     ensures none { IfOk result (λ _.

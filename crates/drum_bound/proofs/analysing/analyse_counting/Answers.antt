@@ -53,7 +53,7 @@ returns-clause-analysed g c =
       kept = λ s strides first is_run kept.
           let walked = kept_walk (setting deck times notes) (executed_in accepted.flow) s strides proper
           ensures.accepted.admitted first is_run kept in
-          omega (arith, is.worst.most s.start (hops_taken strides) walked.0, walked.1);
+          omega (arith, is.worst.most s.first_angle (hops_taken strides) walked.0, walked.1);
       under = λ s strides first is_run kept.
           arrive_under (setting deck times notes) (rows_of analysis) (executed_in accepted.flow) s strides is.table proper
           ensures.accepted.admitted first is_run kept;

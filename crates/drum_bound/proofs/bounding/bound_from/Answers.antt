@@ -34,5 +34,5 @@ returns-clause-bound g c =
       bounded = λ s strides first is_run kept.
           let walked = kept_walk (setting deck times notes) (executed_in accepted.flow) s strides
           (is_proper deck times notes c.marks-marks.ensures.sound) ensures.accepted.admitted first is_run kept in
-          omega (arith, worst.most s.start (hops_taken strides) walked.0, walked.1);
+          omega (arith, worst.most s.first_angle (hops_taken strides) walked.0, walked.1);
     }

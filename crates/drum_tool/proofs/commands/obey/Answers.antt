@@ -2,7 +2,7 @@
 -- has.
 use Rattle.std.proofs.Common.{inr, refl}
 use Rattle.drum_lines.specs.FaultStatus.{reads_failed}
-use Rattle.drum_tool.specs.Asked.{files_of}
+use Rattle.drum_tool.specs.Asked.{files_sought}
 use Rattle.drum_tool.specs.Reply.{fault_reply}
 use Rattle.drum_tool.proofs.Asking.{told_fault, told_well}
 use Rattle.drum_tool.proofs.Replies.{Replied, counted, fault_of_reads}
@@ -16,7 +16,7 @@ returns-in-Ok-clause-told g c =
       (λ failures count.
           counted (Replied (g.S.Source.files c.args.source.now) c.args.command done.0) _ _ failures 0
           c.in-Ok.ensures.counted count (inr (refl, done.2), done.1)),
-      told_well (files_of c.args.command) (g.S.Source.asked c.args.source.now)
+      told_well (files_sought c.args.command) (g.S.Source.asked c.args.source.now)
           (g.S.Source.asked c.follow.new.source) done.0 done.2 c.in-Ok.ensures.asked,
     )
 
@@ -29,6 +29,6 @@ returns-in-Err-clause-told g c =
       (λ failures count.
           counted (Replied (g.S.Source.files c.args.source.now) c.args.command (fault_reply fault)) _ _ failures
           (reads_failed fault) c.in-Err.ensures.counted count (fault_of_reads fault, c.in-Err.ensures.does)),
-      told_fault (files_of c.args.command) (g.S.Source.asked c.args.source.now)
+      told_fault (files_sought c.args.command) (g.S.Source.asked c.args.source.now)
           (g.S.Source.asked c.follow.new.source) fault c.in-Err.ensures.asked,
     )

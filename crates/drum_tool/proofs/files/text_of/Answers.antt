@@ -7,7 +7,7 @@ use Rattle.drum_tool.proofs.files.text_of.Goals as goal
 
 pub returns-in-Ok-clause-bytes : goal.returns-in-Ok-clause-bytes
 returns-in-Ok-clause-bytes g c =
-    text_held c.args.part c.limit_of.result c.in-Ok.bytes.items (g.I.Input.left c.args.text.now) c.limit_of.ensures
+    text_held c.args.part c.limit_of.result c.in-Ok.bytes.items (g.I.Input.unread c.args.text.now) c.limit_of.ensures
     (omega (arith, c.in-Ok.ensures.within, c.in-Ok.bytes.ok.0)) c.in-Ok.ensures.all
 
 pub returns-in-Ok-clause-counted : goal.returns-in-Ok-clause-counted
@@ -26,7 +26,7 @@ returns-in-Ok-clause-all g c uncalled unfailed unended ungiven unspared =
 
 pub returns-in-Err-clause-fault : goal.returns-in-Err-clause-fault
 returns-in-Err-clause-fault g c =
-    text_unread c.args.part c.limit_of.result c.in-Err.error c.fault_by.result (g.I.Input.left c.args.text.now)
+    text_unread c.args.part c.limit_of.result c.in-Err.error c.fault_by.result (g.I.Input.unread c.args.text.now)
     c.limit_of.ensures c.fault_by.ensures (λ e. c.in-Err.ensures.long cc)
 
 pub returns-in-Err-clause-counted : goal.returns-in-Err-clause-counted

@@ -6,7 +6,7 @@ use Rattle.drum_tool.proofs.joined_input.documents_of.Goals as goal
 pub returns-in-Ok-clause-fault : goal.returns-in-Ok-clause-fault
 returns-in-Ok-clause-fault g c =
     err_map _ _ c.joined.result c.joined.ensures.fault (λ fault is.
-    known_none (g.I.Input.left c.args.input.now) c.deref.result.now fault
+    known_none (g.I.Input.unread c.args.input.now) c.deref.result.now fault
     (rw c.deref.ensures.value c.in-Ok.ensures.all) (omega (arith, c.deref.ensures.len, c.in-Ok.ensures.within)) is)
 
 pub returns-in-Ok-clause-counted : goal.returns-in-Ok-clause-counted
@@ -17,7 +17,7 @@ returns-in-Ok-clause-counted g c failures failed =
 pub returns-in-Ok-clause-gives : goal.returns-in-Ok-clause-gives
 returns-in-Ok-clause-gives g c =
     ok_map _ _ c.joined.result c.joined.ensures.joins (λ documents is.
-    known_documents (g.I.Input.left c.args.input.now) c.deref.result.now documents
+    known_documents (g.I.Input.unread c.args.input.now) c.deref.result.now documents
     (rw c.deref.ensures.value c.in-Ok.ensures.all) (omega (arith, c.deref.ensures.len, c.in-Ok.ensures.within)) is)
 
 pub returns-in-Ok-clause-full : goal.returns-in-Ok-clause-full

@@ -10,19 +10,19 @@ use Rattle.drum_tool.proofs.running.joined_bound.Goals as goal
 pub returns-in_err-documents-clause-fault : goal.returns-in_err-documents-clause-fault
 returns-in_err-documents-clause-fault g c =
     let p = err_from_is_err_and c.from_residual.result c.from_residual.ensures.1 in
-    rw (p.1, p.2) (some_map (g.I.Input.left c.args.input.now) _ _ c.in_err-documents.ensures.fault
+    rw (p.1, p.2) (some_map (g.I.Input.unread c.args.input.now) _ _ c.in_err-documents.ensures.fault
     (λ bytes none. inr (c.in_err-documents.field-0.0, inl none, refl, refl)))
 
 pub returns-clause-bound : goal.returns-clause-bound
 returns-clause-bound g c =
     ok_map _ _ c.bound.result c.bound.ensures.bound (λ bound is.
-    some_map (g.I.Input.left c.args.input.now) _ _ c.in_ok-documents.ensures.gives
+    some_map (g.I.Input.unread c.args.input.now) _ _ c.in_ok-documents.ensures.gives
     (λ bytes gives. inl (c.in_ok-documents.documents, gives, refl, (bound, is, refl))))
 
 pub returns-clause-fault : goal.returns-clause-fault
 returns-clause-fault g c =
     err_map _ _ c.bound.result c.bound.ensures.fault (λ fault is.
-    some_map (g.I.Input.left c.args.input.now) _ _ c.in_ok-documents.ensures.gives
+    some_map (g.I.Input.unread c.args.input.now) _ _ c.in_ok-documents.ensures.gives
     (λ bytes gives. inr (fault, inr (c.in_ok-documents.documents, gives, is), refl, refl)))
 
 pub returns-in_err-documents-clause-counted : goal.returns-in_err-documents-clause-counted

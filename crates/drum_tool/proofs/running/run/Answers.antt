@@ -17,7 +17,7 @@ returns-then-is_empty-clause-told g c =
       (λ failures count.
           let so = told.2 failures (omega (arith, count)) in (
             so.0,
-            without_words (g.I.Input.left c.args.input.now) (g.S.Source.files c.args.source.now) failures told.0
+            without_words (g.I.Input.unread c.args.input.now) (g.S.Source.files c.args.source.now) failures told.0
                 c.args.words.now c.if-is_empty.ensures so.1,
           )),
       nothing_asked (g.S.Source.asked c.args.source.now) told.0 c.args.words.now c.if-is_empty.ensures,
@@ -32,7 +32,7 @@ returns-in-Ok-clause-told g c =
       (λ failures count.
           let so = told.2 failures (omega (arith, count)) in (
             so.0,
-            with_command (g.I.Input.left c.args.input.now) (g.S.Source.files c.args.source.now) failures told.0
+            with_command (g.I.Input.unread c.args.input.now) (g.S.Source.files c.args.source.now) failures told.0
                 c.args.words.now c.if-is_empty.ensures c.in-Ok.command
                 (record { faultless = c.in-Ok.ensures.faultless; said = c.in-Ok.ensures.told }) so.1,
           )),
@@ -49,7 +49,7 @@ returns-in-Err-clause-told g c =
       (λ failures count.
           let none : failures ≡ 0 = omega (arith, count) in (
             subst (λ (n : ℕ). TellsOfReads n (refused_reply refused)) (sym none) (refused_of_no_read refused),
-            with_refused (g.I.Input.left c.args.input.now) (g.S.Source.files c.args.source.now) failures _
+            with_refused (g.I.Input.unread c.args.input.now) (g.S.Source.files c.args.source.now) failures _
                 c.args.words.now c.if-is_empty.ensures refused
                 (record { fits = c.in-Err.ensures.kinds; taken = c.in-Err.ensures.taken }) none refl,
           )),

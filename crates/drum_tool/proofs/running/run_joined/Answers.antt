@@ -45,10 +45,10 @@ returns-in-Err-clause-told g c =
           )),
       (
         (λ not_read not_memory. c.in-Err.ensures.whole
-            (λ is. let same : fault ≡ faults.Part part.Input what.Read = cc in not_read (ap fault_reply same))
+            (λ is. let same : fault ≡ faults.Part part.Joined what.Read = cc in not_read (ap fault_reply same))
             (λ is. let same : fault ≡ faults.Memory = cc in not_memory (ap fault_reply same))),
         (λ given. elim (c.in-Err.ensures.full given) [
-          | inl is ↦ let same : fault ≡ faults.Part part.Input what.TooLong = cc in inl (ap fault_reply same)
+          | inl is ↦ let same : fault ≡ faults.Part part.Joined what.TooLong = cc in inl (ap fault_reply same)
           | inr is ↦ let same : fault ≡ faults.Memory = cc in inr (ap fault_reply same)
         ]),
       ),
@@ -62,5 +62,5 @@ returns-in-Err-clause-full g c given =
     c.tell_fault.ensures.status ∙ failed c.in-Err.fault (c.in-Err.ensures.full given)
   where
     failed : (fault : Fault) → IsPastLimit {A = ℕ} (Err fault) → status_after fault ≡ Failed
-    failed fault (inl is) = let same : fault ≡ faults.Part part.Input what.TooLong = cc in ap status_after same
+    failed fault (inl is) = let same : fault ≡ faults.Part part.Joined what.TooLong = cc in ap status_after same
     failed fault (inr is) = let same : fault ≡ faults.Memory = cc in ap status_after same

@@ -6,7 +6,7 @@ use Rattle.drum_core.proofs.device.whole.read_whole.Given as goal
 abbrev pub invariant-loop : goal.invariant-loop
 invariant-loop g l = record {
   within : vec_len l.text ≤ l.limit;
-  prefix : Consumes (g.I.Input.left l.fn.input) (g.I.Input.left l.input) l.text.items;
+  prefix : Consumes (g.I.Input.unread l.fn.input) (g.I.Input.unread l.input) l.text.items;
   calls : g.I.Input.called l.input ≡ g.I.Input.called l.fn.input + l.counter;
   each : l.counter ≤ vec_len l.text;
   failed : g.I.Input.failed l.input ≡ g.I.Input.failed l.fn.input;

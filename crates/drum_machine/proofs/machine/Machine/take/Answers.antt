@@ -8,14 +8,15 @@ use Rattle.drum_core.specs.Instruction.{instruction_of}
 use Rattle.drum_core.specs.Op.{operand_of, is_operand}
 use Rattle.drum_times.specs.declared.entry.Entry.{Entry}
 use Rattle.drum_times.specs.Entries.{entry_in}
-use Rattle.drum_machine.specs.Feed.{cards_left, waits_left, wait_for, cards_after, waits_after, is_load}
+use Rattle.drum_machine.specs.Fed.{wait_for, cards_after, waits_after, is_load, op_in, wait_with, cards_with, waits_with}
+use Rattle.drum_machine.specs.Feed.{cards_left, waits_left}
 use Rattle.drum_machine.specs.Keeps.{is_load as load_next, reads_load, reads_with}
 use Rattle.drum_core.specs.declared.op.Op.{Op}
 use Rattle.drum_machine.specs.Effect.{effect}
 use Rattle.drum_machine.specs.Timing.{ready, ended, units_of, IsWait}
-use Rattle.drum_machine.specs.Machine.{state_in, op_in, wait_with, punched_with, cards_with, waits_with}
+use Rattle.drum_machine.specs.Machine.{state_in, punched_with}
 use Rattle.drum_machine.specs.Registers.{contents_with, cards_before, outcome_of}
-use Rattle.drum_machine.specs.Step.{step, leaves, fetched, clock_of, MayWait, instruction_in, is_read, has_cards}
+use Rattle.drum_machine.specs.Step.{step, stepped_by, fetched, clock_of, MayWait, instruction_in, is_read, has_cards}
 use Rattle.drum_machine.specs.Step.{lacks_card}
 use Rattle.drum_machine.proofs.Stepping.{short_work, step_past_x, not_lacking, load_read, same_end, same_effect}
 use Rattle.drum_machine.proofs.Stepping.{same_told, same_left, taken_past_x}
@@ -74,7 +75,7 @@ returns-clause-takes c =
     (instruction_in s).d ins.i (instruction_in s).i
     (ap (contents_with before.registers) cards) same_d same_i
     ∙ c.act-acted.ensures (cards_left left) in
-    let stepped : step times s (wait_with times (op_in s) (waits_left fed)) ≡ leaves s c.ended-end.result outcome =
+    let stepped : step times s (wait_with times (op_in s) (waits_left fed)) ≡ stepped_by s c.ended-end.result outcome =
     ap (λ (v : Option Op). step times s (wait_with times v (waits_left fed))) c.requires.op
     ∙ step_past_x times s op wait c.ended-end.result outcome c.requires.op wanted has ends has_effect in
     let load : c.is_load-load.result ≡ reads_load s =
@@ -89,13 +90,13 @@ returns-clause-takes c =
           (subst (λ (v : Entry). IsWait op v wait) same_entry
           (subst (λ (v : ℕ). IsWait op entry v) same_wait c.take_wait-wait.ensures.may));
       tells =
-          same_told (leaves s c.ended-end.result outcome) (step times s (wait_with times (op_in s) (waits_left fed)))
+          same_told (stepped_by s c.ended-end.result outcome) (step times s (wait_with times (op_in s) (waits_left fed)))
           before.sought c.args.word (fetched s)
           c.is_load-load.result (reads_load s) c.punched-punched.result (punched_with (op_in s) s) c.finish.result
           stepped c.requires.fetched load punches
           (c.finish.ensures.tells s (cards_left left) refl);
       becomes =
-          same_left (leaves s c.ended-end.result outcome) (step times s (wait_with times (op_in s) (waits_left fed)))
+          same_left (stepped_by s c.ended-end.result outcome) (step times s (wait_with times (op_in s) (waits_left fed)))
           before.sought c.args.word (fetched s)
           c.finish.new.self (cards_left left) stepped c.requires.fetched
           (c.finish.ensures.becomes s (cards_left left) refl);

@@ -5,7 +5,7 @@ use Rattle.std.proofs.Common.{ℕ, ◌+◌, ◌∷◌, ◌++◌, [], sym, subst,
 use Rattle.drum_core.specs.Loads.{loads_in}
 use Rattle.drum_times.specs.Entries.{entry_in}
 use Rattle.drum_machine.specs.Feed.{cards_left}
-use Rattle.drum_monitor.specs.Monitor.{HasSeen}
+use Rattle.drum_monitor.specs.Monitor.{HasSeenKept}
 use Rattle.drum_machine.specs.Machine.{IsToldOf}
 use Rattle.drum_machine.specs.Step.{fetched}
 use Rattle.drum_flow.specs.SettingOf.{setting}
@@ -94,7 +94,7 @@ returns-in-Stopped-clause-advanced c s waits strides begins bounded following =
     let before = c.args.self.now in
     let takes = c.step-step.ensures.goes following.goes in
     let told_so = told g before c.step-step.result c.step-step.new.self c.step-step.new.feed takes in
-    let seen : HasSeen (loads_in c.args.deck.now) c.args.notes.now c.check.new.self
+    let seen : HasSeenKept (loads_in c.args.deck.now) c.args.notes.now c.check.new.self
     (strides ++ stride_of g.times before ∷ []) =
     c.in_default.ensures.judged following.silent (entry_in c.args.times.now) strides (stride_of g.times before)
     following.seen told_so in
@@ -108,7 +108,7 @@ returns-clause-advanced c s waits strides begins bounded following =
     let before = c.args.self.now in
     let takes = c.step-step.ensures.goes following.goes in
     let told_so = told g before c.step-step.result c.step-step.new.self c.step-step.new.feed takes in
-    let seen : HasSeen (loads_in c.args.deck.now) c.args.notes.now c.check.new.self
+    let seen : HasSeenKept (loads_in c.args.deck.now) c.args.notes.now c.check.new.self
     (strides ++ stride_of g.times before ∷ []) =
     c.in_default.ensures.judged following.silent (entry_in c.args.times.now) strides (stride_of g.times before)
     following.seen told_so in
