@@ -14,7 +14,7 @@ use Rattle.drum_flow.specs.Walk.{Setting}
 -- the price of a pass of this mark; of none, 0
 abbrev pub price_of : List ℕ → Option ℕ → ℕ
 price_of prices None = 0
-price_of prices (Some k) = slice_index prices k
+price_of prices (Some index) = slice_index prices index
 
 -- the price of an edge: that of the mark on it
 abbrev pub price_on : List Mark → List ℕ → ℕ → ℕ → ℕ
@@ -28,16 +28,17 @@ mark_by marks place late = None
 
 -- no walk takes such a hop: its mark may never be passed
 abbrev pub IsShut : List Mark → ℕ → Way → Type 0
-IsShut marks place way = (k : ℕ) × (mark : Mark) × (mark_by marks place way ≡ Some k)
-    × (slice_get marks k ≡ Some mark) × (mark.most ≡ 0)
+IsShut marks place way = (index : ℕ) × (mark : Mark) × (mark_by marks place way ≡ Some index)
+    × (slice_get marks index ≡ Some mark) × (mark.most ≡ 0)
 
 -- when the next instruction is found, where a hop that is found at this clock takes longest
 abbrev pub arrival : Setting → ℕ → ℕ → Hop → ℕ → ℕ
 arrival g place clock hop next = found next (longest g.times place hop.ins hop.way clock)
 
--- The potential of a place, whose instruction is found at this clock, pays for a hop, with the
--- price of its mark: till it ends; and where it goes on, for the search and the next potential. A
--- potential counts from 49 word times before, so that a walk's end isn't charged with a search.
+-- From the clock at which the place's instruction is found, its potential, which is owed, and the
+-- price of the hop's mark pay for the hop: until it ends, with 49 word times left over; and where
+-- it goes on, until the next instruction is found, with that one's potential left over. (The 49 are
+-- for the first search of the walk, which is over before its first clock.)
 pub record Pays (g : Setting) (prices : List ℕ) (potential : ℕ → ℕ → Option ℕ)
     (place clock owed : ℕ) (hop : Hop) : Type 0 where
   pub ends : longest g.times place hop.ins hop.way clock + 49
@@ -58,11 +59,12 @@ pub record IsCertificate (g : Setting) (prices : List ℕ) (potential : ℕ → 
       → Contains (hops g.loads g.notes place) hop → ¬ IsShut g.notes.marks place hop.way
       → Pays g prices potential place angle owed hop
 
--- the sum of the prices, each times a number of its mark's; the first has this place
+-- the sum of the prices, each times how often its mark is passed; the first price is that of
+-- the mark with this index
 abbrev pub priced_from : List ℕ → ℕ → (ℕ → ℕ) → ℕ
-priced_from [] place times = 0
-priced_from (price ∷ prices) place times =
-    price * times place + priced_from prices (place + 1) times
+priced_from [] index passes = 0
+priced_from (price ∷ prices) index passes =
+    price * passes index + priced_from prices (index + 1) passes
 
 -- what edges cost
 abbrev pub cost : List Mark → List ℕ → List Edge → ℕ

@@ -4,6 +4,7 @@ pub mod Passing
 pub mod Paying
 pub mod Priced
 pub mod Raised
+pub mod Right
 pub mod Rows
 pub mod Slot
 pub mod Slowest

@@ -1,4 +1,4 @@
-//! A number of word times that no run which keeps to the notes ever passes, whatever the marks'
+//! A number of word times that no run which keeps to the notes ever exceeds, whatever the marks'
 //! counts are: a base, and for each mark a price times how often it can be passed. It stands on the
 //! flow graph alone, and not on the analysis.
 //!
@@ -15,9 +15,10 @@
 //!
 //! Definitions, in the order to read them: `Certificate` (what prices of marks and potentials of
 //! places are one, and what edges cost by it), `Passing` (how often marks can be passed, and the
-//! sum), `Priced` (the prices that are handed out), `CeilingOf` (when a ceiling is right, and why
-//! there is none). The others say what the code's types mean by these: `Slot` (the numbers of where
-//! instructions are found), `Raised`, `Slowest`, `Taking`, `Rows` and `Paying`.
+//! sum), `Priced` (the prices that are handed out), `Right` (when a ceiling is right), `CeilingOf`
+//! (the same of what is handed out, and why there is none). The others say what the code's types
+//! mean by these: `Slot` (the numbers of where instructions are found), `Raised`, `Slowest`,
+//! `Taking`, `Rows` and `Paying`.
 //!
 //! Proofs. `Bounded` goes along a walk with the potentials, `Costs` sums up by marks what its edges
 //! cost, and `Ceilings` puts them together. `LastEnds` shows which of many data addresses makes a

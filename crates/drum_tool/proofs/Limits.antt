@@ -8,7 +8,8 @@ use Rattle.drum_lines.specs.declared.limit.Limit.TheVariants as limit
 use Rattle.drum_times.specs.declared.times.Times.{Times}
 use Rattle.drum_flow.specs.SettingOf.{setting}
 use Rattle.drum_ceiling.specs.declared.answer.Ceiling.{Ceiling}
-use Rattle.drum_ceiling.specs.CeilingOf.{IsTooDear, base_of, prices_of, total_of}
+use Rattle.drum_ceiling.specs.CeilingOf.{base_of, prices_of, total_of}
+use Rattle.drum_ceiling.specs.Right.{IsTooDear}
 use Rattle.drum_tool.specs.declared.documents.Documents.{Documents}
 use Rattle.drum_tool.specs.declared.replaying.Begun.{Begun}
 use Rattle.drum_tool.specs.Begun.{IsBegun, IsTraceBegun}
@@ -66,7 +67,7 @@ no_ceiling documents (faults.Loaded location) is = absurd is
 
 -- a ceiling that comes to so much
 pub too_dear : (documents : Documents) (ceiling : Ceiling) (least : ℕ) → IsCeiling documents ceiling
-    → least ≤ total_of ceiling → IsTooDear documents.deck documents.times documents.notes least
+    → least ≤ total_of ceiling → IsTooDear (setting_of documents) least
 too_dear documents ceiling least is large = record {
   executed = is.executed;
   admitted = is.admitted;

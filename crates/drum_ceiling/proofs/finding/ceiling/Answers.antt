@@ -8,10 +8,11 @@ use Rattle.drum_flow.specs.Accepted.{product_of}
 use Rattle.drum_flow.specs.Flow.{deck_of, notes_of, executed_in}
 use Rattle.drum_flow.specs.SettingOf.{setting}
 use Rattle.drum_flow.proofs.Acceptances.{moved}
-use Rattle.drum_ceiling.specs.CeilingOf.{base_of, prices_of, IsTooDear}
+use Rattle.drum_ceiling.specs.CeilingOf.{base_of, prices_of}
 use Rattle.drum_ceiling.specs.Certificate.{priced_from}
 use Rattle.drum_ceiling.specs.Passing.{summed, AreMostPasses}
 use Rattle.drum_ceiling.specs.Priced.{farthest, ArePrices}
+use Rattle.drum_ceiling.specs.Right.{IsTooDear}
 use Rattle.drum_ceiling.proofs.CeilingLaws.{admitted_sound, is_ceiling, large_product, sum_is}
 use Rattle.drum_ceiling.proofs.finding.ceiling.Goals as goal
 
@@ -71,7 +72,7 @@ returns-clause-refused c =
     let large : 2 ^ 127 ≤ summed notes.marks held base = omega (arith, c.in-None.ensures.none, sum) in
     let product : c.product_of.result ≡ product_of executed notes.marks =
     c.product_of.ensures ∙ ap (product_of executed) c.marks-marks.ensures.all in
-    let dear : IsTooDear deck times notes (2 ^ 127) = record {
+    let dear : IsTooDear (setting deck times notes) (2 ^ 127) = record {
       executed = executed;
       admitted = admitted;
       prices = held;
