@@ -79,10 +79,10 @@ pub record IsAnalysis (g : Setting) (analysis : Analysis) : Type 0 where
   -- the bound is the time of some walk, and none takes longer; the walk that is handed out has it
   pub worst : IsWorst g (bound_of analysis)
   pub walk : IsWalkOf g (angle_of analysis) (bound_of analysis) (visits_of analysis)
-  -- each of its hops for as long as it can take
+  -- each of its hops takes as long as it can
   pub longest : AreLongest g (angle_of analysis) (visits_of analysis)
-  -- the table has an entry for each location and counts that some walk arrives at, and these are
-  -- few (`fifty`, the limit of a table by angles too, follows from `few`); so is each walk short
+  -- the table has an entry for each location and counts that some walk arrives at; these are few
+  -- (`fifty`, the limit of a table by angles too, follows from `few`), and no walk has more hops
   pub table : IsTable g (rows_of analysis)
   pub few : length (rows_of analysis) ≤ words_of analysis * counts_in_all analysis
   pub fifty : length (rows_of analysis) ≤ words_of analysis * 50 * counts_in_all analysis

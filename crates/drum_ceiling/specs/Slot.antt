@@ -7,7 +7,7 @@ use Rattle.std.specs.Prelude.{slice_get, unwrap_or, Option, None}
 abbrev pub slot_of : ℕ → ℕ → ℕ
 slot_of place angle = if nat_lt place 2000 then place else 2000 + (place - 8000) * 50 + angle
 
--- the location that a number stands for; its angle is what is left of it by 50
+-- the location that a number stands for; its angle is the rest of its division by 50
 abbrev pub place_of : ℕ → ℕ
 place_of slot = if nat_lt slot 2000 then slot else 8000 + (slot - 2000) / 50
 

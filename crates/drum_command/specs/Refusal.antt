@@ -12,7 +12,8 @@ FitsKind kind (Help text) = kind ≡ DisplayHelp
 FitsKind kind (Usage text) = (kind ≢ DisplayHelp) × (kind ≢ OutOfMemory)
 FitsKind kind Memory = Unit {0}
 
--- a refusal fits one of the kinds that clap states for a line; lack of memory is in no list
+-- a refusal fits one of the kinds that clap states for a line; lack of memory, which is in no list,
+-- always fits
 abbrev pub FitsAmong : Kinds → Refused → Type 0
 FitsAmong kinds (Help text) = IsAmong DisplayHelp kinds
 FitsAmong kinds (Usage text) =

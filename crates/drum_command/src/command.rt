@@ -22,7 +22,7 @@ pub enum Question {
     Walk,
     /// Where the worst walk waits, and for what, by instruction.
     Waits,
-    /// The table of worst times: when a location is come to at the latest, with counts of marks.
+    /// The table of worst times: when a location is reached at the latest, by the marks' counts.
     Table,
     /// The flow graph, of whatever the deck and the notes are.
     Graph,

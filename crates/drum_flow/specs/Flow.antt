@@ -17,8 +17,8 @@ deck_of flow = flow.deck.now
 abbrev pub notes_of : Flow → Notes
 notes_of flow = flow.notes.now
 
--- What is said of loads, notes and a start, of a flow: of what its deck loads, of its notes, and of
--- its deck's start.
+-- something said of loads, notes and a start, as it is said of a flow: of what its deck loads, of
+-- its notes, and of its deck's start
 abbrev pub of_flow {ℓ} : {X : Type ℓ} → ((ℕ → Option Word) → Notes → ℕ → X) → Flow → X
 of_flow says flow = says (loads_in flow.deck.now) flow.notes.now (start_in flow.deck.now)
 

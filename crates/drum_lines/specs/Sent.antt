@@ -12,7 +12,7 @@ IsSent before after sent (Err fault) text =
     (sent ≤ fault.sent) × (fault.sent < sent + length text)
     × Appends before after (take (fault.sent - sent) text)
 
--- the failures of an output, counted: one more exactly where a write failed
+-- by how much a write raises the failures of its output: by one exactly where it failed
 abbrev pub fails_by : {A : Type 0} → Result A WriteFault → ℕ
 fails_by (Ok done) = 0
 fails_by (Err fault) = 1

@@ -37,7 +37,7 @@ abbrev pub contents_after : Stepped → Contents
 contents_after (on next) = next.contents
 contents_after (stopped held because moment) = held
 
--- the drum's clock at a time: its angle is what is left of it by 50
+-- the drum's clock in a state: its angle is the rest of its division by 50
 abbrev pub clock_of : State → ℕ
 clock_of s = s.first_angle + s.time
 

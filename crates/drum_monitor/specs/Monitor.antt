@@ -9,7 +9,7 @@ use Rattle.drum_machine.specs.CountsIn as held
 use Rattle.drum_machine.specs.Keeps.{AreKept, counts_over}
 use Rattle.drum_machine.specs.Run.{Stride}
 
--- what a monitor has answered so far
+-- how the run left the notes, as a monitor knows it; none while it keeps to them
 abbrev pub answer_of : Monitor → Option Left
 answer_of m = m.left
 

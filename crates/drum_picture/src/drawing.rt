@@ -63,7 +63,7 @@ fn draw_walk(
 /// The picture of an analysis, an SVG document: the drum with the words of the deck and the edges
 /// of the worst walk between them, revolutions of the walk, and where all its word times go.
 /// It means something where the analysis is of this deck and timing table. No clause says what it
-/// is: that it is well-formed, and has some hundred thousand bytes at most, is tested.
+/// is: that it is well-formed, and has 1,000,000 bytes at most, is tested.
 ///
 /// # Errors
 ///

@@ -192,8 +192,8 @@ notes_checks document =
     ∷ location_faults [] (map (number_at (codes "location")) (tables_at (codes "list") document))
     ∷ []
 
--- The faults of a document, in their order. The first is why it is refused. A later one may be
--- none: where a table doesn't give an edge or a location, 0 stands for it here. (`all_notes_faults`
--- has those that are faults.)
+-- The faults of a document, in their order. The first is why it is refused. A later one may be no
+-- fault at all: where a table doesn't give an edge or a location, 0 stands for it here.
+-- (`all_notes_faults` has those that are faults.)
 abbrev pub notes_faults : Members → List Fault
 notes_faults document = in_turn (notes_checks document)
