@@ -265,12 +265,13 @@ impl Findings {
         self.add_all_idle(flow, 8000, 8004)
     }
 
-    /// All that keeps the deck from having a bound under these notes: first what is wrong with each
-    /// executed location by itself, in the order of discovery, then what the instructions of each
-    /// alter, then the size, and then the edges that close loops, those first whose loop stands
-    /// inside the fewest others (in any order, where there would be more than 8 marks); and last
-    /// the loose ends of the notes: the marks and the lists that are unused, each mark in order and
-    /// each list by its location, and the marks that don't say inside which other one they stand.
+    /// All that keeps the deck from having a bound under these notes, and the loose ends of the
+    /// notes: first what is wrong with each executed location by itself, in the order of discovery,
+    /// then what the instructions of each alter, then the size, and then the edges that close
+    /// loops, those first whose loop stands inside the fewest others (in any order, where there
+    /// would be more than 8 marks); and last the loose ends of the notes: the marks and the lists
+    /// that are unused, each mark in order and each list by its location, and the marks that don't
+    /// say inside which other one they stand.
     ///
     /// # Errors
     ///

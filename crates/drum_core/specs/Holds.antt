@@ -1,4 +1,4 @@
--- What a deck holds of which lines have been read.
+-- Which lines are held: by a deck of which some lines have been read, and by a whole deck.
 use Rattle.std.specs.Prelude.{List, Some}
 use Rattle.drum_core.specs.declared.deck.Deck.{Deck}
 use Rattle.drum_core.specs.declared.deck.loading.Loading.{Loading}

@@ -1,4 +1,4 @@
--- What inputs hold of which some lines have been taken.
+-- What is held by inputs of which some lines have been taken.
 use Rattle.std.specs.Prelude.{◌≡◌, ℕ, ◌^◌, ◌<◌, ◌↔◌, List, map, true, false, Any, slice_index_or}
 use Rattle.std.specs.Prelude.{unsigned_abs}
 use Rattle.std.specs.Option.{ForSome}
