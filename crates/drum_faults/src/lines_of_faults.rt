@@ -24,8 +24,8 @@ const LONGEST: usize = 1 << 61;
 
 /// The lines of all faults of a deck, a timing table and notes, and of inputs where there are any;
 /// empty where they have none. Of a timing table or notes that are no document, the last line is
-/// what `toml` says, and where. Of sound inputs the lines are of the locations that a sound deck
-/// loads too.
+/// what `toml` says, and where. Where deck and inputs are sound, each location that both load is a
+/// fault of the inputs, and has its line.
 ///
 /// # Errors
 ///

@@ -58,7 +58,7 @@ HasRest Waits fields per wait_min wait_max =
     (per ≡ 0) × HasNumber fields (codes "wait_min") wait_min
     × HasNumber fields (codes "wait_max") wait_max
 
--- The table says what each operation's entry says.
+-- The table says, of this entry, the values that each entry has: before, after and parity.
 pub record IsPlain (fields : Members) (entry : Entry) : Type 0 where
   pub before : HasNumber fields (codes "before") entry.before
   pub after : HasNumber fields (codes "after") entry.after
