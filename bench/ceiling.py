@@ -1,13 +1,15 @@
 #!/usr/bin/env python3
 """Compares the ceiling with the bound and with the linear program, and prints the figures.
 
-    bench/ceiling.py PROGRAM [COUNT]
+    bench/ceiling.py [PROGRAM [COUNT]]
 
-PROGRAM is the built drum650 (`bench/run ceiling` hands it over). Over the 22 programs of
-ceiling_programs.py its `ceiling` is compared with its `bound`, and over them and COUNT random decks
-(300, unless it is given) with the optimum that glpsol gives of the linear program: flow from the
-start through the graph of the hops, of each mark's edges together at most as often as the mark can
-be passed. Without glpsol that is left out. A deck where they differ is printed, with what was found."""
+PROGRAM is the newest that was built (checks/program.py) unless it is given.
+
+Over the 22 programs of ceiling_programs.py its `ceiling` is compared with its `bound`, and over
+them and COUNT random decks (300, unless it is given) with the optimum that glpsol gives of the
+linear program: flow from the start through the graph of the hops, of each mark's edges together at
+most as often as the mark can be passed. Without glpsol that is left out. A deck where they differ
+is printed, with what was found."""
 
 import os
 import re
@@ -23,6 +25,7 @@ sys.path.insert(0, os.path.join(TOP, "checks"))
 import ceiling_programs
 import ceiling_random
 import model
+from program import built_program
 
 TIMES = os.path.join(TOP, "examples/times.toml")
 FIRST_WAIT = 49
@@ -227,11 +230,12 @@ def measure_speed(bench):
 
 
 def main():
-    if len(sys.argv) not in (2, 3):
+    if len(sys.argv) > 3:
         sys.exit(__doc__)
+    program = built_program(*sys.argv[1:2])
     count = int(sys.argv[2]) if len(sys.argv) == 3 else COUNT
     with tempfile.TemporaryDirectory() as folder:
-        bench = Bench(os.path.abspath(sys.argv[1]), folder)
+        bench = Bench(program, folder)
         measure_speed(bench)
         programs = ceiling_programs.programs(bench.times)
         print("programs: equal to the", compare(bench, programs, with_bound=True))

@@ -2,16 +2,22 @@
 """Compares the ways to a safe number for decks past the limit: the sum of their parts' bounds, as
 docs/FAULTS.md tells at fault 36, the ceiling, and the optimum of the linear program.
 
-    bench/parts.py PROGRAM
+    bench/parts.py [PROGRAM]
 
-PROGRAM is the built drum650. The decks are five loops of a hundred rounds each, one after the
-other, with their words a number of places apart: with 1 that is examples/five."""
+PROGRAM is the newest that was built (checks/program.py) unless it is given.
+
+The decks are five loops of a hundred rounds each, one after the other, with their words a number of
+places apart: with 1 that is examples/five."""
 
 import os
 import sys
 import tempfile
 
+TOP = os.path.dirname(os.path.dirname(os.path.abspath(__file__)))
+sys.path.insert(0, os.path.join(TOP, "checks"))
+
 from ceiling import Bench
+from program import built_program
 
 LOOPS = 5
 ROUNDS = 100
@@ -62,10 +68,11 @@ def parts(bench, loops):
 
 
 def main():
-    if len(sys.argv) != 2:
+    if len(sys.argv) > 2:
         sys.exit(__doc__)
+    program = built_program(*sys.argv[1:2])
     with tempfile.TemporaryDirectory() as folder:
-        bench = Bench(os.path.abspath(sys.argv[1]), folder)
+        bench = Bench(program, folder)
         for stride in STRIDES:
             loops = Loops(stride)
             bounds = list(parts(bench, loops))

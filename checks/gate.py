@@ -9,16 +9,6 @@ import time
 
 TOP = os.path.dirname(os.path.dirname(os.path.abspath(__file__)))
 CHECKS = os.path.join(TOP, "checks")
-BUILT = [os.path.join(TOP, path) for path in ("crates/drum650/out/drum650", "out/drum650")]
-
-
-def built_program():
-    """The program that the line of words names, else the first built one that there is."""
-    places = sys.argv[1:2] or BUILT
-    for path in places:
-        if os.access(path, os.X_OK) and os.path.isfile(path):
-            return os.path.abspath(path)
-    sys.exit("%s: no program at %s" % (os.path.basename(sys.argv[0]), " or ".join(places)))
 
 
 def run_part(words):
