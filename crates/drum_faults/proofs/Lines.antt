@@ -13,11 +13,11 @@ use Rattle.drum_inputs.specs.declared.fault.InputFault.{InputFault}
 use Rattle.drum_inputs.specs.InputsText as input_lines
 use Rattle.drum_inputs.specs.InputsText.{AreInputs}
 use Rattle.drum_lines.specs.FaultText.{deck_text, fault_text, input_text, note_text}
-use Rattle.drum_times.specs.declared.complaint.Complaint.{Complaint}
-use Rattle.drum_times.specs.declared.fault.NoteFault.{NoteFault}
-use Rattle.drum_times.specs.AllFaults.{AreAllFaults}
-use Rattle.drum_times.specs.Complaint.{Complains, line_at}
-use Rattle.drum_times.specs.Document.{Fault}
+use Rattle.drum_toml.specs.declared.complaint.Complaint.{Complaint}
+use Rattle.drum_toml.specs.declared.fault.NoteFault.{NoteFault}
+use Rattle.drum_toml.specs.AllFaults.{AreAllFaults}
+use Rattle.drum_toml.specs.Complaint.{Complains, line_at}
+use Rattle.drum_toml.specs.Document.{Fault}
 use Rattle.toml.specs.Data.{Members}
 use Rattle.drum_faults.specs.declared.placed_fault.PlacedFault.{PlacedFault}
 use Rattle.drum_faults.specs.DeckFaults.{AreDeckFaults}

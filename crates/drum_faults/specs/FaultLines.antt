@@ -10,12 +10,12 @@ use Rattle.drum_inputs.specs.declared.fault.InputFault.{InputFault}
 use Rattle.drum_inputs.specs.InputsText.{AreInputs, given_in}
 use Rattle.drum_inputs.specs.InputsText as input_lines
 use Rattle.drum_lines.specs.FaultText.{deck_text, input_text, note_text}
-use Rattle.drum_times.specs.AllFaults.{AreAllFaults, all_notes_faults}
-use Rattle.drum_times.specs.Complaint.{line_at, column_at}
-use Rattle.drum_times.specs.declared.fault.NoteFault.{NoteFault}
-use Rattle.drum_times.specs.Document.{Fault}
-use Rattle.drum_times.specs.Refused.{IsDocument}
-use Rattle.drum_times.specs.TimesDocument.{times_faults}
+use Rattle.drum_toml.specs.AllFaults.{AreAllFaults, all_notes_faults}
+use Rattle.drum_toml.specs.Complaint.{line_at, column_at}
+use Rattle.drum_toml.specs.declared.fault.NoteFault.{NoteFault}
+use Rattle.drum_toml.specs.Document.{Fault}
+use Rattle.drum_toml.specs.Refused.{IsDocument}
+use Rattle.drum_toml.specs.TimesDocument.{times_faults}
 use Rattle.toml.specs.Data.{Members}
 use Rattle.drum_faults.specs.DeckFaults.{AreDeckFaults}
 use Rattle.drum_faults.specs.InputFaults.{AreInputFaults}

@@ -1,6 +1,6 @@
 -- What the code's values hold of the lines of faults.
 use Rattle.std.specs.Prelude.{ℕ, List, [], Option, Some, None, string_bytes}
-use Rattle.drum_times.specs.declared.complaint.Complaint.{Complaint}
+use Rattle.drum_toml.specs.declared.complaint.Complaint.{Complaint}
 use Rattle.drum_faults.specs.declared.named_text.NamedText.{NamedText}
 use Rattle.drum_faults.specs.FaultLines.{Named, complaint_text}
 

@@ -13,13 +13,13 @@ ghost use Rattle.drum_faults.specs.DeckFaults.{AreDeckFaults};
 ghost use Rattle.drum_faults.specs.FaultLines.{Named, AreFaultLines};
 ghost use Rattle.drum_times.specs.declared.entry.Entry.{Entry};
 ghost use Rattle.drum_times.specs.Allowed.{Notes};
-ghost use Rattle.drum_times.specs.NotesDocument.{IsNotes};
-ghost use Rattle.drum_times.specs.Refused.{IsDocument};
-ghost use Rattle.drum_times.specs.TimesDocument.{IsTimes};
+ghost use Rattle.drum_toml.specs.NotesDocument.{IsNotes};
+ghost use Rattle.drum_toml.specs.Refused.{IsDocument};
+ghost use Rattle.drum_toml.specs.TimesDocument.{IsTimes};
 ghost use Rattle.toml.specs.Data.{Members};
 ghost use Rattle.drum_faults.specs.declared.placed_fault.PlacedFault.{PlacedFault};
 
-use drum_times::laws::{tells_notes, tells_times};
+use drum_toml::laws::{tells_notes, tells_times};
 
 /// The first of all faults is the one that a reader refuses the deck for, and only a text that is a
 /// deck has none.
@@ -51,7 +51,7 @@ pub fn input_faults_begin()
 
 /// Where there is no line, the texts are a deck, a timing table, notes, and inputs where there are
 /// any.
-pub fn none_where_sound()
+pub fn sound_where_none()
     ensures { (deck times notes : Named) (inputs : Option Named)
         → AreFaultLines deck times notes inputs []
         → ((lines : List Line) × IsDeck deck.bytes lines)

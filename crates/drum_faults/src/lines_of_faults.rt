@@ -2,8 +2,8 @@
 
 ghost use Rattle.std.specs.Prelude.{◌≡◌, ℕ, ◌^◌, ◌≤◌, List, ◌++◌, length, codes, IfOk, Some};
 ghost use Rattle.std.specs.Prelude.{option_map};
-ghost use Rattle.drum_times.specs.AllFaults as of_notes;
-ghost use Rattle.drum_times.specs.TimesDocument as of_times;
+ghost use Rattle.drum_toml.specs.AllFaults as of_notes;
+ghost use Rattle.drum_toml.specs.TimesDocument as of_times;
 ghost use Rattle.drum_faults.specs.FaultLines.{AreDocumentLines, AreFaultLines};
 ghost use Rattle.drum_faults.specs.FaultLines.{AreLinesOfInputs};
 ghost use Rattle.drum_faults.specs.NamedTexts.{named, complaint_said};
@@ -16,7 +16,7 @@ use crate::faults_of_deck::deck_faults;
 use crate::faults_of_inputs::input_faults;
 use crate::loaded::loaded_twice;
 use crate::named_text::NamedText;
-use drum_times::{Complaint, notes_faults, times_faults, toml_complaint};
+use drum_toml::{Complaint, notes_faults, times_faults, toml_complaint};
 use std::alloc::{AllocError, Global};
 
 /// The most bytes of all lines: for more no machine has room.

@@ -1,12 +1,4 @@
-pub mod AllFaults
 pub mod Allowed
-pub mod Complaint
-pub mod Document
 pub mod Entries
 pub mod Listed
 pub mod Marks
-pub mod NotesDocument
-pub mod Refused
-pub mod Says
-pub mod TimesDocument
-pub mod Value

@@ -1,54 +1,27 @@
-//! The two documents beside a deck: the timing table, and the notes on what the program may do.
-//! Each is read, or refused for its first fault; or all its faults are told. Of bytes that are no
-//! document it is told what `toml` says, and where.
+//! What stands beside a deck: the timing table, which says how long each operation takes, and the
+//! notes, which say what the program may do. Which documents say them, `drum_toml` knows.
 //!
-//! Code, from the bottom up. `key_path` is how a fault names a key, and `fault` why bytes are no
-//! timing table or no notes. `document` reads bytes as a TOML table, and its folder looks at one:
-//! `document/fields` at its keys (there a key's path is put together), `document/value` at a value
-//! by itself, `document/values` at the values of keys, `document/tables` at arrays of tables.
-//! `entry` is a row of the timing table. `times` is the table, which `times/read` and
-//! `times/read_entry` read. `notes` is what notes answer. Its folder has the types that they are
-//! made of: `notes/mark` (which knows its edge, which of some marks stands on one, and how many
-//! there may be), `notes/listing`, `notes/pattern` and `notes/programmed`. `notes/read`,
-//! `notes/read_mark` and `notes/read_list` read them, and `notes/repeated` looks last for edges and
-//! locations that stand there twice. A check wants all faults. `document/faults` and
-//! `document/table_faults` gather those of tables; `times/faults` and `notes/faults` (with
-//! `notes/repeated_faults`) those of a document. `complaint` has what `toml` says of bytes that are
-//! no document. `laws` has laws of the definitions.
+//! Code, from the bottom up. `entry` is a row of the timing table, and `times` the table. `notes`
+//! is what notes answer. Its folder has the types that they are made of: `notes/mark` (which knows
+//! its edge, which of some marks stands on one, and how many there may be), `notes/listing`,
+//! `notes/pattern` and `notes/programmed`. `laws` has a law of the definitions.
 //!
-//! Definitions, in the order to read them: `Document` has what both documents share, the faults of
-//! a table first of all. `TimesDocument` and `NotesDocument` say what each document says, and its
-//! faults in their order. `Marks` says on which edges marks stand, and `Allowed` what notes are and
-//! which instructions they allow. `Refused` says which fault a document is refused for, and
-//! `AllFaults` which faults it has. `Complaint` is a place in bytes. The others say what the code's
-//! types mean by these: `Value` what is wrong with a value, `Entries` and `Listed` what a timing
-//! table and a list hold, `Says` which timing table and which notes bytes say.
+//! Definitions, in the order to read them: `Allowed` says what notes are and which instructions
+//! they allow, and `Marks` on which edges marks stand. The others say what the code's types mean by
+//! these: `Entries` what a timing table holds, and `Listed` what a list and notes say.
 //!
-//! Proofs. `Matching` (what is listed for a pattern) serves `drum_machine` too. `TimesFaults` and
-//! `NotesFaults` follow the checks one after the other. `TimesSaid`, `TimesFaultless`, `NotesSaid`
-//! and `NotesFaultless` show that a document says something exactly where it has no fault, and
-//! `AllFaultsLaws` that the first of all faults is the one that it is refused for.
+//! Proofs. `Matching` (what is listed for a pattern) serves `drum_monitor` too.
 #![tactic(auto)]
 
-mod complaint;
-mod document;
 mod entry;
-mod fault;
-mod key_path;
 pub mod laws;
 mod notes;
 mod times;
 
-pub use complaint::{Complaint, toml_complaint};
 pub use entry::Entry;
-pub use fault::NoteFault;
-pub use key_path::KeyPath;
 pub use notes::Notes;
-pub use notes::faults::notes_faults;
+pub use notes::listing::Listing;
 pub use notes::mark::Mark;
 pub use notes::pattern::Pattern;
 pub use notes::programmed::Programmed;
-pub use notes::read::read_notes;
 pub use times::Times;
-pub use times::faults::times_faults;
-pub use times::read::read_times;

@@ -1,19 +1,13 @@
 //! What the notes say of a program: where the programmed switch stands, whether load cards are
 //! read, how often edges are passed, and what an altered word may become.
-ghost use Rattle.std.specs.Prelude.{◌≡◌, ◌<◌, map, option_map};
+ghost use Rattle.std.specs.Prelude.{◌≡◌, option_map};
 ghost use Rattle.drum_times.specs.Allowed as said;
-ghost use Rattle.drum_times.specs.Listed.{listed};
+ghost use Rattle.drum_times.specs.Listed.{notes_of};
 
-pub mod faults;
 pub mod listing;
 pub mod mark;
 pub mod pattern;
 pub mod programmed;
-pub mod read;
-mod read_list;
-mod read_mark;
-mod repeated;
-mod repeated_faults;
 
 use drum_core::Location;
 use listing::Listing;
@@ -34,22 +28,33 @@ pub struct Notes {
 impl Model for Notes {
     ghost Value = { said.Notes };
 
-    ghost view = { λ n. record {
-      programmed = n.programmed;
-      load_cards = n.load_cards;
-      marks = n.marks.items;
-      lists = map listed n.lists.items;
-    } };
+    ghost view = { λ n. notes_of n.programmed n.load_cards n.marks.items n.lists.items };
 
-    ghost invariant = { λ n. said.AreSound (record {
-      programmed = n.programmed;
-      load_cards = n.load_cards;
-      marks = n.marks.items;
-      lists = map listed n.lists.items;
-    }) };
+    ghost invariant = { λ n.
+        said.AreSound (notes_of n.programmed n.load_cards n.marks.items n.lists.items) };
 }
 
 impl Notes {
+    /// The notes that say this: where the programmed switch stands, whether load cards are read,
+    /// the marks, at most 8, no two on one edge, each inside of an earlier one or of none, and the
+    /// lists, no two for one location.
+    pub fn new(
+        programmed: Programmed,
+        load_cards: bool,
+        marks: Vec<Mark>,
+        lists: Vec<Listing>,
+    ) -> Notes
+        requires { said.AreSound (notes_of programmed load_cards marks.items lists.items) }
+        ensures { result ≡ notes_of programmed load_cards marks.items lists.items }
+    {
+        Notes {
+            programmed,
+            load_cards,
+            marks,
+            lists,
+        }
+    }
+
     /// The patterns of a listed location, 1 to 64, in order; `None` for one that isn't listed.
     pub fn patterns(&self, location: Location) -> Option<&[Pattern]>
         ensures { option_map (λ patterns. patterns.now) result

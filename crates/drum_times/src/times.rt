@@ -1,11 +1,7 @@
-ghost use Rattle.std.specs.Prelude.{◌≡◌, length};
+ghost use Rattle.std.specs.Prelude.{◌≡◌, length, slice_index_or};
 
 use crate::entry::Entry;
 use drum_core::Op;
-
-pub mod faults;
-pub mod read;
-mod read_entry;
 
 /// A timing table: how long each operation takes.
 #[derive(Clone, Copy, Debug, PartialEq, Eq)]
@@ -16,7 +12,18 @@ pub struct Times {
 }
 
 impl Times {
-    ghost use Rattle.drum_times.specs.Entries.{entry_in};
+    ghost use Rattle.drum_core.specs.declared.op.Op.{Op};
+    ghost use Rattle.drum_core.specs.Op.{number_of};
+    ghost use Rattle.drum_times.specs.Entries.{blank, entry_in};
+
+    /// The timing table of these entries, each at the number that its operation's two digits are.
+    /// What stands at a number that is no operation's means nothing.
+    pub fn new(entries: [Entry; 100]) -> Times
+        ensures { (op : Op) → entry_in result op
+            ≡ slice_index_or entries (number_of op) blank }
+    {
+        Times { entries }
+    }
 
     /// The entry of the operation: how long it takes.
     pub fn entry(&self, op: Op) -> Entry

@@ -1,18 +1,6 @@
-pub mod Refusing
-pub mod Asking
-pub mod Beginning
-pub mod Cuts
-pub mod Doing
-pub mod Followed
-pub mod Giving
-pub mod Joining
-pub mod Leading
-pub mod Limits
-pub mod OfNoFile
-pub mod OneRun
-pub mod OneVerdict
-pub mod Replies
-pub mod ToldOf
-pub mod Traced
-pub mod Unread
-pub mod Worded
+mod Doing
+mod Looking
+mod OfNoFile
+mod Replies
+mod ToldOf
+mod Worded

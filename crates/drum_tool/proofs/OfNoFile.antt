@@ -11,12 +11,13 @@ use Rattle.drum_lines.specs.declared.fault.Fault.{Fault}
 use Rattle.drum_lines.specs.declared.fault.Fault.TheVariants as faults
 use Rattle.drum_lines.specs.declared.limit.Limit.{Limit}
 use Rattle.drum_lines.specs.FaultStatus.{failed_by}
-use Rattle.drum_tool.specs.declared.documents.Documents.{Documents}
-use Rattle.drum_tool.specs.Asked.{part_of}
-use Rattle.drum_tool.specs.Documents.{IsLimit, IsLimitRefusal, IsRefusedFor, setting_of}
-use Rattle.drum_tool.specs.Does.{IsOfNoFile}
-use Rattle.drum_tool.specs.Replay.{Given, IsReplayFault, IsRunFault, IsTraceFault}
-use Rattle.drum_tool.specs.Reply.{IsWanting, Refuses}
+use Rattle.drum_documents.specs.declared.documents.Documents.{Documents}
+use Rattle.drum_documents.specs.Asked.{part_of}
+use Rattle.drum_replay.specs.Limits.{IsLimit, IsLimitRefusal, IsRefusedFor}
+use Rattle.drum_documents.specs.Documents.{setting_of}
+use Rattle.drum_tool.specs.DoesCommand.{IsOfNoFile}
+use Rattle.drum_replay.specs.Replay.{Given, IsReplayFault, IsRunFault, IsTraceFault}
+use Rattle.drum_answers.specs.Reply.{IsWanting, Refuses}
 
 pub refused_of_none : (Is : Refusal → Type 0) (fault : Fault) → IsRefusedFor Is fault → IsOfNoFile fault
 refused_of_none Is (faults.Refused refusal) is = record { part = refl; reads = refl }

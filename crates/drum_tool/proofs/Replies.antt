@@ -4,8 +4,8 @@ use Rattle.std.proofs.Common.{◌≢◌, ◌⊎◌, inr, ap, sym, ◌∙◌, sub
 use Rattle.std.specs.Prelude.{string_bytes}
 use Rattle.drum_core.specs.declared.deck.fault.DeckFault.{DeckFault}
 use Rattle.drum_core.specs.declared.deck.fault.DeckFault.TheVariants as of_deck
-use Rattle.drum_times.specs.declared.fault.NoteFault.{NoteFault}
-use Rattle.drum_times.specs.declared.fault.NoteFault.TheVariants as of_note
+use Rattle.drum_toml.specs.declared.fault.NoteFault.{NoteFault}
+use Rattle.drum_toml.specs.declared.fault.NoteFault.TheVariants as of_note
 use Rattle.drum_inputs.specs.declared.fault.InputFault.{InputFault}
 use Rattle.drum_inputs.specs.declared.fault.InputFault.TheVariants as of_input
 use Rattle.drum_flow.specs.declared.refusal.Refusal.{Refusal}
@@ -17,12 +17,16 @@ use Rattle.drum_lines.specs.declared.status.Status as statuses
 use Rattle.drum_lines.specs.declared.status.Status.TheVariants as status
 use Rattle.drum_lines.specs.declared.fault.Fault.{Fault}
 use Rattle.drum_lines.specs.declared.fault.Fault.TheVariants as faults
+use Rattle.drum_lines.specs.declared.part.Part.TheVariants as part
+use Rattle.drum_lines.specs.declared.part.PartFault.TheVariants as what
 use Rattle.drum_lines.specs.FaultStatus.{after_deck, after_input, after_note, after_refusal, reads_failed}
 use Rattle.drum_lines.specs.FaultStatus.{status_after}
-use Rattle.drum_tool.specs.Asked.{files_sought}
-use Rattle.drum_tool.specs.Files.{AreTold, FilesTold, Held}
-use Rattle.drum_tool.specs.Reply.{AnswersCommand, Reply, TellsOfReads}
-use Rattle.drum_tool.specs.Reply.{breaks_off, complains, fault_reply, lists, says}
+use Rattle.drum_documents.specs.Asked.{files_sought}
+use Rattle.drum_documents.specs.Files.{AreTold, FilesTold, Held}
+use Rattle.drum_documents.specs.Joined.{IsPastLimit}
+use Rattle.drum_tool.specs.Commands.{AnswersCommand}
+use Rattle.drum_answers.specs.Reply.{Reply, TellsOfReads}
+use Rattle.drum_answers.specs.Reply.{breaks_off, complains, fault_reply, lists, says}
 use Rattle.drum_tool.specs.Words.{refused_reply}
 
 -- what holds of a value holds of what it is known as
@@ -50,6 +54,12 @@ known left P bytes is p = subst (λ (l : Option (List ℕ)). IfSome l P) is p
 pub counted : (P : ℕ → Type 0) (old new failures n : ℕ) → new ≡ old + n → new ≡ old + failures → P n → P failures
 counted P old new failures n first second p =
     let same : n ≡ failures = omega (arith, first, second) in subst P same p
+
+-- a fault that is past the limit is, whatever there would be without it
+pub past_limit : {A B : Type 0} (fault : Fault) → IsPastLimit {A = A} (Err fault) → IsPastLimit {A = B} (Err fault)
+past_limit fault (inl is) =
+    let same : fault ≡ faults.Part part.Joined what.TooLong = cc in inl (ap (λ (f : Fault). Err f) same)
+past_limit fault (inr is) = let same : fault ≡ faults.Memory = cc in inr (ap (λ (f : Fault). Err f) same)
 
 -- a result is no fault's line
 pub result_of_no_read : (text : List ℕ) (ends : statuses.Status) → TellsOfReads 0 (says text ends)

@@ -7,14 +7,15 @@ use Rattle.drum_command.specs.declared.command.Command.TheVariants.{Answer, Chec
 use Rattle.drum_command.specs.declared.command.Question.TheVariants.{Bound, Report, Walk, Waits, Table, Graph, Draw, Ceiling}
 use Rattle.drum_command.specs.declared.refused.Refused.{Refused}
 use Rattle.drum_command.specs.Line.{drum650, said_by}
-use Rattle.drum_tool.specs.declared.documents.Documents.{Documents}
+use Rattle.drum_documents.specs.declared.documents.Documents.{Documents}
 use Rattle.drum_lines.specs.declared.fault.Fault.{Fault}
 use Rattle.drum_lines.specs.declared.fault.Fault.TheVariants as faults
-use Rattle.drum_tool.specs.Documents.{IsAnalysisFault, IsBound}
-use Rattle.drum_tool.specs.Asked.{files_sought, named, named_in}
-use Rattle.drum_tool.specs.Files.{AreHeld, AreNotHeld, AreTold, FilesTold, Held}
+use Rattle.drum_replay.specs.Limits.{IsAnalysisFault, IsBound}
+use Rattle.drum_documents.specs.Asked.{files_sought, named, named_in}
+use Rattle.drum_documents.specs.Files.{AreHeld, AreNotHeld, AreTold, FilesTold, Held}
 use Rattle.drum_lines.specs.declared.part.Part.TheVariants as part
-use Rattle.drum_tool.specs.Reply.{AnswersCommand, Replies, Reply, SaysBound, bound_reply, fault_reply}
+use Rattle.drum_tool.specs.Commands.{AnswersCommand, Replies}
+use Rattle.drum_answers.specs.Reply.{Reply, SaysBound, bound_reply, fault_reply}
 use Rattle.drum_tool.specs.Told.{IsBoundOfFiles}
 use Rattle.drum_tool.specs.Words.{AreRefused, refused_reply}
 

@@ -5,9 +5,10 @@ use Rattle.clap.specs.Walk.{texts}
 use Rattle.clap.specs.Words.{Text}
 use Rattle.drum_command.specs.declared.command.Command.{Command}
 use Rattle.drum_command.specs.declared.refused.Refused.{Refused}
-use Rattle.drum_tool.specs.Asked.{Asked, AsksFor, files_sought}
-use Rattle.drum_tool.specs.Files.{AreTold, FilesTold, Held}
-use Rattle.drum_tool.specs.Reply.{Reply, AnswersCommand, AnswersJoined, LooksAsTold}
+use Rattle.drum_documents.specs.Asked.{Asked, AsksFor, files_sought}
+use Rattle.drum_documents.specs.Files.{AreTold, FilesTold, Held}
+use Rattle.drum_answers.specs.Reply.{Reply, LooksAsTold}
+use Rattle.drum_tool.specs.Commands.{AnswersCommand, AnswersJoined}
 use Rattle.drum_tool.specs.Words.{AreOf, AreRefused, Answers, Asks, refused_reply}
 
 -- where there are words, there are some

@@ -3,10 +3,10 @@ use Rattle.std.specs.Prelude.{◌≡◌, ℕ, true, List, Option, not}
 use Rattle.std.specs.List.{list_all}
 use Rattle.clap.specs.Words.{Text}
 use Rattle.drum_command.specs.Line.{begins_with_hyphen}
-use Rattle.drum_tool.specs.declared.documents.Documents.{Documents}
-use Rattle.drum_tool.specs.Documents.{IsBound}
-use Rattle.drum_tool.specs.Files.{HoldsDeck, HoldsTimes, HoldsNotes}
-use Rattle.drum_tool.specs.Joined.{Joins}
+use Rattle.drum_documents.specs.declared.documents.Documents.{Documents}
+use Rattle.drum_replay.specs.Limits.{IsBound}
+use Rattle.drum_documents.specs.Files.{HoldsDeck, HoldsTimes, HoldsNotes}
+use Rattle.drum_documents.specs.Joined.{Joins}
 
 -- none of the words is taken for an option
 abbrev pub AreNames : List Text → Type 0

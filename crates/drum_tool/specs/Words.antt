@@ -8,10 +8,12 @@ use Rattle.drum_command.specs.Line.{drum650, said_by, said_by_words}
 use Rattle.drum_command.specs.Refusal.{FitsAmong}
 use Rattle.drum_lines.specs.declared.fault.Fault.TheVariants as fault
 use Rattle.drum_lines.specs.declared.status.Status.TheVariants as status
-use Rattle.drum_tool.specs.Asked.{Asked, AsksFor, files_sought}
-use Rattle.drum_tool.specs.Files.{AreTold, FilesTold, Held}
-use Rattle.drum_tool.specs.Reply.{Reply, says, complains, fault_reply, AnswersCommand}
-use Rattle.drum_tool.specs.Reply.{AnswersJoined, LooksAsTold}
+use Rattle.drum_documents.specs.Asked.{Asked, AsksFor, files_sought}
+use Rattle.drum_documents.specs.Files.{AreTold, FilesTold, Held}
+use Rattle.drum_answers.specs.Reply.{Reply, says, complains, fault_reply}
+use Rattle.drum_tool.specs.Commands.{AnswersCommand}
+use Rattle.drum_tool.specs.Commands.{AnswersJoined}
+use Rattle.drum_answers.specs.Reply.{LooksAsTold}
 
 -- the reply to words that name no command: help, or what is wrong with them
 abbrev pub refused_reply : Refused → Reply

@@ -1,30 +1,25 @@
 //! What each command does, with files.
 
-ghost use Rattle.std.specs.Prelude.{◌≡◌, ◌+◌, ◌^◌, ◌≤◌, ℕ, Option, IfOk, IfErr, option_map};
+ghost use Rattle.std.specs.Prelude.{◌≡◌, ◌+◌, ◌^◌, ◌≤◌, ℕ, IfErr};
 ghost use Rattle.drum_command.specs.declared.command.Command.TheVariants as commands;
 ghost use Rattle.drum_lines.specs.FaultStatus.{failed_by};
-ghost use Rattle.drum_tool.specs.Asked.{AsksFor, Looks, LooksFor, all_named_in, fault_in, files_sought};
-ghost use Rattle.drum_tool.specs.Asked.{name_in, named_in, named_with};
-ghost use Rattle.drum_tool.specs.Checked.{inputs_in, texts_in};
-ghost use Rattle.drum_tool.specs.Does.{DoesCommand};
-ghost use Rattle.drum_tool.specs.Files.{AreHeldWithInputs, AreNotHeldWithInputs, AreTold, Held};
-ghost use Rattle.drum_tool.specs.Output.{Device, Tells, device};
-ghost use Rattle.drum_tool.specs.Reply.{AnswersCommand, LooksAsTold, Reply, TellsOfReads};
-ghost use Rattle.drum_tool.specs.TextsHeld.{AreNoneHeld, AreTextsHeld, IsInputsText};
+ghost use Rattle.drum_documents.specs.Asked.{AsksFor, Looks, all_named_in, fault_in, files_sought};
+ghost use Rattle.drum_documents.specs.Asked.{name_in, named_in, named_with};
+ghost use Rattle.drum_tool.specs.DoesCommand.{DoesCommand};
+ghost use Rattle.drum_documents.specs.Files.{AreTold, Held};
+ghost use Rattle.drum_answers.specs.Output.{Device, Tells, device};
+ghost use Rattle.drum_tool.specs.Commands.{AnswersCommand};
+ghost use Rattle.drum_answers.specs.Reply.{LooksAsTold, Reply, TellsOfReads};
 
-use crate::answering::answer;
-use crate::checking::{Checked, check, named_inputs};
-use crate::documents::Documents;
-use crate::files::{documents_in, inputs_in};
-use crate::replaying::replay;
-use crate::source::Source;
-use crate::telling::{complain, tell_faults, tell_findings, tell_trace, tell_verdict};
-use crate::texts::{Texts, inputs_text};
-use crate::tracing::begin_trace;
+use drum_answers::{
+    Checked, answer, check, complain, named_inputs, tell_faults, tell_findings, tell_trace,
+    tell_verdict,
+};
 use drum_command::{Command, Files, Question};
 use drum_core::Output;
-use drum_inputs::Inputs;
+use drum_documents::{Source, documents_in, documents_with_inputs, texts_with_inputs};
 use drum_lines::{Fault, Limit, Status};
+use drum_replay::{begin_trace, replay};
 use std::alloc::Global;
 
 /// Answers a question about the documents in files.
@@ -48,33 +43,6 @@ fn answer_of_files<S: Source, O: Output>(
 {
     let documents = documents_in(alloc, source, files)?;
     answer(alloc, question, &documents, out)
-}
-
-/// The texts in files, and that of inputs where a file of inputs is named.
-fn texts_with_inputs<S: Source>(
-    alloc: Global,
-    source: &mut S,
-    files: Files<'_>,
-    name: Option<&str>,
-) -> Result<(Texts, Option<Vec<u8>>), Fault>
-    requires { S.failed source.old ≤ 2 ^ 61 }
-    ensures texts { IfOk result (λ done. (held : Held)
-        → AreTold (S.files source.old) held (named_with files.entry (name_in name.entry))
-        → AreTextsHeld held (texts_in done.0)) }
-    ensures inputs { IfOk result (λ done. (held : Held)
-        → AreTold (S.files source.old) held (named_with files.entry (name_in name.entry))
-        → IsInputsText held (name_in name.entry)
-        (inputs_in (name_in name.entry) (option_map (λ bytes. bytes.items) done.1))) }
-    ensures fault { IfErr result (λ fault. (held : Held)
-        → AreTold (S.files source.old) held (named_with files.entry (name_in name.entry))
-        → AreNoneHeld held (name_in name.entry) fault) }
-    ensures counted { S.failed source.new ≡ S.failed source.old + failed_by result }
-    ensures asked { AsksFor (S.asked source.old) (S.asked source.new)
-        (LooksFor (named_with files.entry (name_in name.entry)) result) }
-{
-    let texts = Texts::of_files(alloc, source, files)?;
-    let inputs = inputs_text(alloc, source, name)?;
-    Ok((texts, inputs))
 }
 
 /// Checks the texts in files.
@@ -105,29 +73,6 @@ fn check_files<S: Source, O: Output, E: Output>(
         Checked::Faulty(lines) => Ok(tell_faults(err, &lines)),
         Checked::Sound(findings, lacking) => Ok(tell_findings(out, &findings, &lacking)),
     }
-}
-
-/// The documents in files, and the inputs in another.
-fn documents_with_inputs<S: Source>(
-    alloc: Global,
-    source: &mut S,
-    files: Files<'_>,
-    inputs: &str,
-) -> Result<(Documents, Inputs), Fault>
-    requires { S.failed source.old ≤ 2 ^ 61 }
-    ensures held { IfOk result (λ done. (held : Held)
-        → AreTold (S.files source.old) held (all_named_in files.entry inputs.entry.now)
-        → AreHeldWithInputs held done) }
-    ensures fault { IfErr result (λ fault. (held : Held)
-        → AreTold (S.files source.old) held (all_named_in files.entry inputs.entry.now)
-        → AreNotHeldWithInputs held fault) }
-    ensures counted { S.failed source.new ≡ S.failed source.old + failed_by result }
-    ensures asked { AsksFor (S.asked source.old) (S.asked source.new)
-        (LooksFor (all_named_in files.entry inputs.entry.now) result) }
-{
-    let documents = documents_in(alloc, source, files)?;
-    let inputs = inputs_in(alloc, source, inputs)?;
-    Ok((documents, inputs))
 }
 
 /// Replays the run of the documents and inputs in files.

@@ -4,20 +4,21 @@ ghost use Rattle.std.specs.Prelude.{◌≡◌, ◌+◌, ◌^◌, ◌<◌, ◌≤
 ghost use Rattle.std.specs.Prelude.{IfErr, IfSome, IsErrOf, length};
 ghost use Rattle.clap.specs.Walk.{texts};
 ghost use Rattle.drum_lines.specs.FaultStatus.{failed_by, reads_failed};
-ghost use Rattle.drum_tool.specs.Joined.{IsPastLimit};
-ghost use Rattle.drum_tool.specs.Output.{Tells, device};
-ghost use Rattle.drum_tool.specs.Reply.{AnswersJoined, ReadsAll, Reply, TellsOfReads, bound_reply};
-ghost use Rattle.drum_tool.specs.Reply.{fault_reply};
+ghost use Rattle.drum_documents.specs.Joined.{IsPastLimit};
+ghost use Rattle.drum_answers.specs.Output.{Tells, device};
+ghost use Rattle.drum_tool.specs.Commands.{AnswersJoined};
+ghost use Rattle.drum_answers.specs.Reply.{ReadsAll, Reply, TellsOfReads, bound_reply};
+ghost use Rattle.drum_answers.specs.Reply.{fault_reply};
 ghost use Rattle.drum_command.specs.Refusal.{IsShort};
 ghost use Rattle.drum_tool.specs.Words.{Answers, Asks, refused_reply};
 
 use crate::commands::obey;
-use crate::joined_input::documents_of;
-use crate::source::Source;
-use crate::telling::{tell_bound, tell_fault, tell_text, tell_usage};
+use drum_answers::{tell_bound, tell_fault, tell_text, tell_usage};
 use drum_command::{Refused, read_words};
 use drum_core::{Input, Output};
+use drum_documents::{Source, documents_of};
 use drum_lines::{Fault, Part, PartFault, Status};
+use drum_replay::bound_of;
 use std::alloc::Global;
 
 /// The bound of the joined form that an input gives.
@@ -42,7 +43,7 @@ fn joined_bound<I: Input>(alloc: Global, input: &mut I) -> Result<u64, Fault>
         ≤ I.called input.old + I.given input.new + 1 }
 {
     let documents = documents_of(alloc, input)?;
-    documents.bound(alloc)
+    bound_of(alloc, &documents)
 }
 
 /// Reads the joined form, a deck, a timing table and notes, and writes the deck's bound to `out`,

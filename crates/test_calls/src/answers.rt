@@ -2,7 +2,8 @@
 
 use drum_core::{Instruction, Location, Op, Parity, Reading, Word, read_deck};
 use drum_inputs::{Inputs, read_inputs};
-use drum_times::{Notes, Programmed, read_notes, read_times};
+use drum_times::{Notes, Programmed};
+use drum_toml::{read_notes, read_times};
 use std::process::Abort;
 use std::test::Fail;
 use test_texts::{NOTES, TIMES};

@@ -3,7 +3,7 @@
 use drum_core::{Location, Reading, read_deck};
 use drum_flow::flow;
 use drum_machine::Way;
-use drum_times::read_notes;
+use drum_toml::read_notes;
 use std::alloc::{AllocError, Global};
 use std::test::Fail;
 use test_texts::{EITHER, NOTES};

@@ -3,7 +3,7 @@
 
 use drum_core::{Location, Reading, Word, read_deck};
 use drum_machine::{Card, Feed, Machine, Setup, Step, Why};
-use drum_times::read_times;
+use drum_toml::read_times;
 use std::alloc::Global;
 use std::process::Abort;
 use std::test::Fail;

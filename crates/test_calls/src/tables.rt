@@ -2,7 +2,7 @@
 
 use drum_bound::{Analysis, analyse};
 use drum_core::{Reading, read_deck};
-use drum_times::{read_notes, read_times};
+use drum_toml::{read_notes, read_times};
 use std::alloc::Global;
 use std::process::Abort;
 use std::test::Fail;

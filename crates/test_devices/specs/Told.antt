@@ -1,8 +1,8 @@
 -- What a source of files in memory tells.
-use Rattle.std.specs.Prelude.{ℕ, List, [], ◌∷◌, Option, Some, None, map, option_map, string_bytes}
+use Rattle.std.specs.Prelude.{ℕ, List, [], ◌∷◌, Option, Some, None, string_bytes}
 use Rattle.std.specs.Prelude.{if◌then◌else◌}
 use Rattle.std.specs.Str.{bytes_eq}
-use Rattle.drum_tool.specs.Asked.{Asked, reading, returned, sought}
+use Rattle.drum_documents.specs.Asked.{Asked, reading, returned, sought}
 use Rattle.test_devices.specs.declared.told.Event.{Event}
 use Rattle.test_devices.specs.declared.told.Event.TheVariants.{Sought, Returned}
 use Rattle.test_devices.specs.declared.told.File.{File}

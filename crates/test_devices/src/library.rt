@@ -4,7 +4,7 @@ use crate::devices::{Full, Tap};
 use crate::subjects::REPORT;
 use drum_bound::analyse;
 use drum_core::{DeckFault, Input, Output, Reading, Writing, read_deck};
-use drum_times::{read_notes, read_times};
+use drum_toml::{read_notes, read_times};
 use drum_tool::{InputFault, WriteFault, read_inputs, report};
 use std::test::Fail;
 use test_texts::{NOTES, TIMES, TWO_WORDS};

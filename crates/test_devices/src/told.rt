@@ -1,7 +1,7 @@
 //! A source of files in memory, which tells what they hold and what is asked of it: that there is
 //! one shows that what contracts ask to be told can be told.
 
-ghost use Rattle.std.specs.Prelude.{◌≡◌, ◌^◌, ◌≤◌, ℕ, List, [], ◌∷◌, ◌++◌, Option, Some, IfSome};
+ghost use Rattle.std.specs.Prelude.{◌≡◌, ◌^◌, ◌≤◌, ℕ, [], ◌∷◌, ◌++◌, Option, Some, IfSome};
 ghost use Rattle.std.specs.Prelude.{IsSome, map, option_map};
 ghost use Rattle.std.specs.Io.KnownBytes.{Appends};
 ghost use Rattle.drum_lines.specs.BoundText.{bound_text};

@@ -2,7 +2,8 @@
 
 use drum_bound::{Analysis, Flow, Way, analyse, flow};
 use drum_core::{Deck, Reading, read_deck};
-use drum_times::{Notes, Times, read_notes, read_times};
+use drum_times::{Notes, Times};
+use drum_toml::{read_notes, read_times};
 use std::alloc::{AllocError, Global};
 use std::process::Abort;
 use std::test::Fail;

@@ -1,5 +1,5 @@
 use Rattle.std.specs.Prelude.{codes}
-use Rattle.drum_times.specs.TimesDocument.{times_faults}
+use Rattle.drum_toml.specs.TimesDocument.{times_faults}
 use Rattle.drum_faults.specs.NamedTexts.{named}
 use Rattle.drum_faults.proofs.Lines.{lines_returned}
 use Rattle.drum_faults.proofs.lines_of_faults.with_times.Goals as goal

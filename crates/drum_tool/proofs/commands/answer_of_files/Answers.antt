@@ -2,9 +2,9 @@
 -- fault is that of the first file that has one, or that of the answer, which is of no file.
 use Rattle.std.proofs.Common.{None, refl, inl, inr, arith}
 use Rattle.std.proofs.lemmas.Result.{err_from_is_err_and}
-use Rattle.drum_tool.specs.Asked.{named_in}
-use Rattle.drum_tool.specs.Output.{device}
-use Rattle.drum_tool.proofs.Asking.{of_file, of_result}
+use Rattle.drum_documents.specs.Asked.{named_in}
+use Rattle.drum_answers.specs.Output.{device}
+use Rattle.drum_tool.proofs.Looking.{of_file, of_result}
 use Rattle.drum_tool.proofs.Doing.{does_as, faults_as}
 use Rattle.drum_tool.proofs.OfNoFile.{of_no_part, question_of_none, unread}
 use Rattle.drum_tool.proofs.commands.answer_of_files.Goals as goal

@@ -6,15 +6,17 @@ use Rattle.std.specs.Prelude.{option_map}
 use Rattle.drum_check.specs.FindingsOf.{found_in}
 use Rattle.drum_faults.specs.FaultLines.{Named}
 use Rattle.drum_faults.specs.NamedTexts.{named}
-use Rattle.drum_tool.specs.declared.checking.Checked.{Checked}
-use Rattle.drum_tool.specs.declared.checking.Checked.TheVariants.{Faulty, Sound}
-use Rattle.drum_tool.specs.Asked.{name_in, named_with}
-use Rattle.drum_tool.specs.Checked.{IsChecked, inputs_in, texts_in}
-use Rattle.drum_tool.specs.Documents.{Texts}
-use Rattle.drum_tool.specs.Output.{GetsComplaint, device}
-use Rattle.drum_tool.specs.Reply.{findings_reply, lists}
-use Rattle.drum_tool.specs.TextsHeld.{IsInputsText}
-use Rattle.drum_tool.proofs.Asking.{no_line, no_line_of_lists, of_file, of_none}
+use Rattle.drum_answers.specs.declared.checking.Checked.{Checked}
+use Rattle.drum_answers.specs.declared.checking.Checked.TheVariants.{Faulty, Sound}
+use Rattle.drum_documents.specs.Asked.{name_in, named_with}
+use Rattle.drum_answers.specs.Checked.{IsChecked}
+use Rattle.drum_documents.specs.TextsOf.{inputs_in, texts_in}
+use Rattle.drum_documents.specs.Documents.{Texts}
+use Rattle.drum_answers.specs.Output.{GetsComplaint, device}
+use Rattle.drum_answers.specs.Reply.{findings_reply, lists}
+use Rattle.drum_documents.specs.TextsHeld.{IsInputsText}
+use Rattle.drum_answers.proofs.NoLine.{no_line, no_line_of_lists}
+use Rattle.drum_tool.proofs.Looking.{of_file, of_none}
 use Rattle.drum_tool.proofs.OfNoFile.{wanting_of_none}
 use Rattle.drum_tool.proofs.commands.check_files.Goals as goal
 

@@ -3,12 +3,13 @@
 use Rattle.std.proofs.Common.{inl, inr, refl, arith}
 use Rattle.std.proofs.lemmas.Result.{err_from_is_err_and}
 use Rattle.drum_inputs.specs.declared.inputs.Inputs.{Inputs}
-use Rattle.drum_tool.specs.declared.documents.Documents.{Documents}
-use Rattle.drum_tool.specs.Asked.{all_named_in}
-use Rattle.drum_tool.specs.Documents.{setting_of}
-use Rattle.drum_tool.specs.Given.{given}
-use Rattle.drum_tool.specs.Reply.{verdict_reply}
-use Rattle.drum_tool.proofs.Asking.{no_line, of_file, of_none}
+use Rattle.drum_documents.specs.declared.documents.Documents.{Documents}
+use Rattle.drum_documents.specs.Asked.{all_named_in}
+use Rattle.drum_documents.specs.Documents.{setting_of}
+use Rattle.drum_replay.specs.Given.{given}
+use Rattle.drum_answers.specs.Reply.{verdict_reply}
+use Rattle.drum_answers.proofs.NoLine.{no_line}
+use Rattle.drum_tool.proofs.Looking.{of_file, of_none}
 use Rattle.drum_tool.proofs.OfNoFile.{replay_of_none}
 use Rattle.drum_tool.proofs.commands.replay_files.Goals as goal
 

@@ -2,7 +2,7 @@
 -- fault is one of the bytes, or the refusal of these documents.
 use Rattle.std.proofs.Common.{inl, inr, refl, sym, ◌∙◌}
 use Rattle.std.proofs.lemmas.Result.{err_from_is_err_and}
-use Rattle.drum_tool.proofs.Giving.{past_limit}
+use Rattle.drum_tool.proofs.Replies.{past_limit}
 use Rattle.drum_tool.proofs.OfNoFile.{refused_of_none, unread}
 use Rattle.drum_tool.proofs.Replies.{err_map, ok_map, some_map}
 use Rattle.drum_tool.proofs.running.joined_bound.Goals as goal
@@ -15,13 +15,13 @@ returns-in_err-documents-clause-fault g c =
 
 pub returns-clause-bound : goal.returns-clause-bound
 returns-clause-bound g c =
-    ok_map _ _ c.bound.result c.bound.ensures.bound (λ bound is.
+    ok_map _ _ c.bound_of.result c.bound_of.ensures.bound (λ bound is.
     some_map (g.I.Input.unread c.args.input.now) _ _ c.in_ok-documents.ensures.gives
     (λ bytes gives. inl (c.in_ok-documents.documents, gives, refl, (bound, is, refl))))
 
 pub returns-clause-fault : goal.returns-clause-fault
 returns-clause-fault g c =
-    err_map _ _ c.bound.result c.bound.ensures.fault (λ fault is.
+    err_map _ _ c.bound_of.result c.bound_of.ensures.fault (λ fault is.
     some_map (g.I.Input.unread c.args.input.now) _ _ c.in_ok-documents.ensures.gives
     (λ bytes gives. inr (fault, inr (c.in_ok-documents.documents, gives, is), refl, refl)))
 
@@ -33,7 +33,7 @@ returns-in_err-documents-clause-counted g c =
 pub returns-clause-counted : goal.returns-clause-counted
 returns-clause-counted g c failures failed =
     c.in_ok-documents.ensures.counted failures failed
-    ∙ sym (unread c.bound.result (err_map _ _ c.bound.result c.bound.ensures.fault (refused_of_none _)))
+    ∙ sym (unread c.bound_of.result (err_map _ _ c.bound_of.result c.bound_of.ensures.fault (refused_of_none _)))
 
 pub returns-in_err-documents-clause-full : goal.returns-in_err-documents-clause-full
 returns-in_err-documents-clause-full g c =

@@ -3,13 +3,12 @@
 -- of what they hold.
 use Rattle.std.proofs.Common.{◌≡◌, ℕ, ◌+◌, List, None, Some, ap, sym, ◌∙◌, subst, inl, inr, arith}
 use Rattle.drum_lines.specs.declared.status.Status.TheVariants.{Done, Failed}
-use Rattle.drum_tool.specs.Output.{Tells, device}
-use Rattle.drum_tool.specs.Reply.{Reply, bound_reply, fault_reply}
+use Rattle.drum_answers.specs.Output.{Tells, device}
+use Rattle.drum_answers.specs.Reply.{Reply}
 use Rattle.test_devices.specs.Told.{text_of}
 use Rattle.test_devices.specs.declared.told.File.{File}
-use Rattle.drum_lines.specs.declared.part.Part.{Part}
 use Rattle.drum_lines.specs.declared.part.Part.TheVariants as part
-use Rattle.drum_tool.specs.Files.{Held}
+use Rattle.drum_documents.specs.Files.{Held}
 use Rattle.test_devices.proofs.told.bound_of_files.Goals as goal
 
 -- what the files of these names hold

@@ -1,0 +1,4 @@
+pub mod Checked
+pub mod Does
+pub mod Output
+pub mod Reply

@@ -1,0 +1,54 @@
+-- What standard output and standard error get of a reply, and how the program ends.
+use Rattle.std.specs.Prelude.{◌≡◌, ℕ, ◌+◌, ◌<◌, List, length, take, Option, Result, Ok, Err, ◌⊎◌}
+use Rattle.std.specs.Io.KnownBytes.{Appends}
+use Rattle.drum_lines.specs.declared.status.Status.{Status}
+use Rattle.drum_lines.specs.declared.status.Status.TheVariants.{Failed, Refused}
+use Rattle.drum_answers.specs.Reply.{Reply, says, complains, lists, breaks_off}
+
+-- what a device was given, where that is known, and how many writes to it failed
+pub record Device : Type 0 where
+  pub written : Option (List ℕ)
+  pub failures : ℕ
+
+abbrev pub device : Option (List ℕ) → ℕ → Device
+device written failures = record { written = written; failures = failures }
+
+-- it gets the whole text, and no write fails
+abbrev pub GetsAll : Device → Device → List ℕ → Type 0
+GetsAll before after text =
+    Appends before.written after.written text × (after.failures ≡ before.failures)
+
+-- a write fails, and it has got a prefix of the text
+abbrev pub GetsPrefix : Device → Device → List ℕ → Type 0
+GetsPrefix before after text =
+    (count : ℕ) × (count < length text) × Appends before.written after.written (take count text)
+    × (after.failures ≡ before.failures + 1)
+
+-- of a complaint it gets all, or a prefix
+abbrev pub GetsComplaint : Device → Device → List ℕ → Type 0
+GetsComplaint before after text = GetsAll before after text ⊎ GetsPrefix before after text
+
+-- of a result it gets all, and the program ends as the result says; or a prefix, and the program
+-- has failed
+abbrev pub GetsResult : Device → Device → List ℕ → Status → Status → Type 0
+GetsResult before after text done status =
+    (GetsAll before after text × (status ≡ done))
+    ⊎ (GetsPrefix before after text × (status ≡ Failed))
+
+-- how the program ends once a result was written
+abbrev pub ended_with : {A E : Type 0} → Result A E → Status → Status
+ended_with (Ok done) status = status
+ended_with (Err fault) status = Failed
+
+-- A result goes to standard output. A complaint or a list of faults goes to standard error, and the
+-- status is the same if it can't be written there. Of a text that is given up standard output gets
+-- a prefix. The other device gets nothing.
+abbrev pub Tells : Reply → Device → Device → Device → Device → Status → Type 0
+Tells (says text done) out out' err err' status =
+    GetsResult out out' text done status × (err' ≡ err)
+Tells (complains text after) out out' err err' status =
+    (out' ≡ out) × GetsComplaint err err' text × (status ≡ after)
+Tells (lists text) out out' err err' status =
+    (out' ≡ out) × GetsComplaint err err' text × (status ≡ Refused)
+Tells (breaks_off text) out out' err err' status =
+    GetsPrefix out out' text × (status ≡ Failed) × (err' ≡ err)

@@ -1,0 +1,6 @@
+pub mod Asking
+mod Cuts
+mod Giving
+mod Joining
+mod Refusing
+mod Unread

@@ -1,0 +1,40 @@
+-- What refuses the text of a deck; and that no fault of a text which was read says that a read failed.
+use Rattle.std.proofs.Common.{◌≡◌, ◌≢◌, ℕ, List, refl}
+use Rattle.drum_core.specs.declared.deck.fault.DeckFault.{DeckFault}
+use Rattle.drum_core.specs.declared.deck.fault.DeckFault.TheVariants.{Read, Memory, Card, Twice, NoStart, TwoStarts}
+use Rattle.drum_core.specs.declared.deck.fault.DeckFault.TheVariants.{PastDrum, TooLong}
+use Rattle.drum_core.specs.DeckText.{IsRefused}
+use Rattle.drum_inputs.specs.declared.fault.InputFault.{InputFault}
+use Rattle.drum_inputs.specs.declared.fault.InputFault.TheVariants as of_inputs
+use Rattle.drum_lines.specs.declared.fault.Fault.TheVariants as faults
+use Rattle.drum_lines.specs.FaultStatus.{reads_failed}
+use Rattle.drum_documents.specs.Documents.{IsNoDeck}
+
+pub no_deck : (bytes : List ℕ) → (fault : DeckFault) → fault ≢ Read
+    → (fault ≢ Read → fault ≢ Memory → IsRefused bytes fault) → IsNoDeck bytes fault
+no_deck bytes Read read refused = absurd (read refl)
+no_deck bytes Memory read refused = tt
+no_deck bytes (Card line) read refused = refused (λ is. cc) (λ is. cc)
+no_deck bytes (Twice location) read refused = refused (λ is. cc) (λ is. cc)
+no_deck bytes NoStart read refused = refused (λ is. cc) (λ is. cc)
+no_deck bytes (TwoStarts line) read refused = refused (λ is. cc) (λ is. cc)
+no_deck bytes (PastDrum line) read refused = refused (λ is. cc) (λ is. cc)
+no_deck bytes TooLong read refused = refused (λ is. cc) (λ is. cc)
+
+pub deck_unread : (fault : DeckFault) → fault ≢ Read → reads_failed (faults.Deck fault) ≡ 0
+deck_unread Read read = absurd (read refl)
+deck_unread Memory read = refl
+deck_unread (Card line) read = refl
+deck_unread (Twice location) read = refl
+deck_unread NoStart read = refl
+deck_unread (TwoStarts line) read = refl
+deck_unread (PastDrum line) read = refl
+deck_unread TooLong read = refl
+
+pub inputs_unread : (fault : InputFault) → fault ≢ of_inputs.Read → reads_failed (faults.Inputs fault) ≡ 0
+inputs_unread of_inputs.Read read = absurd (read refl)
+inputs_unread of_inputs.Memory read = refl
+inputs_unread (of_inputs.Line line) read = refl
+inputs_unread (of_inputs.Repeated line) read = refl
+inputs_unread (of_inputs.PastDrum line) read = refl
+inputs_unread of_inputs.TooLong read = refl

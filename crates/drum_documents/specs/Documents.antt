@@ -1,0 +1,85 @@
+-- The documents of a program, a deck, a timing table and notes: what is known of them, and which
+-- texts say them.
+use Rattle.std.specs.Prelude.{ℕ, List}
+use Rattle.drum_core.specs.declared.deck.Deck.{Deck}
+use Rattle.drum_core.specs.declared.deck.fault.DeckFault.{DeckFault}
+use Rattle.drum_core.specs.declared.deck.fault.DeckFault.TheVariants as of_deck
+use Rattle.drum_core.specs.DeckText as text
+use Rattle.drum_core.specs.Holds.{IsDeckOf}
+use Rattle.drum_times.specs.declared.times.Times.{Times}
+use Rattle.drum_toml.specs.Says.{SayTimes, SayNotes, AreNoTimes, AreNoNotes}
+use Rattle.drum_inputs.specs.declared.fault.InputFault.{InputFault}
+use Rattle.drum_inputs.specs.declared.fault.InputFault.TheVariants as of_inputs
+use Rattle.drum_inputs.specs.declared.inputs.Inputs.{Inputs}
+use Rattle.drum_inputs.specs.Inputs.{AreInputsOf}
+use Rattle.drum_inputs.specs.InputsText as replay
+use Rattle.drum_flow.specs.Walk.{Setting}
+use Rattle.drum_flow.specs.SettingOf.{setting}
+use Rattle.drum_documents.specs.declared.documents.Documents.{Documents}
+use Rattle.drum_lines.specs.declared.fault.Fault.{Fault}
+use Rattle.drum_lines.specs.declared.fault.Fault.TheVariants as fault
+
+-- what their walks are in
+abbrev pub setting_of : Documents → Setting
+setting_of documents = setting documents.deck documents.times documents.notes
+
+-- the text is that of the deck
+abbrev pub SaysDeck : List ℕ → Deck → Type 0
+SaysDeck bytes deck = (lines : List text.Line) × text.IsDeck bytes lines × IsDeckOf deck lines
+
+-- why a text is no deck (that the program is out of memory is tested, not stated)
+abbrev pub IsNoDeck : List ℕ → DeckFault → Type 0
+IsNoDeck bytes of_deck.Memory = Unit {0}
+IsNoDeck bytes one = text.IsRefused bytes one
+
+-- the text is that of inputs
+abbrev pub SayInputs : List ℕ → Inputs → Type 0
+SayInputs bytes inputs =
+    (lines : List replay.Line) × replay.AreInputs bytes lines × AreInputsOf inputs lines
+
+-- why a text is no inputs (that the program is out of memory is tested, not stated)
+abbrev pub AreNoInputs : List ℕ → InputFault → Type 0
+AreNoInputs bytes of_inputs.Memory = Unit {0}
+AreNoInputs bytes one = replay.IsRefused bytes one
+
+-- the fault of a text that is refused
+abbrev pub RefusesDeck : List ℕ → Fault → Type 0
+RefusesDeck bytes (fault.Deck one) = IsNoDeck bytes one
+RefusesDeck bytes _ = ⊥
+
+abbrev pub RefusesTimes : List ℕ → Fault → Type 0
+RefusesTimes bytes (fault.Times one) = AreNoTimes bytes one
+RefusesTimes bytes _ = ⊥
+
+abbrev pub RefusesNotes : List ℕ → Fault → Type 0
+RefusesNotes bytes (fault.Notes one) = AreNoNotes bytes one
+RefusesNotes bytes _ = ⊥
+
+abbrev pub RefusesInputs : List ℕ → Fault → Type 0
+RefusesInputs bytes (fault.Inputs one) = AreNoInputs bytes one
+RefusesInputs bytes _ = ⊥
+
+-- the texts of documents
+pub record Texts : Type 0 where
+  pub deck : List ℕ
+  pub times : List ℕ
+  pub notes : List ℕ
+
+abbrev pub texts_of : List ℕ → List ℕ → List ℕ → Texts
+texts_of deck times notes = record { deck = deck; times = times; notes = notes }
+
+pub record Say (texts : Texts) (documents : Documents) : Type 0 where
+  pub deck : SaysDeck texts.deck documents.deck
+  pub times : SayTimes texts.times documents.times
+  pub notes : SayNotes texts.notes documents.notes
+
+-- Why texts say no documents: the first of them that is refused, the deck, the timing table or the
+-- notes.
+abbrev pub SayNone : Texts → Fault → Type 0
+SayNone texts (fault.Deck one) = IsNoDeck texts.deck one
+SayNone texts (fault.Times one) =
+    ((deck : Deck) × SaysDeck texts.deck deck) × AreNoTimes texts.times one
+SayNone texts (fault.Notes one) =
+    ((deck : Deck) × SaysDeck texts.deck deck) × ((times : Times) × SayTimes texts.times times)
+    × AreNoNotes texts.notes one
+SayNone texts _ = ⊥

@@ -1,0 +1,100 @@
+-- What limits a run, and why nothing does.
+use Rattle.std.proofs.Common.{◌≡◌, ◌≢◌, ℕ, ◌≤◌, refl, sym, subst, arith, Result, Ok, Err, IfOk}
+use Rattle.drum_flow.specs.declared.refusal.Refusal.TheVariants as refusal
+use Rattle.drum_lines.specs.declared.fault.Fault.{Fault}
+use Rattle.drum_lines.specs.declared.fault.Fault.TheVariants as faults
+use Rattle.drum_lines.specs.declared.limit.Limit as limits
+use Rattle.drum_lines.specs.declared.limit.Limit.TheVariants as limit
+use Rattle.drum_times.specs.declared.times.Times.{Times}
+use Rattle.drum_flow.specs.SettingOf.{setting}
+use Rattle.drum_ceiling.specs.declared.answer.Ceiling.{Ceiling}
+use Rattle.drum_ceiling.specs.CeilingOf.{base_of, prices_of, total_of}
+use Rattle.drum_ceiling.specs.Right.{IsTooDear}
+use Rattle.drum_documents.specs.declared.documents.Documents.{Documents}
+use Rattle.drum_replay.specs.declared.replaying.Begun.{Begun}
+use Rattle.drum_replay.specs.Begun.{IsBegun, IsTraceBegun}
+use Rattle.drum_flow.specs.Bounded.{IsBounded}
+use Rattle.drum_replay.specs.Limits.{IsAnalysisFault, IsCeiling, IsCeilingFault, IsLimit, IsLimitFault}
+use Rattle.drum_documents.specs.Documents.{setting_of}
+use Rattle.drum_replay.specs.Replay.{Given, HasOwnWords}
+
+-- why there is no bound is why there is no limit, unless it is the size
+pub no_limit : (documents : Documents) (fault : Fault)
+    → ((product : ℕ) → fault ≢ faults.Refused (refusal.TooLarge product)) → IsAnalysisFault documents fault
+    → IsLimitFault documents fault
+no_limit documents (faults.Refused (refusal.NotLoaded location)) other is = is
+no_limit documents (faults.Refused (refusal.NotInProfile location op)) other is = is
+no_limit documents (faults.Refused (refusal.Alters writer word)) other is = is
+no_limit documents (faults.Refused (refusal.Unbounded cycle)) other is = is.round
+no_limit documents (faults.Refused (refusal.TooLarge product)) other is = absurd (other product refl)
+no_limit documents (faults.Refused refusal.Memory) other is = is
+no_limit documents faults.NoPart other is = absurd is
+no_limit documents (faults.Part part what) other is = absurd is
+no_limit documents faults.Memory other is = absurd is
+no_limit documents (faults.Deck fault) other is = absurd is
+no_limit documents (faults.Times fault) other is = absurd is
+no_limit documents (faults.Notes fault) other is = absurd is
+no_limit documents (faults.Inputs fault) other is = absurd is
+no_limit documents (faults.Loaded location) other is = absurd is
+
+-- and so is why there is no ceiling
+pub no_ceiling : (documents : Documents) (fault : Fault) → IsCeilingFault documents fault
+    → IsLimitFault documents fault
+no_ceiling documents (faults.Refused (refusal.NotLoaded location)) is = is
+no_ceiling documents (faults.Refused (refusal.NotInProfile location op)) is = is
+no_ceiling documents (faults.Refused (refusal.Alters writer word)) is = is
+no_ceiling documents (faults.Refused (refusal.Unbounded cycle)) is = is
+no_ceiling documents (faults.Refused (refusal.TooLarge product)) is = (
+  is.0,
+  record {
+    executed = is.1.executed;
+    admitted = is.1.admitted;
+    prices = is.1.prices;
+    base = is.1.base;
+    are = is.1.are;
+    large = omega (arith, is.1.large);
+  },
+)
+no_ceiling documents (faults.Refused refusal.Memory) is = is
+no_ceiling documents faults.NoPart is = absurd is
+no_ceiling documents (faults.Part part what) is = absurd is
+no_ceiling documents faults.Memory is = absurd is
+no_ceiling documents (faults.Deck fault) is = absurd is
+no_ceiling documents (faults.Times fault) is = absurd is
+no_ceiling documents (faults.Notes fault) is = absurd is
+no_ceiling documents (faults.Inputs fault) is = absurd is
+no_ceiling documents (faults.Loaded location) is = absurd is
+
+-- a ceiling that comes to so much
+pub too_dear : (documents : Documents) (ceiling : Ceiling) (least : ℕ) → IsCeiling documents ceiling
+    → least ≤ total_of ceiling → IsTooDear (setting_of documents) least
+too_dear documents ceiling least is large = record {
+  executed = is.executed;
+  admitted = is.admitted;
+  prices = prices_of ceiling;
+  base = base_of ceiling;
+  are = is.prices;
+  large = omega (arith, is.total, large);
+}
+
+-- no kept run uses more than what limits it
+pub bounded_by : (documents : Documents) (by : limits.Limit) (most : ℕ) → IsLimit documents by most
+    → IsBounded (setting_of documents) most
+bounded_by documents limit.Bound most is = is.bounded
+bounded_by documents limit.Ceiling most is =
+    λ s steps first run kept. omega (arith, is.1.1.kept s steps first run kept, is.1.2)
+
+-- so a trace begins
+pub trace_begun : (documents : Documents) (given : Given) (by : limits.Limit) (most : ℕ) (result : Result Begun Fault)
+    → HasOwnWords (setting_of documents) given → IsLimit documents by most
+    → IfOk result (λ begun. (times : Times) → IsBounded (setting documents.deck times documents.notes) most
+    → IsBegun (setting documents.deck times documents.notes) given begun)
+    → IfOk result (λ begun. (begun.limit ≡ by) × (begun.most ≡ most)) → IfOk result (IsTraceBegun documents given)
+trace_begun documents given by most (Ok begun) own is begins same = record {
+  begun_of = begins documents.times (bounded_by documents by most is);
+  own_words = own;
+  limited =
+      subst (λ (one : limits.Limit). IsLimit documents one begun.most) (sym same.0)
+      (subst (λ (n : ℕ). IsLimit documents by n) (sym same.1) is);
+}
+trace_begun documents given by most (Err fault) own is begins same = tt

@@ -1,0 +1,45 @@
+-- What is known of a replay before its first step.
+use Rattle.std.specs.Prelude.{◌≡◌, ◌^◌, ◌<◌, [], Some, None}
+use Rattle.drum_machine.specs.declared.left.Left as lefts
+use Rattle.drum_machine.specs.declared.left.Left.TheVariants as left
+use Rattle.drum_machine.specs.Keeps.{IsAsDeclared}
+use Rattle.drum_flow.specs.Walk.{Setting}
+use Rattle.drum_lines.specs.declared.verdict.Verdict.{Verdict}
+use Rattle.drum_lines.specs.declared.verdict.Verdict.TheVariants.{Left}
+use Rattle.drum_replay.specs.declared.replaying.Begun.{Begun}
+use Rattle.drum_documents.specs.declared.documents.Documents.{Documents}
+use Rattle.drum_flow.specs.Bounded.{IsBounded}
+use Rattle.drum_replay.specs.Limits.{IsLimit}
+use Rattle.drum_documents.specs.Documents.{setting_of}
+use Rattle.drum_replay.specs.Following.{AreGiven, CanBegin, IsFollowing, state_of, waits_of}
+use Rattle.drum_replay.specs.Replay.{Given, HasOwnWords}
+
+-- the verdict on a run that leaves the notes before any step
+abbrev pub left_before : lefts.Left → Verdict
+left_before what = Left what 0 0
+
+-- It can be followed, unless its verdict comes before any step.
+pub record IsReady (g : Setting) (begun : Begun) : Type 0 where
+  pub bounded : IsBounded g begun.most
+  pub below : begun.most < 2 ^ 50
+  pub angle : (state_of begun.following).first_angle ≡ begun.angle
+  pub begins : begun.verdict ≡ None → CanBegin g (state_of begun.following)
+  pub follows :
+      begun.verdict ≡ None
+      → IsFollowing g (state_of begun.following) (waits_of begun.following) begun.most []
+      begun.following
+
+-- It is that of what is given.
+pub record IsBegun (g : Setting) (given : Given) (begun : Begun) : Type 0 where
+  pub ready : IsReady g begun
+  pub are : AreGiven g given (state_of begun.following) (waits_of begun.following)
+  pub before :
+      (verdict : Verdict) → begun.verdict ≡ Some verdict
+      → (verdict ≡ left_before left.Switch)
+      × ¬ IsAsDeclared g.notes.programmed given.setup.programmed
+
+-- It is that of what is given, and what limits it is that of the documents.
+pub record IsTraceBegun (documents : Documents) (given : Given) (begun : Begun) : Type 0 where
+  pub begun_of : IsBegun (setting_of documents) given begun
+  pub own_words : HasOwnWords (setting_of documents) given
+  pub limited : IsLimit documents begun.limit begun.most

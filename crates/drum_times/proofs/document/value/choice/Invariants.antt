@@ -1,8 +1,0 @@
-use Rattle.std.proofs.Common.{◌≡◌, map, drop}
-use Rattle.drum_times.specs.Document as document
-use Rattle.drum_times.proofs.document.value.choice.Given as goal
-
-abbrev pub invariant-loop-name : goal.invariant-loop-name
-invariant-loop-name g l =
-    document.is_among l.text (map (λ choice. choice.0.now) (drop l.name-index l.choices))
-    ≡ document.is_among l.text (map (λ choice. choice.0.now) l.choices)

@@ -1,0 +1,254 @@
+-- The faults that are added of a value at a key.
+use Rattle.std.proofs.Common.{◌≡◌, ℕ, zero, suc, ◌<◌, ◌≤◌, Bool, true, false, ◌||◌, cond, List, [], ◌∷◌, ◌++◌, map}
+use Rattle.std.proofs.Common.{length, get_or, Option, Some, None, Bor, refl, ap, sym, ◌∙◌, subst, le-leb, arith}
+use Rattle.std.proofs.lemmas.Bool.{leb-true}
+use Rattle.std.proofs.lemmas.List.{length-map}
+use Rattle.std.proofs.lemmas.Map.Text.{is_eq-slice_cmp}
+use Rattle.std.proofs.lemmas.Slice.Eq.{bytes_eq-Decides}
+use Rattle.std.specs.Prelude.{codes, nat_le, pos, negsuc}
+use Rattle.drum_core.specs.declared.op.Op.{Op}
+use Rattle.drum_core.specs.Location.{is_location}
+use Rattle.drum_toml.specs.declared.document.value.ValueFault.{ValueFault}
+use Rattle.drum_toml.specs.declared.fault.NoteFault.{NoteFault}
+use Rattle.drum_toml.specs.declared.times.read_entry.Form.{Form}
+use Rattle.drum_toml.specs.AllFaults.{Adds, location_of, location_in, locations_at, marks_of, marks_in}
+use Rattle.drum_toml.specs.Document.{Fault, kind, missing, range, unknown_in, missing_in, at_key, array_faults}
+use Rattle.drum_toml.specs.Document.{element_faults, number_faults, is_among, is_count, text}
+use Rattle.drum_toml.specs.NotesDocument.{tables_of}
+use Rattle.drum_toml.specs.TimesDocument.{key_of, keys_of, form_of, entry_faults, plain_faults, rest_faults}
+use Rattle.drum_toml.specs.TimesDocument.{operation_faults, operations_faults, times_faults}
+use Rattle.drum_toml.specs.Value.{fault_of, StandsFor}
+use Rattle.drum_toml.proofs.Adding.{adds_more}
+use Rattle.drum_toml.proofs.EntryFaults.{text_is_right}
+use Rattle.drum_toml.proofs.TablesFaults.{array_from, count_seen}
+use Rattle.toml.specs.Data.{Data, string, integer, float, boolean, datetime, array, table, as_array, as_table}
+use Rattle.toml.specs.Data.{Members, get_member, same_key}
+use Rattle.toml.specs.View.{items_view}
+use Rattle.toml.specs.declared.value.Value.{Value}
+
+-- none without the key
+pub key_none : (check : List ℕ → Data → List Fault) (at key : List ℕ) (fields : Members)
+    → None ≡ get_member key fields → at_key check at key fields ≡ []
+key_none check at key fields lacks =
+    ap (λ (found : Option Data). elim found [ None ↦ [] | Some value ↦ check (at ++ key) value ]) (sym lacks)
+
+-- and of its value with it
+pub key_some : (check : List ℕ → Data → List Fault) (at key : List ℕ) (fields : Members) (d : Data)
+    → Some d ≡ get_member key fields → at_key check at key fields ≡ check (at ++ key) d
+key_some check at key fields d has =
+    ap (λ (found : Option Data). elim found [ None ↦ [] | Some value ↦ check (at ++ key) value ]) (sym has)
+
+pub not_array : (low : ℕ) (high : Option ℕ) (check : ℕ → List ℕ → Members → List Fault) (path : List ℕ) (d : Data)
+    → None ≡ as_array d → array_faults low high check path d ≡ kind path ∷ []
+not_array low high check path (string s) is = refl
+not_array low high check path (integer z) is = refl
+not_array low high check path (float x) is = refl
+not_array low high check path (boolean b) is = refl
+not_array low high check path (datetime dt) is = refl
+not_array low high check path (array items) is = cc
+not_array low high check path (table fields) is = refl
+
+pub not_table : (check : ℕ → List ℕ → Members → List Fault) (number : ℕ) (path : List ℕ) (d : Data)
+    → None ≡ as_table d → element_faults check number path d ≡ kind path ∷ []
+not_table check number path (string s) is = refl
+not_table check number path (integer z) is = refl
+not_table check number path (float x) is = refl
+not_table check number path (boolean b) is = refl
+not_table check number path (datetime dt) is = refl
+not_table check number path (array items) is = refl
+not_table check number path (table fields) is = cc
+
+pub table_from : (d : Data) (fields : Members) → Some fields ≡ as_table d → d ≡ table fields
+table_from (string s) fields e = cc
+table_from (integer z) fields e = cc
+table_from (float x) fields e = cc
+table_from (boolean b) fields e = cc
+table_from (datetime dt) fields e = cc
+table_from (array items) fields e = cc
+table_from (table ms) fields e = ap table (go e)
+  where
+    go : Some fields ≡ Some ms → ms ≡ fields
+    go h = cc
+
+-- of an operation's
+abbrev found_operation : Op → Option Data → List Fault
+found_operation op found = elim found [
+  | None ↦ missing (codes "op." ++ key_of op) ∷ []
+  | Some value ↦ (elim value [
+    | table fields ↦ entry_faults op (codes "op." ++ key_of op ++ codes ".") fields
+    | _ ↦ kind (codes "op." ++ key_of op) ∷ []
+  ])
+]
+
+pub lacks_operation : (T : Members) (op : Op) (at key : List ℕ) → at ≡ codes "op." → key ≡ key_of op
+    → None ≡ get_member key T → missing (at ++ key) ∷ [] ≡ operation_faults T op
+lacks_operation T op at key here is lacks =
+    ap (λ (path : List ℕ). missing (path ++ key) ∷ []) here
+    ∙ ap (λ (path : List ℕ). missing (codes "op." ++ path) ∷ []) is
+    ∙ ap (found_operation op) (lacks ∙ ap (λ (k : List ℕ). get_member k T) is)
+
+abbrev value_of_operation : Op → Data → List Fault
+value_of_operation op value = elim value [
+  | table fields ↦ entry_faults op (codes "op." ++ key_of op ++ codes ".") fields
+  | _ ↦ kind (codes "op." ++ key_of op) ∷ []
+]
+
+wrong_value : (op : Op) (d : Data) → None ≡ as_table d → kind (codes "op." ++ key_of op) ∷ [] ≡ value_of_operation op d
+wrong_value op (string s) is = refl
+wrong_value op (integer z) is = refl
+wrong_value op (float x) is = refl
+wrong_value op (boolean b) is = refl
+wrong_value op (datetime dt) is = refl
+wrong_value op (array items) is = refl
+wrong_value op (table fields) is = cc
+
+pub wrong_operation_kind : (T : Members) (op : Op) (at key : List ℕ) (d : Data) → at ≡ codes "op." → key ≡ key_of op
+    → Some d ≡ get_member key T → None ≡ as_table d → kind (at ++ key) ∷ [] ≡ operation_faults T op
+wrong_operation_kind T op at key d here is has no_table =
+    ap (λ (path : List ℕ). kind (path ++ key) ∷ []) here
+    ∙ ap (λ (path : List ℕ). kind (codes "op." ++ path) ∷ []) is
+    ∙ wrong_value op d no_table
+    ∙ ap (found_operation op) (has ∙ ap (λ (k : List ℕ). get_member k T) is)
+
+pub entry_of_operation : (T : Members) (op : Op) (at key inside : List ℕ) (d : Data) (fields : Members)
+    → at ≡ codes "op." → key ≡ key_of op → inside ≡ at ++ key ++ codes "."
+    → Some d ≡ get_member key T → Some fields ≡ as_table d → entry_faults op inside fields ≡ operation_faults T op
+entry_of_operation T op at key inside d fields here is path has is_table =
+    ap (λ (p : List ℕ). entry_faults op p fields)
+    (path ∙ ap (λ (p : List ℕ). p ++ key ++ codes ".") here ∙ ap (λ (k : List ℕ). codes "op." ++ k ++ codes ".") is)
+    ∙ ap (value_of_operation op) (sym (table_from d fields is_table))
+    ∙ ap (found_operation op) (has ∙ ap (λ (k : List ℕ). get_member k T) is)
+
+-- of the table of operations
+abbrev found_operations : Option Data → List Fault
+found_operations found = elim found [ None ↦ missing (codes "op") ∷ [] | Some value ↦ operations_faults value ]
+
+abbrev top_unknown : Members → List Fault
+top_unknown D = unknown_in [] (codes "op" ∷ []) D
+
+pub lacks_operations : (D : Members) → None ≡ get_member (codes "op") D
+    → top_unknown D ++ missing (codes "op") ∷ [] ≡ times_faults D
+lacks_operations D lacks = ap (λ (found : Option Data). top_unknown D ++ found_operations found) lacks
+
+no_operations : (d : Data) → None ≡ as_table d → kind (codes "op") ∷ [] ≡ operations_faults d
+no_operations (string s) is = refl
+no_operations (integer z) is = refl
+no_operations (float x) is = refl
+no_operations (boolean b) is = refl
+no_operations (datetime dt) is = refl
+no_operations (array items) is = refl
+no_operations (table fields) is = cc
+
+pub wrong_operations : (D : Members) (d : Data) → Some d ≡ get_member (codes "op") D → None ≡ as_table d
+    → top_unknown D ++ kind (codes "op") ∷ [] ≡ times_faults D
+wrong_operations D d has no_table =
+    ap (λ (xs : List Fault). top_unknown D ++ xs) (no_operations d no_table)
+    ∙ ap (λ (found : Option Data). top_unknown D ++ found_operations found) has
+
+pub all_operations : (D T : Members) (d : Data) → Some d ≡ get_member (codes "op") D → Some T ≡ as_table d
+    → top_unknown D ++ operations_faults (table T) ≡ times_faults D
+all_operations D T d has is_table =
+    ap (λ (value : Data). top_unknown D ++ operations_faults value) (sym (table_from d T is_table))
+    ∙ ap (λ (found : Option Data). top_unknown D ++ found_operations found) has
+
+-- the faults of an entry, check by check
+pub adds_entry : (op : Op) (at : List ℕ) (fields : Members) (keys : List (List ℕ)) (form : Form)
+    (old one two three new : List NoteFault) → keys ≡ keys_of form → form ≡ form_of op
+    → Adds old one (unknown_in at keys fields) → Adds one two (missing_in at keys fields)
+    → Adds two three (plain_faults at fields) → Adds three new (rest_faults form at fields)
+    → Adds old new (entry_faults op at fields)
+adds_entry op at fields keys form old one two three new are is unknown lacks plain others =
+    let same : keys ≡ keys_of (form_of op) = are ∙ ap keys_of is in
+    adds_more old three new _ (rest_faults (form_of op) at fields)
+    (adds_more old two three _ (plain_faults at fields)
+    (adds_more old one two (unknown_in at (keys_of (form_of op)) fields) (missing_in at (keys_of (form_of op)) fields)
+    (subst (λ (ks : List (List ℕ)). Adds old one (unknown_in at ks fields)) same unknown)
+    (subst (λ (ks : List (List ℕ)). Adds one two (missing_in at ks fields)) same lacks))
+    plain)
+    (subst (λ (f : Form). Adds three new (rest_faults f at fields)) is others)
+
+-- a value that is no location's number
+no_location : (d : Data) (wrong : ValueFault)
+    → ((path : List ℕ) → number_faults path is_location d ≡ fault_of wrong path ∷ []) → location_of d ≡ []
+no_location (integer (pos n)) wrong faults = go (is_location n) (faults [])
+  where
+    go : (b : Bool) → cond b [] (range [] ∷ []) ≡ fault_of wrong [] ∷ [] → cond b (n ∷ []) [] ≡ []
+    go true e = cc
+    go false e = refl
+no_location (integer (negsuc n)) wrong faults = refl
+no_location (string s) wrong faults = refl
+no_location (float x) wrong faults = refl
+no_location (boolean b) wrong faults = refl
+no_location (datetime dt) wrong faults = refl
+no_location (array items) wrong faults = refl
+no_location (table fields) wrong faults = refl
+
+pub wrong_location : (fields : Members) (key : List ℕ) (d : Data) (wrong : ValueFault) → Some d ≡ get_member key fields
+    → ((path : List ℕ) → number_faults path is_location d ≡ fault_of wrong path ∷ []) → locations_at key fields ≡ []
+wrong_location fields key d wrong has faults = ap location_in (sym has) ∙ no_location d wrong faults
+
+-- the tables of as many marks as there may be, or of too many
+marks_are : (found : Option Data) (d : Data) (vs : List Value) (fits : Bool) → Some d ≡ found
+    → Some (items_view vs) ≡ as_array d → is_count 0 (Some 8) (length vs) ≡ fits
+    → marks_in found ≡ cond fits (tables_of (items_view vs)) []
+marks_are found d vs fits has is_array fit =
+    ap marks_in (sym has) ∙ ap marks_of (array_from d (items_view vs) (sym is_array))
+    ∙ ap (λ (n : ℕ). cond (is_count 0 (Some 8) n) (tables_of (items_view vs)) []) (count_seen vs)
+    ∙ ap (λ (b : Bool). cond b (tables_of (items_view vs)) []) fit
+
+pub few_marks_are : (found : Option Data) (d : Data) (vs vs' : List Value) → Some d ≡ found
+    → Some (items_view vs) ≡ as_array d → vs' ≡ vs → length vs ≤ 8 → tables_of (items_view vs') ≡ marks_in found
+few_marks_are found d vs vs' has is_array same few =
+    let from : 0 ≤ length vs = omega arith in
+    ap (λ (ws : List Value). tables_of (items_view ws)) same
+    ∙ sym (marks_are found d vs true has is_array (rw (le-leb 0 (length vs) from, le-leb (length vs) 8 few) refl))
+
+pub many_marks_are : (found : Option Data) (d : Data) (vs : List Value) → Some d ≡ found
+    → Some (items_view vs) ≡ as_array d → 8 < length vs → [] ≡ marks_in found
+many_marks_are found d vs has is_array many =
+    let from : 0 ≤ length vs = omega arith in
+    sym (marks_are found d vs false has is_array
+    (rw (le-leb 0 (length vs) from) (go (nat_le (length vs) 8) refl)))
+  where
+    go : (b : Bool) → nat_le (length vs) 8 ≡ b → b ≡ false
+    go true test = absurd (omega (arith, leb-true (length vs) 8 test, many))
+    go false test = refl
+
+pub no_marks_are : (found : Option Data) (d : Data) → Some d ≡ found → None ≡ as_array d → [] ≡ marks_in found
+no_marks_are found d has is = sym (ap marks_in (sym has) ∙ none d is)
+  where
+    none : (d : Data) → None ≡ as_array d → marks_of d ≡ []
+    none (string s) is = refl
+    none (integer z) is = refl
+    none (float x) is = refl
+    none (boolean b) is = refl
+    none (datetime dt) is = refl
+    none (array items) is = cc
+    none (table fields) is = refl
+
+-- a text for which one of some choices stands is among theirs
+among_of : {T : Type 0} (choices : List (Bor (List ℕ) × T)) (one : List ℕ) (chosen : T) (k : ℕ)
+    → k < length choices
+    → ◌≡◌ {A = List ℕ × T} (get_or (map (λ choice. (choice.0.now, choice.1)) choices) k (one, chosen)) (one, chosen)
+    → is_among one (map (λ choice. choice.0.now) choices) ≡ true
+among_of [] one chosen k within is = absurd (omega (arith, within))
+among_of {T} (choice ∷ choices) one chosen zero within is =
+    let same : choice.0.now ≡ one = ap (λ (pair : List ℕ × T). pair.0) is in
+    ap (λ (b : Bool). b || is_among one (map (λ other. other.0.now) choices))
+    (is_eq-slice_cmp choice.0.now one ∙ (bytes_eq-Decides choice.0.now one).1 same)
+among_of {T} (choice ∷ choices) one chosen (suc k) within is =
+    ap (λ (b : Bool). same_key choice.0.now one || b) (among_of choices one chosen k (omega (arith, within)) is)
+    ∙ either (same_key choice.0.now one)
+  where
+    either : (b : Bool) → (b || true) ≡ true
+    either true = refl
+    either false = refl
+
+pub chosen_is_right : {T : Type 0} (at key : List ℕ) (fields : Members) (choices : List (Bor (List ℕ) × T)) (d : Data)
+    (chosen : T) → Some d ≡ get_member key fields
+    → StandsFor (map (λ choice. (choice.0.now, choice.1)) choices) d chosen
+    → text (map (λ choice. choice.0.now) choices) at key fields ≡ []
+chosen_is_right {T} at key fields choices d chosen has stands =
+    text_is_right at key fields (map (λ choice. choice.0.now) choices) stands.0 (sym has ∙ ap Some stands.1)
+    (among_of choices stands.0 chosen stands.2.0
+    (omega (arith, stands.2.1, length-map {B = List ℕ × T} choices (λ (choice : Bor (List ℕ) × T). (choice.0.now, choice.1)))) stands.2.2)

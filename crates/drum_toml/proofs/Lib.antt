@@ -1,0 +1,17 @@
+mod Added
+mod Adding
+mod AllFaultsLaws
+mod Choices
+mod EntryFaults
+mod Faultless
+mod NotesFaultless
+mod NotesFaults
+mod NotesLaws
+mod NotesSaid
+mod NotesSound
+mod Repeating
+mod Sequences
+mod TablesFaults
+mod TimesFaultless
+mod TimesFaults
+mod TimesSaid

@@ -1,0 +1,76 @@
+-- The faults of marks, patterns and lists, one check after the other.
+use Rattle.std.proofs.Common.{◌≡◌, ℕ, zero, suc, take, ◌<◌, ◌≤◌, Bool, true, false, ◌||◌, List, [], ◌∷◌, ◌++◌, Option}
+use Rattle.std.proofs.Common.{Some, None, refl, ap, sym, ◌∙◌, subst, arith, le-leb, inl, inr}
+use Rattle.std.proofs.lemmas.Bool.{cases_lt, lt-ltb}
+use Rattle.std.specs.List.{AllByRecursion}
+use Rattle.std.specs.Prelude.{codes, nat_lt, slice_get}
+use Rattle.drum_core.specs.Location.{IsLocation, is_location}
+use Rattle.drum_toml.specs.declared.fault.NoteFault.{NoteFault}
+use Rattle.drum_toml.specs.Document.{Fault, in_turn, unknown_in, missing_in, whole, location, number_at, number_in}
+use Rattle.drum_toml.specs.Document.{number_faults}
+use Rattle.drum_toml.specs.NotesDocument.{pattern_keys, pattern_checks}
+use Rattle.drum_toml.specs.Refused.{IsFirst}
+use Rattle.drum_toml.specs.TimesDocument.{HasNumber}
+use Rattle.drum_toml.proofs.EntryFaults.{number_is_right}
+use Rattle.drum_toml.proofs.Sequences.{first_before, first_behind, first_there, no_faults}
+use Rattle.toml.specs.Data.{Data, Members}
+
+-- the first fault of the check at a place, where those before it find none
+pub nth_in : (checks : List (List Fault)) (k : ℕ) (here : List Fault) (fault : NoteFault)
+    → slice_get checks k ≡ Some here → AllByRecursion (λ faults. faults ≡ []) (take k checks) → IsFirst here fault
+    → IsFirst (in_turn checks) fault
+nth_in [] k here fault at none first = cc
+nth_in (one ∷ checks) zero here fault at none first =
+    first_before one (in_turn checks) fault (subst (λ (xs : List Fault). IsFirst xs fault) (sym (some_is at)) first)
+  where
+    some_is : Some one ≡ Some here → one ≡ here
+    some_is e = cc
+nth_in (one ∷ checks) (suc k) here fault at none first =
+    first_behind one (in_turn checks) fault none.0 (nth_in checks k here fault at none.1 first)
+
+pub none_in : (checks : List (List Fault)) → AllByRecursion (λ faults. faults ≡ []) checks → in_turn checks ≡ []
+none_in [] none = refl
+none_in (one ∷ checks) none = no_faults one (in_turn checks) none.0 (none_in checks none.1)
+
+either_true : (b : Bool) → (b || true) ≡ true
+either_true true = refl
+either_true false = refl
+
+pub is_location_true : (n : ℕ) → IsLocation n → is_location n ≡ true
+is_location_true n exists = elim (cases_lt n 2000) [
+  | inl below ↦ rw (lt-ltb n 2000 below) refl
+  | inr from ↦ beside n (exists.1 from) exists.0
+]
+  where
+    beside : (n : ℕ) → 8000 ≤ n → n < 8004 → is_location n ≡ true
+    beside n low high = rw (le-leb 8000 n low, lt-ltb n 8004 high) (either_true (nat_lt n 2000))
+
+-- a location's number has no fault
+pub location_is_right : (at key : List ℕ) (fields : Members) (n : ℕ) → HasNumber fields key n → IsLocation n
+    → location at key fields ≡ []
+location_is_right at key fields n has exists =
+    ap (λ (found : Option Data). elim found [ None ↦ [] | Some value ↦ number_faults (at ++ key) is_location value ])
+    has ∙ rw (is_location_true n exists) refl
+
+-- the greatest D is to be from the least on
+pub wrong_d_to : (at : List ℕ) (fields : Members) (fault : NoteFault) (op d_from : ℕ)
+    → unknown_in at pattern_keys fields ≡ [] → missing_in at pattern_keys fields ≡ [] → HasNumber fields (codes "op") op
+    → op ≤ 99 → HasNumber fields (codes "d_from") d_from → d_from ≤ 9999
+    → IsFirst (missing_in at (codes "d_to" ∷ []) fields ++ whole d_from 9999 at (codes "d_to") fields) fault
+    → IsFirst (in_turn (pattern_checks at fields)) fault
+wrong_d_to at fields fault op d_from known there has_op op_high has_from from_high first =
+    let low : d_from ≡ number_at (codes "d_from") fields =
+    sym (ap (λ (found : Option Data). elim found [ None ↦ 0 | Some value ↦ number_in value ]) has_from) in
+    nth_in (pattern_checks at fields) 4 _ fault refl (
+      known,
+      (
+        there,
+        (
+          number_is_right at (codes "op") fields 0 99 op has_op (omega arith) op_high,
+          (number_is_right at (codes "d_from") fields 0 9999 d_from has_from (omega arith) from_high, tt),
+        ),
+      ),
+    )
+    (subst (λ (n : ℕ). IsFirst (whole n 9999 at (codes "d_to") fields) fault) low
+    (first_there at pattern_keys fields (codes "d_to") (whole d_from 9999 at (codes "d_to") fields) fault there refl
+    first))

@@ -1,0 +1,12 @@
+use Rattle.std.proofs.Common.{[], map, drop, take}
+use Rattle.drum_toml.specs.AllFaults as all
+use Rattle.drum_toml.specs.NotesDocument as said
+use Rattle.drum_toml.proofs.Adding.{Left}
+use Rattle.drum_toml.proofs.document.faults.Faults.second_edges.Given as goal
+
+-- those of the edges so far have been added
+abbrev pub invariant-loop-place : goal.invariant-loop-place
+invariant-loop-place l =
+    Left l.initial.self.all.items l.self.all.items
+    (said.edge_faults (map all.edge_numbers (take l.place l.edges)) (map all.edge_numbers (drop l.place l.edges)))
+    (said.edge_faults [] (map all.edge_numbers l.edges))

@@ -1,0 +1,24 @@
+-- Which timing table, and which notes, bytes say.
+use Rattle.std.specs.Prelude.{ℕ, List}
+use Rattle.drum_times.specs.declared.times.Times.{Times}
+use Rattle.drum_times.specs.Allowed.{Notes}
+use Rattle.drum_times.specs.Entries.{entry_in}
+use Rattle.drum_toml.specs.NotesDocument.{IsNotes, notes_faults}
+use Rattle.drum_toml.specs.Refused.{IsDocument, IsRefused}
+use Rattle.drum_toml.specs.TimesDocument.{IsTimes, times_faults}
+use Rattle.drum_toml.specs.declared.fault.NoteFault.{NoteFault}
+use Rattle.toml.specs.Data.{Members}
+
+-- the bytes are the document of this timing table, of these notes
+abbrev pub SayTimes : List ℕ → Times → Type 0
+SayTimes bytes times = (table : Members) × IsDocument bytes table × IsTimes table (entry_in times)
+
+abbrev pub SayNotes : List ℕ → Notes → Type 0
+SayNotes bytes notes = (table : Members) × IsDocument bytes table × IsNotes table notes
+
+-- they are no timing table, no notes, for this fault
+abbrev pub AreNoTimes : List ℕ → NoteFault → Type 0
+AreNoTimes bytes fault = IsRefused times_faults bytes fault
+
+abbrev pub AreNoNotes : List ℕ → NoteFault → Type 0
+AreNoNotes bytes fault = IsRefused notes_faults bytes fault

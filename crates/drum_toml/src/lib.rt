@@ -1,0 +1,42 @@
+//! The two documents beside a deck, the timing table and the notes, as TOML says them. Each is
+//! read, or refused for its first fault; or all its faults are told. Of bytes that are no document
+//! it is told what `toml` says, and where.
+//!
+//! Code, from the bottom up. `key_path` is how a fault names a key, and `fault` why bytes are no
+//! timing table or no notes. `document` reads bytes as a TOML table, and its folder looks at one:
+//! `document/fields` at its keys (there a key's path is put together), `document/value` at a value
+//! by itself, `document/values` at the values of keys, `document/tables` at arrays of tables.
+//! `times/read` and `times/read_entry` read a timing table. `notes/read`, `notes/read_mark` and
+//! `notes/read_list` read notes, and `notes/repeated` looks last for edges and locations that stand
+//! there twice. A check wants all faults. `document/faults` and `document/table_faults` gather
+//! those of tables; `times/faults` and `notes/faults` (with `notes/repeated_faults`) those of a
+//! document. `complaint` has what `toml` says of bytes that are no document. `laws` has laws of the
+//! definitions.
+//!
+//! Definitions, in the order to read them: `Document` has what both documents share, the faults of
+//! a table first of all. `TimesDocument` and `NotesDocument` say what each document says, and its
+//! faults in their order. `Refused` says which fault a document is refused for, `AllFaults` which
+//! faults it has, and `Says` which timing table and which notes bytes say. `Complaint` is a place
+//! in bytes. `Value` says what the code means by a value's fault.
+//!
+//! Proofs. `TimesFaults` and `NotesFaults` follow the checks one after the other. `TimesSaid`,
+//! `TimesFaultless`, `NotesSaid` and `NotesFaultless` show that a document says something exactly
+//! where it has no fault, and `AllFaultsLaws` that the first of all faults is the one that it is
+//! refused for.
+#![tactic(auto)]
+
+mod complaint;
+mod document;
+mod fault;
+mod key_path;
+pub mod laws;
+mod notes;
+mod times;
+
+pub use complaint::{Complaint, toml_complaint};
+pub use fault::NoteFault;
+pub use key_path::KeyPath;
+pub use notes::faults::notes_faults;
+pub use notes::read::read_notes;
+pub use times::faults::times_faults;
+pub use times::read::read_times;

@@ -1,0 +1,65 @@
+//! Notes, read from a document, or the first fault of the document.
+
+ghost use Rattle.std.specs.Prelude.{IfOk, IfErr};
+ghost use Rattle.drum_toml.specs.NotesDocument as said;
+ghost use Rattle.drum_toml.specs.Refused.{IsDocument, IsFirst, IsRefused};
+ghost use Rattle.toml.specs.Data.{Members};
+ghost use Rattle.toml.specs.View.{table_view};
+
+use super::repeated::{repeated_edge, repeated_location};
+use crate::document::fields::Fields;
+use crate::document::read_document;
+use crate::fault::NoteFault;
+use drum_times::{Listing, Mark, Notes, Programmed};
+use std::alloc::Global;
+use toml::Table;
+
+pub const PROGRAMMED: [(&str, Programmed); 3] = [
+    ("stop", Programmed::Stop),
+    ("run", Programmed::Run),
+    ("any", Programmed::Any),
+];
+
+pub const LOAD_CARDS: [(&str, bool); 2] = [("none", false), ("any", true)];
+
+/// Reads notes: a TOML document with the keys `programmed` and `load_cards`, and optionally `mark`
+/// and `list`.
+///
+/// # Errors
+///
+/// Toml or Memory; else the first of these that there is: unknown keys in byte order; missing keys;
+/// what is wrong with `programmed`, with `load_cards`, with the marks, with the lists; two marks on
+/// one edge; two lists for one location.
+pub fn read_notes(alloc: Global, bytes: &[u8]) -> Result<Notes, NoteFault>
+    ensures read { IfOk result (λ notes. (whole : Members) × IsDocument bytes.now whole
+        × said.IsNotes whole notes) }
+    ensures refused { IfErr result (IsRefused said.notes_faults bytes.now) }
+{
+    let table = read_document(alloc, bytes)?;
+    read_table(alloc, &table)
+}
+
+/// The notes that a document is.
+fn read_table(alloc: Global, table: &Table) -> Result<Notes, NoteFault>
+    ensures said { IfOk result (said.IsNotes (table_view table.now)) }
+    ensures first { IfErr result (IsFirst (said.notes_faults (table_view table.now))) }
+{
+    let top = Fields {
+        alloc,
+        at: "",
+        table,
+    };
+    top.only(&["programmed", "load_cards", "mark", "list"])?;
+    top.all(&["programmed", "load_cards"])?;
+    let programmed = top.choice("programmed", &PROGRAMMED)?;
+    let load_cards = top.choice("load_cards", &LOAD_CARDS)?;
+    let marks: Vec<Mark> = top.tables("mark", 0, Some(Mark::MOST))?;
+    let lists: Vec<Listing> = top.tables("list", 0, None)?;
+    if let Some((from, onto)) = repeated_edge(&marks) {
+        return Err(NoteFault::TwoMarks(from, onto));
+    }
+    if let Some(location) = repeated_location(&lists) {
+        return Err(NoteFault::TwoLists(location));
+    }
+    Ok(Notes::new(programmed, load_cards, marks, lists))
+}

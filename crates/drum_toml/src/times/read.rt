@@ -1,0 +1,115 @@
+//! A timing table, read from a document, or the first fault of the document.
+
+ghost use Rattle.std.specs.Prelude.{◌≡◌, ℕ, ◌<◌, [], map, codes, slice_get, Some, IfOk, IfErr};
+ghost use Rattle.std.specs.Prelude.{flat_map};
+ghost use Rattle.drum_core.specs.declared.op.Op.{Op};
+ghost use Rattle.drum_core.specs.Op.{ops};
+ghost use Rattle.drum_times.specs.Entries.{entry_in};
+ghost use Rattle.drum_toml.specs.Refused.{IsDocument, IsFirst, IsRefused};
+ghost use Rattle.drum_toml.specs.TimesDocument as document;
+ghost use Rattle.toml.specs.Data.{Members};
+ghost use Rattle.toml.specs.View.{table_view};
+
+use super::read_entry::read_entry;
+use crate::document::fields::Fields;
+use crate::document::read_document;
+use crate::fault::NoteFault;
+use drum_core::{Op, Parity};
+use drum_times::{Entry, Times};
+use std::alloc::Global;
+use toml::Table;
+
+/// Reads a timing table: a TOML document with the one key `op`, a table with one table for each of
+/// the 42 operations, under its two digits.
+///
+/// # Errors
+///
+/// Toml or Memory; else the first of these that there is: at the top unknown keys in byte order,
+/// then `op` missing or of another kind; in `op` unknown keys in byte order; then what is wrong
+/// with each operation, in ascending order of their numbers.
+pub fn read_times(alloc: Global, bytes: &[u8]) -> Result<Times, NoteFault>
+    ensures read { IfOk result (λ times. (whole : Members) × IsDocument bytes.now whole
+        × document.IsTimes whole (entry_in times)) }
+    ensures refused { IfErr result (IsRefused document.times_faults bytes.now) }
+{
+    let table = read_document(alloc, bytes)?;
+    read_table(alloc, &table)
+}
+
+/// The timing table that a document is.
+fn read_table(alloc: Global, table: &Table) -> Result<Times, NoteFault>
+    ensures said { IfOk result (λ times. document.IsTimes (table_view table.now) (entry_in times)) }
+    ensures first { IfErr result (IsFirst (document.times_faults (table_view table.now))) }
+{
+    let top = Fields {
+        alloc,
+        at: "",
+        table,
+    };
+    top.only(&["op"])?;
+    let operations = Fields {
+        alloc,
+        at: "op.",
+        table: top.table("op")?,
+    };
+    let keys = keys();
+    operations.only(&keys)?;
+    read_entries(&operations, &keys, &Op::all())
+}
+
+/// The entries of the operations, in their order; `keys` are their keys.
+fn read_entries(operations: &Fields<'_>, keys: &[&str], ops: &[Op]) -> Result<Times, NoteFault>
+    requires here { operations.now.at.now ≡ codes "op." }
+    requires keyed { map (λ key. key.now) keys.now ≡ map document.key_of ops.now }
+    ensures said { IfOk result (λ times. (k : ℕ) (op : Op) → slice_get ops.now k ≡ Some op
+        → document.SaysOperation (table_view operations.now.table.now) op (entry_in times op)) }
+    ensures first { IfErr result (IsFirst (flat_map
+        (document.operation_faults (table_view operations.now.table.now)) ops.now)) }
+{
+    let blank = Entry {
+        before: 1,
+        after: 0,
+        parity: Parity::Any,
+        per: 0,
+        wait_min: 0,
+        wait_max: 0,
+    };
+    let mut entries = [blank; 100];
+    for (at, op) in ops.iter().enumerate() {
+        match read_operation(operations, keys[at], *op) {
+            Ok(entry) => entries[op.number() as usize] = entry,
+            Err(fault) => return Err(fault),
+        }
+    }
+    Ok(Times::new(entries))
+}
+
+/// The entry of an operation, of which this is the key.
+fn read_operation(operations: &Fields<'_>, key: &str, op: Op) -> Result<Entry, NoteFault>
+    requires here { operations.now.at.now ≡ codes "op." }
+    requires keyed { key.now ≡ document.key_of op }
+    ensures said { IfOk result (document.SaysOperation (table_view operations.now.table.now) op) }
+    ensures none { IfOk result (λ _.
+        document.operation_faults (table_view operations.now.table.now) op ≡ []) }
+    ensures first { IfErr result (IsFirst
+        (document.operation_faults (table_view operations.now.table.now) op)) }
+{
+    let at = operations.inside(key)?;
+    let fields = Fields {
+        alloc: operations.alloc,
+        at: at.as_str(),
+        table: operations.table(key)?,
+    };
+    read_entry(&fields, op)
+}
+
+/// The keys of the operations, two digits each, in ascending order.
+pub fn keys() -> [&'static str; 42]
+    ensures { map (λ key. key.now) result ≡ map document.key_of ops }
+{
+    [
+        "00", "01", "10", "11", "14", "15", "16", "17", "18", "19", "20", "21", "22", "23", "24",
+        "30", "31", "35", "44", "45", "46", "47", "60", "61", "64", "65", "66", "67", "68", "69",
+        "70", "71", "90", "91", "92", "93", "94", "95", "96", "97", "98", "99",
+    ]
+}

@@ -1,0 +1,63 @@
+-- What the program replies to a command, and to a joined form.
+use Rattle.std.specs.Prelude.{◌≡◌, ℕ, List, Option, ◌⊎◌}
+use Rattle.drum_command.specs.declared.command.Command.{Command}
+use Rattle.drum_command.specs.declared.command.Command.TheVariants.{Answer, Check, Replay, Trace}
+use Rattle.drum_command.specs.declared.command.Files.{Files}
+use Rattle.drum_command.specs.declared.command.Question.{Question}
+use Rattle.drum_faults.specs.FaultLines as printed
+use Rattle.drum_inputs.specs.declared.inputs.Inputs.{Inputs}
+use Rattle.drum_lines.specs.declared.fault.Fault.{Fault}
+use Rattle.drum_lines.specs.FaultStatus.{reads_failed}
+use Rattle.drum_documents.specs.declared.documents.Documents.{Documents}
+use Rattle.drum_documents.specs.Asked.{name_in}
+use Rattle.drum_documents.specs.Documents.{Texts, setting_of}
+use Rattle.drum_documents.specs.Files.{AreHeld, AreHeldWithInputs, AreNotHeld, AreNotHeldWithInputs}
+use Rattle.drum_documents.specs.Files.{Held}
+use Rattle.drum_documents.specs.Joined.{Gives, GivesNone}
+use Rattle.drum_documents.specs.TextsHeld.{AreNoneHeld, AreTextsHeld, IsInputsText}
+use Rattle.drum_replay.specs.Given.{given}
+use Rattle.drum_replay.specs.Limits.{IsAnalysisFault}
+use Rattle.drum_replay.specs.Replay.{Given, IsReplayFault, IsTraceFault}
+use Rattle.drum_answers.specs.Reply.{IsWanting, Refuses, Reply, Says, SaysBound, SaysCheck, SaysTrace}
+use Rattle.drum_answers.specs.Reply.{SaysVerdict, fault_reply}
+
+-- The reply to a command, where `failures` reads failed: what it says of what it has read; or the
+-- line of a fault, why that can't be had, or why nothing is said of it.
+abbrev pub Replies : {A : Type 0} → (A → Type 0) → (Fault → Type 0) → (A → Reply → Type 0)
+    → (A → Fault → Type 0) → ℕ → Reply → Type 0
+Replies {A = A} Are AreNone Says Refuses failures reply =
+    ((read : A) × Are read × (failures ≡ 0) × Says read reply)
+    ⊎ ((fault : Fault) × (AreNone fault ⊎ ((read : A) × Are read × Refuses read fault))
+    × (failures ≡ reads_failed fault) × (reply ≡ fault_reply fault))
+
+-- the reply to a joined form
+abbrev pub AnswersJoined : List ℕ → ℕ → Reply → Type 0
+AnswersJoined bytes = Replies (Gives bytes) (GivesNone bytes) SaysBound IsAnalysisFault
+
+-- the reply to a question about three files
+abbrev pub AnswersQuestion : Held → Question → ℕ → Reply → Type 0
+AnswersQuestion held question =
+    Replies (AreHeld held) (AreNotHeld held) (Says question) (Refuses question)
+
+-- to a check of texts in files, and in one of inputs, if it is named
+abbrev pub AnswersCheck : Held → Files → Option (List ℕ) → ℕ → Reply → Type 0
+AnswersCheck held files name =
+    Replies {A = Texts × Option printed.Named}
+    (λ read. AreTextsHeld held read.0 × IsInputsText held name read.1) (AreNoneHeld held name)
+    (λ read. SaysCheck files read.0 read.1) (λ read. IsWanting)
+
+-- To a command that lets the deck run: of the documents and the inputs, what it says of the run
+-- that the inputs fix.
+abbrev pub AnswersRun : Held → (Documents → Given → Reply → Type 0)
+    → (Documents → Given → Fault → Type 0) → ℕ → Reply → Type 0
+AnswersRun held Says Refuses =
+    Replies {A = Documents × Inputs} (AreHeldWithInputs held) (AreNotHeldWithInputs held)
+    (λ read. Says read.0 (given read.1)) (λ read. Refuses read.0 (given read.1))
+
+-- the reply to a command, where the files of its parts hold this and `failures` reads failed
+abbrev pub AnswersCommand : Held → Command → ℕ → Reply → Type 0
+AnswersCommand held (Answer question files) = AnswersQuestion held question
+AnswersCommand held (Check files inputs) = AnswersCheck held files (name_in inputs)
+AnswersCommand held (Replay files inputs) =
+    AnswersRun held SaysVerdict (λ documents. IsReplayFault (setting_of documents))
+AnswersCommand held (Trace files inputs) = AnswersRun held SaysTrace IsTraceFault
