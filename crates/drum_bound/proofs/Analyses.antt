@@ -1,14 +1,12 @@
 -- What a finished scan shows.
-use Rattle.std.proofs.Common.{◌≡◌, ℕ, ◌-◌, ◌*◌, ◌<◌, ◌≤◌, List, length, map, ap, sym, ◌∙◌}
+use Rattle.std.proofs.Common.{◌≡◌, ℕ, ◌+◌, ◌-◌, ◌*◌, ◌<◌, ◌≤◌, List, length, map, ap, sym, ◌∙◌}
 use Rattle.std.proofs.Common.{subst, arith, mul_comm}
-use Rattle.std.specs.Prelude.{sum}
 use Rattle.std.proofs.Math.Nat.{mul_assoc}
 use Rattle.std.proofs.lemmas.List.{length-map}
 use Rattle.std.specs.Map.{values_of}
 use Rattle.drum_times.specs.declared.times.Times.{Times}
 use Rattle.drum_flow.specs.Accepted.{counts_of}
 use Rattle.drum_flow.specs.AcceptedFlow.{in_order}
-use Rattle.drum_flow.specs.Hops.{hops}
 use Rattle.drum_flow.specs.Walk.{Setting}
 use Rattle.drum_bound.specs.declared.analysis.Analysis.{Analysis}
 use Rattle.drum_bound.specs.declared.cells.Cells.{Cells}
@@ -20,6 +18,7 @@ use Rattle.drum_bound.specs.AnalysisOf.{IsAnalysis, ArePasses, bound_of, counts_
 use Rattle.drum_bound.specs.AnalysisOf.{turns_of, visits_of, words_of}
 use Rattle.drum_bound.proofs.EntriesRaised.{are_raised}
 use Rattle.drum_bound.proofs.EntryEnds.{ends_of, are_ends, as_many_ends}
+use Rattle.drum_bound.specs.Counted.{CountsTableOf, turns_in}
 use Rattle.drum_bound.specs.Kept.{pairs_of}
 use Rattle.drum_bound.specs.Keys.{keys_of, IsOrdered}
 use Rattle.drum_bound.specs.KeysOf.{setting_of}
@@ -70,6 +69,50 @@ pub last_after : (g : Setting) (order : List ℕ) (cells : Cells) → AreCells g
 last_after g order cells are s =
     omega (arith, are.angle, s.begins.after, s.below s.begins.key s.begins.kept s.begins.there)
 
+-- the rows of finished cells
+abbrev rows_in : Cells → List Row
+rows_in cells = map row_in (values_of (pairs_of cells.entries))
+
+-- they are few
+few_rows : (cells : Cells) → length (rows_in cells) ≤ cells.words * cells.counts
+few_rows cells =
+    omega (
+      arith,
+      cells.limit,
+      mul_comm cells.counts cells.words,
+      length-map (values_of (pairs_of cells.entries)) row_in,
+      length-map (pairs_of cells.entries) (λ (pair : ℕ × Worst). pair.1),
+    )
+
+module _ (g : Setting) (order : List ℕ) (cells : Cells) (ordered : IsOrdered g.loads g.notes g.start order)
+    (starts : g.start < 2000) (are : AreCells g order cells)
+    (s : Scanned g order (keys_of g.notes.marks order) (keys_of g.notes.marks order) (kept_in cells) cells.last) where
+  -- they are those of the keys,
+  are_rows : AreRowsOf g order (kept_in cells) (keys_of g.notes.marks order) (rows_in cells)
+  are_rows = held_rows g order cells ordered are
+
+  -- and the table of worst times,
+  rows_table : IsTable g (rows_in cells)
+  rows_table = is_table g order (kept_in cells) cells.last ordered starts s (rows_in cells) are_rows
+
+  -- and as many ends were made as they have hops.
+  module _ (made : cells.made ≡ turns_below g order (kept_in cells) (keys_of g.notes.marks order)) where
+    rows_turns : cells.made ≡ turns_in g (rows_in cells)
+    rows_turns =
+        made
+        ∙ sym (rows_sum g order (kept_in cells) ordered.different (keys_of g.notes.marks order) (rows_in cells)
+        (omega arith) are_rows)
+
+    -- So a ledger that counted the ends has counted these.
+    pub has_counted : (before after : ℕ) → after ≡ before + cells.made → CountsTableOf g (length order) before after
+    has_counted before after counted = record {
+      rows = rows_in cells;
+      table = rows_table;
+      few = subst (λ (words : ℕ). length (rows_in cells) ≤ words * counts_of g.notes.marks) are.words
+          (subst (λ (counts : ℕ). length (rows_in cells) ≤ cells.words * counts) are.counts (few_rows cells));
+      turns = counted ∙ ap (λ (n : ℕ). before + n) rows_turns;
+    }
+
 -- with each angle there could be more
 fifty : (words counts rows : ℕ) → rows ≤ words * counts → rows ≤ words * 50 * counts
 fifty words counts rows few =
@@ -89,25 +132,14 @@ pub is_analysis : (g : Setting) (order : List ℕ) (analysis : Analysis) → IsO
 is_analysis g order analysis ordered starts are s made walk longest passed =
     let cells : Cells = analysis.cells in
     let last : Latest = cells.last in
-    let size : ℕ = keys_of g.notes.marks order in
     let rows : List Row = rows_of analysis in
-    let turns_in : List Row → ℕ = λ some. sum (map (λ (row : Row). length (hops g.loads g.notes row.place)) some) in
     let product : words_of analysis * counts_in_all analysis ≡ length order * counts_of g.notes.marks =
     ap (λ (words : ℕ). words * counts_in_all analysis) are.words
     ∙ ap (λ (counts : ℕ). length order * counts) are.counts in
     let bound : bound_of analysis ≡ last.clock - start_angle g.start = ap (λ (n : ℕ). last.clock - n) are.angle in
-    let of : AreRowsOf g order (kept_in cells) size rows = held_rows g order cells ordered are in
-    let table : IsTable g rows = is_table g order (kept_in cells) last ordered starts s rows of in
-    let few : length rows ≤ words_of analysis * counts_in_all analysis =
-    omega (
-      arith,
-      cells.limit,
-      mul_comm cells.counts cells.words,
-      length-map (values_of (pairs_of cells.entries)) row_in,
-      length-map (pairs_of cells.entries) (λ (pair : ℕ × Worst). pair.1),
-    ) in
-    let turns : turns_of analysis ≡ turns_in rows =
-    made ∙ sym (rows_sum g order (kept_in cells) ordered.different size rows (omega arith) of) in
+    let few : length rows ≤ words_of analysis * counts_in_all analysis = few_rows cells in
+    let turns : turns_of analysis ≡ turns_in g rows = rows_turns g order cells ordered starts are s made in
+    let table : IsTable g rows = rows_table g order cells ordered starts are s in
     record {
       worst = subst (IsWorst g) (sym bound) (is_worst g order (kept_in cells) last ordered starts s);
       walk = subst (λ (angle : ℕ). IsWalkOf g angle (bound_of analysis) (visits_of analysis)) (sym are.angle)
@@ -129,7 +161,7 @@ is_analysis g order analysis ordered starts are s made walk longest passed =
       ends = (
         ends_of g rows,
         are_ends g rows table.apart,
-        are_raised g order (kept_in cells) last ordered starts s rows of,
+        are_raised g order (kept_in cells) last ordered starts s rows (are_rows g order cells ordered starts are s),
         turns ∙ sym (as_many_ends g rows),
       );
       passed = passed;

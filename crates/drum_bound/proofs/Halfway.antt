@@ -21,7 +21,7 @@ use Rattle.drum_bound.specs.RoundOf.{IsRound}
 use Rattle.drum_bound.specs.Scanned.{Taking}
 use Rattle.drum_bound.specs.ScanOf.{setting_in, order_of, AreCells, IsScanned, IsAgreed, IsReady}
 use Rattle.drum_bound.specs.SearchOf.{IsSearch, KeepsAt}
-use Rattle.drum_bound.proofs.KeysTaken.{hops_at, opened, early_clock, few_turns, closed}
+use Rattle.drum_bound.proofs.KeysTaken.{hops_at, opened, early_clock, few_turns, closed, turns_agree}
 use Rattle.drum_bound.proofs.Lists.{drop_at, drop_past}
 
 -- The first `number` hops of a key have been taken, from a scan on in which none had.
@@ -125,6 +125,13 @@ half_ready b s round search number leap same is half below of sought at leaps =
       hop = at;
       leap = leaps;
       soon = found_soon b search is below sought;
+      turn = omega (
+        arith,
+        half.turns,
+        is.turns,
+        turns_agree (setting_in b) (order_of b) (kept_in b.cells) (kept_in s.cells) search.key
+            (λ other earlier. half.agreed other (omega (arith, earlier))),
+      );
       few = half_few b search.key search.begun number s.cells is below half
           (omega (arith, slice_get_within (hops_at b search.key) number (leap_hop leap) at));
     })

@@ -17,7 +17,7 @@ use Rattle.drum_bound.specs.Held.{kept_in}
 use Rattle.drum_bound.proofs.Scans.{skip, open_key, close_key}
 
 -- the hops of keys whose cells are the same are as many
-turns_agree : (g : Setting) (order : List ℕ) (cells cells' : List (Option Latest)) (first : ℕ)
+pub turns_agree : (g : Setting) (order : List ℕ) (cells cells' : List (Option Latest)) (first : ℕ)
     → ((key : ℕ) → key < first → cell_at cells' key ≡ cell_at cells key)
     → turns_below g order cells' first ≡ turns_below g order cells first
 turns_agree g order cells cells' zero same = refl

@@ -1,5 +1,5 @@
 -- An analysis, as it is held, and when it is right.
-use Rattle.std.specs.Prelude.{◌≡◌, ℕ, ◌-◌, ◌*◌, ◌^◌, ◌<◌, ◌≤◌, List, length, map, sum, slice_get}
+use Rattle.std.specs.Prelude.{◌≡◌, ℕ, ◌-◌, ◌*◌, ◌^◌, ◌<◌, ◌≤◌, List, length, map, slice_get}
 use Rattle.std.specs.Prelude.{slice_index, Some}
 use Rattle.std.specs.Map.{values_of}
 use Rattle.drum_core.specs.declared.deck.Deck.{Deck}
@@ -14,11 +14,11 @@ use Rattle.drum_machine.specs.Run.{Stride, IsRun, IsFirstState}
 use Rattle.drum_machine.specs.Step.{State}
 use Rattle.drum_flow.specs.Accepted.{counts_of, IsAccepted, IsFixed}
 use Rattle.drum_flow.specs.Bounded.{IsBounded}
-use Rattle.drum_flow.specs.Hops.{hops}
 use Rattle.drum_flow.specs.SettingOf.{setting}
 use Rattle.drum_flow.specs.Walk.{Setting, Taken, IsWalk}
 use Rattle.drum_bound.specs.declared.analysis.Analysis.{Analysis}
 use Rattle.drum_bound.specs.declared.cells.Cells.{Cells}
+use Rattle.drum_bound.specs.Counted.{turns_in}
 use Rattle.drum_bound.specs.Kept.{pairs_of}
 use Rattle.drum_bound.specs.Ends.{HopEnd, AreEnds, AreRaised}
 use Rattle.drum_bound.specs.RowOf.{row_in}
@@ -89,9 +89,9 @@ pub record IsAnalysis (g : Setting) (analysis : Analysis) : Type 0 where
   pub short : (angle : ℕ) (hops : List Taken) → IsWalk g angle hops
       → length hops ≤ words_of analysis * counts_in_all analysis
   pub counts : counts_in_all analysis ≡ counts_of g.notes.marks
-  -- as many ends were made as the entries' locations have hops; they raise the entries
-  pub turns : turns_of analysis
-      ≡ sum (map (λ row. length (hops g.loads g.notes row.place)) (rows_of analysis))
+  -- as many ends were made as the entries' locations have hops, and as there are ends that raise
+  -- the entries
+  pub turns : turns_of analysis ≡ turns_in g (rows_of analysis)
   pub ends : (ends : List HopEnd) × AreEnds g (rows_of analysis) ends
       × AreRaised g (rows_of analysis) ends × (turns_of analysis ≡ length ends)
   -- how often the walk passes each mark

@@ -1,17 +1,14 @@
 -- What is kept at the keys, as cells hold it.
-use Rattle.std.specs.Prelude.{◌≡◌, ℕ, ◌*◌, ◌/◌, ◌^◌, ◌<◌, ◌≤◌, true, List, length, map, slice_get}
+use Rattle.std.specs.Prelude.{◌≡◌, ℕ, ◌*◌, ◌/◌, ◌<◌, ◌≤◌, true, List, length, map, slice_get}
 use Rattle.std.specs.Prelude.{Option, Some, Contains}
 use Rattle.std.specs.List.{range_with_len}
 use Rattle.drum_bound.specs.declared.cells.Cells.{Cells}
-use Rattle.drum_flow.specs.Walk.{Setting}
 use Rattle.drum_bound.specs.declared.cells.entries.Entries.{Entries}
 use Rattle.drum_bound.specs.declared.cells.Onto.{Onto}
 use Rattle.drum_bound.specs.declared.latest.Latest.{Latest}
-use Rattle.drum_bound.specs.declared.leap.Leap.{Leap}
 use Rattle.drum_bound.specs.declared.search.Search.{Search}
 use Rattle.drum_bound.specs.declared.worst.Worst.{Worst}
 use Rattle.drum_bound.specs.Kept.{AreKept, kept_of, pairs_of}
-use Rattle.drum_bound.specs.SearchOf.{CanEnd, KeepsAt}
 
 -- how many keys there are
 abbrev pub size_of : Cells → ℕ
@@ -49,13 +46,6 @@ abbrev pub HaveEntries : (ℕ → ℕ) → (ℕ → ℕ) → Cells → Type 0
 HaveEntries place_of counts_of cells =
     (key : ℕ) (entry : Worst) → Contains (pairs_of cells.entries) (key, entry)
     → (entry.place.number ≡ place_of key) × (entry.counts ≡ counts_of key)
-
--- The end of a hop can be made: it begins at the clock that its key keeps.
-pub record IsToEnd (g : Setting) (cells : Cells) (search : Search) (number : ℕ) (leap : Leap) : Type
-    0 where
-  pub begun : KeepsAt (kept_in cells) search.key search.begun
-  pub end : CanEnd g search number leap
-  pub few : cells.made < 2 ^ 62
 
 -- A hop goes on at a later key, of this round.
 pub record IsOnward (cells : Cells) (search : Search) (onto : Onto) : Type 0 where

@@ -1,5 +1,6 @@
 pub mod AnalysisOf
 pub mod BoundOf
+pub mod Counted
 pub mod Digits
 pub mod EndOf
 pub mod Ends
@@ -16,6 +17,7 @@ pub mod Scanned
 pub mod SearchOf
 pub mod Table
 pub mod TakenOf
+pub mod ToEnd
 pub mod Under
 pub mod Visited
 pub mod Worst

@@ -82,6 +82,8 @@ pub record IsReady (scan : Scan) (own_round : Round) (own_search : Search) (numb
   pub leap : IsLeap (setting_in scan) (order_of scan) (place_in scan own_search.key)
       (own_search.found % 50) own_leap
   pub soon : own_search.found ≤ 2 ^ 62
+  pub turn : scan.cells.made
+      ≡ turns_below (setting_in scan) (order_of scan) (kept_in scan.cells) own_search.key + number
   pub few : scan.cells.made < 2 ^ 62
 
 -- the cells up to a key are the same

@@ -1,11 +1,13 @@
 //! The bound alone: the scan of an analysis, with no walk made of it.
 
-ghost use Rattle.std.specs.Prelude.{◌≡◌, ◌^◌, ◌<◌, IfOk, IfErr};
+ghost use Rattle.std.specs.Prelude.{◌≡◌, ◌^◌, ◌<◌, IfOk, IfErr, OnOk, length};
 ghost use Rattle.drum_core.specs.Loads.{loads_in, start_in};
 ghost use Rattle.drum_flow.specs.Acceptance.{IsRefusal};
 ghost use Rattle.drum_flow.specs.SettingOf.{setting};
+ghost use Rattle.drum_flow.specs.AcceptedFlow.{in_order};
 ghost use Rattle.drum_bound.specs.BoundOf.{IsBound};
-ghost use Rattle.drum_bound.specs.KeysOf.{AreKeys, CanHaveKeys, setting_of, setting_with};
+ghost use Rattle.drum_bound.specs.Counted.{CountsTableOf, CountsTable};
+ghost use Rattle.drum_bound.specs.KeysOf.{AreKeys, CanHaveKeys, order_in, setting_of, setting_with};
 ghost use Rattle.drum_bound.specs.Worst.{IsWorst};
 
 use crate::keys::Keys;
@@ -28,6 +30,8 @@ fn bound_by<'a, L: Ledger>(
     requires { AreKeys keys.now }
     ensures worst { IfOk result (IsWorst (setting_with keys.now times.now)) }
     ensures below { IfOk result (λ bound. bound < 2 ^ 50) }
+    ensures counted { OnOk result (CountsTableOf (setting_with keys.now times.now)
+        (length (order_in keys.now)) steps.old steps.new) }
 {
     let leaps = keys.leaps(alloc, times)?;
     let scan = Scan::of(alloc, times, keys, &leaps, steps)?;
@@ -44,6 +48,8 @@ fn bound_of<'a, L: Ledger>(
     requires { CanHaveKeys accepted.now }
     ensures worst { IfOk result (IsWorst (setting_of accepted.now times.now)) }
     ensures below { IfOk result (λ bound. bound < 2 ^ 50) }
+    ensures counted { OnOk result (CountsTableOf (setting_of accepted.now times.now)
+        (length (in_order accepted.now)) steps.old steps.new) }
 {
     // by match: the checker has no proof yet for `?` on what borrows and is dropped here
     let keys: Result<Keys<'a>, AllocError> = Keys::of(alloc, accepted);
@@ -53,7 +59,35 @@ fn bound_of<'a, L: Ledger>(
     bound_by(alloc, times, &keys, steps)
 }
 
-/// As [`bound`], with a ledger of its own: each scan needs one.
+/// As [`bound`], with a ledger of the caller's: the one maker of ends counts there each end of a
+/// hop that it makes, as many in all as the entries of the table of worst times have hops.
+///
+/// # Errors
+///
+/// Those of [`bound`].
+pub fn bound_counting<L: Ledger>(
+    alloc: Global,
+    deck: &Deck,
+    times: &Times,
+    notes: &Notes,
+    steps: &mut Steps<L>,
+) -> Result<u64, Refusal>
+    ensures bound { IfOk result (IsBound (setting deck.now times.now notes.now)) }
+    ensures below { IfOk result (λ bound. bound < 2 ^ 50) }
+    ensures counted { OnOk result
+        (CountsTable (setting deck.now times.now notes.now) steps.old steps.new) }
+    ensures refused { IfErr result (IsRefusal (loads_in deck.now) notes.now (start_in deck.now)) }
+{
+    // What `marks` promises: the marks are eight at most.
+    let _marks = notes.marks();
+    let accepted = AcceptedFlow::of(alloc, deck, notes)?;
+    // What `executed` promises: no location is there twice.
+    let _executed = accepted.flow().executed();
+    let found = bound_of(alloc, &accepted, times, steps)?;
+    Ok(found)
+}
+
+/// As [`bound_counting`], on a ledger of its own.
 fn bound_from<L: Ledger>(
     alloc: Global,
     deck: &Deck,
@@ -68,14 +102,8 @@ fn bound_from<L: Ledger>(
     ensures below { IfOk result (λ bound. bound < 2 ^ 50) }
     ensures refused { IfErr result (IsRefusal (loads_in deck.now) notes.now (start_in deck.now)) }
 {
-    // What `marks` promises: the marks are eight at most.
-    let _marks = notes.marks();
     let mut steps: Steps<L> = Steps::begin(blank);
-    let accepted = AcceptedFlow::of(alloc, deck, notes)?;
-    // What `executed` promises: no location is there twice.
-    let _executed = accepted.flow().executed();
-    let found = bound_of(alloc, &accepted, times, &mut steps)?;
-    Ok(found)
+    bound_counting(alloc, deck, times, notes, &mut steps)
 }
 
 /// The bound of a deck with its timing table and notes, in word times, below 2^50: no run that

@@ -55,10 +55,11 @@ impl Cells {
     ghost use Rattle.std.specs.Prelude.{Some, None, IfOk, OnOk};
     ghost use Rattle.std.specs.Map.{values_of};
     ghost use Rattle.drum_flow.specs.Walk.{Setting};
-    ghost use Rattle.drum_bound.specs.Held.{AreHeld, HaveEntries, IsOnward, IsToEnd, SameScan};
+    ghost use Rattle.drum_bound.specs.Held.{AreHeld, HaveEntries, IsOnward, SameScan};
     ghost use Rattle.drum_bound.specs.Held.{kept_in, size_of};
     ghost use Rattle.drum_bound.specs.Scanned.{cell_at, later, raised};
     ghost use Rattle.drum_bound.specs.SearchOf.{KeepsAt, end_sought};
+    ghost use Rattle.drum_bound.specs.ToEnd.{IsToEnd};
 
     /// The cells of `words` executed locations and `counts` counts: the start's key keeps the
     /// moment of the start, at this angle, and no other keeps anything.

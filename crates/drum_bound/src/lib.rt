@@ -16,12 +16,13 @@
 //!
 //! Definitions, in the order to read them: `Worst` is what the bound is, `Table` what the table is,
 //! with its entries and the one start angle, `Ends` the ends that raise its entries, `Under` how a
-//! run arrives under them, `Visited` and `AnalysisOf` what an analysis hands out, and `BoundOf`
-//! what the bound alone is. The others are how it is found, and a reader of the theorem's clauses
-//! needs only `row_in` of `RowOf`. `Digits`, `Keys`, `Scanned` and `TakenOf` are definitions.
-//! `EndOf`, `KeysOf`, `LeapOf`, `RecentOf` and `RoundOf` say what the code's types mean by them.
-//! `Kept` says how the table that is raised holds what is kept at a key. `Held` (what is kept at
-//! all keys), `SearchOf` and `ScanOf` say what is asked where an end is made.
+//! run arrives under them, `Visited` and `AnalysisOf` what an analysis hands out, `BoundOf` what
+//! the bound alone is, and `Counted` how many ends a ledger counts where it is found. The others
+//! are how it is found, and a reader of the theorem's clauses needs only `row_in` of `RowOf`.
+//! `Digits`, `Keys`, `Scanned` and `TakenOf` are definitions. `EndOf`, `KeysOf`, `LeapOf`,
+//! `RecentOf` and `RoundOf` say what the code's types mean by them. `Kept` says how the table that
+//! is raised holds what is kept at a key. `Held` (what is kept at all keys), `SearchOf`, `ScanOf`
+//! and `ToEnd` say what is asked where an end is made.
 //!
 //! Proofs. Laws of numbers of counts (`DigitsLaws`), of leaps that serve more hops (`Recents`), of
 //! keys (`KeyLaws`, `Onward`) and of rounds (`RoundLaws`). Laws of what is held, by entry
@@ -55,7 +56,7 @@ mod worst;
 
 pub use analysing::{analyse, analyse_counting};
 pub use analysis::Analysis;
-pub use bounding::bound;
+pub use bounding::{bound, bound_counting};
 pub use drum_flow::{Cycle, Flow, Hop, Hops, Refusal, accept, flow};
 pub use drum_machine::Way;
 pub use steps::Steps;

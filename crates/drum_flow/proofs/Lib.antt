@@ -22,6 +22,7 @@ pub mod Profiles
 pub mod Proper
 mod Refusals
 pub mod Searches
+pub mod SlowerTables
 pub mod Translations
 pub mod Turns
 pub mod WalkPasses

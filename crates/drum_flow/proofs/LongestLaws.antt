@@ -73,7 +73,7 @@ end_later entry op d place units wait way t =
     omega (arith, idle.never_earlier t, end_grows entry op d place 0 0 way units wait t (omega arith) (omega arith))
 
 -- no hop has more units than the most
-units_at_most : (op : Op) (d units : ℕ) → MayHaveUnits op d units → units ≤ most_units op d
+pub units_at_most : (op : Op) (d units : ℕ) → MayHaveUnits op d units → units ≤ most_units op d
 units_at_most Divide d units h = h
 units_at_most DivideReset d units h = h
 units_at_most Multiply d units h = h
@@ -81,7 +81,7 @@ units_at_most (Shift s) d units h = omega (arith, h)
 units_at_most _ d units h = omega (arith, h)
 
 -- no hop has a longer wait than the longest
-wait_at_most : (op : Op) (entry : Entry) (wait : ℕ) → IsWait op entry wait → wait ≤ most_wait op entry
+pub wait_at_most : (op : Op) (entry : Entry) (wait : ℕ) → IsWait op entry wait → wait ≤ most_wait op entry
 wait_at_most Read entry wait h = h.1
 wait_at_most Punch entry wait h = h.1
 wait_at_most _ entry wait h = omega (arith, h)

@@ -25,6 +25,7 @@ pub mod Search
 pub mod Seen
 pub mod SettingOf
 pub mod Size
+pub mod Slower
 pub mod Turned
 pub mod Walk
 pub mod WalkTime

@@ -28,6 +28,7 @@ ghost use Rattle.drum_flow.specs.Hops.{IsExecuted};
 ghost use Rattle.drum_flow.specs.MostPasses.{edges_taken, most_passes};
 ghost use Rattle.drum_flow.specs.Passes.{leading};
 ghost use Rattle.drum_flow.specs.RunHops.{hops_taken};
+ghost use Rattle.drum_flow.specs.Slower.{AreNoQuicker, with_times};
 ghost use Rattle.drum_flow.specs.Walk.{Setting, IsProper, Taken, MayHaveUnits, IsWalk, end_by};
 ghost use Rattle.drum_flow.specs.Walk.{time_of};
 ghost use Rattle.drum_flow.specs.WalkTime.{AreAlike};
@@ -87,6 +88,15 @@ pub fn later_start_no_earlier_end()
         → MayHaveUnits op d units → IsWait op entry wait → earlier ≤ later
         → end_by way entry op d place units wait earlier
         ≤ end_by way entry op d place units wait later }
+{}
+
+/// For each walk there is one from the same start angle that, with a timing table that is nowhere
+/// quicker, takes as long or longer.
+pub fn slower_table_slower_walk()
+    ensures { (g : Setting) (slower : Op → Entry) (angle : ℕ) (hops : List Taken)
+        → AreNoQuicker slower g.times → IsWalk g angle hops
+        → (others : List Taken) × IsWalk (with_times g slower) angle others
+        × (time_of hops ≤ time_of others) }
 {}
 
 /// From every start angle the first fetch falls at one angle, that of the start's location, at most

@@ -24,17 +24,18 @@
 //! than), `Longest` (the latest clock at which a hop can end), and beside them `Graph` (orders and
 //! cycles). `Profile` says by which ways an instruction may end. `MostPasses` has the number that
 //! no walk passes a mark more often than (the law is in `laws`). `Passes` (a pass raises the
-//! counts) and `WalkTime` (what a walk's time depends on) have the words of laws. The others say
-//! what the code's types and loops mean by these: of hops `Patterns`, `Instructions`, `HopsLeft`,
-//! `Seen` and `Alike`; of discovery `Found`, `Refused` and `Flow`; of the checks `Altering`,
-//! `Fixed`, `Size`, `Free`, `Turned` and `AcceptedFlow`; of graphs `Rows` and `Search`; of walks
-//! `SettingOf`.
+//! counts), `WalkTime` (what a walk's time depends on) and `Slower` (a timing table that is nowhere
+//! quicker than another) have the words of laws. The others say what the code's types and loops
+//! mean by these: of hops `Patterns`, `Instructions`, `HopsLeft`, `Seen` and `Alike`; of discovery
+//! `Found`, `Refused` and `Flow`; of the checks `Altering`, `Fixed`, `Size`, `Free`, `Turned` and
+//! `AcceptedFlow`; of graphs `Rows` and `Search`; of walks `SettingOf`.
 //!
 //! Proofs. `Checks` evaluates definitions on a deck of two words. These have laws that other crates
 //! use: `LongestLaws`, of the latest ends; `FromAngles`, how long a hop takes from an angle;
 //! `DataAngles`, with which D as long; `Orders`, of the order of discovery; `Acceptances`, why a
 //! deck is accepted; `KeptWalk`, why a kept run is a walk; `Lists`, lemmas on lists. `PassLaws` and
-//! `WalkPasses` show how often a walk passes a mark.
+//! `WalkPasses` show how often a walk passes a mark, and `SlowerTables` that walks by a slower
+//! timing table are slower.
 #![tactic(auto)]
 
 mod acceptance;

@@ -1,4 +1,8 @@
-use Rattle.std.proofs.Common.{subst, arith}
+use Rattle.std.proofs.Common.{◌≡◌, ℕ, length, sym, subst, arith}
+use Rattle.drum_core.specs.Loads.{loads_in, start_in}
+use Rattle.drum_flow.specs.Accepted.{IsAccepted}
+use Rattle.drum_flow.specs.AcceptedFlow.{in_order}
+use Rattle.drum_flow.specs.Free.{IsFreeOrder}
 use Rattle.drum_flow.specs.declared.flow_graph.Flow.{Flow}
 use Rattle.drum_flow.specs.Graph.{AreDifferent}
 use Rattle.drum_flow.specs.Flow.{deck_of, notes_of, executed_in}
@@ -8,8 +12,9 @@ use Rattle.drum_flow.proofs.Acceptances.{moved}
 use Rattle.drum_flow.proofs.KeptWalk.{kept_walk}
 use Rattle.drum_flow.proofs.Proper.{is_proper}
 use Rattle.drum_bound.specs.Worst.{IsWorst}
-use Rattle.drum_bound.proofs.Ordering.{accepted_keys}
-use Rattle.drum_bound.proofs.bounding.bound_from.Goals as goal
+use Rattle.drum_bound.specs.Counted.{CountsTableOf}
+use Rattle.drum_bound.proofs.Ordering.{accepted_keys, as_many}
+use Rattle.drum_bound.proofs.bounding.bound_counting.Goals as goal
 
 pub bound_of-requires : goal.bound_of-requires
 bound_of-requires g c =
@@ -36,3 +41,27 @@ returns-clause-bound g c =
           (is_proper deck times notes c.marks-marks.ensures.sound) ensures.accepted.admitted first is_run kept in
           omega (arith, worst.most s.first_angle (hops_taken strides) walked.0, walked.1);
     }
+
+pub returns-clause-counted : goal.returns-clause-counted
+returns-clause-counted g c =
+    let accepted = c.in_ok-accepted.accepted in
+    let deck = c.args.deck.now in
+    let notes = c.args.notes.now in
+    let times = c.args.times.now in
+    let ensures = c.in_ok-accepted.ensures in
+    let same : length (in_order accepted) ≡ length (executed_in accepted.flow) =
+    as_many accepted
+    (moved (λ d n. IsAccepted (loads_in d) n (start_in d) (executed_in accepted.flow)) deck
+    (deck_of accepted.flow) notes (notes_of accepted.flow)
+    (sym ensures.deck) (sym ensures.notes) ensures.accepted)
+    (moved (λ d n. IsFreeOrder (loads_in d) n (executed_in accepted.flow) (in_order accepted)) deck
+    (deck_of accepted.flow) notes
+    (notes_of accepted.flow) (sym ensures.deck) (sym ensures.notes) ensures.order)
+    (subst (λ (f : Flow). AreDifferent (executed_in f)) c.flow.ensures c.executed-executed.ensures.different) in (
+      executed_in accepted.flow,
+      ensures.accepted,
+      subst (λ (words : ℕ). CountsTableOf (setting deck times notes) words c.args.steps.now c.bound_of.new.steps) same
+          (moved (λ d n. CountsTableOf (setting d times n) (length (in_order accepted)) c.args.steps.now
+          c.bound_of.new.steps) (deck_of accepted.flow) deck
+          (notes_of accepted.flow) notes ensures.deck ensures.notes c.in_ok-found.ensures.counted),
+    )
