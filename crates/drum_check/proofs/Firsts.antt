@@ -15,8 +15,8 @@ use Rattle.drum_flow.specs.declared.refusal.Refusal.TheVariants.{Memory, NotLoad
 use Rattle.drum_flow.specs.declared.refusal.Refusal.TheVariants.{TooLarge}
 use Rattle.drum_flow.specs.Acceptance.{IsRefusal}
 use Rattle.drum_flow.specs.Accepted as said
-use Rattle.drum_flow.specs.Accepted.{IsAltered, IsFirstOutside, IsFree, IsFreeRound, IsGood, IsLowestAltered, IsMet}
-use Rattle.drum_flow.specs.Accepted.{IsNotInProfile, IsNotLoaded, IsSound, IsTooLarge, IsUnbounded, product_of}
+use Rattle.drum_flow.specs.Accepted.{IsAltered, IsFirstOutside, IsFree, IsGood, IsLowestAltered, IsMet}
+use Rattle.drum_flow.specs.Accepted.{IsSound, IsTooLarge, IsUnbounded, product_of}
 use Rattle.drum_flow.specs.Executed.{added_by, found_after}
 use Rattle.drum_flow.specs.Graph.{IsClosed}
 use Rattle.drum_flow.proofs.Acceptances.{one_order}
@@ -28,6 +28,7 @@ use Rattle.drum_check.specs.Findings.{AreFindings, Finding, not_loaded, not_in_p
 use Rattle.drum_check.specs.Findings.{altered, altered_by, altering, is_fixed, not_there, operations_outside, outside}
 use Rattle.drum_check.specs.Findings.{too_many, unfit}
 use Rattle.drum_check.specs.First.{BeginsWith, IsFoundFirst}
+use Rattle.drum_check.specs.declared.within.Within.{Within}
 use Rattle.drum_check.specs.Insides.{AreLoops}
 use Rattle.drum_check.specs.Kept.{kept_of}
 use Rattle.drum_check.proofs.Begins.{begins_behind, begins_flat, begins_left, begins_lowest, begins_mapped, begins_new}
@@ -229,7 +230,7 @@ module _ (loads : ℕ → Option Word) (notes : Notes) (start : ℕ) where
         )
 
     round_first : (cycle : List ℕ) → IsUnbounded loads notes start cycle
-        → (edge : ℕ × ℕ) × (number : Option ℕ) × BeginsWith findings (closes edge number)
+        → (edge : ℕ × ℕ) × (mark : Within) × BeginsWith findings (closes edge mark)
     round_first cycle is = go a.edges refl
       where
         small : third_part ≡ []
@@ -245,7 +246,7 @@ module _ (loads : ℕ → Option Word) (notes : Notes) (start : ℕ) where
             (round_left loads notes a.edges place place places none round)
 
         go : (edges : List (ℕ × ℕ)) → a.edges ≡ edges
-            → (edge : ℕ × ℕ) × (number : Option ℕ) × BeginsWith findings (closes edge number)
+            → (edge : ℕ × ℕ) × (mark : Within) × BeginsWith findings (closes edge mark)
         go [] none = absurd (closed cycle refl none is.round.closed)
         go (edge ∷ edges) same =
             let parts = sound_parts is.round.sound in

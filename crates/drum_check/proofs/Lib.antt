@@ -5,6 +5,7 @@ pub mod Begins
 pub mod Firsts
 pub mod Fits
 pub mod Fixeds
+pub mod Heads
 pub mod Lacks
 pub mod Nothing
 pub mod Numbered

@@ -16,7 +16,7 @@ use Rattle.drum_flow.specs.Graph.{LeadRound}
 use Rattle.drum_flow.proofs.Lists.{contains_cases, contains_here, contains_none, contains_there}
 use Rattle.drum_loops.specs.Loops.{AreApart, AreClosing, IsFreeBeside, LeadBy}
 use Rattle.drum_check.specs.Among.{AreThose}
-use Rattle.drum_check.specs.Insides.{AreOuterFirst, AreSoMany}
+use Rattle.drum_check.specs.Insides.{AreFewestFirst, AreSoMany}
 use Rattle.drum_check.proofs.Unsaids.{those_one}
 
 -- whether two edges are one
@@ -247,7 +247,7 @@ module _ {X : Type 0} (IsInside : ℕ × ℕ → ℕ × ℕ → Type 0) (edge_in
       (many_moved (λ outer. IsInside outer edge) edges (map edge_in sorted) (many one) moved
       (subst (λ (e : ℕ × ℕ). AreSoMany (λ outer. IsInside outer e) edges (many one)) same was))
 
-  pub sorted_outer : AreOuterFirst IsInside (map edge_in sorted)
+  pub sorted_outer : AreFewestFirst IsInside (map edge_in sorted)
   sorted_outer k i j a b at_a at_b of_a of_b =
       let one = mapped_at edge_in sorted k a at_a in
       let next = mapped_at edge_in sorted (suc k) b at_b in

@@ -1,31 +1,33 @@
 -- Loops that are listed one after the other, and where none is listed.
-use Rattle.std.proofs.Common.{◌≡◌, ℕ, List, [], ◌∷◌, ◌++◌, map, refl, ap, sym, ◌∙◌, subst, inl, inr, append_assoc, Option, None}
+use Rattle.std.proofs.Common.{◌≡◌, ℕ, List, [], ◌∷◌, ◌++◌, map, refl, ap, sym, ◌∙◌, subst, inl, inr, append_assoc, Option}
 use Rattle.std.proofs.lemmas.List.{append-nil}
 use Rattle.drum_core.specs.declared.word.Word.{Word}
 use Rattle.drum_times.specs.Allowed.{Notes}
 use Rattle.drum_check.specs.Finding.{Finding, closes}
 use Rattle.drum_check.specs.First.{BeginsWith}
-use Rattle.drum_check.specs.Insides.{AreLoops, AreToldInside, IsLastNumber}
+use Rattle.drum_check.specs.Insides.{AreLoops, AreToldInside}
+use Rattle.drum_check.specs.declared.within.Within.{Within}
+use Rattle.drum_check.specs.declared.within.Within.TheVariants as within
 
 -- one loop more
-pub told_more : (IsInside : ℕ × ℕ → ℕ × ℕ → Type 0) (before edges : List (ℕ × ℕ)) (loops : List Finding)
-    (edge : ℕ × ℕ) (number : Option ℕ) → AreToldInside IsInside before edges loops
-    → IsLastNumber (λ outer. IsInside outer edge) (before ++ edges) number
-    → AreToldInside IsInside before (edges ++ edge ∷ []) (loops ++ closes edge number ∷ [])
-told_more IsInside before [] loops edge number none last = (
-  number,
+pub told_more : (IsTold : List (ℕ × ℕ) → ℕ × ℕ → Within → Type 0) (before edges : List (ℕ × ℕ))
+    (loops : List Finding) (edge : ℕ × ℕ) (mark : Within) → AreToldInside IsTold before edges loops
+    → IsTold (before ++ edges) edge mark
+    → AreToldInside IsTold before (edges ++ edge ∷ []) (loops ++ closes edge mark ∷ [])
+told_more IsTold before [] loops edge mark none last = (
+  mark,
   [],
-  subst (λ (all : List (ℕ × ℕ)). IsLastNumber (λ outer. IsInside outer edge) all number) (append-nil before) last,
-  ap (λ (all : List Finding). all ++ closes edge number ∷ []) none,
+  subst (λ (all : List (ℕ × ℕ)). IsTold all edge mark) (append-nil before) last,
+  ap (λ (all : List Finding). all ++ closes edge mark ∷ []) none,
   refl,
 )
-told_more IsInside before (first ∷ edges) loops edge number told last = (
+told_more IsTold before (first ∷ edges) loops edge mark told last = (
   told.0,
-  told.1 ++ closes edge number ∷ [],
+  told.1 ++ closes edge mark ∷ [],
   told.2,
-  ap (λ (all : List Finding). all ++ closes edge number ∷ []) told.3,
-  told_more IsInside (before ++ first ∷ []) edges told.1 edge number told.4
-      (subst (λ (all : List (ℕ × ℕ)). IsLastNumber (λ outer. IsInside outer edge) all number)
+  ap (λ (all : List Finding). all ++ closes edge mark ∷ []) told.3,
+  told_more IsTold (before ++ first ∷ []) edges told.1 edge mark told.4
+      (subst (λ (all : List (ℕ × ℕ)). IsTold all edge mark)
       (sym (append_assoc before (first ∷ []) edges)) last),
 )
 
@@ -40,9 +42,9 @@ module _ (loads : ℕ → Option Word) (notes : Notes) (start : ℕ) (executed :
   -- the first of them is listed first
   pub first_told : (edge : ℕ × ℕ) (edges : List (ℕ × ℕ)) (loops : List Finding)
       → AreLoops loads notes start executed (edge ∷ edges) loops
-      → (number : Option ℕ) × BeginsWith loops (closes edge number)
+      → (mark : Within) × BeginsWith loops (closes edge mark)
   first_told edge edges loops (inl told) = (told.2.0, (told.2.1, told.2.3))
-  first_told edge edges loops (inr told) = (None, (map (λ (one : ℕ × ℕ). closes one None) edges, told.1))
+  first_told edge edges loops (inr told) = (within.Run, (map (λ (one : ℕ × ℕ). closes one within.Run) edges, told.1))
 
   -- where none is listed no edges close loops
   pub told_none : (edges : List (ℕ × ℕ)) (loops : List Finding) → AreLoops loads notes start executed edges loops

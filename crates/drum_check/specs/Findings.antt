@@ -19,7 +19,7 @@ use Rattle.drum_loops.specs.Nested.{IsNested}
 pub use Rattle.drum_check.specs.Among.{is_among, has_edge, AreThose}
 pub use Rattle.drum_check.specs.Finding.{Finding, not_loaded, not_in_profile, alters, too_large}
 pub use Rattle.drum_check.specs.Finding.{closes, unused_mark, unused_list, inside}
-use Rattle.drum_check.specs.Insides.{AreLoops}
+use Rattle.drum_check.specs.Insides.{AreLoops, HasSeveralWays, StandsInside, marked_edges}
 use Rattle.drum_check.specs.Kept.{kept_of}
 
 -- whether a location is loaded or listed
@@ -105,7 +105,7 @@ is_on_edge loads notes executed index =
 
 -- Of two marks, by their indices: the loop that the first one's edge closes stands inside the loop
 -- of the second one's, and the first doesn't say that it stands inside the second, directly or
--- through others.
+-- through others, though it doesn't stand inside several ways back of one loop.
 pub record IsUnsaid (loads : ℕ → Option Word) (notes : Notes) (start : ℕ) (executed : List ℕ)
     (pair : ℕ × ℕ) : Type 0 where
   pub inner : is_on_edge loads notes executed pair.0 ≡ true
@@ -113,6 +113,9 @@ pub record IsUnsaid (loads : ℕ → Option Word) (notes : Notes) (start : ℕ) 
   pub nested : IsNested loads notes start (edge_at notes.marks pair.1)
       (edge_at notes.marks pair.0)
   pub unsaid : is_inside notes.marks pair.0 pair.1 ≡ false
+  pub one_way : ¬ HasSeveralWays
+      (λ outer. StandsInside loads notes start executed outer (edge_at notes.marks pair.0))
+      (marked_edges notes.marks)
 
 -- all pairs of marks' indices, by the first and then by the second
 abbrev pub pairs_of : List Mark → List (ℕ × ℕ)

@@ -1,10 +1,11 @@
 -- What is found first of a deck that the analysis refuses: just what refuses it; where edges free
 -- of marks lead round, an edge that closes a loop.
-use Rattle.std.specs.Prelude.{◌≡◌, ℕ, List, ◌∷◌, Option}
+use Rattle.std.specs.Prelude.{◌≡◌, ℕ, List, ◌∷◌}
 use Rattle.drum_flow.specs.declared.refusal.Refusal.{Refusal}
 use Rattle.drum_flow.specs.declared.refusal.Refusal.TheVariants.{Memory, NotLoaded, NotInProfile}
 use Rattle.drum_flow.specs.declared.refusal.Refusal.TheVariants.{Alters, Unbounded, TooLarge}
 use Rattle.drum_check.specs.declared.kept.Kept.{Kept}
+use Rattle.drum_check.specs.declared.within.Within.{Within}
 use Rattle.drum_check.specs.Findings.{Finding, not_loaded, not_in_profile, alters, too_large}
 use Rattle.drum_check.specs.Findings.{closes}
 
@@ -19,5 +20,5 @@ IsFoundFirst (Alters writer word) found =
     (kept : Kept) × BeginsWith found (alters writer.number word.number kept)
 IsFoundFirst (TooLarge product) found = BeginsWith found (too_large product)
 IsFoundFirst (Unbounded cycle) found =
-    (edge : ℕ × ℕ) × (number : Option ℕ) × BeginsWith found (closes edge number)
+    (edge : ℕ × ℕ) × (mark : Within) × BeginsWith found (closes edge mark)
 IsFoundFirst Memory found = Unit {0}

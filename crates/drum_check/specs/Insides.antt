@@ -1,12 +1,14 @@
 -- In which order the loops that lack a mark are listed, and inside which other mark a mark on each
 -- stands.
 use Rattle.std.specs.Prelude.{◌≡◌, ℕ, suc, ◌+◌, ◌<◌, ◌≤◌, true, List, [], ◌∷◌, ◌++◌, ◌⊎◌, map}
-use Rattle.std.specs.Prelude.{length, slice_get, Contains, Option, Some, None}
+use Rattle.std.specs.Prelude.{length, slice_get, Contains, Option, Some, None, IsTrue}
 use Rattle.drum_core.specs.declared.word.Word.{Word}
 use Rattle.drum_times.specs.declared.notes.mark.Mark.{Mark}
 use Rattle.drum_times.specs.Allowed.{Notes}
 use Rattle.drum_loops.specs.Nested.{IsNested}
-use Rattle.drum_check.specs.Among.{has_edge, AreThose}
+use Rattle.drum_check.specs.declared.within.Within.{Within}
+use Rattle.drum_check.specs.declared.within.Within.TheVariants as within
+use Rattle.drum_check.specs.Among.{has_edge, has_twice, AreThose}
 use Rattle.drum_check.specs.Finding.{Finding, closes}
 
 -- the edges of marks, in order
@@ -28,8 +30,8 @@ pub record AreSoMany (IsOne : ℕ × ℕ → Type 0) (edges : List (ℕ × ℕ))
 
 -- Of two edges of which the second follows the first, the first one's loop stands inside no more
 -- loops of these edges than the second one's.
-abbrev pub AreOuterFirst : (ℕ × ℕ → ℕ × ℕ → Type 0) → List (ℕ × ℕ) → Type 0
-AreOuterFirst IsInside edges =
+abbrev pub AreFewestFirst : (ℕ × ℕ → ℕ × ℕ → Type 0) → List (ℕ × ℕ) → Type 0
+AreFewestFirst IsInside edges =
     (k i j : ℕ) (a b : ℕ × ℕ) → slice_get edges k ≡ Some a → slice_get edges (suc k) ≡ Some b
     → AreSoMany (λ outer. IsInside outer a) edges i
     → AreSoMany (λ outer. IsInside outer b) edges j → i ≤ j
@@ -42,16 +44,39 @@ IsLastNumber IsOne edges (Some number) =
     × (edges ≡ before ++ edge ∷ after) × (number ≡ suc (length before)) × IsOne edge
     × ((other : ℕ × ℕ) → Contains after other → ¬ IsOne other)
 
--- Loops, each with the number of the last edge before its own that its loop stands inside of.
--- Before all of them stand the edges of marks that there are.
-abbrev pub AreToldInside : (ℕ × ℕ → ℕ × ℕ → Type 0) → List (ℕ × ℕ) → List (ℕ × ℕ)
-    → List Finding → Type 0
-AreToldInside IsInside before [] loops = loops ≡ []
-AreToldInside IsInside before (edge ∷ edges) loops =
-    (number : Option ℕ) × (others : List Finding)
-    × IsLastNumber (λ outer. IsInside outer edge) before number
-    × (loops ≡ closes edge number ∷ others)
-    × AreToldInside IsInside (before ++ edge ∷ []) edges others
+-- where those of some edges that have a property go back to
+pub record AreHeads (IsOne : ℕ × ℕ → Type 0) (edges : List (ℕ × ℕ)) (heads : List ℕ) : Type 0 where
+  pub those : List (ℕ × ℕ)
+  pub are : AreThose IsOne edges those
+  pub onto : heads ≡ map (λ edge. edge.1) those
+
+-- Two of those of some edges that have a property go back to one location: of the loops of edges
+-- that one loop stands inside of, two are ways back of one loop.
+abbrev pub HasSeveralWays : (ℕ × ℕ → Type 0) → List (ℕ × ℕ) → Type 0
+HasSeveralWays IsOne edges = (heads : List ℕ) × AreHeads IsOne edges heads × IsTrue (has_twice heads)
+
+-- Which mark a mark on the edge is to stand inside of: the last one before it inside whose loop its
+-- own stands; and none where its loop stands inside several ways back of one loop, which all these
+-- edges have.
+abbrev pub IsWithin : (ℕ × ℕ → ℕ × ℕ → Type 0) → List (ℕ × ℕ) → List (ℕ × ℕ) → ℕ × ℕ → Within → Type 0
+IsWithin IsInside all before edge within.SeveralWays = HasSeveralWays (λ outer. IsInside outer edge) all
+IsWithin IsInside all before edge within.Run =
+    ¬ HasSeveralWays (λ outer. IsInside outer edge) all
+    × IsLastNumber (λ outer. IsInside outer edge) before None
+IsWithin IsInside all before edge (within.Mark number) =
+    ¬ HasSeveralWays (λ outer. IsInside outer edge) all
+    × IsLastNumber (λ outer. IsInside outer edge) before (Some number)
+
+-- Loops, each with the mark that a mark on its edge is to stand inside of. Before all of them stand
+-- the edges of marks that there are.
+abbrev pub AreToldInside : (List (ℕ × ℕ) → ℕ × ℕ → Within → Type 0) → List (ℕ × ℕ)
+    → List (ℕ × ℕ) → List Finding → Type 0
+AreToldInside IsTold before [] loops = loops ≡ []
+AreToldInside IsTold before (edge ∷ edges) loops =
+    (within : Within) × (others : List Finding)
+    × IsTold before edge within
+    × (loops ≡ closes edge within ∷ others)
+    × AreToldInside IsTold (before ++ edge ∷ []) edges others
 
 -- The loops of these edges, as they are listed. With more than 8 marks in all none is said to stand
 -- inside another one, since notes can't have more.
@@ -59,7 +84,9 @@ abbrev pub AreLoops : (ℕ → Option Word) → Notes → ℕ → List ℕ → L
     → Type 0
 AreLoops loads notes start executed edges loops =
     ((length notes.marks + length edges ≤ 8)
-    × AreOuterFirst (StandsInside loads notes start executed) edges
-    × AreToldInside (StandsInside loads notes start executed) (marked_edges notes.marks) edges
-    loops)
-    ⊎ ((8 < length notes.marks + length edges) × (loops ≡ map (λ edge. closes edge None) edges))
+    × AreFewestFirst (StandsInside loads notes start executed) edges
+    × AreToldInside
+    (IsWithin (StandsInside loads notes start executed) (marked_edges notes.marks ++ edges))
+    (marked_edges notes.marks) edges loops)
+    ⊎ ((8 < length notes.marks + length edges)
+    × (loops ≡ map (λ edge. closes edge within.Run) edges))

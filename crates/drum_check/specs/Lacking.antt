@@ -9,6 +9,8 @@ use Rattle.drum_core.specs.declared.word.Word.{Word}
 use Rattle.drum_core.specs.Word.{spelling}
 use Rattle.drum_flow.specs.Executed.{with_new}
 use Rattle.drum_check.specs.declared.kept.Kept.{Kept}
+use Rattle.drum_check.specs.declared.within.Within.{Within}
+use Rattle.drum_check.specs.declared.within.Within.TheVariants as within
 use Rattle.drum_check.specs.Findings.{Finding, alters, closes}
 use Rattle.drum_check.specs.FindingsText.{findings_text}
 
@@ -51,20 +53,22 @@ abbrev pub words_altered : List Finding → List (ℕ × Kept)
 words_altered findings =
     map (lacking_list findings) (with_new [] (flat_map altered_word findings))
 
--- the line that says inside which other mark a mark stands, by that one's number, if it does; and
--- what it changes, since that isn't sure to be meant
-abbrev pub inside_text : Option ℕ → List ℕ
-inside_text None = []
-inside_text (Some number) =
+-- the line that says inside which other mark a mark stands, by that one's number, if it does, and
+-- what the line changes, since that isn't sure to be meant; or why there is no such line
+abbrev pub within_text : Within → List ℕ
+within_text within.Run = []
+within_text (within.Mark number) =
     codes "inside = " ++ decimal number ++ codes " # without this line, most is of the whole run\n"
+within_text within.SeveralWays =
+    codes "# inside several ways back of one loop: most is of the whole run\n"
 
 abbrev pub edge_text : ℕ × ℕ → List ℕ
 edge_text edge =
     codes "[[mark]]\nmost =\nfrom = " ++ decimal edge.0 ++ codes "\nto = " ++ decimal edge.1
     ++ codes "\n"
 
-abbrev pub mark_text : ℕ × ℕ → Option ℕ → List ℕ
-mark_text edge number = edge_text edge ++ inside_text number
+abbrev pub mark_text : ℕ × ℕ → Within → List ℕ
+mark_text edge within = edge_text edge ++ within_text within
 
 -- a part that stays; what has to be thought about is left empty
 abbrev pub part_text : Option ℕ → List ℕ
@@ -94,7 +98,7 @@ list_text lack =
 
 -- the mark that a finding asks for
 abbrev pub mark_for : Finding → List ℕ
-mark_for (closes edge number) = mark_text edge number
+mark_for (closes edge within) = mark_text edge within
 mark_for _ = []
 
 -- what a check prints: a line for each finding, and what is lacking, the marks first

@@ -5,7 +5,6 @@ ghost use Rattle.std.specs.Prelude.{◌≡◌, ◌<◌, [], ◌∷◌, IfOk, OnO
 ghost use Rattle.drum_core.specs.Loads.{loads_in};
 ghost use Rattle.drum_times.specs.Allowed.{matching};
 ghost use Rattle.drum_flow.specs.Executed.{with_new};
-ghost use Rattle.drum_flow.specs.Fixed.{AreFlagged};
 ghost use Rattle.drum_flow.specs.Flow.{executed_in};
 ghost use Rattle.drum_flow.specs.Found.{places_of};
 ghost use Rattle.drum_check.specs.Findings as said;

@@ -1,15 +1,18 @@
-//! Whether the flow graph has a location, or an edge.
+//! Whether the flow graph has a location, or an edge; and the edges of marks.
 
-ghost use Rattle.std.specs.Prelude.{◌≡◌, IfOk};
+ghost use Rattle.std.specs.Prelude.{◌≡◌, IfOk, map};
 ghost use Rattle.drum_core.specs.Loads.{loads_in};
 ghost use Rattle.drum_flow.specs.Executed.{successors};
 ghost use Rattle.drum_flow.specs.Flow.{executed_in};
 ghost use Rattle.drum_check.specs.Findings as said;
 ghost use Rattle.drum_check.specs.Findings.{is_among};
+ghost use Rattle.drum_check.specs.Insides.{marked_edges};
+ghost use Rattle.drum_loops.specs.Loops.{edge_of};
 
 use drum_core::{Deck, Location};
 use drum_flow::Flow;
 use drum_flow::executed::Executed;
+use drum_loops::Edge;
 use drum_times::Notes;
 use std::alloc::{AllocError, Global};
 
@@ -50,4 +53,19 @@ pub fn has_edge(
         return Ok(false);
     }
     goes_on(alloc, flow.deck(), flow.notes(), from, onto)
+}
+
+/// The edges of the marks that there are.
+pub fn marked_edges(alloc: Global, flow: &Flow<'_>) -> Result<Vec<Edge>, AllocError>
+    ensures { IfOk result (λ edges. map edge_of edges.items
+        ≡ marked_edges flow.now.notes.now.marks) }
+{
+    let mut edges = Vec::new(alloc);
+    for mark in flow.notes().marks() {
+        edges.push(Edge {
+            from: mark.from,
+            onto: mark.onto,
+        })?;
+    }
+    Ok(edges)
 }

@@ -1,4 +1,5 @@
 use crate::kept::Kept;
+use crate::within::Within;
 use drum_core::Location;
 use drum_loops::Edge;
 
@@ -20,13 +21,10 @@ pub enum Finding {
     /// Executed words times counts, the product of `most + 1` over the marks, is this product,
     /// which is more than 4,000,000.
     TooLarge(u128),
-    /// An edge free of marks closes a loop of such edges, and needs a mark. `inside` is the number
-    /// of the mark that the new mark stands inside of, if there is one: the marks of the notes have
-    /// the first numbers, from 1, and then each of these edges has one, in the order in which they
-    /// are found.
+    /// An edge free of marks closes a loop of such edges, and needs a mark.
     Loop {
         edge: Edge,
-        inside: Option<usize>,
+        within: Within,
     },
     /// A mark stands on an edge that the flow graph doesn't have.
     UnusedMark(Edge),

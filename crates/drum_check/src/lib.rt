@@ -5,25 +5,26 @@
 //! Code, from the bottom up. A `finding` is one of these things. `operations` are those of a
 //! location that are outside the profile. `altered` are the words that its instructions alter, and
 //! `kept` is how much of its instruction such a word keeps. `edges` tells whether a mark's edge is
-//! there, and `nested` inside which loops of others that of an edge stands. `loops` finds the loops
-//! that lack a mark, and puts them in order, with the mark inside which one on each stands;
-//! `unsaid` finds the marks that don't say inside which other they stand. `findings` gathers what
-//! is found. `listing` writes a line for each. `lacking` are the words that lack a list, and
-//! `pasting` writes the notes that are lacking behind the lines. `laws` has laws of the
-//! definitions.
+//! there, and `nested` inside which loops of others that of an edge stands; `several` tells whether
+//! two of these are ways back of one loop. `within` is inside which other mark a mark is to stand.
+//! `loops` finds the loops that lack a mark, and puts them in order, with the mark inside which one
+//! on each is to stand; `unsaid` finds the marks that don't say inside which other they stand.
+//! `findings` gathers what is found. `listing` writes a line for each. `lacking` are the words that
+//! lack a list, and `pasting` writes the notes that are lacking behind the lines. `laws` has laws
+//! of the definitions.
 //!
 //! Definitions, in the order to read them: `Finding` is what may be found, `Findings` all that is
 //! found, and `First` what is found first of a deck that is refused. `Among` is what is among
-//! executed locations, and `Insides` in which order loops are told, and inside which mark each
-//! stands. `FindingsText` is the lines. `Lacking` are the notes that are lacking, with `Kept`, what
-//! a writer keeps of a word that it alters. `FindingsOf` and `LackingOf` say what the code's types
-//! mean by these.
+//! executed locations, and `Insides` in which order loops are told, and inside which mark each is
+//! to stand. `FindingsText` is the lines. `Lacking` are the notes that are lacking, with `Kept`,
+//! what a writer keeps of a word that it alters. `FindingsOf` and `LackingOf` say what the code's
+//! types mean by these.
 //!
 //! Proofs. There is a file for each part of what is found (`Unsaids` on pairs of marks), and
 //! `Whole` puts them together. `Silent` and `Accepting` show where nothing is in the way of a
 //! bound, and `Firsts` what is found first. Of the loops `Numbered` counts and finds the last one
-//! round another, `Rearranged` takes edges in another order, and `Tellings` tells them one after
-//! the other.
+//! round another, `Heads` where those round it go back to, `Rearranged` takes edges in another
+//! order, and `Tellings` tells them one after the other.
 #![tactic(auto)]
 
 mod altered;
@@ -38,10 +39,13 @@ mod loops;
 mod nested;
 mod operations;
 mod pasting;
+mod several;
 mod unsaid;
+mod within;
 
 pub use finding::Finding;
 pub use findings::Findings;
 pub use kept::Kept;
 pub use lacking::Lacking;
 pub use pasting::list_findings;
+pub use within::Within;

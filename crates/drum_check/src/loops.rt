@@ -1,17 +1,22 @@
-//! The loops that lack a mark, in the order in which they are listed: the outer ones first, each
-//! with the mark before it inside which a mark on its edge stands.
+//! The loops that lack a mark, in the order in which they are listed: those inside the fewest of
+//! the others first, each with the mark that a mark on its edge is to stand inside of.
 
-ghost use Rattle.std.specs.Prelude.{◌≡◌, ◌≤◌, ℕ, List, None, map, length, All, IfOk};
+ghost use Rattle.std.specs.Prelude.{◌≡◌, ◌++◌, ℕ, List, map, All, IfOk};
 ghost use Rattle.std.specs.Prelude.{IsPermutation};
 ghost use Rattle.drum_flow.specs.Flow.{executed_in, of_flow, AreFound};
 ghost use Rattle.drum_loops.specs.Loops.{edge_of, AreClosing};
 ghost use Rattle.drum_check.specs.Findings.{closes};
 ghost use Rattle.drum_check.specs.FindingsOf.{seen, IsInsideIn};
 ghost use Rattle.drum_check.specs.Insides as said;
-ghost use Rattle.drum_check.specs.Insides.{AreLoops, AreOuterFirst, AreSoMany, AreToldInside};
+ghost use Rattle.drum_check.specs.Insides.{AreLoops, AreFewestFirst, AreSoMany, AreToldInside};
+ghost use Rattle.drum_check.specs.Insides.{IsWithin};
+ghost use Rattle.drum_check.specs.declared.within.Within.TheVariants as within;
 
+use crate::edges::marked_edges;
 use crate::finding::Finding;
 use crate::nested::{last_round, loops_round};
+use crate::several::has_several_ways;
+use crate::within::Within;
 use drum_flow::Flow;
 use drum_loops::{Edge, closing_edges};
 use drum_times::Mark;
@@ -49,10 +54,10 @@ fn edges_of(alloc: Global, counted: &[Counted]) -> Result<Vec<Edge>, AllocError>
 
 /// Edges in the order in which they are listed: those first whose loop stands inside the fewest of
 /// their loops.
-fn outer_first(alloc: Global, flow: &Flow<'_>, edges: &[Edge]) -> Result<Vec<Edge>, AllocError>
+fn fewest_first(alloc: Global, flow: &Flow<'_>, edges: &[Edge]) -> Result<Vec<Edge>, AllocError>
     ensures same { IfOk result (λ sorted. IsPermutation (map edge_of edges.now)
         (map edge_of sorted.items)) }
-    ensures sorted { IfOk result (λ sorted. AreOuterFirst (IsInsideIn flow.now)
+    ensures sorted { IfOk result (λ sorted. AreFewestFirst (IsInsideIn flow.now)
         (map edge_of sorted.items)) }
 {
     let mut counted = with_counts(alloc, flow, edges)?;
@@ -60,34 +65,52 @@ fn outer_first(alloc: Global, flow: &Flow<'_>, edges: &[Edge]) -> Result<Vec<Edg
     edges_of(alloc, &counted)
 }
 
-/// The edges of the marks that there are.
-fn marked_edges(alloc: Global, flow: &Flow<'_>) -> Result<Vec<Edge>, AllocError>
-    ensures { IfOk result (λ edges. map edge_of edges.items
-        ≡ said.marked_edges flow.now.notes.now.marks) }
+/// The edges of the marks that there are, and then these.
+fn all_edges(alloc: Global, flow: &Flow<'_>, edges: &[Edge]) -> Result<Vec<Edge>, AllocError>
+    ensures { IfOk result (λ all. map edge_of all.items
+        ≡ said.marked_edges flow.now.notes.now.marks ++ map edge_of edges.now) }
 {
-    let mut edges = Vec::new(alloc);
-    for mark in flow.notes().marks() {
-        edges.push(Edge {
-            from: mark.from,
-            onto: mark.onto,
-        })?;
-    }
-    Ok(edges)
+    let mut all = marked_edges(alloc, flow)?;
+    all.extend_from_slice(edges)?;
+    Ok(all)
 }
 
-/// The loops of these edges, each with the mark before it inside which a mark on it stands.
+/// Which mark a mark on an edge is to stand inside of: of all edges with a mark then, and of those
+/// before it.
+fn within_of(
+    alloc: Global,
+    flow: &Flow<'_>,
+    all: &[Edge],
+    before: &[Edge],
+    edge: Edge,
+) -> Result<Within, AllocError>
+    ensures { IfOk result (IsWithin (IsInsideIn flow.now) (map edge_of all.now)
+        (map edge_of before.now) (edge_of edge)) }
+{
+    if has_several_ways(alloc, flow, all, edge)? {
+        return Ok(Within::SeveralWays);
+    }
+    match last_round(alloc, flow, before, edge)? {
+        Some(number) => Ok(Within::Mark(number)),
+        None => Ok(Within::Run),
+    }
+}
+
+/// The loops of these edges, each with the mark that a mark on it is to stand inside of.
 fn told_inside(alloc: Global, flow: &Flow<'_>, edges: &[Edge]) -> Result<Vec<Finding>, AllocError>
-    ensures { IfOk result (λ loops. AreToldInside (IsInsideIn flow.now)
+    ensures { IfOk result (λ loops. AreToldInside (IsWithin (IsInsideIn flow.now)
+        (said.marked_edges flow.now.notes.now.marks ++ map edge_of edges.now))
         (said.marked_edges flow.now.notes.now.marks) (map edge_of edges.now)
         (map seen loops.items)) }
 {
+    let all = all_edges(alloc, flow, edges)?;
     let mut before = marked_edges(alloc, flow)?;
     let mut loops = Vec::new(alloc);
     for edge in edges {
-        let inside = last_round(alloc, flow, &before, *edge)?;
+        let within = within_of(alloc, flow, &all, &before, *edge)?;
         loops.push(Finding::Loop {
             edge: *edge,
-            inside,
+            within,
         })?;
         before.push(*edge)?;
     }
@@ -97,13 +120,13 @@ fn told_inside(alloc: Global, flow: &Flow<'_>, edges: &[Edge]) -> Result<Vec<Fin
 /// The loops of these edges, none of which is said to stand inside a mark.
 fn told_alone(alloc: Global, edges: &[Edge]) -> Result<Vec<Finding>, AllocError>
     ensures { IfOk result (λ loops. map seen loops.items
-        ≡ map (λ edge. closes (edge_of edge) None) edges.now) }
+        ≡ map (λ edge. closes (edge_of edge) within.Run) edges.now) }
 {
     let mut loops = Vec::new(alloc);
     for edge in edges {
         loops.push(Finding::Loop {
             edge: *edge,
-            inside: None,
+            within: Within::Run,
         })?;
     }
     Ok(loops)
@@ -111,7 +134,7 @@ fn told_alone(alloc: Global, edges: &[Edge]) -> Result<Vec<Finding>, AllocError>
 
 /// The loops that lack a mark, in the order in which they are listed. Where they are so many that
 /// notes can't have a mark for each, none is said to stand inside another one. It takes as long as
-/// [`closing_edges`], and at most some two hundred times as long as discovery.
+/// [`closing_edges`], and at most some four hundred times as long as discovery.
 pub fn unmarked_loops(alloc: Global, flow: &Flow<'_>) -> Result<Vec<Finding>, AllocError>
     requires { of_flow AreFound flow.now (executed_in flow.now) }
     ensures { IfOk result (λ loops. (edges : List (ℕ × ℕ)) × of_flow AreClosing flow.now edges
@@ -121,6 +144,6 @@ pub fn unmarked_loops(alloc: Global, flow: &Flow<'_>) -> Result<Vec<Finding>, Al
     if edges.len() > Mark::MOST - flow.notes().marks().len() {
         return told_alone(alloc, &edges);
     }
-    let edges = outer_first(alloc, flow, &edges)?;
+    let edges = fewest_first(alloc, flow, &edges)?;
     told_inside(alloc, flow, &edges)
 }

@@ -13,7 +13,7 @@ use std::alloc::{AllocError, Global};
 
 /// Whether the loop of the inner edge stands inside that of the outer one, and the flow graph has
 /// the outer edge. It takes as long as discovery, twice.
-fn stands_inside(
+pub fn stands_inside(
     alloc: Global,
     flow: &Flow<'_>,
     outer: Edge,

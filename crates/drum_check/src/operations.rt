@@ -1,6 +1,6 @@
 //! The operations outside the profile that are allowed at a location.
 
-ghost use Rattle.std.specs.Prelude.{◌≡◌, [], IfOk, OnOk, flat_map};
+ghost use Rattle.std.specs.Prelude.{◌≡◌, IfOk, OnOk};
 ghost use Rattle.drum_core.specs.Loads.{loads_in};
 ghost use Rattle.drum_flow.specs.Executed.{with_new};
 ghost use Rattle.drum_check.specs.Findings as said;

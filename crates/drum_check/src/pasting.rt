@@ -4,8 +4,9 @@ ghost use Rattle.std.specs.Prelude.{◌≡◌, ◌+◌, ◌^◌, ◌≤◌, ◌+
 ghost use Rattle.std.specs.Prelude.{length};
 ghost use Rattle.drum_lines.specs.Sent.{IsSent, IsWritten, fails_by};
 ghost use Rattle.drum_loops.specs.Loops.{edge_of};
+ghost use Rattle.drum_check.specs.declared.within.Within.TheVariants as within;
 ghost use Rattle.drum_check.specs.FindingsOf.{seen, found_in};
-ghost use Rattle.drum_check.specs.Lacking.{check_text, comment_text, edge_text, gap, inside_text};
+ghost use Rattle.drum_check.specs.Lacking.{check_text, comment_text, edge_text, gap, within_text};
 ghost use Rattle.drum_check.specs.Lacking.{list_text, mark_for, mark_text, part_text, pattern_text};
 ghost use Rattle.drum_check.specs.Lacking.{words_altered};
 ghost use Rattle.drum_check.specs.LackingOf.{pair_of, words_in};
@@ -15,6 +16,7 @@ use crate::findings::Findings;
 use crate::kept::Kept;
 use crate::lacking::{Lack, Lacking};
 use crate::listing::send_findings;
+use crate::within::Within;
 use drum_core::{Location, Output, Word};
 use drum_lines::{WriteFault, send, spelling_of};
 use drum_loops::Edge;
@@ -43,23 +45,16 @@ fn send_edge<O: Output>(writer: &mut O, sent: usize, edge: Edge) -> Result<usize
     send(writer, sent, &pieces)
 }
 
-/// Writes the line that says inside which other mark a mark stands, if it does.
-fn send_inside<O: Output>(
-    writer: &mut O,
-    sent: usize,
-    inside: Option<usize>,
-) -> Result<usize, WriteFault>
+/// Writes the line that says inside which mark, of this number, another one stands.
+fn send_inside<O: Output>(writer: &mut O, sent: usize, mark: usize) -> Result<usize, WriteFault>
     requires called { O.called writer.old ≤ 2 ^ 62 + 2 ^ 61 }
     requires few { sent ≤ 2 ^ 61 }
     ensures sent { IsSent (O.written writer.old) (O.written writer.new) sent result
-        (inside_text inside) }
+        (within_text (within.Mark mark)) }
     ensures failures { O.failed writer.new ≡ O.failed writer.old + fails_by result }
     ensures calls { O.called writer.new ≤ O.called writer.old + 100 }
     ensures few { IfOk result (λ total. total ≤ sent + 100) }
 {
-    let Some(mark) = inside else {
-        return Ok(sent);
-    };
     let mut number = Buffer::new();
     let pieces: [&[u8]; 3] = [
         b"inside = ",
@@ -69,23 +64,46 @@ fn send_inside<O: Output>(
     send(writer, sent, &pieces)
 }
 
-/// Writes the mark of an edge, with the mark inside which it stands, if it does.
+/// Writes the line that says inside which other mark a mark stands, if it does, or why there is
+/// none.
+fn send_within<O: Output>(writer: &mut O, sent: usize, within: Within) -> Result<usize, WriteFault>
+    requires called { O.called writer.old ≤ 2 ^ 62 + 2 ^ 61 }
+    requires few { sent ≤ 2 ^ 61 }
+    ensures sent { IsSent (O.written writer.old) (O.written writer.new) sent result
+        (within_text within) }
+    ensures failures { O.failed writer.new ≡ O.failed writer.old + fails_by result }
+    ensures calls { O.called writer.new ≤ O.called writer.old + 100 }
+    ensures few { IfOk result (λ total. total ≤ sent + 100) }
+{
+    match within {
+        Within::Run => Ok(sent),
+        Within::Mark(mark) => send_inside(writer, sent, mark),
+        Within::SeveralWays => {
+            let pieces: [&[u8]; 1] = [
+                b"# inside several ways back of one loop: most is of the whole run\n",
+            ];
+            send(writer, sent, &pieces)
+        }
+    }
+}
+
+/// Writes the mark of an edge, with the mark that it is to stand inside of.
 fn send_mark<O: Output>(
     writer: &mut O,
     sent: usize,
     edge: Edge,
-    inside: Option<usize>,
+    within: Within,
 ) -> Result<usize, WriteFault>
     requires called { O.called writer.old ≤ 2 ^ 62 + 2 ^ 60 }
     requires few { sent ≤ 2 ^ 60 }
     ensures sent { IsSent (O.written writer.old) (O.written writer.new) sent result
-        (mark_text (edge_of edge) inside) }
+        (mark_text (edge_of edge) within) }
     ensures failures { O.failed writer.new ≡ O.failed writer.old + fails_by result }
     ensures calls { O.called writer.new ≤ O.called writer.old + 200 }
     ensures few { IfOk result (λ total. total ≤ sent + 200) }
 {
     let sent = send_edge(writer, sent, edge)?;
-    send_inside(writer, sent, inside)
+    send_within(writer, sent, within)
 }
 
 /// Writes the mark that a finding asks for, if it does.
@@ -103,7 +121,7 @@ fn send_mark_for<O: Output>(
     ensures few { IfOk result (λ total. total ≤ sent + 200) }
 {
     match *finding {
-        Finding::Loop { edge, inside } => send_mark(writer, sent, edge, inside),
+        Finding::Loop { edge, within } => send_mark(writer, sent, edge, within),
         _ => Ok(sent),
     }
 }

@@ -1,6 +1,6 @@
 //! The marks that don't say inside which other one they stand.
 
-ghost use Rattle.std.specs.Prelude.{◌≡◌, ◌++◌, ◌↔◌, ◌<◌, [], ℕ, List, IsTrue, IfOk, OnOk, map};
+ghost use Rattle.std.specs.Prelude.{◌≡◌, ◌++◌, ◌↔◌, ◌<◌, ℕ, List, IsTrue, IfOk, OnOk, map};
 ghost use Rattle.std.specs.Prelude.{length};
 ghost use Rattle.std.specs.List.{list_all, range_with_len};
 ghost use Rattle.drum_core.specs.Loads.{loads_in, start_in};
@@ -8,10 +8,13 @@ ghost use Rattle.drum_flow.specs.Flow.{executed_in};
 ghost use Rattle.drum_loops.specs.Loops.{edge_of};
 ghost use Rattle.drum_check.specs.Findings.{edge_at, inside_at, is_on_edge, may_be_meant, pairs_of};
 ghost use Rattle.drum_check.specs.Findings.{AreThose, IsUnsaid};
-ghost use Rattle.drum_check.specs.FindingsOf.{seen};
+ghost use Rattle.drum_check.specs.FindingsOf.{seen, IsInsideIn};
+ghost use Rattle.drum_check.specs.Insides as said;
+ghost use Rattle.drum_check.specs.Insides.{HasSeveralWays};
 
-use crate::edges::has_edge;
+use crate::edges::{has_edge, marked_edges};
 use crate::finding::Finding;
+use crate::several::has_several_ways;
 use drum_flow::Flow;
 use drum_loops::{Edge, is_nested};
 use drum_machine::is_inside;
@@ -39,8 +42,18 @@ fn is_on_its_edge(alloc: Global, flow: &Flow<'_>, place: usize) -> Result<bool, 
     has_edge(alloc, flow, edge.from, edge.onto)
 }
 
-/// Whether the loop of the mark with one index stands inside that of the mark with another, and the
-/// notes don't say so.
+/// Whether the loop of an edge doesn't stand inside marks on several ways back of one loop.
+fn has_one_way(alloc: Global, flow: &Flow<'_>, inner: Edge) -> Result<bool, AllocError>
+    ensures { IfOk result (λ one. IsTrue one
+        ↔ ¬ HasSeveralWays (λ outer. IsInsideIn flow.now outer (edge_of inner))
+        (said.marked_edges flow.now.notes.now.marks)) }
+{
+    let edges = marked_edges(alloc, flow)?;
+    Ok(!has_several_ways(alloc, flow, &edges, inner)?)
+}
+
+/// Whether the loop of the mark with one index stands inside that of the mark with another, but not
+/// inside several ways back of one loop, and the notes don't say so.
 fn is_unsaid(alloc: Global, flow: &Flow<'_>, inner: usize, outer: usize) -> Result<bool, AllocError>
     requires inner { inner < length flow.now.notes.now.marks }
     requires outer { outer < length flow.now.notes.now.marks }
@@ -56,12 +69,11 @@ fn is_unsaid(alloc: Global, flow: &Flow<'_>, inner: usize, outer: usize) -> Resu
     if !is_on_its_edge(alloc, flow, outer)? {
         return Ok(false);
     }
-    is_nested(
-        alloc,
-        flow,
-        marked_edge(flow, outer),
-        marked_edge(flow, inner),
-    )
+    let edge = marked_edge(flow, inner);
+    if !is_nested(alloc, flow, marked_edge(flow, outer), edge)? {
+        return Ok(false);
+    }
+    has_one_way(alloc, flow, edge)
 }
 
 /// Adds those marks inside which the one with this index stands, and doesn't say so.

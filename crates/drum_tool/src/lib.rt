@@ -9,8 +9,8 @@
 //! and of a joined form, for the two laws that say in a sentence what `bound` prints. `DoesCommand`
 //! says what the code means by what is done for a command.
 //!
-//! Proofs, all of the program's replies: `Doing`, `Looking`, `OfNoFile`, `Replies`, `Worded` and
-//! `ToldOf`.
+//! Proofs. `Looking` has what is asked of a source; `Doing`, `OfNoFile`, `Replies`, `Worded` and
+//! `ToldOf` are of the program's replies.
 #![tactic(auto)]
 
 mod commands;
@@ -21,7 +21,7 @@ pub use commands::obey;
 pub use drum_answers::{tell_fault, tell_usage};
 pub use drum_bound::{Analysis, Refusal, Visit, Way, analyse, bound};
 pub use drum_ceiling::{Ceiling, ceiling};
-pub use drum_check::{Finding, Findings, Kept, Lacking, list_findings};
+pub use drum_check::{Finding, Findings, Kept, Lacking, Within, list_findings};
 pub use drum_core::{Deck, DeckFault, Reading, read_deck};
 pub use drum_documents::{Documents, Source};
 pub use drum_faults::{NamedText, PlacedFault, Slip, deck_faults, fault_lines, input_faults};

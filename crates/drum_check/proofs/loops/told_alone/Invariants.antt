@@ -1,11 +1,12 @@
-use Rattle.std.proofs.Common.{◌≡◌, map, take, None}
+use Rattle.std.proofs.Common.{◌≡◌, map, take}
 use Rattle.drum_loops.specs.declared.edge.Edge.{Edge}
 use Rattle.drum_loops.specs.Loops.{edge_of}
 use Rattle.drum_check.specs.Findings.{closes}
+use Rattle.drum_check.specs.declared.within.Within.TheVariants as within
 use Rattle.drum_check.specs.FindingsOf.{seen}
 use Rattle.drum_check.proofs.loops.told_alone.Given as goal
 
 -- the loops of the edges so far are listed
 abbrev pub invariant-loop-edge : goal.invariant-loop-edge
 invariant-loop-edge l =
-    map seen l.loops.items ≡ map (λ (edge : Edge). closes (edge_of edge) None) (take l.edge-index l.edges)
+    map seen l.loops.items ≡ map (λ (edge : Edge). closes (edge_of edge) within.Run) (take l.edge-index l.edges)

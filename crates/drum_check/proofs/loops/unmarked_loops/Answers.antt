@@ -1,6 +1,6 @@
 -- Of unmarked_loops: the edges close the loops. With the notes' marks they are more than eight, and
 -- then none is said to stand inside another; or they are put in order and each has its number.
-use Rattle.std.proofs.Common.{◌≡◌, ℕ, ◌+◌, ◌≤◌, ◌<◌, List, map, length, ap, sym, ◌∙◌, subst, inl, inr, arith, None}
+use Rattle.std.proofs.Common.{◌≡◌, ℕ, ◌+◌, ◌≤◌, ◌<◌, List, map, length, ap, sym, ◌∙◌, subst, inl, inr, arith, ◌++◌}
 use Rattle.std.specs.Prelude.{IsPermutation}
 use Rattle.std.proofs.lemmas.List.{length-map}
 use Rattle.std.proofs.lemmas.List.Sorted.{length_permutation}
@@ -13,7 +13,8 @@ use Rattle.drum_loops.specs.declared.edge.Edge.{Edge}
 use Rattle.drum_loops.specs.Loops.{edge_of, AreClosing}
 use Rattle.drum_check.specs.Finding.{Finding, closes}
 use Rattle.drum_check.specs.FindingsOf.{seen, IsInsideIn}
-use Rattle.drum_check.specs.Insides.{marked_edges, AreLoops, AreToldInside}
+use Rattle.drum_check.specs.declared.within.Within.TheVariants as within
+use Rattle.drum_check.specs.Insides.{marked_edges, AreLoops, AreToldInside, IsWithin}
 use Rattle.drum_check.proofs.Rearranged.{closing_moved}
 use Rattle.drum_check.proofs.loops.unmarked_loops.Goals as goal
 
@@ -24,7 +25,7 @@ returns-then-len-marks c =
     let notes = flow.notes.now in
     let start = start_in flow.deck.now in
     let edges = c.in_ok-edges.edges.items in
-    let alone : ℕ × ℕ → Finding = λ edge. closes edge None in
+    let alone : ℕ × ℕ → Finding = λ edge. closes edge within.Run in
     let many : 8 < length notes.marks + length (map edge_of edges) =
     omega (
       arith,
@@ -74,8 +75,8 @@ returns c =
       length_permutation (map edge_of edges) (map edge_of sorted) moved,
     ) in
     IfOk-weaker c.told_inside.result
-    (λ loops. AreToldInside (IsInsideIn flow) (marked_edges notes.marks) (map edge_of c.deref-3.result.now)
-    (map seen loops.items))
+    (λ loops. AreToldInside (IsWithin (IsInsideIn flow) (marked_edges notes.marks ++ map edge_of c.deref-3.result.now))
+    (marked_edges notes.marks) (map edge_of c.deref-3.result.now) (map seen loops.items))
     (λ loops. (all : List (ℕ × ℕ)) × AreClosing loads notes start all
     × AreLoops loads notes start (executed_in flow) all (map seen loops.items))
     (λ loops told. (
@@ -84,7 +85,7 @@ returns c =
       inl (
         few,
         c.in_ok-edges-2.ensures.sorted,
-        subst (λ (xs : List Edge). AreToldInside (IsInsideIn flow) (marked_edges notes.marks) (map edge_of xs)
-            (map seen loops.items)) c.deref-3.ensures.value told,
+        subst (λ (xs : List Edge). AreToldInside (IsWithin (IsInsideIn flow) (marked_edges notes.marks ++ map edge_of xs))
+            (marked_edges notes.marks) (map edge_of xs) (map seen loops.items)) c.deref-3.ensures.value told,
       ),
     )) c.told_inside.ensures

@@ -1,7 +1,7 @@
 use Rattle.std.proofs.Common.{◌≡◌, map, take}
 use Rattle.drum_loops.specs.Loops.{edge_of}
 use Rattle.drum_check.specs.Insides.{marked_edges}
-use Rattle.drum_check.proofs.loops.marked_edges.Given as goal
+use Rattle.drum_check.proofs.edges.marked_edges.Given as goal
 
 -- the edges of the marks so far
 abbrev pub invariant-loop-mark : goal.invariant-loop-mark

@@ -1,4 +1,4 @@
--- Of outer_first: each edge is held with a count, inside how many loops of the edges its own
+-- Of fewest_first: each edge is held with a count, inside how many loops of the edges its own
 -- stands. Sorting moves edges and counts together, so the edges are the same, and are in the order
 -- of these counts.
 use Rattle.std.proofs.Common.{◌≡◌, ℕ, List, map, ap, ◌∙◌, sym, subst}
@@ -12,9 +12,9 @@ use Rattle.drum_loops.specs.declared.edge.Edge.{Edge}
 use Rattle.drum_loops.specs.Loops.{edge_of}
 use Rattle.drum_check.specs.declared.loops.Counted.{Counted}
 use Rattle.drum_check.specs.FindingsOf.{IsInsideIn}
-use Rattle.drum_check.specs.Insides.{AreOuterFirst, AreSoMany}
+use Rattle.drum_check.specs.Insides.{AreFewestFirst, AreSoMany}
 use Rattle.drum_check.proofs.Rearranged.{sorted_outer}
-use Rattle.drum_check.proofs.loops.outer_first.Goals as goal
+use Rattle.drum_check.proofs.loops.fewest_first.Goals as goal
 
 abbrev edge_in : Counted → ℕ × ℕ
 edge_in one = edge_of one.edge
@@ -57,8 +57,8 @@ returns-clause-sorted c =
     IsNonDecreasingBy-from_sort_by_key (λ (one : Counted). one.many) sorted c.in_ok-sort_by_key.ensures.sorted
     (λ a r q k. search rules) in
     IfOk-weaker c.edges_of.result (λ told. told.items ≡ map (λ (one : Counted). one.edge) c.deref.result.now)
-    (λ told. AreOuterFirst (IsInsideIn flow) (map edge_of told.items))
-    (λ told are. subst (AreOuterFirst (IsInsideIn flow))
+    (λ told. AreFewestFirst (IsInsideIn flow) (map edge_of told.items))
+    (λ told are. subst (AreFewestFirst (IsInsideIn flow))
     (sym (edges_same c.deref.result.now sorted told.items c.deref.ensures.value are))
     (sorted_outer (IsInsideIn flow) edge_in (λ one. one.many) (map edge_of edges) sorted moved counts rising))
     c.edges_of.ensures
