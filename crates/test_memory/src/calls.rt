@@ -6,7 +6,7 @@ use drum_bound::{accept, analyse, bound, flow};
 use drum_ceiling::ceiling;
 use drum_core::{Reading, Word, Writing, read_deck, read_whole};
 use drum_machine::{Machine, Setup};
-use drum_times::{read_notes, read_times};
+use drum_toml::{read_notes, read_times};
 use drum_tool::{Documents, Findings, Inputs, Lacking, read_inputs, replay, run, run_joined};
 use std::alloc::{AllocError, Global};
 use std::test::Fail;

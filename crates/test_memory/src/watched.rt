@@ -151,12 +151,25 @@ fn of_a_short_wait(rt: HostRuntime) -> Result<(), Fail> {
     )
 }
 
-/// The first of its two words waits for the card machine, up to 3125 word times. It makes as many
-/// requests as [`of_a_short_wait`], though the clock goes on much further.
+/// The first of two words waits for the card machine, up to 3125 word times.
+const PUNCHES: &str = "0100 +7100000106\n0106 +0100000106\nSTART 0100\n";
+
+/// It makes as many requests as [`of_a_short_wait`], though the clock goes on much further.
 #[test]
 fn of_a_long_wait(rt: HostRuntime) -> Result<(), Fail> {
-    let punches = "0100 +7100000106\n0106 +0100000106\nSTART 0100\n";
-    holds(&rt, Call::Analyse(&documents(rt.alloc(), punches, NOTES)?))
+    holds(&rt, Call::Analyse(&documents(rt.alloc(), PUNCHES, NOTES)?))
+}
+
+/// It makes no more requests than [`of_a_short_wait`]: an analysis scans once, and makes a walk.
+#[test]
+fn of_a_bound_with_a_short_wait(rt: HostRuntime) -> Result<(), Fail> {
+    holds(&rt, Call::Bound(&documents(rt.alloc(), TWO_WORDS, NOTES)?))
+}
+
+/// It makes as many requests as [`of_a_bound_with_a_short_wait`].
+#[test]
+fn of_a_bound_with_a_long_wait(rt: HostRuntime) -> Result<(), Fail> {
+    holds(&rt, Call::Bound(&documents(rt.alloc(), PUNCHES, NOTES)?))
 }
 
 /// The files of a deck with these notes and inputs.
