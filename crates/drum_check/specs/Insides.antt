@@ -53,13 +53,16 @@ pub record AreHeads (IsOne : ℕ × ℕ → Type 0) (edges : List (ℕ × ℕ)) 
 -- Two of those of some edges that have a property go back to one location: of the loops of edges
 -- that one loop stands inside of, two are ways back of one loop.
 abbrev pub HasSeveralWays : (ℕ × ℕ → Type 0) → List (ℕ × ℕ) → Type 0
-HasSeveralWays IsOne edges = (heads : List ℕ) × AreHeads IsOne edges heads × IsTrue (has_twice heads)
+HasSeveralWays IsOne edges =
+    (heads : List ℕ) × AreHeads IsOne edges heads × IsTrue (has_twice heads)
 
--- Which mark a mark on the edge is to stand inside of: the last one before it inside whose loop its
--- own stands; and none where its loop stands inside several ways back of one loop, which all these
--- edges have.
-abbrev pub IsWithin : (ℕ × ℕ → ℕ × ℕ → Type 0) → List (ℕ × ℕ) → List (ℕ × ℕ) → ℕ × ℕ → Within → Type 0
-IsWithin IsInside all before edge within.SeveralWays = HasSeveralWays (λ outer. IsInside outer edge) all
+-- Which of the marks before it, on these edges, a mark on the edge is to stand inside of: the last
+-- one inside whose loop its own stands; and none where, of all edges with marks, its loop stands
+-- inside several ways back of one loop.
+abbrev pub IsWithin : (ℕ × ℕ → ℕ × ℕ → Type 0) → List (ℕ × ℕ) → List (ℕ × ℕ) → ℕ × ℕ → Within
+    → Type 0
+IsWithin IsInside all before edge within.SeveralWays =
+    HasSeveralWays (λ outer. IsInside outer edge) all
 IsWithin IsInside all before edge within.Run =
     ¬ HasSeveralWays (λ outer. IsInside outer edge) all
     × IsLastNumber (λ outer. IsInside outer edge) before None

@@ -5,9 +5,9 @@
 //! `obey`: what each command does with its files. `laws` has laws of the definitions.
 //!
 //! Definitions, in the order to read them: `Commands` is the reply to a command, by what its files
-//! hold, and to a joined form, and `Words` that to the program's words. `Told` is the bound of files
-//! and of a joined form, for the two laws that say in a sentence what `bound` prints. `DoesCommand`
-//! says what the code means by what is done for a command.
+//! hold, and to a joined form, and `Words` that to the program's words. `Told` is the bound of
+//! files and of a joined form, for the two laws that say in a sentence what `bound` prints.
+//! `DoesCommand` says what the code means by what is done for a command.
 //!
 //! Proofs. `Looking` has what is asked of a source; `Doing`, `OfNoFile`, `Replies`, `Worded` and
 //! `ToldOf` are of the program's replies.
