@@ -1,2 +1,0 @@
-pub mod NoLine
-mod Traced

@@ -1,4 +1,2 @@
 pub mod Checked
-pub mod Does
-pub mod Output
-pub mod Reply
+pub mod Says

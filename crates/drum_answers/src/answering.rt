@@ -4,23 +4,20 @@ ghost use Rattle.std.specs.Prelude.{◌≡◌, ◌^◌, ◌≤◌, IfOk, IfErr};
 ghost use Rattle.drum_bound.specs.AnalysisOf.{angle_of, bound_of, rows_of, visits_of};
 ghost use Rattle.drum_bound.specs.Table.{IsTable};
 ghost use Rattle.drum_documents.specs.Documents.{setting_of};
-ghost use Rattle.drum_replay.specs.Limits.{IsAnalysisFault, IsBound, IsWorstWalk};
-ghost use Rattle.drum_answers.specs.Does.{Does};
-ghost use Rattle.drum_answers.specs.Output.{Device, device};
-ghost use Rattle.drum_answers.specs.Reply.{Refuses, Says, SaysPicture};
+ghost use Rattle.drum_documents.specs.Limits.{IsAnalysisFault, IsBound, IsWorstWalk};
+ghost use Rattle.drum_lines.specs.Does.{Does};
+ghost use Rattle.drum_lines.specs.Output.{Device, device};
+ghost use Rattle.drum_answers.specs.Says.{Refuses, Says, SaysPicture};
 
-use crate::telling::{
-    tell_bound, tell_ceiling, tell_graph, tell_report, tell_table, tell_text, tell_waits, tell_walk,
-};
+use crate::telling::{tell_ceiling, tell_graph, tell_report, tell_table, tell_waits, tell_walk};
 use drum_bound::{Analysis, Refusal, analyse};
 use drum_command::Question;
 use drum_core::Output;
-use drum_documents::Documents;
+use drum_documents::{Documents, bound_of, ceiling_of};
 use drum_graph::Graph;
-use drum_lines::{Fault, Status};
+use drum_lines::{Fault, Status, tell_bound, tell_text};
 use drum_listing::{Table, Waits};
 use drum_picture::picture;
-use drum_replay::{bound_of, ceiling_of};
 use std::alloc::Global;
 
 /// The most bytes of a picture that is printed.

@@ -10,7 +10,8 @@ ghost use Rattle.drum_faults.specs.NamedTexts.{named};
 ghost use Rattle.drum_answers.specs.Checked.{AreLacking, IsChecked, IsShort};
 ghost use Rattle.drum_documents.specs.TextsOf.{inputs_in, texts_in};
 ghost use Rattle.drum_documents.specs.Asked.{name_in};
-ghost use Rattle.drum_answers.specs.Reply.{AreLinesOfFaults, IsWanting};
+ghost use Rattle.drum_answers.specs.Says.{AreLinesOfFaults};
+ghost use Rattle.drum_lines.specs.FaultStatus.{IsWanting};
 
 use drum_check::{Findings, Lacking};
 use drum_command::Files;

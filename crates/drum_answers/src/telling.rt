@@ -1,14 +1,11 @@
-//! A reply, written to the output that it is for, and the status after it.
+//! What is said of documents, written to standard output, and the status after it.
 
-ghost use Rattle.std.specs.Prelude.{◌≡◌, ◌+◌, ◌^◌, ◌≤◌, length};
+ghost use Rattle.std.specs.Prelude.{◌≡◌, ◌^◌, ◌≤◌};
 ghost use Rattle.drum_times.specs.Entries.{entry_in};
 ghost use Rattle.drum_bound.specs.AnalysisOf.{angle_of, bound_of, visits_of};
 ghost use Rattle.drum_check.specs.FindingsOf.{found_in};
 ghost use Rattle.drum_check.specs.Lacking.{check_text, words_altered};
 ghost use Rattle.drum_check.specs.LackingOf.{words_in};
-ghost use Rattle.drum_lines.specs.BoundText.{bound_text};
-ghost use Rattle.drum_lines.specs.FaultStatus.{status_after};
-ghost use Rattle.drum_lines.specs.FaultText.{fault_text};
 ghost use Rattle.drum_graph.specs.GraphOf.{nodes_in, start_of};
 ghost use Rattle.drum_graph.specs.GraphText.{graph_text};
 ghost use Rattle.drum_listing.specs.TableOf.{rows_in};
@@ -16,50 +13,21 @@ ghost use Rattle.drum_listing.specs.TableText.{table_text};
 ghost use Rattle.drum_listing.specs.WaitsOf.{AreWaits, firsts_of};
 ghost use Rattle.drum_listing.specs.WaitsText.{waits_text};
 ghost use Rattle.drum_listing.specs.WalkText.{walk_text};
-ghost use Rattle.drum_replay.specs.Begun.{IsReady, IsTraceBegun};
-ghost use Rattle.drum_replay.specs.Limits.{IsCeiling};
-ghost use Rattle.drum_documents.specs.Documents.{setting_of};
-ghost use Rattle.drum_answers.specs.Output.{Device, GetsComplaint, GetsResult, Tells, device};
-ghost use Rattle.drum_answers.specs.Output.{ended_with};
-ghost use Rattle.drum_replay.specs.Replay.{Given};
-ghost use Rattle.drum_answers.specs.Reply.{Reply, SaysTrace, status_after_check};
-ghost use Rattle.drum_lines.specs.Status.{status_of};
+ghost use Rattle.drum_documents.specs.Limits.{IsCeiling};
+ghost use Rattle.drum_lines.specs.Output.{GetsResult, device};
+ghost use Rattle.drum_answers.specs.Says.{status_after_check};
 ghost use Rattle.drum_report.specs.CeilingText.{ceiling_text};
 ghost use Rattle.drum_report.specs.Report.{report_text};
-ghost use Rattle.drum_lines.specs.VerdictText.{verdict_text};
 
-use crate::tracing::trace;
 use drum_bound::Analysis;
 use drum_ceiling::Ceiling;
 use drum_check::{Findings, Lacking, list_findings};
 use drum_core::Output;
 use drum_documents::Documents;
 use drum_graph::{Graph, send_graph};
-use drum_lines::{
-    Fault, Limit, Status, Verdict, WriteFault, write_bound, write_fault, write_text, write_verdict,
-};
+use drum_lines::{Status, ended};
 use drum_listing::{Table, Waits, list_table, list_waits, list_walk};
-use drum_replay::Begun;
 use drum_report::{report, report_ceiling};
-
-/// How the program ends once a result was written.
-fn ended(written: Result<(), WriteFault>, done: Status) -> Status
-    ensures { result ≡ ended_with written done }
-{
-    match written {
-        Ok(()) => done,
-        Err(_) => Status::Failed,
-    }
-}
-
-/// Writes a bound.
-pub fn tell_bound<O: Output>(out: &mut O, bound: u64) -> Status
-    requires { O.called out.old ≤ 2 ^ 62 }
-    ensures { GetsResult (device (O.written out.old) (O.failed out.old))
-        (device (O.written out.new) (O.failed out.new)) (bound_text bound) Status.Done result }
-{
-    ended(write_bound(out, bound), Status::Done)
-}
 
 /// Writes the report of an analysis.
 pub fn tell_report<O: Output>(out: &mut O, documents: &Documents, analysis: &Analysis) -> Status
@@ -166,86 +134,4 @@ pub fn tell_findings<O: Output>(out: &mut O, findings: &Findings, lacking: &Lack
         (status_after_check (found_in findings.now)) result }
 {
     ended(list_findings(findings, lacking, out), status_of(findings))
-}
-
-/// Writes a verdict on a run whose word times are limited so.
-pub fn tell_verdict<O: Output>(out: &mut O, limit: Limit, verdict: &Verdict) -> Status
-    requires { O.called out.old ≤ 2 ^ 62 + 2 ^ 60 }
-    ensures { GetsResult (device (O.written out.old) (O.failed out.old))
-        (device (O.written out.new) (O.failed out.new)) (verdict_text limit verdict.now)
-        (status_of verdict.now) result }
-{
-    ended(write_verdict(out, limit, verdict), verdict.status())
-}
-
-/// Writes the line of a fault, and tells how the program ends after it: a write that fails changes
-/// nothing.
-pub fn tell_fault<E: Output>(err: &mut E, fault: &Fault) -> Status
-    requires { E.called err.old ≤ 2 ^ 62 }
-    ensures line { GetsComplaint (device (E.written err.old) (E.failed err.old))
-        (device (E.written err.new) (E.failed err.new)) (fault_text fault.now) }
-    ensures status { result ≡ status_after fault.now }
-{
-    let _ = write_fault(err, fault);
-    fault.status()
-}
-
-/// Writes the steps of a run and its verdict.
-pub fn tell_trace<O: Output>(out: &mut O, documents: &Documents, begun: Begun) -> Status
-    requires called { O.called out.old ≤ 2 ^ 62 }
-    requires ready { IsReady (setting_of documents.now) begun }
-    ensures { (given : Given) → IsTraceBegun documents.now given begun
-        → (reply : Reply) × SaysTrace documents.now given reply
-        × ((err : Device) → Tells reply (device (O.written out.old) (O.failed out.old))
-        (device (O.written out.new) (O.failed out.new)) err err result) }
-{
-    let limit = begun.limit;
-    match trace(documents, begun, out) {
-        Ok(verdict) => tell_verdict(out, limit, &verdict),
-        Err(_) => Status::Failed,
-    }
-}
-
-/// As [`tell_fault`], and the fault is dropped.
-pub fn complain<E: Output>(err: &mut E, fault: Fault) -> Status
-    requires { E.called err.old ≤ 2 ^ 62 }
-    ensures line { GetsComplaint (device (E.written err.old) (E.failed err.old))
-        (device (E.written err.new) (E.failed err.new)) (fault_text fault) }
-    ensures status { result ≡ status_after fault }
-{
-    tell_fault(err, &fault)
-}
-
-/// Writes a text that is a result.
-pub fn tell_text<O: Output>(out: &mut O, text: &[u8]) -> Status
-    requires out { O.called out.old ≤ 2 ^ 62 }
-    requires short { length text.now ≤ 2 ^ 61 }
-    ensures { GetsResult (device (O.written out.old) (O.failed out.old))
-        (device (O.written out.new) (O.failed out.new)) text.now Status.Done result }
-{
-    ended(write_text(out, text), Status::Done)
-}
-
-/// Writes what is wrong with the command line: a write that fails changes nothing.
-pub fn tell_usage<E: Output>(err: &mut E, text: &[u8]) -> Status
-    requires err { E.called err.old ≤ 2 ^ 62 }
-    requires short { length text.now ≤ 2 ^ 61 }
-    ensures text { GetsComplaint (device (E.written err.old) (E.failed err.old))
-        (device (E.written err.new) (E.failed err.new)) text.now }
-    ensures status { result ≡ Status.Usage }
-{
-    let _ = write_text(err, text);
-    Status::Usage
-}
-
-/// Writes the lines of all faults of texts: a write that fails changes nothing.
-pub fn tell_faults<E: Output>(err: &mut E, lines: &[u8]) -> Status
-    requires err { E.called err.old ≤ 2 ^ 62 }
-    requires short { length lines.now ≤ 2 ^ 61 }
-    ensures lines { GetsComplaint (device (E.written err.old) (E.failed err.old))
-        (device (E.written err.new) (E.failed err.new)) lines.now }
-    ensures status { result ≡ Status.Refused }
-{
-    let _ = write_text(err, lines);
-    Status::Refused
 }

@@ -2,5 +2,6 @@ pub mod Asking
 mod Cuts
 mod Giving
 mod Joining
+pub mod Limiting
 mod Refusing
 mod Unread

@@ -14,7 +14,7 @@ use Rattle.drum_inputs.specs.InputsText as input_lines
 use Rattle.drum_inputs.specs.InputsText.{AreInputs}
 use Rattle.drum_lines.specs.FaultText.{deck_text, fault_text, input_text, note_text}
 use Rattle.drum_toml.specs.declared.complaint.Complaint.{Complaint}
-use Rattle.drum_toml.specs.declared.fault.NoteFault.{NoteFault}
+use Rattle.drum_times.specs.declared.fault.NoteFault.{NoteFault}
 use Rattle.drum_toml.specs.AllFaults.{AreAllFaults}
 use Rattle.drum_toml.specs.Complaint.{Complains, line_at}
 use Rattle.drum_toml.specs.Document.{Fault}

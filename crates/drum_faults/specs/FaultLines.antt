@@ -12,7 +12,7 @@ use Rattle.drum_inputs.specs.InputsText as input_lines
 use Rattle.drum_lines.specs.FaultText.{deck_text, input_text, note_text}
 use Rattle.drum_toml.specs.AllFaults.{AreAllFaults, all_notes_faults}
 use Rattle.drum_toml.specs.Complaint.{line_at, column_at}
-use Rattle.drum_toml.specs.declared.fault.NoteFault.{NoteFault}
+use Rattle.drum_times.specs.declared.fault.NoteFault.{NoteFault}
 use Rattle.drum_toml.specs.Document.{Fault}
 use Rattle.drum_toml.specs.Refused.{IsDocument}
 use Rattle.drum_toml.specs.TimesDocument.{times_faults}

@@ -11,7 +11,7 @@ use crate::slip::Slip;
 use drum_core::{DeckFault, Location, Writing};
 use drum_inputs::InputFault;
 use drum_lines::{Fault, write_fault};
-use drum_toml::NoteFault;
+use drum_times::NoteFault;
 use itoa::Buffer;
 use std::alloc::AllocError;
 

@@ -1,2 +1,3 @@
 mod Checks
+pub mod NoLine
 pub mod Sending

@@ -7,8 +7,8 @@ use Rattle.drum_flow.specs.declared.refusal.Refusal as refused
 use Rattle.drum_flow.specs.declared.refusal.Refusal.TheVariants as refusal
 use Rattle.drum_inputs.specs.declared.fault.InputFault.{InputFault}
 use Rattle.drum_inputs.specs.declared.fault.InputFault.TheVariants as input
-use Rattle.drum_toml.specs.declared.fault.NoteFault.{NoteFault}
-use Rattle.drum_toml.specs.declared.fault.NoteFault.TheVariants as note
+use Rattle.drum_times.specs.declared.fault.NoteFault.{NoteFault}
+use Rattle.drum_times.specs.declared.fault.NoteFault.TheVariants as note
 use Rattle.drum_lines.specs.declared.fault.Fault.{Fault}
 use Rattle.drum_lines.specs.declared.fault.Fault.TheVariants.{NoPart, Part, Memory, Deck, Times}
 use Rattle.drum_lines.specs.declared.fault.Fault.TheVariants.{Notes, Inputs, Refused, Loaded}
@@ -56,3 +56,9 @@ status_after (Notes fault) = after_note fault
 status_after (Inputs fault) = after_input fault
 status_after (Refused fault) = after_refusal fault
 status_after (Loaded location) = ends.Refused
+
+-- the program is out of memory (which is tested, not stated)
+abbrev pub IsWanting : Fault → Type 0
+IsWanting Memory = Unit {0}
+IsWanting (Refused refusal.Memory) = Unit {0}
+IsWanting _ = ⊥

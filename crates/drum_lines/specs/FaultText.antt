@@ -9,8 +9,8 @@ use Rattle.drum_flow.specs.declared.refusal.Refusal as refused
 use Rattle.drum_flow.specs.declared.refusal.Refusal.TheVariants as refusal
 use Rattle.drum_inputs.specs.declared.fault.InputFault.{InputFault}
 use Rattle.drum_inputs.specs.declared.fault.InputFault.TheVariants as input
-use Rattle.drum_toml.specs.declared.fault.NoteFault.{NoteFault}
-use Rattle.drum_toml.specs.declared.fault.NoteFault.TheVariants as note
+use Rattle.drum_times.specs.declared.fault.NoteFault.{NoteFault}
+use Rattle.drum_times.specs.declared.fault.NoteFault.TheVariants as note
 use Rattle.drum_lines.specs.declared.fault.Fault.{Fault}
 use Rattle.drum_lines.specs.declared.fault.Fault.TheVariants.{NoPart, Part, Memory, Deck, Times}
 use Rattle.drum_lines.specs.declared.fault.Fault.TheVariants.{Notes, Inputs, Refused, Loaded}

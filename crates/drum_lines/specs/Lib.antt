@@ -1,6 +1,9 @@
 pub mod BoundText
+pub mod Does
 pub mod FaultStatus
 pub mod FaultText
+pub mod Output
+pub mod Reply
 pub mod Sent
 pub mod Status
 pub mod VerdictText

@@ -6,7 +6,7 @@ use crate::status::Status;
 use drum_core::{DeckFault, Location};
 use drum_flow::Refusal;
 use drum_inputs::InputFault;
-use drum_toml::NoteFault;
+use drum_times::NoteFault;
 use std::alloc::AllocError;
 
 /// Why a command has no answer.

@@ -6,14 +6,17 @@
 //! program ends, and `failed_write` how much of a text went out. `print` has the parts of a line;
 //! `print/` writes each line. `print/fault_line` hands a fault to the one of its kind:
 //! `print/deck_fault`, `note_fault`, `input_fault`, `part_fault`, and `refusal_line` for what
-//! refuses an analysis (faults 31 to 36).
+//! refuses an analysis (faults 31 to 36). `telling` writes a text to the output that it is for, and
+//! tells the status then, after a write that failed too.
 //!
 //! Definitions, in the order to read them: `BoundText`, `VerdictText` and `FaultText` are the
 //! lines. `Status` is the number of each status, and `FaultStatus` which comes after which fault,
-//! and how many failed reads a fault tells. `Sent` is what has gone out of a text.
+//! and how many failed reads a fault tells. `Reply` is what the program has to say, and that it
+//! tells of as many failed reads as there were; `Output` is what goes out of that. `Does` says what
+//! the code means by one of these, and `Sent` what has gone out of a text.
 //!
-//! Proofs. `Sending` has laws of texts that go out one behind the other, for each crate that writes
-//! lines. `Checks` evaluates the definitions.
+//! Proofs. `Sending` has laws of texts that go out one behind the other, and `NoLine` says which
+//! replies are no fault's line: both serve the crates above. `Checks` evaluates the definitions.
 #![tactic(auto)]
 
 mod failed_write;
@@ -22,6 +25,7 @@ mod limit;
 mod part;
 mod print;
 mod status;
+mod telling;
 mod verdict;
 
 pub use failed_write::WriteFault;
@@ -29,7 +33,10 @@ pub use fault::Fault;
 pub use limit::Limit;
 pub use part::{Part, PartFault};
 pub use print::fault_line::write_fault;
-pub use print::verdict_line::{spelling_of, write_verdict};
-pub use print::{four_digits, send, send_bound, two_digits, write_bound, write_text};
+pub use print::verdict_line::spelling_of;
+pub use print::{four_digits, send, send_bound, two_digits};
 pub use status::Status;
+pub use telling::{
+    complain, ended, tell_bound, tell_fault, tell_faults, tell_text, tell_usage, tell_verdict,
+};
 pub use verdict::Verdict;

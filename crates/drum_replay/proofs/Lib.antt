@@ -1,6 +1,8 @@
-pub mod Beginning
-pub mod Followed
+mod Beginning
+mod Followed
 mod Leading
-mod Limiting
+pub mod NoLine
 mod OneRun
 mod OneVerdict
+mod TraceBegun
+mod Traced

@@ -9,7 +9,7 @@ use Rattle.drum_lines.specs.declared.verdict.Verdict.TheVariants.{Left}
 use Rattle.drum_replay.specs.declared.replaying.Begun.{Begun}
 use Rattle.drum_documents.specs.declared.documents.Documents.{Documents}
 use Rattle.drum_flow.specs.Bounded.{IsBounded}
-use Rattle.drum_replay.specs.Limits.{IsLimit}
+use Rattle.drum_documents.specs.Limits.{IsLimit}
 use Rattle.drum_documents.specs.Documents.{setting_of}
 use Rattle.drum_replay.specs.Following.{AreGiven, CanBegin, IsFollowing, state_of, waits_of}
 use Rattle.drum_replay.specs.Replay.{Given, HasOwnWords}

@@ -1,5 +1,5 @@
 pub mod Begun
 pub mod Following
 pub mod Given
-pub mod Limits
 pub mod Replay
+pub mod RunReply

@@ -8,10 +8,9 @@ ghost use Rattle.drum_replay.specs.Given.{given};
 ghost use Rattle.drum_replay.specs.Replay.{IsReplay, IsReplayFault, IsTraceFault};
 
 use crate::following::{Following, follow};
-use crate::limits::limit_of;
 use drum_bound::bound;
 use drum_core::Deck;
-use drum_documents::Documents;
+use drum_documents::{Documents, limit_of};
 use drum_inputs::Inputs;
 use drum_lines::{Fault, Limit, Verdict};
 use drum_machine::{Left, Machine};

@@ -4,7 +4,8 @@
 //! Code, from the bottom up. `entry` is a row of the timing table, and `times` the table. `notes`
 //! is what notes answer. Its folder has the types that they are made of: `notes/mark` (which knows
 //! its edge, which of some marks stands on one, and how many there may be), `notes/listing`,
-//! `notes/pattern` and `notes/programmed`. `laws` has a law of the definitions.
+//! `notes/pattern` and `notes/programmed`. `fault` is why a document is neither, and `key_path` how
+//! a fault names a key. `laws` has a law of the definitions.
 //!
 //! Definitions, in the order to read them: `Allowed` says what notes are and which instructions
 //! they allow, and `Marks` on which edges marks stand. The others say what the code's types mean by
@@ -14,11 +15,15 @@
 #![tactic(auto)]
 
 mod entry;
+mod fault;
+mod key_path;
 pub mod laws;
 mod notes;
 mod times;
 
 pub use entry::Entry;
+pub use fault::NoteFault;
+pub use key_path::KeyPath;
 pub use notes::Notes;
 pub use notes::listing::Listing;
 pub use notes::mark::Mark;

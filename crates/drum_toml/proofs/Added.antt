@@ -9,7 +9,7 @@ use Rattle.std.specs.Prelude.{codes, nat_le, pos, negsuc}
 use Rattle.drum_core.specs.declared.op.Op.{Op}
 use Rattle.drum_core.specs.Location.{is_location}
 use Rattle.drum_toml.specs.declared.document.value.ValueFault.{ValueFault}
-use Rattle.drum_toml.specs.declared.fault.NoteFault.{NoteFault}
+use Rattle.drum_times.specs.declared.fault.NoteFault.{NoteFault}
 use Rattle.drum_toml.specs.declared.times.read_entry.Form.{Form}
 use Rattle.drum_toml.specs.AllFaults.{Adds, location_of, location_in, locations_at, marks_of, marks_in}
 use Rattle.drum_toml.specs.Document.{Fault, kind, missing, range, unknown_in, missing_in, at_key, array_faults}

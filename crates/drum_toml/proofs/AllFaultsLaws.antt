@@ -6,9 +6,9 @@ use Rattle.std.specs.Prelude.{codes, decimal, flat_map}
 use Rattle.drum_core.specs.declared.op.Op.{Op}
 use Rattle.drum_core.specs.Location.{is_location}
 use Rattle.drum_times.specs.declared.entry.Entry.{Entry}
-use Rattle.drum_toml.specs.declared.fault.NoteFault.{NoteFault}
-use Rattle.drum_toml.specs.declared.fault.NoteFault.TheVariants.{Toml, Memory, Missing, Unknown, Range, Kind, TwoMarks}
-use Rattle.drum_toml.specs.declared.fault.NoteFault.TheVariants.{TwoLists}
+use Rattle.drum_times.specs.declared.fault.NoteFault.{NoteFault}
+use Rattle.drum_times.specs.declared.fault.NoteFault.TheVariants.{Toml, Memory, Missing, Unknown, Range, Kind, TwoMarks}
+use Rattle.drum_times.specs.declared.fault.NoteFault.TheVariants.{TwoLists}
 use Rattle.drum_times.specs.Allowed.{Notes}
 use Rattle.drum_toml.specs.AllFaults.{Tells, TellEach, AreAllFaults, location_in, locations_at, edges_in, marks_in}
 use Rattle.drum_toml.specs.AllFaults.{repeated_edges, repeated_locations, all_notes_faults}

@@ -5,7 +5,7 @@ use Rattle.std.specs.Prelude.{codes, ◌&&◌, nat_le}
 use Rattle.drum_core.specs.declared.op.Op.{Op}
 use Rattle.drum_core.specs.declared.parity.Parity.{Parity}
 use Rattle.drum_core.specs.declared.parity.Parity.TheVariants.{Any, Even, Odd}
-use Rattle.drum_toml.specs.declared.fault.NoteFault.{NoteFault}
+use Rattle.drum_times.specs.declared.fault.NoteFault.{NoteFault}
 use Rattle.drum_toml.specs.declared.times.read_entry.Form.{Form}
 use Rattle.drum_toml.specs.declared.times.read_entry.Form.TheVariants.{Plain, Units, Waits}
 use Rattle.drum_toml.specs.Document.{Fault, unknown_in, missing_in, whole, text, number_at, number_faults, text_faults}

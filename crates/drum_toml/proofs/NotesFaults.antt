@@ -5,7 +5,7 @@ use Rattle.std.proofs.lemmas.Bool.{cases_lt, lt-ltb}
 use Rattle.std.specs.List.{AllByRecursion}
 use Rattle.std.specs.Prelude.{codes, nat_lt, slice_get}
 use Rattle.drum_core.specs.Location.{IsLocation, is_location}
-use Rattle.drum_toml.specs.declared.fault.NoteFault.{NoteFault}
+use Rattle.drum_times.specs.declared.fault.NoteFault.{NoteFault}
 use Rattle.drum_toml.specs.Document.{Fault, in_turn, unknown_in, missing_in, whole, location, number_at, number_in}
 use Rattle.drum_toml.specs.Document.{number_faults}
 use Rattle.drum_toml.specs.NotesDocument.{pattern_keys, pattern_checks}

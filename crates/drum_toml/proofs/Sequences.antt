@@ -6,9 +6,9 @@ use Rattle.std.proofs.lemmas.List.{append-nil}
 use Rattle.std.proofs.lemmas.Map.Text.{is_eq-slice_cmp}
 use Rattle.std.proofs.lemmas.Slice.Eq.{bytes_eq-Decides}
 use Rattle.std.specs.Prelude.{IsErrAnd}
-use Rattle.drum_toml.specs.declared.fault.NoteFault.{NoteFault}
-use Rattle.drum_toml.specs.declared.fault.NoteFault.TheVariants.{Toml, Memory, Missing, Unknown, Range, Kind, TwoMarks}
-use Rattle.drum_toml.specs.declared.fault.NoteFault.TheVariants.{TwoLists}
+use Rattle.drum_times.specs.declared.fault.NoteFault.{NoteFault}
+use Rattle.drum_times.specs.declared.fault.NoteFault.TheVariants.{Toml, Memory, Missing, Unknown, Range, Kind, TwoMarks}
+use Rattle.drum_times.specs.declared.fault.NoteFault.TheVariants.{TwoLists}
 use Rattle.drum_toml.specs.Document.{Fault, unknown, is_among, missing_in, unknown_in}
 use Rattle.drum_toml.specs.Refused.{Begin, IsFirst}
 use Rattle.toml.specs.Data.{Members, no_members, member, same_key}

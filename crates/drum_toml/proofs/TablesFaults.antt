@@ -2,7 +2,7 @@
 use Rattle.std.proofs.Common.{◌≡◌, ℕ, suc, ◌+◌, ◌<◌, Bool, true, cond, List, [], ◌∷◌, ◌++◌, drop, length, get_or}
 use Rattle.std.proofs.Common.{Option, Some, None, refl, ap, sym, ◌∙◌, subst, append-nil}
 use Rattle.std.specs.Prelude.{codes, decimal}
-use Rattle.drum_toml.specs.declared.fault.NoteFault.{NoteFault}
+use Rattle.drum_times.specs.declared.fault.NoteFault.{NoteFault}
 use Rattle.drum_toml.specs.Document.{Fault, range, is_count, count_of, element_faults, elements_faults, array_faults}
 use Rattle.drum_toml.specs.Document.{tables}
 use Rattle.drum_toml.specs.NotesDocument.{AreTables}

@@ -9,7 +9,7 @@ use Rattle.drum_core.specs.declared.op.Op.{Op}
 use Rattle.drum_core.specs.Op.{number_of, ops}
 use Rattle.drum_core.proofs.OpLaws.{same_op, number_below, place_of}
 use Rattle.drum_times.specs.declared.entry.Entry.{Entry}
-use Rattle.drum_toml.specs.declared.fault.NoteFault.{NoteFault}
+use Rattle.drum_times.specs.declared.fault.NoteFault.{NoteFault}
 use Rattle.drum_toml.specs.Document.{Fault, missing, unknown_in}
 use Rattle.drum_times.specs.Entries.{blank}
 use Rattle.drum_toml.specs.Refused.{IsFirst}

@@ -3,9 +3,9 @@ use Rattle.std.specs.Prelude.{◌≡◌, ℕ, ◌⊎◌, if◌then◌else◌, Li
 use Rattle.std.specs.Prelude.{codes, pos, Option, Some, None, string_bytes}
 use Rattle.drum_core.specs.declared.location.Location.{Location}
 use Rattle.drum_core.specs.Location.{is_location}
-use Rattle.drum_toml.specs.declared.fault.NoteFault.{NoteFault}
-use Rattle.drum_toml.specs.declared.fault.NoteFault.TheVariants.{Toml, Memory, Missing, Unknown}
-use Rattle.drum_toml.specs.declared.fault.NoteFault.TheVariants.{Range, Kind, TwoMarks, TwoLists}
+use Rattle.drum_times.specs.declared.fault.NoteFault.{NoteFault}
+use Rattle.drum_times.specs.declared.fault.NoteFault.TheVariants.{Toml, Memory, Missing, Unknown}
+use Rattle.drum_times.specs.declared.fault.NoteFault.TheVariants.{Range, Kind, TwoMarks, TwoLists}
 use Rattle.drum_toml.specs.Document.{Fault, missing, unknown, range, kind, two_marks, two_lists}
 use Rattle.drum_toml.specs.Document.{in_turn, is_count, count_of}
 use Rattle.drum_toml.specs.NotesDocument.{notes_checks, tables_of, tables_at, edge_faults}

@@ -1,8 +1,8 @@
 -- Which documents bytes are, and for which fault a document is refused.
 use Rattle.std.specs.Prelude.{◌≡◌, ℕ, List, ◌∷◌, Some, string_bytes, IsUtf8}
-use Rattle.drum_toml.specs.declared.fault.NoteFault.{NoteFault}
-use Rattle.drum_toml.specs.declared.fault.NoteFault.TheVariants.{Toml, Memory, Missing, Unknown}
-use Rattle.drum_toml.specs.declared.fault.NoteFault.TheVariants.{Range, Kind, TwoMarks, TwoLists}
+use Rattle.drum_times.specs.declared.fault.NoteFault.{NoteFault}
+use Rattle.drum_times.specs.declared.fault.NoteFault.TheVariants.{Toml, Memory, Missing, Unknown}
+use Rattle.drum_times.specs.declared.fault.NoteFault.TheVariants.{Range, Kind, TwoMarks, TwoLists}
 use Rattle.drum_toml.specs.Document.{Fault, missing, unknown, range, kind, two_marks, two_lists}
 use Rattle.toml.specs.Data.{Members}
 use Rattle.toml.specs.Parse.{parse_document}

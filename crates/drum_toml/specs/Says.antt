@@ -6,7 +6,7 @@ use Rattle.drum_times.specs.Entries.{entry_in}
 use Rattle.drum_toml.specs.NotesDocument.{IsNotes, notes_faults}
 use Rattle.drum_toml.specs.Refused.{IsDocument, IsRefused}
 use Rattle.drum_toml.specs.TimesDocument.{IsTimes, times_faults}
-use Rattle.drum_toml.specs.declared.fault.NoteFault.{NoteFault}
+use Rattle.drum_times.specs.declared.fault.NoteFault.{NoteFault}
 use Rattle.toml.specs.Data.{Members}
 
 -- the bytes are the document of this timing table, of these notes

@@ -11,7 +11,7 @@ pub mod tables;
 pub mod value;
 mod values;
 
-use crate::fault::NoteFault;
+use drum_times::NoteFault;
 use std::alloc::Global;
 use toml::Table;
 

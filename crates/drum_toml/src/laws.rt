@@ -4,7 +4,7 @@ ghost use Rattle.std.specs.Prelude.{◌≡◌, ℕ, List, [], ◌∷◌};
 ghost use Rattle.drum_core.specs.declared.op.Op.{Op};
 ghost use Rattle.drum_times.specs.declared.entry.Entry.{Entry};
 ghost use Rattle.drum_times.specs.Allowed.{Notes};
-ghost use Rattle.drum_toml.specs.declared.fault.NoteFault.{NoteFault};
+ghost use Rattle.drum_times.specs.declared.fault.NoteFault.{NoteFault};
 ghost use Rattle.drum_toml.specs.AllFaults.{AreAllFaults, all_notes_faults};
 ghost use Rattle.drum_toml.specs.NotesDocument.{IsNotes, notes_faults};
 ghost use Rattle.drum_toml.specs.Refused.{IsDocument, IsRefused};

@@ -2,8 +2,7 @@
 //! read, or refused for its first fault; or all its faults are told. Of bytes that are no document
 //! it is told what `toml` says, and where.
 //!
-//! Code, from the bottom up. `key_path` is how a fault names a key, and `fault` why bytes are no
-//! timing table or no notes. `document` reads bytes as a TOML table, and its folder looks at one:
+//! Code, from the bottom up. `document` reads bytes as a TOML table, and its folder looks at one:
 //! `document/fields` at its keys (there a key's path is put together), `document/value` at a value
 //! by itself, `document/values` at the values of keys, `document/tables` at arrays of tables.
 //! `times/read` and `times/read_entry` read a timing table. `notes/read`, `notes/read_mark` and
@@ -27,15 +26,11 @@
 
 mod complaint;
 mod document;
-mod fault;
-mod key_path;
 pub mod laws;
 mod notes;
 mod times;
 
 pub use complaint::{Complaint, toml_complaint};
-pub use fault::NoteFault;
-pub use key_path::KeyPath;
 pub use notes::faults::notes_faults;
 pub use notes::read::read_notes;
 pub use times::faults::times_faults;

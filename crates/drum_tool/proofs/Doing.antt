@@ -2,9 +2,9 @@
 use Rattle.std.proofs.Common.{Result, Ok, Err, IfErr}
 use Rattle.drum_lines.specs.declared.fault.Fault.{Fault}
 use Rattle.drum_lines.specs.declared.status.Status.{Status}
-use Rattle.drum_answers.specs.Does.{Does}
-use Rattle.drum_answers.specs.Output.{Device}
-use Rattle.drum_answers.specs.Reply.{Reply}
+use Rattle.drum_lines.specs.Does.{Does}
+use Rattle.drum_lines.specs.Output.{Device}
+use Rattle.drum_lines.specs.Reply.{Reply}
 
 module _ (P : Reply → Type 0) (R T : Fault → Type 0) (out out' err err' : Device) where
   pub does_as : (Q : Reply → Type 0) → ((reply : Reply) → P reply → Q reply)

@@ -4,7 +4,8 @@ use Rattle.drum_lines.specs.declared.fault.Fault.{Fault}
 use Rattle.drum_documents.specs.Asked.{AreLookedAt, AreLookedAtUpTo, Asked, AsksFor, Looks, NamedFile}
 use Rattle.drum_documents.specs.Asked.{fault_in, part_of}
 use Rattle.drum_documents.proofs.Asking.{asks_as}
-use Rattle.drum_answers.specs.Reply.{IsLineOfFault, LooksAsTold, Reply, fault_reply}
+use Rattle.drum_lines.specs.Reply.{IsLineOfFault, Reply, fault_reply}
+use Rattle.drum_tool.specs.Words.{LooksAsTold}
 
 module _ (files : List NamedFile) (before after : Option (List Asked)) where
   -- a fault of a file, or one of none

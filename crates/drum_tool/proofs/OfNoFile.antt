@@ -13,11 +13,12 @@ use Rattle.drum_lines.specs.declared.limit.Limit.{Limit}
 use Rattle.drum_lines.specs.FaultStatus.{failed_by}
 use Rattle.drum_documents.specs.declared.documents.Documents.{Documents}
 use Rattle.drum_documents.specs.Asked.{part_of}
-use Rattle.drum_replay.specs.Limits.{IsLimit, IsLimitRefusal, IsRefusedFor}
+use Rattle.drum_documents.specs.Limits.{IsLimit, IsLimitRefusal, IsRefusedFor}
 use Rattle.drum_documents.specs.Documents.{setting_of}
 use Rattle.drum_tool.specs.DoesCommand.{IsOfNoFile}
 use Rattle.drum_replay.specs.Replay.{Given, IsReplayFault, IsRunFault, IsTraceFault}
-use Rattle.drum_answers.specs.Reply.{IsWanting, Refuses}
+use Rattle.drum_lines.specs.FaultStatus.{IsWanting}
+use Rattle.drum_answers.specs.Says.{Refuses}
 
 pub refused_of_none : (Is : Refusal → Type 0) (fault : Fault) → IsRefusedFor Is fault → IsOfNoFile fault
 refused_of_none Is (faults.Refused refusal) is = record { part = refl; reads = refl }

@@ -4,8 +4,8 @@ use Rattle.std.proofs.Common.{◌≢◌, ◌⊎◌, inr, ap, sym, ◌∙◌, sub
 use Rattle.std.specs.Prelude.{string_bytes}
 use Rattle.drum_core.specs.declared.deck.fault.DeckFault.{DeckFault}
 use Rattle.drum_core.specs.declared.deck.fault.DeckFault.TheVariants as of_deck
-use Rattle.drum_toml.specs.declared.fault.NoteFault.{NoteFault}
-use Rattle.drum_toml.specs.declared.fault.NoteFault.TheVariants as of_note
+use Rattle.drum_times.specs.declared.fault.NoteFault.{NoteFault}
+use Rattle.drum_times.specs.declared.fault.NoteFault.TheVariants as of_note
 use Rattle.drum_inputs.specs.declared.fault.InputFault.{InputFault}
 use Rattle.drum_inputs.specs.declared.fault.InputFault.TheVariants as of_input
 use Rattle.drum_flow.specs.declared.refusal.Refusal.{Refusal}
@@ -25,8 +25,8 @@ use Rattle.drum_documents.specs.Asked.{files_sought}
 use Rattle.drum_documents.specs.Files.{AreTold, FilesTold, Held}
 use Rattle.drum_documents.specs.Joined.{IsPastLimit}
 use Rattle.drum_tool.specs.Commands.{AnswersCommand}
-use Rattle.drum_answers.specs.Reply.{Reply, TellsOfReads}
-use Rattle.drum_answers.specs.Reply.{breaks_off, complains, fault_reply, lists, says}
+use Rattle.drum_lines.specs.Reply.{Reply, TellsOfReads}
+use Rattle.drum_lines.specs.Reply.{breaks_off, complains, fault_reply, lists, says}
 use Rattle.drum_tool.specs.Words.{refused_reply}
 
 -- what holds of a value holds of what it is known as

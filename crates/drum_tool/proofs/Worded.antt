@@ -7,7 +7,8 @@ use Rattle.drum_command.specs.declared.command.Command.{Command}
 use Rattle.drum_command.specs.declared.refused.Refused.{Refused}
 use Rattle.drum_documents.specs.Asked.{Asked, AsksFor, files_sought}
 use Rattle.drum_documents.specs.Files.{AreTold, FilesTold, Held}
-use Rattle.drum_answers.specs.Reply.{Reply, LooksAsTold}
+use Rattle.drum_lines.specs.Reply.{Reply}
+use Rattle.drum_tool.specs.Words.{LooksAsTold}
 use Rattle.drum_tool.specs.Commands.{AnswersCommand, AnswersJoined}
 use Rattle.drum_tool.specs.Words.{AreOf, AreRefused, Answers, Asks, refused_reply}
 

@@ -16,10 +16,14 @@ use Rattle.drum_documents.specs.Files.{Held}
 use Rattle.drum_documents.specs.Joined.{Gives, GivesNone}
 use Rattle.drum_documents.specs.TextsHeld.{AreNoneHeld, AreTextsHeld, IsInputsText}
 use Rattle.drum_replay.specs.Given.{given}
-use Rattle.drum_replay.specs.Limits.{IsAnalysisFault}
+use Rattle.drum_documents.specs.Limits.{IsAnalysisFault}
 use Rattle.drum_replay.specs.Replay.{Given, IsReplayFault, IsTraceFault}
-use Rattle.drum_answers.specs.Reply.{IsWanting, Refuses, Reply, Says, SaysBound, SaysCheck, SaysTrace}
-use Rattle.drum_answers.specs.Reply.{SaysVerdict, fault_reply}
+use Rattle.drum_lines.specs.FaultStatus.{IsWanting}
+use Rattle.drum_answers.specs.Says.{Refuses, Says, SaysBound, SaysCheck}
+use Rattle.drum_lines.specs.Reply.{Reply}
+use Rattle.drum_replay.specs.RunReply.{SaysTrace}
+use Rattle.drum_replay.specs.RunReply.{SaysVerdict}
+use Rattle.drum_lines.specs.Reply.{fault_reply}
 
 -- The reply to a command, where `failures` reads failed: what it says of what it has read; or the
 -- line of a fault, why that can't be had, or why nothing is said of it.

@@ -6,9 +6,9 @@ use Rattle.drum_lines.specs.declared.status.Status.{Status}
 use Rattle.drum_lines.specs.FaultStatus.{reads_failed}
 use Rattle.drum_documents.specs.Asked.{files_sought, part_of}
 use Rattle.drum_documents.specs.Files.{AreTold, FilesTold, Held}
-use Rattle.drum_answers.specs.Does.{Does}
-use Rattle.drum_answers.specs.Output.{Device}
-use Rattle.drum_answers.specs.Reply.{Reply, fault_reply}
+use Rattle.drum_lines.specs.Does.{Does}
+use Rattle.drum_lines.specs.Output.{Device}
+use Rattle.drum_lines.specs.Reply.{Reply, fault_reply}
 use Rattle.drum_tool.specs.Commands.{AnswersCommand}
 
 -- the reply to a command, by what its files hold, as far as that is known

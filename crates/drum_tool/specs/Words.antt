@@ -1,19 +1,21 @@
 -- What the program says to its words.
-use Rattle.std.specs.Prelude.{◌≡◌, ℕ, true, List, [], ◌∷◌, Option, Some, string_bytes, ◌⊎◌}
+use Rattle.std.specs.Prelude.{◌≡◌, ◌≢◌, ℕ, ◌+◌, true, List, [], ◌∷◌, Option, Some, string_bytes}
+use Rattle.std.specs.Prelude.{◌⊎◌}
 use Rattle.clap.specs.Words.{Text, fault_of, takes}
 use Rattle.drum_command.specs.declared.command.Command.{Command}
 use Rattle.drum_command.specs.declared.refused.Refused.{Refused}
 use Rattle.drum_command.specs.declared.refused.Refused.TheVariants.{Help, Usage, Memory}
 use Rattle.drum_command.specs.Line.{drum650, said_by, said_by_words}
 use Rattle.drum_command.specs.Refusal.{FitsAmong}
+use Rattle.drum_lines.specs.declared.fault.Fault.{Fault}
 use Rattle.drum_lines.specs.declared.fault.Fault.TheVariants as fault
+use Rattle.drum_lines.specs.declared.part.Part.TheVariants as part
+use Rattle.drum_lines.specs.declared.part.PartFault.TheVariants as what
 use Rattle.drum_lines.specs.declared.status.Status.TheVariants as status
-use Rattle.drum_documents.specs.Asked.{Asked, AsksFor, files_sought}
+use Rattle.drum_lines.specs.Reply.{IsLineOfFault, Reply, says, complains, fault_reply}
+use Rattle.drum_documents.specs.Asked.{Asked, AsksFor, Looks, NamedFile, files_sought}
 use Rattle.drum_documents.specs.Files.{AreTold, FilesTold, Held}
-use Rattle.drum_answers.specs.Reply.{Reply, says, complains, fault_reply}
-use Rattle.drum_tool.specs.Commands.{AnswersCommand}
-use Rattle.drum_tool.specs.Commands.{AnswersJoined}
-use Rattle.drum_answers.specs.Reply.{LooksAsTold}
+use Rattle.drum_tool.specs.Commands.{AnswersCommand, AnswersJoined}
 
 -- the reply to words that name no command: help, or what is wrong with them
 abbrev pub refused_reply : Refused → Reply
@@ -46,6 +48,11 @@ Answers (word ∷ words) input files failures reply =
     ⊎ ((refused : Refused) × AreRefused (word ∷ words) refused
     × (failures ≡ 0) × (reply ≡ refused_reply refused))
 
+-- these files are looked at up to the fault that the reply tells, else all
+abbrev pub LooksAsTold : List NamedFile → Reply → List Asked → Type 0
+LooksAsTold files reply asked =
+    (told : Option Fault) × IsLineOfFault told reply × Looks files told asked
+
 -- What is asked of a source for words. With no words nothing is. With words that are a command its
 -- files are, in its order and up to the fault that is told. With other words nothing is.
 abbrev pub Asks : List Text → Option (List Asked) → Option (List Asked) → Reply → Type 0
@@ -55,3 +62,14 @@ Asks (word ∷ words) before after reply =
     × AsksFor before after (LooksAsTold (files_sought command) reply))
     ⊎ ((refused : Refused) × AreRefused (word ∷ words) refused
     × (reply ≡ refused_reply refused) × (after ≡ before))
+
+-- The numbers are how many reads of the input met its end, and how many bytes it gave, each before
+-- and after. Unless the reply tells that a read failed, or that there is no memory, the input was
+-- read to its end, or to one byte past the limit; and if to that byte, the reply tells that it is
+-- too long, or that there is no memory.
+abbrev pub ReadsAll : Reply → ℕ → ℕ → ℕ → ℕ → Type 0
+ReadsAll reply ended ended' given given' =
+    (reply ≢ fault_reply (fault.Part part.Joined what.Read) → reply ≢ fault_reply fault.Memory
+    → (ended' ≡ ended + 1) ⊎ (given' ≡ given + 16777217))
+    × (given' ≡ given + 16777217 → (reply ≡ fault_reply (fault.Part part.Joined what.TooLong))
+    ⊎ (reply ≡ fault_reply fault.Memory))

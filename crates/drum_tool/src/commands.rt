@@ -5,21 +5,19 @@ ghost use Rattle.drum_command.specs.declared.command.Command.TheVariants as comm
 ghost use Rattle.drum_lines.specs.FaultStatus.{failed_by};
 ghost use Rattle.drum_documents.specs.Asked.{AsksFor, Looks, all_named_in, fault_in, files_sought};
 ghost use Rattle.drum_documents.specs.Asked.{name_in, named_in, named_with};
-ghost use Rattle.drum_tool.specs.DoesCommand.{DoesCommand};
 ghost use Rattle.drum_documents.specs.Files.{AreTold, Held};
-ghost use Rattle.drum_answers.specs.Output.{Device, Tells, device};
+ghost use Rattle.drum_lines.specs.Output.{Device, Tells, device};
+ghost use Rattle.drum_lines.specs.Reply.{Reply, TellsOfReads};
 ghost use Rattle.drum_tool.specs.Commands.{AnswersCommand};
-ghost use Rattle.drum_answers.specs.Reply.{LooksAsTold, Reply, TellsOfReads};
+ghost use Rattle.drum_tool.specs.DoesCommand.{DoesCommand};
+ghost use Rattle.drum_tool.specs.Words.{LooksAsTold};
 
-use drum_answers::{
-    Checked, answer, check, complain, named_inputs, tell_faults, tell_findings, tell_trace,
-    tell_verdict,
-};
+use drum_answers::{Checked, answer, check, named_inputs, tell_findings};
 use drum_command::{Command, Files, Question};
 use drum_core::Output;
 use drum_documents::{Source, documents_in, documents_with_inputs, texts_with_inputs};
-use drum_lines::{Fault, Limit, Status};
-use drum_replay::{begin_trace, replay};
+use drum_lines::{Fault, Limit, Status, complain, tell_faults, tell_verdict};
+use drum_replay::{begin_trace, replay, tell_trace};
 use std::alloc::Global;
 
 /// Answers a question about the documents in files.

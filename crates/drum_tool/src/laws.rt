@@ -10,7 +10,7 @@ ghost use Rattle.drum_lines.specs.declared.status.Status.TheVariants.{Done};
 ghost use Rattle.drum_lines.specs.FaultStatus.{status_after};
 ghost use Rattle.drum_documents.specs.Asked.{named};
 ghost use Rattle.drum_documents.specs.Files.{AreTold, FilesTold, Held};
-ghost use Rattle.drum_answers.specs.Reply.{Reply, bound_reply, fault_reply};
+ghost use Rattle.drum_lines.specs.Reply.{Reply, bound_reply, fault_reply};
 ghost use Rattle.drum_tool.specs.Told.{AreNames, IsBoundOfFiles, IsBoundOfJoined};
 ghost use Rattle.drum_tool.specs.Words.{Answers, AreRefused, refused_reply};
 

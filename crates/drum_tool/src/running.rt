@@ -5,20 +5,17 @@ ghost use Rattle.std.specs.Prelude.{IfErr, IfSome, IsErrOf, length};
 ghost use Rattle.clap.specs.Walk.{texts};
 ghost use Rattle.drum_lines.specs.FaultStatus.{failed_by, reads_failed};
 ghost use Rattle.drum_documents.specs.Joined.{IsPastLimit};
-ghost use Rattle.drum_answers.specs.Output.{Tells, device};
-ghost use Rattle.drum_tool.specs.Commands.{AnswersJoined};
-ghost use Rattle.drum_answers.specs.Reply.{ReadsAll, Reply, TellsOfReads, bound_reply};
-ghost use Rattle.drum_answers.specs.Reply.{fault_reply};
+ghost use Rattle.drum_lines.specs.Output.{Tells, device};
+ghost use Rattle.drum_lines.specs.Reply.{Reply, TellsOfReads, bound_reply, fault_reply};
 ghost use Rattle.drum_command.specs.Refusal.{IsShort};
-ghost use Rattle.drum_tool.specs.Words.{Answers, Asks, refused_reply};
+ghost use Rattle.drum_tool.specs.Commands.{AnswersJoined};
+ghost use Rattle.drum_tool.specs.Words.{Answers, Asks, ReadsAll, refused_reply};
 
 use crate::commands::obey;
-use drum_answers::{tell_bound, tell_fault, tell_text, tell_usage};
 use drum_command::{Refused, read_words};
 use drum_core::{Input, Output};
-use drum_documents::{Source, documents_of};
-use drum_lines::{Fault, Part, PartFault, Status};
-use drum_replay::bound_of;
+use drum_documents::{Source, bound_of, documents_of};
+use drum_lines::{Fault, Part, PartFault, Status, tell_bound, tell_fault, tell_text, tell_usage};
 use std::alloc::Global;
 
 /// The bound of the joined form that an input gives.

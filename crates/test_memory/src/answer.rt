@@ -5,8 +5,7 @@ use drum_bound::{Analysis, Flow, Refusal};
 use drum_ceiling::Ceiling;
 use drum_core::{Deck, DeckFault, WholeError};
 use drum_machine::{Machine, Memory};
-use drum_times::{Notes, Times};
-use drum_toml::NoteFault;
+use drum_times::{NoteFault, Notes, Times};
 use drum_tool::{Fault, Findings, InputFault, Inputs, Lacking, Status, Verdict};
 use std::alloc::AllocError;
 

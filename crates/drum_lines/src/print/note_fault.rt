@@ -1,7 +1,7 @@
 //! The line of a fault in the timing table or in the notes.
 
 ghost use Rattle.std.specs.Prelude.{◌≡◌, ◌+◌, ◌^◌, ◌≤◌, ◌++◌, codes, length, string_bytes};
-ghost use Rattle.drum_toml.specs.declared.fault.NoteFault.TheVariants.{TwoMarks};
+ghost use Rattle.drum_times.specs.declared.fault.NoteFault.TheVariants.{TwoMarks};
 ghost use Rattle.drum_lines.specs.FaultText.{note_text, part_name};
 ghost use Rattle.drum_lines.specs.Sent.{IsWritten, fails_by};
 
@@ -10,7 +10,7 @@ use super::{four_digits, write_line};
 use crate::failed_write::WriteFault;
 use crate::part::Part;
 use drum_core::{Location, Output};
-use drum_toml::{KeyPath, NoteFault};
+use drum_times::{KeyPath, NoteFault};
 
 /// Writes the line of a fault of this part, which is the timing table or the notes.
 pub fn write_note_fault<O: Output>(

@@ -7,7 +7,7 @@ ghost use Rattle.toml.specs.View.{table_view};
 
 use super::fields::{Fields, is_among};
 use super::value::{self, ValueFault};
-use crate::fault::NoteFault;
+use drum_times::NoteFault;
 use std::alloc::{AllocError, Global};
 
 /// That bytes are no document, as their one fault.

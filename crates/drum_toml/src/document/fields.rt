@@ -5,8 +5,7 @@ ghost use Rattle.drum_toml.specs.Refused.{IsFirst};
 ghost use Rattle.toml.specs.Data.{get_member};
 ghost use Rattle.toml.specs.View.{view, table_view};
 
-use crate::fault::NoteFault;
-use crate::key_path::KeyPath;
+use drum_times::{KeyPath, NoteFault};
 use std::alloc::{AllocError, Global};
 use toml::{Table, Value};
 

@@ -10,8 +10,7 @@ use super::faults::Faults;
 use super::fields::Fields;
 use super::tables::{element_path, is_count};
 use super::value::ValueFault;
-use crate::fault::NoteFault;
-use crate::key_path::KeyPath;
+use drum_times::{KeyPath, NoteFault};
 use std::alloc::{AllocError, Global};
 use toml::Value;
 

@@ -11,8 +11,7 @@ ghost use Rattle.toml.specs.View.{view, table_view, items_view};
 
 use super::fields::Fields;
 use super::value::ValueFault;
-use crate::fault::NoteFault;
-use crate::key_path::KeyPath;
+use drum_times::{KeyPath, NoteFault};
 use std::alloc::{AllocError, Global};
 use toml::Value;
 

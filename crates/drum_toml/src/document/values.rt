@@ -9,8 +9,8 @@ ghost use Rattle.toml.specs.View.{table_view};
 
 use super::fields::Fields;
 use super::value::{self, ValueFault};
-use crate::fault::NoteFault;
 use drum_core::Location;
+use drum_times::NoteFault;
 use toml::Table;
 
 impl Fields<'_> {

@@ -10,8 +10,7 @@ use crate::document::faults::{Faults, no_document};
 use crate::document::fields::Fields;
 use crate::document::read_document;
 use crate::document::table_faults::Checked;
-use crate::fault::NoteFault;
-use drum_times::{Listing, Mark, Pattern};
+use drum_times::{Listing, Mark, NoteFault, Pattern};
 use std::alloc::{AllocError, Global};
 use toml::Table;
 

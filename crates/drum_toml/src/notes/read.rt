@@ -9,8 +9,7 @@ ghost use Rattle.toml.specs.View.{table_view};
 use super::repeated::{repeated_edge, repeated_location};
 use crate::document::fields::Fields;
 use crate::document::read_document;
-use crate::fault::NoteFault;
-use drum_times::{Listing, Mark, Notes, Programmed};
+use drum_times::{Listing, Mark, NoteFault, Notes, Programmed};
 use std::alloc::Global;
 use toml::Table;
 

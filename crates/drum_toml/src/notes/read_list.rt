@@ -5,8 +5,7 @@ ghost use Rattle.drum_toml.specs.NotesDocument as said;
 
 use crate::document::fields::Fields;
 use crate::document::tables::Element;
-use crate::fault::NoteFault;
-use drum_times::{Listing, Pattern};
+use drum_times::{Listing, NoteFault, Pattern};
 
 impl Element for Pattern {
     ghost says = { λ _. said.IsPattern };

@@ -7,8 +7,7 @@ ghost use Rattle.toml.specs.View.{table_view};
 
 use crate::document::fields::Fields;
 use crate::document::tables::Element;
-use crate::fault::NoteFault;
-use drum_times::Mark;
+use drum_times::{Mark, NoteFault};
 
 impl Element for Mark {
     ghost says = { said.IsMark };

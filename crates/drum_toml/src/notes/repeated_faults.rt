@@ -10,9 +10,8 @@ ghost use Rattle.toml.specs.View.{view, table_view, items_view};
 use crate::document::faults::Faults;
 use crate::document::fields::Fields;
 use crate::document::value;
-use crate::fault::NoteFault;
 use drum_core::Location;
-use drum_times::Mark;
+use drum_times::{Mark, NoteFault};
 use std::alloc::{AllocError, Global};
 use toml::Value;
 

@@ -12,9 +12,8 @@ use crate::document::faults::{Faults, no_document};
 use crate::document::fields::Fields;
 use crate::document::read_document;
 use crate::document::value::ValueFault;
-use crate::fault::NoteFault;
 use drum_core::Op;
-use drum_times::Entry;
+use drum_times::{Entry, NoteFault};
 use std::alloc::{AllocError, Global};
 use toml::Table;
 

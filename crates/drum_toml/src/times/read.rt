@@ -13,9 +13,8 @@ ghost use Rattle.toml.specs.View.{table_view};
 use super::read_entry::read_entry;
 use crate::document::fields::Fields;
 use crate::document::read_document;
-use crate::fault::NoteFault;
 use drum_core::{Op, Parity};
-use drum_times::{Entry, Times};
+use drum_times::{Entry, NoteFault, Times};
 use std::alloc::Global;
 use toml::Table;
 

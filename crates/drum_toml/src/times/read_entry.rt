@@ -7,9 +7,8 @@ ghost use Rattle.drum_toml.specs.TimesDocument as document;
 ghost use Rattle.toml.specs.View.{table_view};
 
 use crate::document::fields::Fields;
-use crate::fault::NoteFault;
 use drum_core::{Op, Parity};
-use drum_times::Entry;
+use drum_times::{Entry, NoteFault};
 
 /// What an entry says beside `before`, `after` and `parity`.
 #[derive(Clone, Copy, Debug, PartialEq, Eq)]

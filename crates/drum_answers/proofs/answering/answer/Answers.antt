@@ -4,9 +4,10 @@ use Rattle.drum_bound.specs.AnalysisOf.{angle_of, bound_of, rows_of, visits_of}
 use Rattle.drum_graph.specs.GraphOf.{nodes_in}
 use Rattle.drum_listing.specs.TableOf.{rows_in}
 use Rattle.drum_listing.specs.WaitsOf.{firsts_of}
-use Rattle.drum_answers.specs.Reply.{bound_reply, ceiling_reply, graph_reply, report_reply, table_reply, waits_reply}
-use Rattle.drum_answers.specs.Reply.{walk_reply}
-use Rattle.drum_answers.proofs.NoLine.{no_line}
+use Rattle.drum_lines.specs.Reply.{bound_reply}
+use Rattle.drum_answers.specs.Says.{ceiling_reply, graph_reply, report_reply, table_reply, waits_reply}
+use Rattle.drum_answers.specs.Says.{walk_reply}
+use Rattle.drum_lines.proofs.NoLine.{no_line}
 use Rattle.drum_answers.proofs.answering.answer.Goals as goal
 
 pub returns-in_ok-bound-in-Bound-clause-does : goal.returns-in_ok-bound-in-Bound-clause-does

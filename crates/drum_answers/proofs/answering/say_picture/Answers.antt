@@ -2,9 +2,9 @@ use Rattle.std.proofs.Common.{List, ℕ, refl, subst}
 use Rattle.std.proofs.lemmas.Result.{err_from_is_err_and}
 use Rattle.std.specs.Prelude.{string_bytes}
 use Rattle.drum_lines.specs.declared.status.Status.TheVariants.{Done}
-use Rattle.drum_answers.specs.Output.{GetsResult, device}
-use Rattle.drum_answers.specs.Reply.{picture_reply}
-use Rattle.drum_answers.proofs.NoLine.{no_line}
+use Rattle.drum_lines.specs.Output.{GetsResult, device}
+use Rattle.drum_answers.specs.Says.{picture_reply}
+use Rattle.drum_lines.proofs.NoLine.{no_line}
 use Rattle.drum_answers.proofs.answering.say_picture.Goals as goal
 
 pub returns-in_err-analysis-clause-does : goal.returns-in_err-analysis-clause-does

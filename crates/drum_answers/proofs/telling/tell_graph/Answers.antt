@@ -5,7 +5,7 @@ use Rattle.drum_lines.specs.declared.failed_write.WriteFault.{WriteFault}
 use Rattle.drum_lines.specs.declared.status.Status.{Status}
 use Rattle.drum_lines.specs.Sent.{IsWritten, fails_by}
 use Rattle.drum_times.specs.declared.notes.mark.Mark.{Mark}
-use Rattle.drum_answers.specs.Output.{GetsResult, device, ended_with}
+use Rattle.drum_lines.specs.Output.{GetsResult, device, ended_with}
 use Rattle.drum_answers.proofs.telling.tell_graph.Goals as goal
 
 -- what was written is a result, where the program ends as it says then

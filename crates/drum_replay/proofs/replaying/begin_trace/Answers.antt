@@ -1,6 +1,6 @@
 use Rattle.std.proofs.Common.{◌∙◌, sym}
 use Rattle.drum_replay.specs.Given.{given}
-use Rattle.drum_replay.proofs.Limiting.{trace_begun}
+use Rattle.drum_replay.proofs.TraceBegun.{trace_begun}
 use Rattle.drum_replay.proofs.replaying.begin_trace.Goals as goal
 
 pub returns-clause-begun : goal.returns-clause-begun

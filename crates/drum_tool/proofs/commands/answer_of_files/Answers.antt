@@ -3,7 +3,7 @@
 use Rattle.std.proofs.Common.{None, refl, inl, inr, arith}
 use Rattle.std.proofs.lemmas.Result.{err_from_is_err_and}
 use Rattle.drum_documents.specs.Asked.{named_in}
-use Rattle.drum_answers.specs.Output.{device}
+use Rattle.drum_lines.specs.Output.{device}
 use Rattle.drum_tool.proofs.Looking.{of_file, of_result}
 use Rattle.drum_tool.proofs.Doing.{does_as, faults_as}
 use Rattle.drum_tool.proofs.OfNoFile.{of_no_part, question_of_none, unread}

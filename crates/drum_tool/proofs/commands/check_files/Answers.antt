@@ -12,10 +12,11 @@ use Rattle.drum_documents.specs.Asked.{name_in, named_with}
 use Rattle.drum_answers.specs.Checked.{IsChecked}
 use Rattle.drum_documents.specs.TextsOf.{inputs_in, texts_in}
 use Rattle.drum_documents.specs.Documents.{Texts}
-use Rattle.drum_answers.specs.Output.{GetsComplaint, device}
-use Rattle.drum_answers.specs.Reply.{findings_reply, lists}
+use Rattle.drum_lines.specs.Output.{GetsComplaint, device}
+use Rattle.drum_answers.specs.Says.{findings_reply}
+use Rattle.drum_lines.specs.Reply.{lists}
 use Rattle.drum_documents.specs.TextsHeld.{IsInputsText}
-use Rattle.drum_answers.proofs.NoLine.{no_line, no_line_of_lists}
+use Rattle.drum_lines.proofs.NoLine.{no_line, no_line_of_lists}
 use Rattle.drum_tool.proofs.Looking.{of_file, of_none}
 use Rattle.drum_tool.proofs.OfNoFile.{wanting_of_none}
 use Rattle.drum_tool.proofs.commands.check_files.Goals as goal

@@ -3,7 +3,7 @@
 use Rattle.std.proofs.Common.{inr, refl}
 use Rattle.drum_lines.specs.FaultStatus.{reads_failed}
 use Rattle.drum_documents.specs.Asked.{files_sought}
-use Rattle.drum_answers.specs.Reply.{fault_reply}
+use Rattle.drum_lines.specs.Reply.{fault_reply}
 use Rattle.drum_tool.proofs.Looking.{told_fault, told_well}
 use Rattle.drum_tool.proofs.Replies.{Replied, counted, fault_of_reads}
 use Rattle.drum_tool.proofs.commands.obey.Goals as goal

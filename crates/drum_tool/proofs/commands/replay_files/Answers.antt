@@ -7,8 +7,8 @@ use Rattle.drum_documents.specs.declared.documents.Documents.{Documents}
 use Rattle.drum_documents.specs.Asked.{all_named_in}
 use Rattle.drum_documents.specs.Documents.{setting_of}
 use Rattle.drum_replay.specs.Given.{given}
-use Rattle.drum_answers.specs.Reply.{verdict_reply}
-use Rattle.drum_answers.proofs.NoLine.{no_line}
+use Rattle.drum_replay.specs.RunReply.{verdict_reply}
+use Rattle.drum_lines.proofs.NoLine.{no_line}
 use Rattle.drum_tool.proofs.Looking.{of_file, of_none}
 use Rattle.drum_tool.proofs.OfNoFile.{replay_of_none}
 use Rattle.drum_tool.proofs.commands.replay_files.Goals as goal

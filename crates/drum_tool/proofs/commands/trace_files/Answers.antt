@@ -6,7 +6,7 @@ use Rattle.drum_inputs.specs.declared.inputs.Inputs.{Inputs}
 use Rattle.drum_documents.specs.declared.documents.Documents.{Documents}
 use Rattle.drum_documents.specs.Asked.{all_named_in}
 use Rattle.drum_replay.specs.Given.{given}
-use Rattle.drum_answers.proofs.NoLine.{no_line_of_trace}
+use Rattle.drum_replay.proofs.NoLine.{no_line_of_trace}
 use Rattle.drum_tool.proofs.Looking.{of_file, of_none}
 use Rattle.drum_tool.proofs.OfNoFile.{trace_of_none}
 use Rattle.drum_tool.proofs.commands.trace_files.Goals as goal

@@ -2,7 +2,7 @@
 -- obey for this command; else that of a refusal of the words. The first reads no file, the others
 -- don't read the input.
 use Rattle.std.proofs.Common.{◌≡◌, ℕ, refl, sym, subst, arith}
-use Rattle.drum_answers.specs.Reply.{TellsOfReads}
+use Rattle.drum_lines.specs.Reply.{TellsOfReads}
 use Rattle.drum_tool.specs.Words.{refused_reply}
 use Rattle.drum_tool.proofs.Replies.{refused_of_no_read}
 use Rattle.drum_tool.proofs.Worded.{command_asked, nothing_asked, refused_unasked, some_words, with_command}

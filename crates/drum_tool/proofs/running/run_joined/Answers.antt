@@ -11,7 +11,7 @@ use Rattle.drum_lines.specs.BoundText.{bound_text}
 use Rattle.drum_lines.specs.FaultStatus.{reads_failed, status_after}
 use Rattle.drum_documents.specs.Joined.{IsPastLimit}
 use Rattle.drum_tool.specs.Commands.{AnswersJoined}
-use Rattle.drum_answers.specs.Reply.{TellsOfReads, bound_reply, fault_reply}
+use Rattle.drum_lines.specs.Reply.{TellsOfReads, bound_reply, fault_reply}
 use Rattle.drum_tool.proofs.Replies.{fault_of_reads, known, result_of_no_read}
 use Rattle.drum_tool.proofs.running.run_joined.Goals as goal
 

@@ -3,8 +3,8 @@
 -- of what they hold.
 use Rattle.std.proofs.Common.{◌≡◌, ℕ, ◌+◌, List, None, Some, ap, sym, ◌∙◌, subst, inl, inr, arith}
 use Rattle.drum_lines.specs.declared.status.Status.TheVariants.{Done, Failed}
-use Rattle.drum_answers.specs.Output.{Tells, device}
-use Rattle.drum_answers.specs.Reply.{Reply}
+use Rattle.drum_lines.specs.Output.{Tells, device}
+use Rattle.drum_lines.specs.Reply.{Reply}
 use Rattle.test_devices.specs.Told.{text_of}
 use Rattle.test_devices.specs.declared.told.File.{File}
 use Rattle.drum_lines.specs.declared.part.Part.TheVariants as part

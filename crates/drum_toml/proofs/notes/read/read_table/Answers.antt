@@ -5,7 +5,7 @@ use Rattle.std.proofs.Common.{◌≡◌, ℕ, List, refl, [], ◌∷◌, ◌∙�
 use Rattle.std.specs.Prelude.{codes}
 use Rattle.toml.specs.View.{table_view}
 use Rattle.drum_times.specs.declared.notes.programmed.Programmed.TheVariants.{Stop, Run, Any}
-use Rattle.drum_toml.specs.declared.fault.NoteFault.TheVariants.{TwoMarks, TwoLists}
+use Rattle.drum_times.specs.declared.fault.NoteFault.TheVariants.{TwoMarks, TwoLists}
 use Rattle.drum_times.specs.declared.notes.listing.Listing.{Listing}
 use Rattle.drum_times.specs.declared.notes.mark.Mark.{Mark}
 use Rattle.drum_toml.specs.Document.{text, two_marks, two_lists}

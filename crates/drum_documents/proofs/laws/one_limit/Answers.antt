@@ -2,7 +2,7 @@ use Rattle.std.proofs.Common.{◌≡◌, refl}
 use Rattle.drum_core.specs.Loads.{loads_in, start_in}
 use Rattle.drum_flow.specs.declared.refusal.Refusal.TheVariants as refusal
 use Rattle.drum_lines.specs.declared.limit.Limit.TheVariants as limit
-use Rattle.drum_replay.proofs.laws.one_limit.Goals as goal
+use Rattle.drum_documents.proofs.laws.one_limit.Goals as goal
 
 pub returns : goal.returns
 returns c documents limit.Bound limit.Bound most least is other = refl

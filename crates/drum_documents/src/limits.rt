@@ -1,12 +1,12 @@
 //! What documents have as a bound, as a ceiling, and what limits a run of theirs.
 
 ghost use Rattle.std.specs.Prelude.{◌^◌, ◌<◌, IfOk, IfErr};
-ghost use Rattle.drum_replay.specs.Limits.{IsAnalysisFault, IsBound, IsCeiling, IsCeilingFault, IsLimit};
-ghost use Rattle.drum_replay.specs.Limits.{IsLimitFault, IsTooLargeForBound};
+ghost use Rattle.drum_documents.specs.Limits.{IsAnalysisFault, IsBound, IsCeiling, IsCeilingFault};
+ghost use Rattle.drum_documents.specs.Limits.{IsLimit, IsLimitFault, IsTooLargeForBound};
 
+use crate::documents::Documents;
 use drum_bound::{Refusal, bound};
 use drum_ceiling::{Ceiling, ceiling};
-use drum_documents::Documents;
 use drum_lines::{Fault, Limit};
 use std::alloc::Global;
 

@@ -1,19 +1,12 @@
--- Replies that are no fault's line.
-use Rattle.std.proofs.Common.{◌≡◌, ℕ, List, None, inl, inr, sym, ◌∙◌}
+-- What is said of a run that is traced is no fault's line.
+use Rattle.std.proofs.Common.{◌≡◌, ℕ, None, inl, inr, sym, ◌∙◌}
 use Rattle.drum_flow.specs.Walk.{Setting}
 use Rattle.drum_lines.specs.declared.limit.Limit.{Limit}
-use Rattle.drum_lines.specs.declared.status.Status as statuses
+use Rattle.drum_lines.specs.Reply.{IsLineOfFault, Reply, fault_reply}
 use Rattle.drum_documents.specs.declared.documents.Documents.{Documents}
 use Rattle.drum_documents.specs.Documents.{setting_of}
 use Rattle.drum_replay.specs.Replay.{Given}
-use Rattle.drum_answers.specs.Reply.{IsLineOfFault, Reply, SaysTrace, SaysStrides, cut_reply, fault_reply}
-use Rattle.drum_answers.specs.Reply.{lists, says, trace_reply}
-
-pub no_line : (text : List ℕ) (ends : statuses.Status) → IsLineOfFault None (says text ends)
-no_line text ends fault is = cc
-
-pub no_line_of_lists : (text : List ℕ) → IsLineOfFault None (lists text)
-no_line_of_lists text fault is = cc
+use Rattle.drum_replay.specs.RunReply.{SaysStrides, SaysTrace, cut_reply, trace_reply}
 
 no_line_of_strides : (g : Setting) (by : Limit) (most : ℕ) (given : Given) (reply : Reply)
     → SaysStrides g by most given reply → IsLineOfFault None reply

@@ -1,4 +1,4 @@
-//! A run that is followed with a line for each of its steps.
+//! A run that is followed with a line for each of its steps, and its verdict behind them.
 
 ghost use Rattle.std.specs.Prelude.{◌≡◌, ◌+◌, ◌^◌, ◌<◌, ◌≤◌, List, MatchResult, []};
 ghost use Rattle.drum_times.specs.Entries.{entry_in};
@@ -6,18 +6,22 @@ ghost use Rattle.drum_machine.specs.Run.{Stride};
 ghost use Rattle.drum_flow.specs.SettingOf.{setting};
 ghost use Rattle.drum_lines.specs.Sent.{IsWritten, fails_by};
 ghost use Rattle.drum_listing.specs.TraceText.{stride_lines};
-ghost use Rattle.drum_replay.specs.Begun.{IsBegun, IsReady};
+ghost use Rattle.drum_lines.specs.Output.{Device, Tells, device};
+ghost use Rattle.drum_lines.specs.Reply.{Reply};
+ghost use Rattle.drum_replay.specs.Begun.{IsBegun, IsReady, IsTraceBegun};
+ghost use Rattle.drum_replay.specs.RunReply.{SaysTrace};
 ghost use Rattle.drum_flow.specs.Bounded.{IsBounded};
 ghost use Rattle.drum_documents.specs.Documents.{setting_of};
 ghost use Rattle.drum_replay.specs.Following.{AreUnderWay, CanBegin, IsFollowed, IsFollowing};
 ghost use Rattle.drum_replay.specs.Following.{state_of, waits_of};
 ghost use Rattle.drum_replay.specs.Replay.{Given, IsTraced, IsTracedInPart};
 
+use crate::following::Following;
+use crate::replaying::Begun;
 use drum_core::{Deck, Output};
 use drum_documents::Documents;
-use drum_lines::{Verdict, WriteFault, send};
+use drum_lines::{Status, Verdict, WriteFault, send, tell_verdict};
 use drum_listing::{Page, pass_step};
-use drum_replay::{Begun, Following};
 use drum_times::{Notes, Times};
 
 /// Follows a run and writes a line for each of its steps, many at a time, up to the one with which
@@ -71,11 +75,7 @@ fn send_steps<O: Output>(
 /// # Errors
 ///
 /// Where a write fails: then a prefix of the lines has gone out.
-pub fn trace<O: Output>(
-    documents: &Documents,
-    begun: Begun,
-    out: &mut O,
-) -> Result<Verdict, WriteFault>
+fn trace<O: Output>(documents: &Documents, begun: Begun, out: &mut O) -> Result<Verdict, WriteFault>
     requires called { O.called out.old ≤ 2 ^ 62 }
     requires ready { IsReady (setting_of documents.now) begun }
     ensures written { (given : Given) → IsBegun (setting_of documents.now) given begun
@@ -105,5 +105,21 @@ pub fn trace<O: Output>(
             angle,
             out,
         ),
+    }
+}
+
+/// Writes the steps of a run and its verdict.
+pub fn tell_trace<O: Output>(out: &mut O, documents: &Documents, begun: Begun) -> Status
+    requires called { O.called out.old ≤ 2 ^ 62 }
+    requires ready { IsReady (setting_of documents.now) begun }
+    ensures { (given : Given) → IsTraceBegun documents.now given begun
+        → (reply : Reply) × SaysTrace documents.now given reply
+        × ((err : Device) → Tells reply (device (O.written out.old) (O.failed out.old))
+        (device (O.written out.new) (O.failed out.new)) err err result) }
+{
+    let limit = begun.limit;
+    match trace(documents, begun, out) {
+        Ok(verdict) => tell_verdict(out, limit, &verdict),
+        Err(_) => Status::Failed,
     }
 }

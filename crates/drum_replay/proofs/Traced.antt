@@ -23,7 +23,7 @@ use Rattle.drum_listing.specs.TraceText.{stride_line, stride_lines}
 use Rattle.drum_replay.specs.declared.replaying.Begun.{Begun}
 use Rattle.drum_replay.specs.Begun.{IsBegun}
 use Rattle.drum_replay.specs.Following.{Goes, IsFollowed, Lead, state_of, waits_of}
-use Rattle.drum_answers.specs.Output.{Device, GetsAll, GetsResult}
+use Rattle.drum_lines.specs.Output.{Device, GetsAll, GetsResult}
 use Rattle.drum_replay.specs.Replay.{Given, IsTraced}
 use Rattle.drum_replay.proofs.Beginning.{judged_before, judged_followed}
 

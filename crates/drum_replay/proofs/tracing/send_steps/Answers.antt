@@ -19,8 +19,8 @@ use Rattle.drum_listing.specs.StepOf.{IsStepOf}
 use Rattle.drum_listing.specs.TraceText.{stride_line, stride_lines}
 use Rattle.drum_replay.specs.Following.{IsFollowed, IsFollowing, state_of, stride_of, waits_of}
 use Rattle.drum_replay.proofs.Followed.{as_declared}
-use Rattle.drum_answers.proofs.Traced.{lead_start, lines_more}
-use Rattle.drum_answers.proofs.tracing.send_steps.Goals as goal
+use Rattle.drum_replay.proofs.Traced.{lead_start, lines_more}
+use Rattle.drum_replay.proofs.tracing.send_steps.Goals as goal
 
 -- the line of a stride more stands behind those that have gone out and those that are gathered
 behind : (times : Op → Entry) (strides : List Stride) (stride : Stride) (number : ℕ) (gone held : List ℕ)

@@ -6,7 +6,7 @@ use Rattle.drum_lines.specs.Sent.{IsSent}
 use Rattle.drum_listing.specs.Page.{text_of}
 use Rattle.drum_listing.specs.TraceText.{stride_lines}
 use Rattle.drum_replay.specs.Following.{IsFollowing, state_of, used_so_far, waits_of}
-use Rattle.drum_answers.proofs.tracing.send_steps.Given as goal
+use Rattle.drum_replay.proofs.tracing.send_steps.Given as goal
 
 -- the lines of the strides so far have gone out, but for those that are gathered
 abbrev pub invariant-loop-following : goal.invariant-loop-following

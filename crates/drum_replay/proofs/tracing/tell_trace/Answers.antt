@@ -6,10 +6,10 @@ use Rattle.drum_listing.specs.TraceText.{stride_lines}
 use Rattle.drum_lines.specs.Status.{status_of}
 use Rattle.drum_lines.specs.VerdictText.{verdict_text}
 use Rattle.drum_documents.specs.Documents.{setting_of}
-use Rattle.drum_answers.specs.Output.{device}
-use Rattle.drum_answers.specs.Reply.{cut_reply, trace_reply}
-use Rattle.drum_answers.proofs.Traced.{gets_behind}
-use Rattle.drum_answers.proofs.telling.tell_trace.Goals as goal
+use Rattle.drum_lines.specs.Output.{device}
+use Rattle.drum_replay.specs.RunReply.{cut_reply, trace_reply}
+use Rattle.drum_replay.proofs.Traced.{gets_behind}
+use Rattle.drum_replay.proofs.tracing.tell_trace.Goals as goal
 
 pub returns-in-Ok : goal.returns-in-Ok
 returns-in-Ok g c given is =

@@ -1,6 +1,6 @@
 use Rattle.std.proofs.lemmas.Result.{err_from_is_err_and}
-use Rattle.drum_replay.proofs.Limiting.{no_ceiling}
-use Rattle.drum_replay.proofs.limits.past_limit.Goals as goal
+use Rattle.drum_documents.proofs.Limiting.{no_ceiling}
+use Rattle.drum_documents.proofs.limits.past_limit.Goals as goal
 
 pub returns-in_err-ceiling_of-clause-fault : goal.returns-in_err-ceiling_of-clause-fault
 returns-in_err-ceiling_of-clause-fault c =

@@ -1,8 +1,8 @@
 use Rattle.std.proofs.Common.{[]}
 use Rattle.std.proofs.KnownBytes.{Appends-nil}
 use Rattle.drum_documents.specs.Documents.{setting_of}
-use Rattle.drum_answers.proofs.Traced.{either_map, traced_before, traced_followed}
-use Rattle.drum_answers.proofs.tracing.trace.Goals as goal
+use Rattle.drum_replay.proofs.Traced.{either_map, traced_before, traced_followed}
+use Rattle.drum_replay.proofs.tracing.trace.Goals as goal
 
 pub returns-in-Some-clause-written : goal.returns-in-Some-clause-written
 returns-in-Some-clause-written g c given is = (

@@ -3,7 +3,7 @@ use Rattle.std.specs.Prelude.{◌≡◌, ℕ, ◌+◌, ◌<◌, List, length, ta
 use Rattle.std.specs.Io.KnownBytes.{Appends}
 use Rattle.drum_lines.specs.declared.status.Status.{Status}
 use Rattle.drum_lines.specs.declared.status.Status.TheVariants.{Failed, Refused}
-use Rattle.drum_answers.specs.Reply.{Reply, says, complains, lists, breaks_off}
+use Rattle.drum_lines.specs.Reply.{Reply, says, complains, lists, breaks_off}
 
 -- what a device was given, where that is known, and how many writes to it failed
 pub record Device : Type 0 where

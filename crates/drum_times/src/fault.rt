@@ -34,7 +34,7 @@ pub enum NoteFault {
 
 impl From<AllocError> for NoteFault {
     ghost use Rattle.std.specs.Prelude.{◌≡◌};
-    ghost use Rattle.drum_toml.specs.declared.fault.NoteFault.TheVariants.{Memory};
+    ghost use Rattle.drum_times.specs.declared.fault.NoteFault.TheVariants.{Memory};
 
     ghost from_gives = { λ _ fault. fault ≡ Memory };
 

@@ -1,22 +1,17 @@
 -- What limits a run, and why nothing does.
-use Rattle.std.proofs.Common.{◌≡◌, ◌≢◌, ℕ, ◌≤◌, refl, sym, subst, arith, Result, Ok, Err, IfOk}
+use Rattle.std.proofs.Common.{◌≡◌, ◌≢◌, ℕ, ◌≤◌, refl, arith}
 use Rattle.drum_flow.specs.declared.refusal.Refusal.TheVariants as refusal
+use Rattle.drum_flow.specs.Bounded.{IsBounded}
 use Rattle.drum_lines.specs.declared.fault.Fault.{Fault}
 use Rattle.drum_lines.specs.declared.fault.Fault.TheVariants as faults
 use Rattle.drum_lines.specs.declared.limit.Limit as limits
 use Rattle.drum_lines.specs.declared.limit.Limit.TheVariants as limit
-use Rattle.drum_times.specs.declared.times.Times.{Times}
-use Rattle.drum_flow.specs.SettingOf.{setting}
 use Rattle.drum_ceiling.specs.declared.answer.Ceiling.{Ceiling}
 use Rattle.drum_ceiling.specs.CeilingOf.{base_of, prices_of, total_of}
 use Rattle.drum_ceiling.specs.Right.{IsTooDear}
 use Rattle.drum_documents.specs.declared.documents.Documents.{Documents}
-use Rattle.drum_replay.specs.declared.replaying.Begun.{Begun}
-use Rattle.drum_replay.specs.Begun.{IsBegun, IsTraceBegun}
-use Rattle.drum_flow.specs.Bounded.{IsBounded}
-use Rattle.drum_replay.specs.Limits.{IsAnalysisFault, IsCeiling, IsCeilingFault, IsLimit, IsLimitFault}
 use Rattle.drum_documents.specs.Documents.{setting_of}
-use Rattle.drum_replay.specs.Replay.{Given, HasOwnWords}
+use Rattle.drum_documents.specs.Limits.{IsAnalysisFault, IsCeiling, IsCeilingFault, IsLimit, IsLimitFault}
 
 -- why there is no bound is why there is no limit, unless it is the size
 pub no_limit : (documents : Documents) (fault : Fault)
@@ -83,18 +78,3 @@ pub bounded_by : (documents : Documents) (by : limits.Limit) (most : ℕ) → Is
 bounded_by documents limit.Bound most is = is.bounded
 bounded_by documents limit.Ceiling most is =
     λ s steps first run kept. omega (arith, is.1.1.kept s steps first run kept, is.1.2)
-
--- so a trace begins
-pub trace_begun : (documents : Documents) (given : Given) (by : limits.Limit) (most : ℕ) (result : Result Begun Fault)
-    → HasOwnWords (setting_of documents) given → IsLimit documents by most
-    → IfOk result (λ begun. (times : Times) → IsBounded (setting documents.deck times documents.notes) most
-    → IsBegun (setting documents.deck times documents.notes) given begun)
-    → IfOk result (λ begun. (begun.limit ≡ by) × (begun.most ≡ most)) → IfOk result (IsTraceBegun documents given)
-trace_begun documents given by most (Ok begun) own is begins same = record {
-  begun_of = begins documents.times (bounded_by documents by most is);
-  own_words = own;
-  limited =
-      subst (λ (one : limits.Limit). IsLimit documents one begun.most) (sym same.0)
-      (subst (λ (n : ℕ). IsLimit documents by n) (sym same.1) is);
-}
-trace_begun documents given by most (Err fault) own is begins same = tt

@@ -1,0 +1,47 @@
+-- What the program has to say of a run.
+use Rattle.std.specs.Prelude.{◌≡◌, ℕ, List, ◌++◌, ◌⊎◌}
+use Rattle.drum_machine.specs.Run.{Stride}
+use Rattle.drum_flow.specs.Walk.{Setting}
+use Rattle.drum_lines.specs.declared.limit.Limit as limits
+use Rattle.drum_lines.specs.declared.limit.Limit.TheVariants as limit
+use Rattle.drum_lines.specs.declared.verdict.Verdict.{Verdict}
+use Rattle.drum_lines.specs.Reply.{Reply, breaks_off, says}
+use Rattle.drum_lines.specs.Status.{status_of}
+use Rattle.drum_lines.specs.VerdictText.{verdict_text}
+use Rattle.drum_listing.specs.TraceText.{stride_lines}
+use Rattle.drum_documents.specs.declared.documents.Documents.{Documents}
+use Rattle.drum_documents.specs.Documents.{setting_of}
+use Rattle.drum_documents.specs.Limits.{IsLimit}
+use Rattle.drum_replay.specs.Replay.{Given, HasOwnWords, IsReplay, IsTraced, IsTracedInPart}
+
+-- a verdict, with the strides of its run before it, and strides alone, on which a write fails
+abbrev pub verdict_reply : Verdict → Reply
+verdict_reply verdict = says (verdict_text limit.Bound verdict) (status_of verdict)
+
+abbrev pub trace_reply : Setting → limits.Limit → List Stride → Verdict → Reply
+trace_reply g by strides verdict =
+    says (stride_lines g.times 1 strides ++ verdict_text by verdict) (status_of verdict)
+
+abbrev pub cut_reply : Setting → List Stride → Reply
+cut_reply g strides = breaks_off (stride_lines g.times 1 strides)
+
+-- the verdict on the run that is fixed by what is given
+abbrev pub SaysVerdict : Documents → Given → Reply → Type 0
+SaysVerdict documents given reply =
+    (verdict : Verdict) × IsReplay (setting_of documents) given verdict
+    × (reply ≡ verdict_reply verdict)
+
+-- the strides of a run that is limited so, and its verdict; or its first strides alone, where a
+-- write fails
+abbrev pub SaysStrides : Setting → limits.Limit → ℕ → Given → Reply → Type 0
+SaysStrides g by most given reply =
+    ((strides : List Stride) × (verdict : Verdict) × IsTraced g given most strides verdict
+    × (reply ≡ trace_reply g by strides verdict))
+    ⊎ ((strides : List Stride) × IsTracedInPart g given strides × (reply ≡ cut_reply g strides))
+
+-- the strides of the run that is fixed by what is given, limited by the bound or by a ceiling
+abbrev pub SaysTrace : Documents → Given → Reply → Type 0
+SaysTrace documents given reply =
+    HasOwnWords (setting_of documents) given
+    × ((by : limits.Limit) × (most : ℕ) × IsLimit documents by most
+    × SaysStrides (setting_of documents) by most given reply)
