@@ -22,9 +22,9 @@ twice = omega arith
 
 abbrev marks : List Mark
 marks =
-    (record { from = place; onto = place; most = 1; inside = None; four_digits = once })
-    ∷ (record { from = place; onto = place; most = 2; inside = None; four_digits = twice })
-    ∷ (record { from = place; onto = place; most = 2; inside = None; four_digits = twice })
+    (record { from = place; onto = place; others = []; most = 1; inside = None; name = None; four_digits = once })
+    ∷ (record { from = place; onto = place; others = []; most = 2; inside = None; name = None; four_digits = twice })
+    ∷ (record { from = place; onto = place; others = []; most = 2; inside = None; name = None; four_digits = twice })
     ∷ []
 
 eighteen : counts_of marks ≡ 18

@@ -47,8 +47,8 @@ module _ (scan : Scan) (round : Round) (search : Search) (number : ℕ) (leap : 
       (counts_within marks order search.key (omega (arith, ready.below, ready.keys.size)))
       (ready.leap.onto next goes).1
 
-  -- The mark of a leap is one of eight.
-  pub few_marks : (mark : ℕ) → leap.mark ≡ Some mark → mark < 8
+  -- The mark of a leap is one of 64.
+  pub few_marks : (mark : ℕ) → leap.mark ≡ Some mark → mark < 64
   few_marks mark is =
       omega (
         arith,

@@ -1,8 +1,7 @@
 -- Counts as keys and table have them, and the keys that have the same counts.
-use Rattle.std.specs.Prelude.{◌≡◌, ℕ, ◌*◌, List, length, slice_get, slice_index_or, Option, Some}
-use Rattle.std.specs.Prelude.{None, MatchOption}
-use Rattle.drum_times.specs.declared.notes.mark.Mark.{Mark}
-use Rattle.drum_machine.specs.Counts.{after_pass, AreWithin}
+use Rattle.std.specs.Prelude.{◌≡◌, ℕ, ◌*◌, ◌<◌, List, length, slice_index_or, Option, Some, None}
+use Rattle.std.specs.Prelude.{MatchOption}
+use Rattle.drum_machine.specs.Counts.{passed_from, AreWithin}
 use Rattle.drum_flow.specs.declared.accepted_flow.AcceptedFlow.{AcceptedFlow}
 use Rattle.drum_flow.specs.Flow.{notes_of}
 use Rattle.drum_flow.specs.AcceptedFlow.{in_order}
@@ -20,19 +19,19 @@ pub record IsCounted (accepted : AcceptedFlow) (counts : List ℕ) (counted : Co
       ≡ leading (notes_of accepted.flow).marks counts * length (in_order accepted)
   pub number : counted.number ≡ number_of (notes_of accepted.flow).marks counts
 
--- what a pass of a mark leads to from some counts: nothing where the mark is full
-abbrev pub IsPassed : AcceptedFlow → List ℕ → Mark → Option Counted → Type 0
-IsPassed accepted counts mark passed =
+-- what a pass of the mark with this index leads to from some counts: nothing where it is full
+abbrev pub IsPassed : AcceptedFlow → List ℕ → ℕ → Option Counted → Type 0
+IsPassed accepted counts index passed =
     let marks = (notes_of accepted.flow).marks in
-    let after = after_pass marks mark.from.number mark.onto.number counts in
+    let after = passed_from marks index 0 counts in
     MatchOption passed (¬ AreWithin marks after)
     (λ counted. IsCounted accepted after counted × AreWithin marks after)
 
 -- The keys with the counts of this number, with the first mark's leading.
 pub record IsRound (accepted : AcceptedFlow) (number : ℕ) (round : Round) : Type 0 where
   pub own : IsCounted accepted (digits (notes_of accepted.flow).marks number) round.own
-  pub passed : (k : ℕ) (mark : Mark) → slice_get (notes_of accepted.flow).marks k ≡ Some mark
-      → IsPassed accepted (digits (notes_of accepted.flow).marks number) mark
+  pub passed : (k : ℕ) → k < length (notes_of accepted.flow).marks
+      → IsPassed accepted (digits (notes_of accepted.flow).marks number) k
       (slice_index_or round.passed k None)
 
 -- the counts after a hop along an edge with this mark, or with none

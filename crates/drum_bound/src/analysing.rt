@@ -73,7 +73,7 @@ pub fn analyse_counting<L: Ledger>(
     ensures counted { IfOk result (λ analysis. steps.new ≡ steps.old + turns_of analysis) }
     ensures refused { IfErr result (IsRefusal (loads_in deck.now) notes.now (start_in deck.now)) }
 {
-    // What `marks` promises: the marks are eight at most.
+    // What `marks` promises: the marks are 64 at most.
     let _marks = notes.marks();
     let accepted = AcceptedFlow::of(alloc, deck, notes)?;
     // What `executed` promises: no location is there twice.

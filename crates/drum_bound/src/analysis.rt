@@ -110,7 +110,7 @@ impl Analysis {
     /// How often the whole walk passes the mark with this index in the notes, from 0, whatever the
     /// mark stands inside of. For an index past the last mark the number means nothing.
     pub fn passed(&self, mark: usize) -> u64
-        requires { mark < 8 }
+        requires { mark < 64 }
         ensures { result ≡ slice_index (passed_of self.now) mark }
     {
         self.passed[mark]

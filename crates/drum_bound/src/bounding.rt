@@ -78,7 +78,7 @@ pub fn bound_counting<L: Ledger>(
         (CountsTable (setting deck.now times.now notes.now) steps.old steps.new) }
     ensures refused { IfErr result (IsRefusal (loads_in deck.now) notes.now (start_in deck.now)) }
 {
-    // What `marks` promises: the marks are eight at most.
+    // What `marks` promises: the marks are 64 at most.
     let _marks = notes.marks();
     let accepted = AcceptedFlow::of(alloc, deck, notes)?;
     // What `executed` promises: no location is there twice.

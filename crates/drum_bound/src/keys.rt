@@ -122,7 +122,7 @@ impl<'a> Keys<'a> {
     pub fn marks(&self) -> &'a [Mark]
         requires { AreKeys self.now }
         ensures all { result.now ≡ marks_in self.now }
-        ensures few { length result.now ≤ 8 }
+        ensures few { length result.now ≤ 64 }
         ensures small { counts_in_all result.now ≤ 4000000 }
     {
         self.accepted.flow().notes().marks()

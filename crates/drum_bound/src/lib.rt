@@ -60,5 +60,5 @@ pub use bounding::{bound, bound_counting};
 pub use drum_flow::{Cycle, Flow, Hop, Hops, Refusal, accept, flow};
 pub use drum_machine::Way;
 pub use steps::Steps;
-pub use visit::Visit;
+pub use visit::{Visit, no_passes};
 pub use worst::Worst;

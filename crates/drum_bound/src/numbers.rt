@@ -14,7 +14,7 @@ use drum_times::Mark;
 /// The counts that a number below 4,000,000 stands for: the last mark's, and in units of its
 /// `most + 1` the number of the others'.
 pub fn counts_at(marks: &[Mark], number: usize) -> Counts
-    requires few { length marks.now ≤ 8 }
+    requires few { length marks.now ≤ 64 }
     requires below { number < counts_of marks.now }
     requires small { counts_of marks.now ≤ 4000000 }
     ensures { counts_in result marks.now ≡ digits marks.now number }
@@ -31,7 +31,7 @@ pub fn counts_at(marks: &[Mark], number: usize) -> Counts
 
 /// The number that `counts_at` makes these counts from: a pass of a mark raises it.
 pub fn leading(marks: &[Mark], counts: Counts) -> usize
-    requires few { length marks.now ≤ 8 }
+    requires few { length marks.now ≤ 64 }
     requires small { counts_of marks.now ≤ 4000000 }
     requires within { AreWithin marks.now (counts_in counts marks.now) }
     ensures { result ≡ leading_in marks.now (counts_in counts marks.now) }
@@ -46,7 +46,7 @@ pub fn leading(marks: &[Mark], counts: Counts) -> usize
 /// The number of the counts as in the table of worst times: the first mark's, and in units of
 /// its `most + 1` the number of the others'.
 pub fn table_number(marks: &[Mark], counts: Counts) -> u32
-    requires few { length marks.now ≤ 8 }
+    requires few { length marks.now ≤ 64 }
     requires small { counts_of marks.now ≤ 4000000 }
     requires within { AreWithin marks.now (counts_in counts marks.now) }
     ensures { result ≡ number_of marks.now (counts_in counts marks.now) }

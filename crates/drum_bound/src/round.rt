@@ -1,6 +1,6 @@
 //! The keys that have the same counts.
 
-ghost use Rattle.std.specs.Prelude.{◌≡◌, ◌<◌, ℕ, Some};
+ghost use Rattle.std.specs.Prelude.{◌≡◌, ◌<◌, ℕ, Some, length};
 ghost use Rattle.drum_machine.specs.Counts.{AreWithin};
 ghost use Rattle.drum_machine.specs.CountsIn.{counts_in};
 ghost use Rattle.drum_bound.specs.KeysOf.{AreKeys, marks_in};
@@ -35,7 +35,7 @@ pub struct Round {
 impl Round {
     /// The counts after a leap from here; `None` where a full mark bars it.
     pub fn after(&self, leap: &Leap) -> Option<Counted>
-        requires { (mark : ℕ) → leap.now.mark ≡ Some mark → mark < 8 }
+        requires { (mark : ℕ) → leap.now.mark ≡ Some mark → mark < 64 }
         ensures { result ≡ counted_after self.now leap.now.mark }
     {
         match leap.mark {
@@ -60,14 +60,15 @@ impl Keys<'_> {
         }
     }
 
-    /// The counts after a pass of a mark; `None` where it is full.
-    fn counted_after(&self, counts: Counts, mark: &Mark) -> Option<Counted>
+    /// The counts after a pass of the mark with this index; `None` where it is full.
+    fn counted_after(&self, counts: Counts, mark: usize) -> Option<Counted>
         requires keys { AreKeys self.now }
         requires within { AreWithin (marks_in self.now) (counts_in counts (marks_in self.now)) }
-        ensures { IsPassed self.now.accepted.now (counts_in counts (marks_in self.now)) mark.now
+        requires there { mark < length (marks_in self.now) }
+        ensures { IsPassed self.now.accepted.now (counts_in counts (marks_in self.now)) mark
             result }
     {
-        let Some(passed) = counts.passed(self.marks(), mark.from, mark.onto) else {
+        let Some(passed) = counts.passed_mark(self.marks(), mark) else {
             return None;
         };
         Some(self.counted(passed))
@@ -83,7 +84,7 @@ impl Keys<'_> {
         let counts = counts_at(marks, leading);
         let mut passed = [None; Mark::MOST];
         for place in 0..marks.len() {
-            passed[place] = self.counted_after(counts, &marks[place]);
+            passed[place] = self.counted_after(counts, place);
         }
         Round {
             own: self.counted(counts),

@@ -1,6 +1,7 @@
 //! The walk whose end is the latest of all that a finished scan keeps.
 
-ghost use Rattle.std.specs.Prelude.{◌≡◌, ℕ, ◌-◌, ◌%◌, ◌<◌, ◌≤◌, length, map, slice_get, Some, IfOk};
+ghost use Rattle.std.specs.Prelude.{◌≡◌, ℕ, ◌-◌, ◌%◌, ◌<◌, ◌≤◌, length, map, slice_get, slice_index, Some};
+ghost use Rattle.std.specs.Prelude.{IfOk};
 ghost use Rattle.std.specs.Option.{option_map};
 ghost use Rattle.drum_flow.specs.Hops.{Hop as HopOf, hops};
 ghost use Rattle.drum_flow.specs.Seen.{seen_hop};
@@ -16,7 +17,7 @@ ghost use Rattle.drum_bound.specs.TakenOf.{taken_of};
 use crate::key_hop::KeyHop;
 use crate::latest::Latest;
 use crate::scan::Scan;
-use crate::visit::Visit;
+use crate::visit::{Visit, no_passes};
 use drum_flow::Hop;
 use drum_times::Mark;
 use std::alloc::{AllocError, Global};
@@ -86,7 +87,7 @@ impl Scan<'_> {
     {
         let marks = self.keys.marks();
         let mut visits = Vec::new(alloc);
-        let mut passed = [0; Mark::MOST];
+        let mut passed = no_passes();
         let mut end = self.cells.last();
         let (mut near, mut first) = (0, 0);
         while let Some(origin) = end.origin {

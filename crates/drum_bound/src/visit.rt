@@ -27,6 +27,13 @@ pub struct Visit {
     pub ghost early: { begun < 2 ^ 50 },
 }
 
+/// No passes of any mark yet, by the marks' indices.
+pub fn no_passes() -> [u64; Mark::MOST]
+    ensures { (k : ℕ) → slice_index result k ≡ 0 }
+{
+    [0; Mark::MOST]
+}
+
 impl Visit {
     /// The word times used when it ends.
     pub fn ended(&self) -> u64
@@ -48,7 +55,7 @@ impl Visit {
     /// Counts the hop's passes of marks, by their indices.
     #[inline(always)]
     pub fn count_passes(&self, marks: &[Mark], passed: &mut [u64; Mark::MOST])
-        requires marks { length marks.now ≤ 8 }
+        requires marks { length marks.now ≤ 64 }
         requires few { (k : ℕ) → slice_index passed.old k < 2 ^ 63 }
         ensures counted { (k : ℕ) (mark : MarkOf) → slice_get marks.now k ≡ Some mark
             → slice_index passed.new k ≡ slice_index passed.old k

@@ -28,7 +28,7 @@ impl Worst {
     /// The counts of the marks, one for each: how often it has been passed since the last pass of a
     /// mark that it stands inside of. The marks are those of the notes.
     pub fn passes(&self, marks: &[Mark]) -> Counts
-        requires { length marks.now ≤ 8 }
+        requires { length marks.now ≤ 64 }
         ensures { counts_in result marks.now ≡ counts_for marks.now self.now.counts }
     {
         let mut passes = [0; Mark::MOST];

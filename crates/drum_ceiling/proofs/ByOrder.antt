@@ -102,7 +102,7 @@ module _ (g : Setting) (executed order : List ℕ) (proper : IsProper g)
       (has_executed g.loads g.notes g.start admitted.order.count executed admitted.order.after admitted.order.all next
       (is.0 ++ next ∷ [], lead_push g.loads g.notes g.start g.start place next is.0 is.1 edge))
 
-  start_there : Contains order g.start
+  pub start_there : Contains order g.start
   start_there =
       free.all g.start
       (has_executed g.loads g.notes g.start admitted.order.count executed admitted.order.after admitted.order.all

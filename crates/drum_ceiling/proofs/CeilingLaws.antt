@@ -71,7 +71,7 @@ passes_few all k place (mark ∷ marks) =
     omega (arith, own, others)
 
 -- Where the sum of a certificate's prices is too large, so is the product.
-pub large_product : (g : Setting) (executed : List ℕ) (prices : List ℕ) (base : ℕ) → length g.notes.marks ≤ 8
+pub large_product : (g : Setting) (executed : List ℕ) (prices : List ℕ) (base : ℕ) → length g.notes.marks ≤ 64
     → ArePrices g (length executed * farthest) prices base → 2 ^ 127 ≤ summed g.notes.marks prices base
     → 4000000 < product_of executed g.notes.marks
 large_product g executed prices base few are large = elim (cases_lt 4000000 (product_of executed g.notes.marks)) [
@@ -82,10 +82,10 @@ large_product g executed prices base few are large = elim (cases_lt 4000000 (pro
       let highest : ℕ = words * farthest in
       let paid = priced_few prices 0 highest counts (most_passes g.notes.marks)
       (λ k within. are.low k 0 within) (λ k. passes_few g.notes.marks k 0 g.notes.marks) in
-      let eight : length prices * (highest * counts) ≤ 8 * (highest * counts) =
+      let all : length prices * (highest * counts) ≤ 64 * (highest * counts) =
       mul-le-mul_right (highest * counts) (omega (arith, few, are.certificate.each)) in
       let one : words * 1 ≤ words * counts = mul-le-mul_left words (counts_positive g.notes.marks) in
-      absurd (omega (arith, large, paid, eight, one, small, are.base_low)))
+      absurd (omega (arith, large, paid, all, one, small, are.base_low)))
 ]
 
 -- An admitted deck is sound.

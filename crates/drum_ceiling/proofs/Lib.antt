@@ -4,7 +4,9 @@ pub mod CeilingLaws
 pub mod Ceilings
 pub mod Certified
 pub mod Costs
+pub mod Dear
 pub mod LastEnds
+pub mod Lending
 pub mod Pushed
 pub mod Raises
 pub mod RowLaws

@@ -4,7 +4,7 @@
 ghost use Rattle.std.specs.Prelude.{◌≡◌, ◌*◌, ◌≤◌, length, IfOk, IfErr};
 ghost use Rattle.drum_core.specs.Loads.{loads_in, start_in};
 ghost use Rattle.drum_flow.specs.Accepted as said;
-ghost use Rattle.drum_flow.specs.Accepted.{IsAdmitted};
+ghost use Rattle.drum_flow.specs.Accepted.{told, IsAdmitted};
 ghost use Rattle.drum_flow.specs.AcceptedFlow.{in_order};
 ghost use Rattle.drum_flow.specs.Flow.{deck_of, notes_of, executed_in};
 ghost use Rattle.drum_flow.specs.Free.{IsFreeOrder};
@@ -20,7 +20,7 @@ use crate::search;
 use crate::slot::Slot;
 use crate::total::total;
 use drum_core::Deck;
-use drum_flow::counts::counts_of;
+use drum_flow::counts::product_of;
 use drum_flow::{AcceptedFlow, Refusal};
 use drum_times::{Mark, Notes, Times};
 use std::alloc::{AllocError, Global};
@@ -53,12 +53,11 @@ fn prices_of(
     }
 }
 
-/// Executed locations times counts.
-fn product_of(accepted: &AcceptedFlow<'_>, marks: &[Mark]) -> u128
-    requires { length marks.now ≤ 8 }
-    ensures { result ≡ said.product_of (executed_in accepted.now.flow) marks.now }
+/// Executed locations times counts; 2^127 where that is more.
+fn product_of_flow(accepted: &AcceptedFlow<'_>, marks: &[Mark]) -> u128
+    ensures { result ≡ told (said.product_of (executed_in accepted.now.flow) marks.now) }
 {
-    accepted.flow().executed().len() as u128 * counts_of(marks)
+    product_of(accepted.flow().executed().len(), marks)
 }
 
 /// A number of word times that no run which keeps to the notes, and no walk, ever uses more than,
@@ -68,17 +67,20 @@ fn product_of(accepted: &AcceptedFlow<'_>, marks: &[Mark]) -> u128
 /// # Errors
 ///
 /// Those of [`accept`](drum_flow::accept), except that [`Refusal::TooLarge`] comes last, and only
-/// where the number would be 2^127 or more; it has the product of executed words and counts.
+/// where the number would be 2^127 or more; it has the product of executed words and counts, or
+/// 2^127 where that is more.
 pub fn ceiling(alloc: Global, deck: &Deck, times: &Times, notes: &Notes) -> Result<Ceiling, Refusal>
     ensures given { IfOk result (IsCeilingOf deck.now times.now notes.now) }
     ensures refused { IfErr result (IsCeilingRefusal deck.now times.now notes.now) }
 {
     let marks = notes.marks();
     let accepted = AcceptedFlow::of_any_size(alloc, deck, notes)?;
-    let passes = passes_of(alloc, marks)?;
+    let Some(passes) = passes_of(alloc, marks)? else {
+        return Err(Refusal::TooLarge(product_of_flow(&accepted, marks)));
+    };
     let prices = prices_of(alloc, &accepted, times, &passes)?;
     match total(prices.base, &prices.prices, &passes) {
         Some(total) => Ok(Ceiling::new(prices.base, prices.prices, passes, total)),
-        None => Err(Refusal::TooLarge(product_of(&accepted, marks))),
+        None => Err(Refusal::TooLarge(product_of_flow(&accepted, marks))),
     }
 }

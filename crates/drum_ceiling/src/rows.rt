@@ -30,7 +30,7 @@ fn is_shut(marks: &[Mark], from: Location, onto: Location) -> bool
 
 /// The index of the mark on an edge.
 fn mark_between(marks: &[Mark], from: Location, onto: Location) -> Option<u8>
-    requires { length marks.now ≤ 8 }
+    requires { length marks.now ≤ 64 }
     ensures { result ≡ mark_on marks.now from.number onto.number }
 {
     match Mark::on_edge(marks, from, onto) {
@@ -47,7 +47,7 @@ fn edges_of(
     from: Location,
     onward: &[Option<u32>],
 ) -> Result<Vec<Edge>, AllocError>
-    requires few { length marks.now ≤ 8 }
+    requires few { length marks.now ≤ 64 }
     requires long { length onward.now ≡ 2200 }
     ensures { IfOk result (λ edges. HasEdges marks.now from.number onward.now edges.items) }
 {

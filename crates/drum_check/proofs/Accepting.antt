@@ -5,7 +5,7 @@ use Rattle.std.specs.Prelude.{Contains, cond, flat_map}
 use Rattle.std.proofs.lemmas.Bool.{le-ltb}
 use Rattle.drum_core.specs.declared.word.Word.{Word}
 use Rattle.drum_times.specs.Allowed.{Notes}
-use Rattle.drum_flow.specs.Accepted.{IsAccepted, IsFree, product_of}
+use Rattle.drum_flow.specs.Accepted.{IsAccepted, IsFree, product_of, told}
 use Rattle.drum_flow.specs.Graph.{LeadRound}
 use Rattle.drum_flow.proofs.Acceptances.{one_order}
 use Rattle.drum_flow.proofs.Lists.{contains_here}
@@ -64,7 +64,7 @@ module _ (loads : ℕ → Option Word) (notes : Notes) (start : ℕ) (executed :
       (all_nothing (unfit loads notes) a.executed nothing_unfit)
       ∙ ap (λ (xs : List Finding). xs ++ too_many (product_of a.executed notes.marks) ++ a.loops ++ rest)
       (all_nothing (altering loads notes a.executed) a.executed nothing_altered)
-      ∙ ap (λ (b : Bool). cond b (too_large (product_of a.executed notes.marks) ∷ []) [] ++ a.loops ++ rest)
+      ∙ ap (λ (b : Bool). cond b (too_large (told (product_of a.executed notes.marks)) ∷ []) [] ++ a.loops ++ rest)
       (le-ltb 4000000 (product_of a.executed notes.marks) small)
       ∙ ap (λ (xs : List Finding). xs ++ rest)
       (none_told loads notes start a.executed a.edges a.loops (no_edge a.edges refl) a.told) in

@@ -16,7 +16,8 @@ use Rattle.drum_flow.specs.declared.refusal.Refusal.TheVariants.{TooLarge}
 use Rattle.drum_flow.specs.Acceptance.{IsRefusal}
 use Rattle.drum_flow.specs.Accepted as said
 use Rattle.drum_flow.specs.Accepted.{IsAltered, IsFirstOutside, IsFree, IsGood, IsLowestAltered, IsMet}
-use Rattle.drum_flow.specs.Accepted.{IsSound, IsTooLarge, IsUnbounded, product_of}
+use Rattle.drum_flow.specs.Accepted.{IsSound, IsTooLarge, IsUnbounded, product_of, told}
+use Rattle.drum_flow.proofs.Products.{many_told}
 use Rattle.drum_flow.specs.Executed.{added_by, found_after}
 use Rattle.drum_flow.specs.Graph.{IsClosed}
 use Rattle.drum_flow.proofs.Acceptances.{one_order}
@@ -221,12 +222,14 @@ module _ (loads : ℕ → Option Word) (notes : Notes) (start : ℕ) where
         let order = is.2 in
         let same : order.0 ≡ a.executed =
         one_order loads notes start order.0 a.executed order.1 a.found.order in
-        let equal : product_of a.executed notes.marks ≡ product =
-        sym (order.2 ∙ ap (λ (all : List ℕ). product_of all notes.marks) same) in
+        let equal : told (product_of a.executed notes.marks) ≡ product =
+        sym (order.2 ∙ ap (λ (all : List ℕ). told (product_of all notes.marks)) same) in
         told_third (too_large product) parts.0 parts.1 (
           [],
-          ap too_many equal
-              ∙ ap (λ (b : Bool). cond b (too_large product ∷ []) []) (lt-ltb 4000000 product is.1),
+          ap (λ (b : Bool). cond b (too_large (told (product_of a.executed notes.marks)) ∷ []) [])
+              (lt-ltb 4000000 (product_of a.executed notes.marks)
+              (many_told (product_of a.executed notes.marks) (omega (arith, equal, is.1))))
+              ∙ ap (λ (n : ℕ). let found : List Finding = too_large n ∷ [] in found) equal,
         )
 
     round_first : (cycle : List ℕ) → IsUnbounded loads notes start cycle
@@ -234,7 +237,7 @@ module _ (loads : ℕ → Option Word) (notes : Notes) (start : ℕ) where
     round_first cycle is = go a.edges refl
       where
         small : third_part ≡ []
-        small = ap (λ (b : Bool). cond b (too_large (product_of a.executed notes.marks) ∷ []) [])
+        small = ap (λ (b : Bool). cond b (too_large (told (product_of a.executed notes.marks)) ∷ []) [])
             (le-ltb 4000000 (product_of a.executed notes.marks) (is.small a.executed a.found.order))
 
         closed : (places : List ℕ) → cycle ≡ places → a.edges ≡ [] → IsClosed (IsFree loads notes) places → ⊥

@@ -13,6 +13,7 @@ pub mod Outsides
 pub mod Pasted
 pub mod Rearranged
 pub mod Silent
+pub mod Sizes
 pub mod Tellings
 pub mod Unsaids
 pub mod Whole

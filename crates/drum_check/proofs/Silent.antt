@@ -8,7 +8,7 @@ use Rattle.drum_core.specs.declared.word.Word.{Word}
 use Rattle.drum_core.specs.Op.{op_of}
 use Rattle.drum_times.specs.Allowed.{Notes, allowed, is_listed}
 use Rattle.drum_machine.specs.Writes.{writes}
-use Rattle.drum_flow.specs.Accepted.{IsAccepted, IsFixed, IsFree, IsInProfile, IsThere, product_of}
+use Rattle.drum_flow.specs.Accepted.{IsAccepted, IsFixed, IsFree, IsInProfile, IsThere, product_of, told}
 use Rattle.drum_flow.specs.Flow.{AreFound}
 use Rattle.drum_flow.specs.Graph.{LeadRound}
 use Rattle.drum_flow.specs.Hops.{IsExecuted}
@@ -62,9 +62,9 @@ told_inside loads notes place none ins there = go (is_some (op_of ins.op)) refl
 -- a size that isn't found to be too large is small
 told_small : (product : ℕ) → too_many product ≡ [] → product ≤ 4000000
 told_small product none = elim (cases_lt 4000000 product) [
-  | inl large ↦ (let told : too_many product ≡ too_large product ∷ [] =
-      ap (λ (b : Bool). cond b (too_large product ∷ []) []) (lt-ltb 4000000 product large) in
-      let clash : ◌≡◌ {A = List Finding} (too_large product ∷ []) [] = sym told ∙ none in
+  | inl large ↦ (let found : too_many product ≡ too_large (told product) ∷ [] =
+      ap (λ (b : Bool). cond b (too_large (told product) ∷ []) []) (lt-ltb 4000000 product large) in
+      let clash : ◌≡◌ {A = List Finding} (too_large (told product) ∷ []) [] = sym found ∙ none in
       cc)
   | inr small ↦ small
 ]

@@ -11,7 +11,7 @@ use Rattle.drum_times.specs.declared.notes.mark.Mark.{Mark}
 use Rattle.drum_times.specs.Allowed.{Notes, is_listed, allowed}
 use Rattle.drum_machine.specs.Counts.{is_inside}
 use Rattle.drum_machine.specs.Writes.{writes}
-use Rattle.drum_flow.specs.Accepted.{product_of}
+use Rattle.drum_flow.specs.Accepted.{product_of, told}
 use Rattle.drum_flow.specs.Executed.{with_new}
 use Rattle.drum_flow.specs.Flow.{AreFound}
 use Rattle.drum_loops.specs.Loops.{AreClosing}
@@ -66,7 +66,7 @@ altering loads notes executed place =
 
 -- that executed words times counts are past 4,000,000, if they are
 abbrev pub too_many : ℕ → List Finding
-too_many product = if nat_lt 4000000 product then too_large product ∷ [] else []
+too_many product = if nat_lt 4000000 product then too_large (told product) ∷ [] else []
 
 -- a mark on an edge that isn't there
 abbrev pub astray : (ℕ → Option Word) → Notes → List ℕ → Mark → List Finding

@@ -4,7 +4,7 @@ use Rattle.drum_flow.specs.declared.fixed.Fixed.{Fixed}
 use Rattle.drum_flow.specs.declared.flow_graph.Flow.{Flow}
 use Rattle.drum_flow.specs.Fixed.{AreFlagged}
 use Rattle.drum_flow.specs.Flow.{executed_in, notes_of, of_flow}
-use Rattle.drum_loops.specs.Loops.{edge_of}
+use Rattle.drum_times.specs.EdgeOf.{edge_of}
 use Rattle.drum_check.specs.declared.finding.Finding as held
 use Rattle.drum_check.specs.declared.finding.Finding.TheVariants as finding
 use Rattle.drum_check.specs.declared.findings.Findings.{Findings}

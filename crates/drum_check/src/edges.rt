@@ -7,13 +7,12 @@ ghost use Rattle.drum_flow.specs.Flow.{executed_in};
 ghost use Rattle.drum_check.specs.Findings as said;
 ghost use Rattle.drum_check.specs.Findings.{is_among};
 ghost use Rattle.drum_check.specs.Insides.{marked_edges};
-ghost use Rattle.drum_loops.specs.Loops.{edge_of};
+ghost use Rattle.drum_times.specs.EdgeOf.{edge_of};
 
 use drum_core::{Deck, Location};
 use drum_flow::Flow;
 use drum_flow::executed::Executed;
-use drum_loops::Edge;
-use drum_times::Notes;
+use drum_times::{Edge, Notes};
 use std::alloc::{AllocError, Global};
 
 /// Whether the location is executed.

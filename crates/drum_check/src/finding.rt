@@ -1,7 +1,7 @@
 use crate::kept::Kept;
 use crate::within::Within;
 use drum_core::Location;
-use drum_loops::Edge;
+use drum_times::Edge;
 
 /// Something that keeps a deck from having a bound under its notes, or a loose end of the notes.
 #[derive(Clone, Copy, Debug, PartialEq, Eq)]

@@ -8,12 +8,11 @@ use crate::loops::unmarked_loops;
 use crate::operations::operations_outside;
 use crate::unsaid::{are_unsaid, unsaid_marks};
 use drum_core::{Deck, Location};
-use drum_flow::counts::counts_of;
+use drum_flow::counts::product_of;
 use drum_flow::fixed::Fixed;
 use drum_flow::place::{is_listed, is_there};
 use drum_flow::{Flow, discover};
-use drum_loops::Edge;
-use drum_times::{Mark, Notes};
+use drum_times::{Edge, Mark, Notes};
 use std::alloc::{AllocError, Global};
 
 /// The most findings that are held, far more than any deck has.
@@ -35,7 +34,7 @@ impl Findings {
     ghost use Rattle.std.specs.List.{list_all, range_with_len};
     ghost use Rattle.drum_core.specs.Location.{IsLocation};
     ghost use Rattle.drum_core.specs.Loads.{loads_in, start_in};
-    ghost use Rattle.drum_flow.specs.Accepted.{product_of};
+    ghost use Rattle.drum_flow.specs.Accepted as said;
     ghost use Rattle.drum_flow.specs.Flow.{executed_in, of_flow, AreFound};
     ghost use Rattle.drum_check.specs.Findings.{not_there, unfit, altering, too_many};
     ghost use Rattle.drum_check.specs.Findings.{astray, idle, may_be_meant, unused};
@@ -187,10 +186,9 @@ impl Findings {
     /// Adds that the analysis is too large, if it is.
     fn add_size(&mut self, flow: &Flow<'_>) -> Result<(), AllocError>
         ensures { OnOk result (found_in self.new ≡ found_in self.old
-            ++ too_many (product_of (executed_in flow.now) flow.now.notes.now.marks)) }
+            ++ too_many (said.product_of (executed_in flow.now) flow.now.notes.now.marks)) }
     {
-        let words = flow.executed().len();
-        let product = words as u128 * counts_of(flow.notes().marks());
+        let product = product_of(flow.executed().len(), flow.notes().marks());
         if product <= PRODUCT_LIMIT {
             return Ok(());
         }

@@ -10,7 +10,7 @@ use crate::finding::Finding;
 use crate::findings::Findings;
 use drum_core::{Location, Output};
 use drum_lines::{WriteFault, four_digits, send, two_digits};
-use drum_loops::Edge;
+use drum_times::Edge;
 use itoa::Buffer;
 
 /// Writes a line of a name and a location.

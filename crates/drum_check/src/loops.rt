@@ -1,10 +1,11 @@
 //! The loops that lack a mark, in the order in which they are listed: those inside the fewest of
 //! the others first, each with the mark that a mark on its edge is to stand inside of.
 
-ghost use Rattle.std.specs.Prelude.{◌≡◌, ◌++◌, ℕ, List, map, All, IfOk};
+ghost use Rattle.std.specs.Prelude.{◌≡◌, ◌++◌, ◌+◌, ◌<◌, ◌↔◌, ℕ, List, map, All, IfOk, IsTrue};
 ghost use Rattle.std.specs.Prelude.{IsPermutation};
 ghost use Rattle.drum_flow.specs.Flow.{executed_in, of_flow, AreFound};
-ghost use Rattle.drum_loops.specs.Loops.{edge_of, AreClosing};
+ghost use Rattle.drum_times.specs.EdgeOf.{edge_of};
+ghost use Rattle.drum_loops.specs.Loops.{AreClosing};
 ghost use Rattle.drum_check.specs.Findings.{closes};
 ghost use Rattle.drum_check.specs.FindingsOf.{seen, IsInsideIn};
 ghost use Rattle.drum_check.specs.Insides as said;
@@ -18,8 +19,8 @@ use crate::nested::{last_round, loops_round};
 use crate::several::has_several_ways;
 use crate::within::Within;
 use drum_flow::Flow;
-use drum_loops::{Edge, closing_edges};
-use drum_times::Mark;
+use drum_loops::closing_edges;
+use drum_times::{Edge, Mark};
 use std::alloc::{AllocError, Global};
 
 /// An edge, with inside how many loops its own stands.
@@ -132,6 +133,13 @@ fn told_alone(alloc: Global, edges: &[Edge]) -> Result<Vec<Finding>, AllocError>
     Ok(loops)
 }
 
+/// Whether marks and further edges are more than short notes have marks.
+fn is_past_short(marks: usize, edges: usize) -> bool
+    ensures { IsTrue result ↔ (8 < marks + edges) }
+{
+    marks > Mark::MOST_SHORT || edges > Mark::MOST_SHORT - marks
+}
+
 /// The loops that lack a mark, in the order in which they are listed. Where they are so many that
 /// notes can't have a mark for each, none is said to stand inside another one. It takes as long as
 /// [`closing_edges`], and at most some four hundred times as long as discovery.
@@ -141,7 +149,7 @@ pub fn unmarked_loops(alloc: Global, flow: &Flow<'_>) -> Result<Vec<Finding>, Al
         × of_flow AreLoops flow.now (executed_in flow.now) edges (map seen loops.items)) }
 {
     let edges = closing_edges(alloc, flow)?;
-    if edges.len() > Mark::MOST - flow.notes().marks().len() {
+    if is_past_short(flow.notes().marks().len(), edges.len()) {
         return told_alone(alloc, &edges);
     }
     let edges = fewest_first(alloc, flow, &edges)?;

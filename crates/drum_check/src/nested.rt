@@ -2,13 +2,14 @@
 //! and which of them is the last.
 
 ghost use Rattle.std.specs.Prelude.{◌↔◌, IsTrue, IfOk, map};
-ghost use Rattle.drum_loops.specs.Loops.{edge_of};
+ghost use Rattle.drum_times.specs.EdgeOf.{edge_of};
 ghost use Rattle.drum_check.specs.FindingsOf.{IsInsideIn};
 ghost use Rattle.drum_check.specs.Insides.{AreSoMany, IsLastNumber};
 
 use crate::edges::has_edge;
 use drum_flow::Flow;
-use drum_loops::{Edge, is_nested};
+use drum_loops::is_nested;
+use drum_times::Edge;
 use std::alloc::{AllocError, Global};
 
 /// Whether the loop of the inner edge stands inside that of the outer one, and the flow graph has

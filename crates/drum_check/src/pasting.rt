@@ -3,7 +3,7 @@
 ghost use Rattle.std.specs.Prelude.{◌≡◌, ◌+◌, ◌^◌, ◌≤◌, ◌++◌, codes, decimal, IfOk, flat_map};
 ghost use Rattle.std.specs.Prelude.{length};
 ghost use Rattle.drum_lines.specs.Sent.{IsSent, IsWritten, fails_by};
-ghost use Rattle.drum_loops.specs.Loops.{edge_of};
+ghost use Rattle.drum_times.specs.EdgeOf.{edge_of};
 ghost use Rattle.drum_check.specs.declared.within.Within.TheVariants as within;
 ghost use Rattle.drum_check.specs.FindingsOf.{seen, found_in};
 ghost use Rattle.drum_check.specs.Lacking.{check_text, comment_text, edge_text, gap, within_text};
@@ -19,7 +19,7 @@ use crate::listing::send_findings;
 use crate::within::Within;
 use drum_core::{Location, Output, Word};
 use drum_lines::{WriteFault, send, spelling_of};
-use drum_loops::Edge;
+use drum_times::Edge;
 use itoa::Buffer;
 
 /// Writes the mark of an edge where `sent` bytes have gone out before, and returns how many have

@@ -1,7 +1,7 @@
 //! Whether a loop stands inside several ways back of one loop: edges that go back to one location.
 
 ghost use Rattle.std.specs.Prelude.{◌≡◌, ◌↔◌, IsTrue, IfOk, map};
-ghost use Rattle.drum_loops.specs.Loops.{edge_of};
+ghost use Rattle.drum_times.specs.EdgeOf.{edge_of};
 ghost use Rattle.drum_check.specs.Among.{has_twice, is_among};
 ghost use Rattle.drum_check.specs.FindingsOf.{IsInsideIn};
 ghost use Rattle.drum_check.specs.Insides.{AreHeads, HasSeveralWays};
@@ -9,7 +9,7 @@ ghost use Rattle.drum_check.specs.Insides.{AreHeads, HasSeveralWays};
 use crate::nested::stands_inside;
 use drum_core::Location;
 use drum_flow::Flow;
-use drum_loops::Edge;
+use drum_times::Edge;
 use std::alloc::{AllocError, Global};
 
 /// Where those of some edges go back to inside whose loop that of another one stands.

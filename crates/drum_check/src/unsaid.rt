@@ -5,7 +5,7 @@ ghost use Rattle.std.specs.Prelude.{length};
 ghost use Rattle.std.specs.List.{list_all, range_with_len};
 ghost use Rattle.drum_core.specs.Loads.{loads_in, start_in};
 ghost use Rattle.drum_flow.specs.Flow.{executed_in};
-ghost use Rattle.drum_loops.specs.Loops.{edge_of};
+ghost use Rattle.drum_times.specs.EdgeOf.{edge_of};
 ghost use Rattle.drum_check.specs.Findings.{edge_at, inside_at, is_on_edge, may_be_meant, pairs_of};
 ghost use Rattle.drum_check.specs.Findings.{AreThose, IsUnsaid};
 ghost use Rattle.drum_check.specs.FindingsOf.{seen, IsInsideIn};
@@ -16,8 +16,9 @@ use crate::edges::{has_edge, marked_edges};
 use crate::finding::Finding;
 use crate::several::has_several_ways;
 use drum_flow::Flow;
-use drum_loops::{Edge, is_nested};
+use drum_loops::is_nested;
 use drum_machine::is_inside;
+use drum_times::Edge;
 use std::alloc::{AllocError, Global};
 
 /// The edge of the mark with this index.

@@ -12,7 +12,7 @@ use Rattle.drum_flow.specs.declared.refusal.Refusal.{Refusal}
 use Rattle.drum_flow.specs.declared.refusal.Refusal.TheVariants.{Memory, NotLoaded, NotInProfile, Alters, Unbounded}
 use Rattle.drum_flow.specs.declared.refusal.Refusal.TheVariants.{TooLarge}
 use Rattle.drum_flow.specs.Acceptance.{IsAdmissionRefusal, IsRefusal}
-use Rattle.drum_flow.specs.Accepted.{counts_of, product_of, IsFree, IsAdmitted, IsFreeRound, IsSound}
+use Rattle.drum_flow.specs.Accepted.{counts_of, product_of, told, IsFree, IsAdmitted, IsFreeRound, IsSound}
 use Rattle.drum_flow.specs.Altering.{FlagsFixed, AltersNone}
 use Rattle.drum_flow.specs.Executed.{added_by, with_new, found_after, IsOrder}
 use Rattle.drum_flow.specs.Fixed.{AreFlagged}
@@ -88,7 +88,7 @@ module _ (loads : ℕ → Option Word) (notes : Notes) where
           unaltered = λ place ins is_executed allowed. none place (e.found.all place is_executed) ins allowed;
         }
 
-        pub too_much : (refusal : Refusal) → IsTooMuch (product_of executed notes.marks) refusal
+        pub too_much : (refusal : Refusal) → IsTooMuch (told (product_of executed notes.marks)) refusal
             → IsRefusal loads notes start refusal
         too_much (TooLarge product) wrong =
             (sound, subst (λ (n : ℕ). 4000000 < n) (sym wrong.0) wrong.1, (executed, e.found.order, wrong.0))

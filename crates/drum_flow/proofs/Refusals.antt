@@ -13,6 +13,7 @@ use Rattle.drum_flow.specs.Accepted.{IsAccepted, IsMet, IsFirstIn, IsFree, count
 use Rattle.drum_flow.specs.Graph.{IsClosed}
 use Rattle.drum_flow.specs.Executed.{found_after, IsOrder}
 use Rattle.drum_flow.specs.Hops.{IsExecuted}
+use Rattle.drum_flow.proofs.Products.{many_told}
 use Rattle.drum_flow.proofs.Acceptances.{one_order}
 use Rattle.drum_flow.proofs.Lists.{contains_here, contains_there, contains_from_get}
 use Rattle.drum_flow.proofs.Orders.{only_executed}
@@ -66,6 +67,6 @@ module _ (loads : ℕ → Option Word) (notes : Notes) (start : ℕ) where
       let same : other ≡ executed = one_order loads notes start other executed order accepted.admitted.order in
       let small : length other * counts_of notes.marks ≤ 4000000 =
       subst (λ (xs : List ℕ). length xs * counts_of notes.marks ≤ 4000000) (sym same) accepted.small in
-      absurd (omega (arith, large, number, small))
+      absurd (omega (arith, many_told (length other * counts_of notes.marks) (omega (arith, large, number)), small))
   only_memory executed (Unbounded cycle) accepted is = absurd (not_closed executed _ accepted is.round.executed is.round.closed)
   only_memory executed Memory accepted is = refl

@@ -1,7 +1,7 @@
 -- With a timing table that is nowhere quicker each hop may end as late or later, and so some walk
 -- takes as long or longer.
-use Rattle.std.proofs.Common.{◌≡◌, ℕ, ◌+◌, ◌-◌, ◌*◌, ◌≤◌, Bool, true, false, if◌then◌else◌, List, [], ◌∷◌, Option, Some}
-use Rattle.std.proofs.Common.{None, refl, ap, sym, ◌∙◌, subst, inl, inr, ◌⊎◌, arith, mul_comm}
+use Rattle.std.proofs.Common.{◌≡◌, ℕ, ◌+◌, ◌-◌, ◌≤◌, Bool, true, false, if◌then◌else◌, List, [], ◌∷◌, Option, Some}
+use Rattle.std.proofs.Common.{None, refl, sym, subst, inl, inr, ◌⊎◌, arith, mul_comm}
 use Rattle.std.proofs.Math.Nat.{mul-le-mul_left}
 use Rattle.drum_core.specs.declared.op.Op.{Op}
 use Rattle.drum_core.specs.declared.op.Op.TheVariants.{Read, Punch}
@@ -21,7 +21,7 @@ use Rattle.drum_flow.specs.Longest.{longest, most_units, most_wait}
 use Rattle.drum_flow.specs.Slower.{AreNoQuicker, IsNoQuicker, with_times}
 use Rattle.drum_flow.specs.Walk.{FollowHop, IsHopAt, IsTimed, IsWalk, IsWalkFrom, Setting, Taken, end_by, time_from}
 use Rattle.drum_flow.specs.Walk.{time_of}
-use Rattle.drum_flow.proofs.LongestLaws.{longest_is_timed, longest_later, longest_of, units_at_most, wait_at_most}
+use Rattle.drum_flow.proofs.LongestLaws.{longest_is_timed, longest_of, units_at_most, wait_at_most}
 
 -- a wait for an operand that begins later ends no earlier
 reached_later : (op : Op) (d s t : ℕ) → s ≤ t → reached op d s ≤ reached op d t

@@ -1,5 +1,5 @@
 -- When a deck with its notes is accepted, and why another isn't.
-use Rattle.std.specs.Prelude.{◌≡◌, ℕ, ◌+◌, ◌*◌, ◌<◌, ◌≤◌, IsTrue, IsSome, IsNone, List, [], ◌∷◌}
+use Rattle.std.specs.Prelude.{◌≡◌, ℕ, ◌+◌, ◌*◌, ◌^◌, ◌<◌, ◌≤◌, min, IsTrue, IsSome, IsNone, List, [], ◌∷◌}
 use Rattle.std.specs.Prelude.{◌++◌, length, slice_get, Option, Some, Contains, ◌⊎◌}
 use Rattle.drum_core.specs.declared.instruction.Instruction.{Instruction}
 use Rattle.drum_core.specs.declared.word.Word.{Word}
@@ -39,6 +39,10 @@ IsFree loads notes place next =
 -- executed words times counts
 abbrev pub product_of : List ℕ → List Mark → ℕ
 product_of executed marks = length executed * counts_of marks
+
+-- a product as it is told: 2^127 in place of any that is more
+abbrev pub told : ℕ → ℕ
+told product = min product (2 ^ 127)
 
 -- Admitted, whatever the size: each executed location is loaded or listed, has operations of the
 -- profile alone, and is written by an executed instruction only if it has a list; and no edges free
@@ -134,12 +138,13 @@ pub record IsSound (loads : ℕ → Option Word) (notes : Notes) (start : ℕ) :
   pub unaltered : (place : ℕ) (ins : Instruction) → IsExecuted loads notes start place
       → Contains (allowed loads notes place) ins → ¬ Alters loads notes start ins
 
--- TooLarge: the deck with its notes is sound, and this is its product, above 4,000,000.
+-- TooLarge: the deck with its notes is sound, and this is its product as it is told, above
+-- 4,000,000.
 abbrev pub IsTooLarge : (ℕ → Option Word) → Notes → ℕ → ℕ → Type 0
 IsTooLarge loads notes start product =
     IsSound loads notes start × (4000000 < product)
     × ((executed : List ℕ) × IsOrder loads notes start executed
-    × (product ≡ product_of executed notes.marks))
+    × (product ≡ told (product_of executed notes.marks)))
 
 -- the first member is the smallest
 abbrev pub IsSmallestFirst : List ℕ → Type 0

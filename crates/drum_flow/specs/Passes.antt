@@ -37,7 +37,7 @@ outer_is_earlier marks nested inner outer e =
     leads_earlier marks nested leads.0 inner outer leads.1
 
 -- the mark that is found is one of these
-found_within : (place : ℕ) (marks : List Mark) (from onto k : ℕ)
+pub found_within : (place : ℕ) (marks : List Mark) (from onto k : ℕ)
     → mark_from place marks from onto ≡ Some k → (place ≤ k) × (k < place + length marks)
 found_within place [] from onto k e = cc
 found_within place (mark ∷ marks) from onto k e =

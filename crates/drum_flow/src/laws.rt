@@ -21,7 +21,7 @@ ghost use Rattle.drum_times.specs.declared.entry.Entry.{Entry};
 ghost use Rattle.drum_flow.specs.declared.refusal.Refusal.{Refusal};
 ghost use Rattle.drum_flow.specs.declared.refusal.Refusal.TheVariants.{Memory};
 ghost use Rattle.drum_flow.specs.Acceptance.{IsRefusal};
-ghost use Rattle.drum_flow.specs.Accepted.{IsAccepted, IsAdmitted, IsFixed};
+ghost use Rattle.drum_flow.specs.Accepted.{product_of, told, IsAccepted, IsAdmitted, IsFixed};
 ghost use Rattle.drum_flow.specs.Executed.{IsOrder};
 ghost use Rattle.drum_flow.specs.Graph.{AreDifferent};
 ghost use Rattle.drum_flow.specs.Hops.{IsExecuted};
@@ -113,4 +113,11 @@ pub fn passes_are_few()
     ensures { (g : Setting) (angle k : ℕ) (hops : List Taken) → StandInEarlier 0 g.notes.marks
         → k < length g.notes.marks → IsWalk g angle hops
         → passes_of g.notes.marks k (edges_taken hops) ≤ most_passes g.notes.marks k }
+{}
+
+/// Of eight marks at most, and no more words than the machine has, executed words times counts are
+/// told as they are.
+pub fn few_marks_are_told()
+    ensures { (executed : List ℕ) (marks : List Mark) → length executed ≤ 2004 → length marks ≤ 8
+        → told (product_of executed marks) ≡ product_of executed marks }
 {}

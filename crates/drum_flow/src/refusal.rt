@@ -23,7 +23,8 @@ pub enum Refusal {
     /// Edges free of marks lead round: nothing bounds how often this cycle is gone through.
     #[error("a cycle is free of marks")]
     Unbounded(Cycle),
-    /// Executed words times counts is this product, which is more than 4,000,000.
+    /// Executed words times counts is this product, which is more than 4,000,000. (2^127 stands for
+    /// any product that is more.)
     #[error("{0} executed words times counts are too many")]
     TooLarge(u128),
 }

@@ -2,10 +2,11 @@
 
 ghost use Rattle.std.specs.Prelude.{◌≤◌, IfErr, OnOk};
 ghost use Rattle.drum_flow.specs.Flow.{executed_in};
-ghost use Rattle.drum_flow.specs.Accepted.{product_of};
+ghost use Rattle.drum_flow.specs.Accepted as said;
+ghost use Rattle.drum_flow.specs.Accepted.{told};
 ghost use Rattle.drum_flow.specs.Size.{IsTooMuch};
 
-use crate::counts::counts_of;
+use crate::counts::product_of;
 use crate::flow_graph::Flow;
 use crate::refusal::Refusal;
 
@@ -16,15 +17,14 @@ const LIMIT: u128 = 4_000_000;
 ///
 /// # Errors
 ///
-/// [`Refusal::TooLarge`] with the product.
+/// [`Refusal::TooLarge`] with the product; with 2^127 where that is more.
 pub fn check_small(flow: &Flow<'_>) -> Result<(), Refusal>
-    ensures small { OnOk result (product_of (executed_in flow.now) flow.now.notes.now.marks
+    ensures small { OnOk result (said.product_of (executed_in flow.now) flow.now.notes.now.marks
         ≤ 4000000) }
     ensures large { IfErr result
-        (IsTooMuch (product_of (executed_in flow.now) flow.now.notes.now.marks)) }
+        (IsTooMuch (told (said.product_of (executed_in flow.now) flow.now.notes.now.marks))) }
 {
-    let words = flow.executed().len();
-    let product = words as u128 * counts_of(flow.notes.marks());
+    let product = product_of(flow.executed().len(), flow.notes.marks());
     if product > LIMIT {
         return Err(Refusal::TooLarge(product));
     }

@@ -53,8 +53,8 @@ few = (omega arith, omega arith)
 -- the one mark stands on an edge that isn't there, the other on the edge that leads back
 abbrev marks : List Mark
 marks =
-    record { from = first; onto = third; most = 3; inside = None; four_digits = few.0 }
-    ∷ record { from = third; onto = first; most = 10; inside = None; four_digits = few.1 } ∷ []
+    record { from = first; onto = third; others = []; most = 3; inside = None; name = None; four_digits = few.0 }
+    ∷ record { from = third; onto = first; others = []; most = 10; inside = None; name = None; four_digits = few.1 } ∷ []
 
 abbrev notes : Notes
 notes = record {

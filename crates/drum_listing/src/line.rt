@@ -21,6 +21,6 @@ pub trait Line {
         ensures sent { IsSent (O.written writer.old) (O.written writer.new) sent result
             (text self.now) }
         ensures failures { O.failed writer.new ≡ O.failed writer.old + fails_by result }
-        ensures calls { O.called writer.new ≤ O.called writer.old + 500 }
-        ensures few { IfOk result (λ total. total ≤ sent + 500) };
+        ensures calls { O.called writer.new ≤ O.called writer.old + 1000 }
+        ensures few { IfOk result (λ total. total ≤ sent + 1000) };
 }

@@ -14,10 +14,10 @@ use drum_lines::{WriteFault, send};
 fn gather<L: Line>(page: &mut Page, line: &L) -> bool
     requires { ⟦<Page as Output>⟧.called page.old ≤ 2 ^ 62 }
     ensures line { result ≡ true → text_of page.new ≡ text_of page.old ++ L.text line.now }
-    ensures short { result ≡ true → length (text_of page.new) ≤ length (text_of page.old) + 500 }
+    ensures short { result ≡ true → length (text_of page.new) ≤ length (text_of page.old) + 1000 }
     ensures none { result ≡ false → text_of page.new ≡ text_of page.old }
     ensures calls { ⟦<Page as Output>⟧.called page.new
-        ≤ ⟦<Page as Output>⟧.called page.old + 500 }
+        ≤ ⟦<Page as Output>⟧.called page.old + 1000 }
 {
     let before = page.len();
     match line.send(page, 0) {
@@ -44,8 +44,8 @@ fn send_behind<O: Output, L: Line>(
     ensures empty { OnOk result (text_of page.new ≡ []) }
     ensures gathered { ⟦<Page as Output>⟧.called page.new ≡ ⟦<Page as Output>⟧.called page.old }
     ensures calls { O.called writer.new
-        ≤ O.called writer.old + length (text_of page.old) + 500 }
-    ensures few { IfOk result (λ total. total ≤ sent + length (text_of page.old) + 500) }
+        ≤ O.called writer.old + length (text_of page.old) + 1000 }
+    ensures few { IfOk result (λ total. total ≤ sent + length (text_of page.old) + 1000) }
 {
     let sent = send(writer, sent, &[page.bytes()])?;
     page.keep(0);
@@ -70,12 +70,12 @@ pub fn pass_line<O: Output, L: Line>(
         ++ L.text line.now)) (text_of page.new) }
     ensures failures { O.failed writer.new ≡ O.failed writer.old + fails_by result }
     ensures gathered { ⟦<Page as Output>⟧.called page.new
-        ≤ ⟦<Page as Output>⟧.called page.old + 500 }
+        ≤ ⟦<Page as Output>⟧.called page.old + 1000 }
     ensures calls { OnOk result (O.called writer.new + length (text_of page.new)
-        ≤ O.called writer.old + length (text_of page.old) + 500) }
-    ensures most { O.called writer.new ≤ O.called writer.old + length (text_of page.old) + 500 }
+        ≤ O.called writer.old + length (text_of page.old) + 1000) }
+    ensures most { O.called writer.new ≤ O.called writer.old + length (text_of page.old) + 1000 }
     ensures few { IfOk result (λ total. total + length (text_of page.new)
-        ≤ sent + length (text_of page.old) + 500) }
+        ≤ sent + length (text_of page.old) + 1000) }
 {
     if gather(page, line) {
         return Ok(sent);

@@ -185,8 +185,8 @@ pub fn send_step<O: Output>(
         → IsSent (O.written writer.old) (O.written writer.new) sent result
         (stride_line (entry_in times.now) number stride) }
     ensures failures { O.failed writer.new ≡ O.failed writer.old + fails_by result }
-    ensures calls { O.called writer.new ≤ O.called writer.old + 500 }
-    ensures few { IfOk result (λ total. total ≤ sent + 500) }
+    ensures calls { O.called writer.new ≤ O.called writer.old + 1000 }
+    ensures few { IfOk result (λ total. total ≤ sent + 1000) }
 {
     let told = told_of(step, before);
     let moments = Moments::of(&told, times, angle);

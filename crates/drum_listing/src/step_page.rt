@@ -34,10 +34,10 @@ fn gather_step(
     ensures line { (stride : Stride)
         → IsStepOf (entry_in times.now) angle before step.now machine.now stride → result ≡ true
         → text_of page.new ≡ text_of page.old ++ stride_line (entry_in times.now) number stride }
-    ensures short { result ≡ true → length (text_of page.new) ≤ length (text_of page.old) + 500 }
+    ensures short { result ≡ true → length (text_of page.new) ≤ length (text_of page.old) + 1000 }
     ensures none { result ≡ false → text_of page.new ≡ text_of page.old }
     ensures calls { ⟦<Page as Output>⟧.called page.new
-        ≤ ⟦<Page as Output>⟧.called page.old + 500 }
+        ≤ ⟦<Page as Output>⟧.called page.old + 1000 }
 {
     let held = page.len();
     match send_step(page, 0, times, angle, number, before, step, machine) {
@@ -72,8 +72,8 @@ fn send_behind<O: Output>(
     ensures empty { OnOk result (text_of page.new ≡ []) }
     ensures gathered { ⟦<Page as Output>⟧.called page.new ≡ ⟦<Page as Output>⟧.called page.old }
     ensures calls { O.called writer.new
-        ≤ O.called writer.old + length (text_of page.old) + 500 }
-    ensures few { IfOk result (λ total. total ≤ sent + length (text_of page.old) + 500) }
+        ≤ O.called writer.old + length (text_of page.old) + 1000 }
+    ensures few { IfOk result (λ total. total ≤ sent + length (text_of page.old) + 1000) }
 {
     let sent = send(writer, sent, &[page.bytes()])?;
     page.keep(0);
@@ -114,12 +114,12 @@ pub fn pass_step<O: Output>(
         ++ stride_line (entry_in times.now) number stride)) (text_of page.new) }
     ensures failures { O.failed writer.new ≡ O.failed writer.old + fails_by result }
     ensures gathered { ⟦<Page as Output>⟧.called page.new
-        ≤ ⟦<Page as Output>⟧.called page.old + 500 }
+        ≤ ⟦<Page as Output>⟧.called page.old + 1000 }
     ensures calls { OnOk result (O.called writer.new + length (text_of page.new)
-        ≤ O.called writer.old + length (text_of page.old) + 500) }
-    ensures most { O.called writer.new ≤ O.called writer.old + length (text_of page.old) + 500 }
+        ≤ O.called writer.old + length (text_of page.old) + 1000) }
+    ensures most { O.called writer.new ≤ O.called writer.old + length (text_of page.old) + 1000 }
     ensures few { IfOk result (λ total. total + length (text_of page.new)
-        ≤ sent + length (text_of page.old) + 500) }
+        ≤ sent + length (text_of page.old) + 1000) }
 {
     if gather_step(page, times, angle, number, before, step, machine) {
         return Ok(sent);

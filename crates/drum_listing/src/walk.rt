@@ -27,8 +27,8 @@ fn send_visits<O: Output>(
     ensures sent { IsSent (O.written writer.old) (O.written writer.new) 0 result
         (flat_map (λ visit. visit_line (entry_in times.now) angle (seen_visit visit)) walk.now) }
     ensures failures { O.failed writer.new ≡ O.failed writer.old + fails_by result }
-    ensures calls { O.called writer.new ≤ O.called writer.old + 2000000000 }
-    ensures few { IfOk result (λ total. total ≤ 2000000000) }
+    ensures calls { O.called writer.new ≤ O.called writer.old + 4000000000 }
+    ensures few { IfOk result (λ total. total ≤ 4000000000) }
 {
     let mut sent = 0;
     let mut page = Page::new();

@@ -13,8 +13,9 @@ use Rattle.drum_flow.proofs.Founds.{numbers}
 use Rattle.drum_flow.proofs.FreeRows.{one_place}
 use Rattle.drum_flow.proofs.Lists.{contains_here, contains_there, contains_cases, contains_none, distinct_push}
 use Rattle.drum_loops.specs.Closing.{AreBehind, IsBack, AreBack, edges_onto}
-use Rattle.drum_loops.specs.declared.edge.Edge.{Edge}
-use Rattle.drum_loops.specs.Loops.{edge_of, AreApart}
+use Rattle.drum_times.specs.declared.notes.edge.Edge.{Edge}
+use Rattle.drum_times.specs.EdgeOf.{edge_of}
+use Rattle.drum_loops.specs.Loops.{AreApart}
 
 module _ (row ranks : List ℕ) (node : ℕ) (targets : List ℕ) (next : ℕ) (before : AreBehind row ranks node targets) where
   -- one more node of a row that isn't behind

@@ -6,11 +6,6 @@ use Rattle.drum_times.specs.Allowed.{Notes}
 use Rattle.drum_flow.specs.Accepted.{IsFree}
 use Rattle.drum_flow.specs.Graph.{IsClosed}
 use Rattle.drum_flow.specs.Hops.{IsExecuted}
-use Rattle.drum_loops.specs.declared.edge.Edge.{Edge}
-
--- the numbers of an edge's locations
-abbrev pub edge_of : Edge → ℕ × ℕ
-edge_of edge = (edge.from.number, edge.onto.number)
 
 -- none of them twice
 abbrev pub AreApart : List (ℕ × ℕ) → Type 0

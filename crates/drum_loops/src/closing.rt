@@ -2,16 +2,17 @@ ghost use Rattle.std.specs.Prelude.{◌≡◌, ℕ, ◌<◌, ◌++◌, length, m
 ghost use Rattle.drum_flow.specs.Flow.{executed_in, of_flow, AreFound};
 ghost use Rattle.drum_flow.specs.Graph.{row, size, AreDifferent};
 ghost use Rattle.drum_loops.specs.Closing.{AreBack, edges_onto};
-ghost use Rattle.drum_loops.specs.Loops.{edge_of, AreClosing};
+ghost use Rattle.drum_times.specs.EdgeOf.{edge_of};
+ghost use Rattle.drum_loops.specs.Loops.{AreClosing};
 
 use crate::arranging::arrange;
 use crate::behind::targets_behind;
-use crate::edge::Edge;
 use crate::ranking::ranks_in;
 use drum_core::Location;
 use drum_flow::Flow;
 use drum_flow::free::free_graph;
 use drum_flow::graph::Graph;
+use drum_times::Edge;
 use std::alloc::{AllocError, Global};
 
 /// Adds the edges from a location to those at some indices of the order of discovery.

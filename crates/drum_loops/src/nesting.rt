@@ -4,13 +4,13 @@ ghost use Rattle.std.specs.Prelude.{◌≡◌, ◌≢◌, ℕ, ◌↔◌, ◌⊎
 ghost use Rattle.drum_core.specs.Loads.{loads_in, start_in};
 ghost use Rattle.drum_flow.specs.Found.{places_of};
 ghost use Rattle.drum_flow.specs.Flow.{of_flow};
-ghost use Rattle.drum_loops.specs.Loops.{edge_of};
+ghost use Rattle.drum_times.specs.EdgeOf.{edge_of};
 ghost use Rattle.drum_loops.specs.Nested.{LeadsAround, IsNested};
 
-use crate::edge::Edge;
 use drum_core::Location;
 use drum_flow::Flow;
 use drum_flow::executed::Executed;
+use drum_times::Edge;
 use std::alloc::{AllocError, Global};
 
 /// The locations that edges lead to from the location `from`, none of these edges onto the location

@@ -26,8 +26,10 @@ outer =
     record {
       from = record { number = 110; exists = hundred_ten };
       onto = record { number = 100; exists = hundred };
+      others = [];
       most = 1;
       inside = None;
+      name = None;
       four_digits = once;
     }
 
@@ -36,8 +38,10 @@ inner =
     record {
       from = record { number = 100; exists = hundred };
       onto = record { number = 100; exists = hundred };
+      others = [];
       most = 2;
       inside = Some 0;
+      name = None;
       four_digits = twice;
     }
 
@@ -46,8 +50,10 @@ innermost =
     record {
       from = record { number = 100; exists = hundred };
       onto = record { number = 110; exists = hundred_ten };
+      others = [];
       most = 2;
       inside = Some 1;
+      name = None;
       four_digits = twice;
     }
 

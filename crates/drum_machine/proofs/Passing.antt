@@ -50,7 +50,7 @@ next_of : (counts : List ℕ) (size place : ℕ) → place < size → place < le
 next_of counts size place below inside = grind (arith, common_steps)
 
 pub counted_more : (marks : List Mark) (passed place : ℕ) (counts before : List ℕ) (x : ℕ) → place < length marks
-    → length marks ≤ 8 → length counts ≡ 8
+    → length marks ≤ 64 → length counts ≡ 64
     → x ≡ (if place == passed then get_or counts place 0 + 1
     else (if is_inside marks place passed then 0 else get_or counts place 0))
     → CountedBelow marks passed place counts before

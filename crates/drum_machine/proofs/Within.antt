@@ -1,11 +1,13 @@
 -- Counts after a pass, and how often marks may be passed.
 use Rattle.std.proofs.Common.{◌≡◌, ℕ, zero, suc, ◌+◌, ◌≤◌, ◌<◌, Bool, true, false, List, [], ◌∷◌, length, replicate, take, get_or}
 use Rattle.std.proofs.Common.{Option, Some, None, refl, subst, sym, ap, eq-eqb, arith}
-use Rattle.std.specs.Prelude.{◌==◌, if◌then◌else◌}
+use Rattle.std.specs.Prelude.{◌==◌, if◌then◌else◌, MatchOption}
 use Rattle.std.proofs.lemmas.Bool.{eqb-true}
 use Rattle.std.proofs.lemmas.List.{get_or_read, get_or-take}
 use Rattle.drum_times.specs.declared.notes.mark.Mark.{Mark}
 use Rattle.drum_times.specs.Marks.{mark_on}
+use Rattle.drum_machine.specs.declared.counts.Counts.{Counts}
+use Rattle.drum_machine.specs.CountsIn.{counts_in}
 use Rattle.drum_machine.specs.Counts.{is_inside, no_counts, passed_from, after_pass, AreWithin}
 
 -- a pass of the mark on the edge
@@ -52,27 +54,22 @@ over_most all passed place (mark ∷ marks) (count ∷ counts) zero d at inside 
 over_most all passed place (mark ∷ marks) (count ∷ counts) (suc k) d at inside over within =
     over_most all passed (place + 1) marks counts k d (omega arith) (omega arith) over within.1
 
--- the same of the mark that was found, and of counts of which only as many as there are marks mean
--- anything
-pub too_often : (marks : List Mark) (counts : List ℕ) (from onto passed : ℕ) (mark : Mark)
-    → Some passed ≡ mark_on marks from onto → passed < length marks
+-- the same of counts of which only as many as there are marks mean anything
+pub too_often : (marks : List Mark) (counts : List ℕ) (passed : ℕ) (mark : Mark) → passed < length marks
     → mark ≡ get_or marks passed mark → mark.most ≤ get_or counts passed 0
-    → ¬ AreWithin marks (after_pass marks from onto (take (length marks) counts))
-too_often marks counts from onto passed mark found inside is over =
+    → ¬ AreWithin marks (passed_from marks passed 0 (take (length marks) counts))
+too_often marks counts passed mark inside is over =
     let size = length marks in
     let count : get_or (take (length marks) counts) passed 0 ≡ get_or counts passed 0 =
     get_or-take (length marks) counts passed 0 inside in
     let most : mark.most ≡ (get_or marks passed mark).most = ap (λ (m : Mark). m.most) is in
-    subst (λ (after : List ℕ). ¬ AreWithin marks after)
-    (sym (counts_passed marks from onto passed (take size counts) found))
-    (over_most marks passed 0 marks (take size counts) passed mark (omega arith) inside (omega (arith, count, most)))
+    over_most marks passed 0 marks (take size counts) passed mark (omega arith) inside (omega (arith, count, most))
 
-pub within_after : (marks : List Mark) (counts : List ℕ) (from onto passed : ℕ) (mark : Mark)
-    → Some passed ≡ mark_on marks from onto → passed < length marks
+pub within_after : (marks : List Mark) (counts : List ℕ) (passed : ℕ) (mark : Mark) → passed < length marks
     → mark ≡ get_or marks passed mark → get_or counts passed 0 < mark.most
     → AreWithin marks (take (length marks) counts)
-    → AreWithin marks (after_pass marks from onto (take (length marks) counts))
-within_after marks counts from onto passed mark found inside is room within =
+    → AreWithin marks (passed_from marks passed 0 (take (length marks) counts))
+within_after marks counts passed mark inside is room within =
     let size = length marks in
     let most_at : (d : Mark) → mark ≡ get_or marks passed d = get_or_read marks passed mark inside is in
     let count : get_or (take (length marks) counts) passed 0 ≡ get_or counts passed 0 =
@@ -83,8 +80,18 @@ within_after marks counts from onto passed mark found inside is room within =
     let same : k ≡ passed = omega arith in
     subst (λ (j : ℕ). get_or (take (length marks) counts) j 0 < (get_or marks j d).most) (sym same)
     (omega (arith, count, ap (λ (m : Mark). m.most) (most_at d))) in
-    subst (AreWithin marks) (sym (counts_passed marks from onto passed (take size counts) found))
-    (within_most marks passed 0 marks (take size counts) within roomy)
+    within_most marks passed 0 marks (take size counts) within roomy
+
+-- what is so of a pass of the mark on an edge is so of the step along it
+pub along : (marks : List Mark) (from onto passed : ℕ) (counts : List ℕ) (result : Option Counts)
+    → Some passed ≡ mark_on marks from onto
+    → MatchOption result (¬ AreWithin marks (passed_from marks passed 0 counts))
+    (λ after. counts_in after marks ≡ passed_from marks passed 0 counts)
+    → MatchOption result (¬ AreWithin marks (after_pass marks from onto counts))
+    (λ after. counts_in after marks ≡ after_pass marks from onto counts)
+along marks from onto passed counts result found right =
+    subst (λ (after : List ℕ). MatchOption result (¬ AreWithin marks after) (λ held. counts_in held marks ≡ after))
+    (sym (counts_passed marks from onto passed counts found)) right
 
 -- no pass is counted at first
 pub zeros : (marks : List Mark) (most : ℕ) → length marks ≤ most

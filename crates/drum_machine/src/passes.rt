@@ -51,7 +51,7 @@ fn count_after(marks: &[Mark], passed: usize, place: usize, count: u16) -> u16
 
 /// Counts a pass of the mark with this index.
 pub fn count_pass(counts: &mut [u16; Mark::MOST], marks: &[Mark], passed: usize)
-    requires few { length marks.now ≤ 8 }
+    requires few { length marks.now ≤ 64 }
     requires inside { passed < length marks.now }
     requires short { slice_index counts.old passed ≤ 9999 }
     ensures { take (length marks.now) counts.new

@@ -92,7 +92,7 @@ impl Monitor {
 
     /// Counts a step from one location to another, where no count is above what its mark allows.
     fn pass(&mut self, marks: &[Mark], from: Location, onto: Location) -> Option<Left>
-        requires { length marks.now ≤ 8 }
+        requires { length marks.now ≤ 64 }
         ensures { let counts = counts_of self.old.counts marks.now in
             let passed = after_pass marks.now from.number onto.number counts in
             MatchOption result

@@ -53,14 +53,14 @@ fn send_prices<O: Output>(
     ceiling: &Ceiling,
 ) -> Result<usize, WriteFault>
     requires called { O.called writer.old ≤ 2 ^ 62 }
-    requires marks { length marks.now ≤ 8 }
+    requires marks { length marks.now ≤ 64 }
     requires passes { length marks.now ≤ length (passes_in ceiling.now) }
     requires prices { length marks.now ≤ length (prices_of ceiling.now) }
     ensures sent { IsSent (O.written writer.old) (O.written writer.new) 0 result
         (flat_map (price_line_at ceiling.now) (enumerate_from 0 marks.now)) }
     ensures failures { O.failed writer.new ≡ O.failed writer.old + fails_by result }
-    ensures calls { O.called writer.new ≤ O.called writer.old + 960 }
-    ensures few { IfOk result (λ total. total ≤ 960) }
+    ensures calls { O.called writer.new ≤ O.called writer.old + 7680 }
+    ensures few { IfOk result (λ total. total ≤ 7680) }
 {
     let mut sent = 0;
     for (place, mark) in marks.iter().enumerate() {
@@ -119,7 +119,7 @@ pub fn report_ceiling<O: Output>(
     ensures written { IsWritten (O.written writer.old) (O.written writer.new) result
         (ceiling_text notes.now ceiling.now) }
     ensures failures { O.failed writer.new ≡ O.failed writer.old + fails_by result }
-    ensures calls { O.called writer.new ≤ O.called writer.old + 1080 }
+    ensures calls { O.called writer.new ≤ O.called writer.old + 7800 }
 {
     let sent = send_prices(writer, notes.marks(), ceiling)?;
     send_sums(writer, sent, ceiling.base(), ceiling.total())?;

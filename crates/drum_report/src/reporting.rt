@@ -35,7 +35,7 @@ pub fn report<O: Output>(
     ensures written { IsWritten (O.written writer.old) (O.written writer.new) result
         (report_text deck.now notes.now (visits_of analysis.now)) }
     ensures failures { O.failed writer.new ≡ O.failed writer.old + fails_by result }
-    ensures calls { O.called writer.new ≤ O.called writer.old + 481200 }
+    ensures calls { O.called writer.new ≤ O.called writer.old + 487920 }
 {
     let bound = analysis.bound();
     let marks = notes.marks();

@@ -1,6 +1,6 @@
 -- Which instructions the notes allow at a location.
 use Rattle.std.specs.Prelude.{◌≡◌, ℕ, suc, ◌-◌, ◌≤◌, ◌==◌, if◌then◌else◌, Bool, List, [], ◌∷◌, ◌++◌}
-use Rattle.std.specs.Prelude.{map, flat_map, Option, Some, None, is_some, ◌+◌, ◌<◌, ◌&&◌, false}
+use Rattle.std.specs.Prelude.{map, flat_map, Option, Some, None, is_some, ◌+◌, ◌<◌, false}
 use Rattle.std.specs.Prelude.{IsTrue, length}
 use Rattle.std.specs.List.{range_with_len, list_any, AllByRecursion}
 use Rattle.drum_core.specs.declared.instruction.Instruction.{Instruction}
@@ -10,6 +10,8 @@ use Rattle.drum_core.specs.Location.{is_location}
 use Rattle.drum_times.specs.declared.notes.mark.Mark.{Mark}
 use Rattle.drum_times.specs.declared.notes.pattern.Pattern.{Pattern}
 use Rattle.drum_times.specs.declared.notes.programmed.Programmed.{Programmed}
+use Rattle.drum_times.specs.Edges.{StandOnce}
+use Rattle.drum_times.specs.Marks.{edges_of}
 
 -- a list of the notes: what may stand at a location whose word the program alters
 pub record Listed : Type 0 where
@@ -22,15 +24,6 @@ pub record Notes : Type 0 where
   pub load_cards : Bool
   pub marks : List Mark
   pub lists : List Listed
-
--- the two marks stand on one edge
-abbrev pub same_edge : Mark → Mark → Bool
-same_edge a b = a.from.number == b.from.number && a.onto.number == b.onto.number
-
--- no two marks stand on one edge
-abbrev pub HaveOwnEdges : List Mark → Type 0
-HaveOwnEdges [] = Unit {0}
-HaveOwnEdges (mark ∷ marks) = (list_any (same_edge mark) marks ≡ false) × HaveOwnEdges marks
 
 -- no two lists are for one location
 abbrev pub HaveOwnLocations : List Listed → Type 0
@@ -48,12 +41,12 @@ abbrev pub StandInEarlier : ℕ → List Mark → Type 0
 StandInEarlier index [] = Unit {0}
 StandInEarlier index (mark ∷ marks) = IsEarlier index mark.inside × StandInEarlier (index + 1) marks
 
--- What holds of all notes. There are at most 8 marks; no two have one edge, and each stands inside
--- of an earlier mark or of none. Each list is for a location, no two are for the same one, and each
--- has 1 to 64 patterns.
+-- What holds of all notes. There are at most 64 marks; no edge is there twice among theirs, and each
+-- mark stands inside of an earlier one or of none. Each list is for a location, no two are for the
+-- same one, and each has 1 to 64 patterns.
 pub record AreSound (notes : Notes) : Type 0 where
-  pub few_marks : length notes.marks ≤ 8
-  pub own_edges : HaveOwnEdges notes.marks
+  pub few_marks : length notes.marks ≤ 64
+  pub own_edges : StandOnce (flat_map edges_of notes.marks)
   pub nested : StandInEarlier 0 notes.marks
   pub own_locations : HaveOwnLocations notes.lists
   pub locations : AllByRecursion (λ list. IsTrue (is_location list.location)) notes.lists

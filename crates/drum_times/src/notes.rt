@@ -1,11 +1,16 @@
 //! What the notes say of a program: where the programmed switch stands, whether load cards are
 //! read, how often edges are passed, and what an altered word may become.
 ghost use Rattle.std.specs.Prelude.{◌≡◌, option_map};
+ghost use Rattle.std.specs.List.{list_all};
 ghost use Rattle.drum_times.specs.Allowed as said;
 ghost use Rattle.drum_times.specs.Listed.{notes_of};
+ghost use Rattle.drum_times.specs.Short.{is_plain, is_short};
 
+pub mod edge;
+pub mod edges;
 pub mod listing;
 pub mod mark;
+pub mod name;
 pub mod pattern;
 pub mod programmed;
 
@@ -34,10 +39,17 @@ impl Model for Notes {
         said.AreSound (notes_of n.programmed n.load_cards n.marks.items n.lists.items) };
 }
 
+/// Whether each of these marks has one edge, and no name.
+fn are_plain(marks: &[Mark]) -> bool
+    ensures { result ≡ list_all is_plain marks.now }
+{
+    marks.iter().all(|mark| mark.is_plain())
+}
+
 impl Notes {
     /// The notes that say this: where the programmed switch stands, whether load cards are read,
-    /// the marks, at most 8, no two on one edge, each inside of an earlier one or of none, and the
-    /// lists, no two for one location.
+    /// the marks, at most 64, no edge there twice, each inside of an earlier one or of none, and
+    /// the lists, no two for one location.
     pub fn new(
         programmed: Programmed,
         load_cards: bool,
@@ -63,12 +75,19 @@ impl Notes {
         Listing::patterns_in(&self.lists, location)
     }
 
-    /// The marks, at most 8, in order. Each has an edge of its own.
+    /// The marks, at most 64, in order. No edge is there twice.
     pub fn marks(&self) -> &[Mark]
         ensures all { result.now ≡ self.now.marks }
         ensures sound { said.AreSound self.now }
     {
         &self.marks
+    }
+
+    /// Whether they are short: there are 8 marks at most, each with one edge and no name.
+    pub fn is_short(&self) -> bool
+        ensures { result ≡ is_short self.now }
+    {
+        self.marks.len() <= Mark::MOST_SHORT && are_plain(&self.marks)
     }
 
     /// Where the notes say that the programmed switch stands.

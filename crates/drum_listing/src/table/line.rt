@@ -20,13 +20,13 @@ use itoa::Buffer;
 pub struct RowLine<'a> {
     row: &'a Worst,
     marks: &'a [Mark],
-    ghost few: { length marks.now ≤ 8 },
+    ghost few: { length marks.now ≤ 64 },
 }
 
 impl<'a> RowLine<'a> {
     /// An entry, with the marks of the notes.
     pub fn of(row: &'a Worst, marks: &'a [Mark]) -> RowLine<'a>
-        requires { length marks.now ≤ 8 }
+        requires { length marks.now ≤ 64 }
         ensures row { result.row.now ≡ row.now }
         ensures marks { result.marks.now ≡ marks.now }
     {
@@ -63,8 +63,8 @@ fn send_count<O: Output>(writer: &mut O, sent: usize, count: u16) -> Result<usiz
     ensures sent { IsSent (O.written writer.old) (O.written writer.new) sent result
         (count_text count) }
     ensures failures { O.failed writer.new ≡ O.failed writer.old + fails_by result }
-    ensures calls { O.called writer.new ≤ O.called writer.old + 40 }
-    ensures few { IfOk result (λ total. total ≤ sent + 40) }
+    ensures calls { O.called writer.new ≤ O.called writer.old + 10 }
+    ensures few { IfOk result (λ total. total ≤ sent + 10) }
 {
     let mut buffer = Buffer::new();
     send(writer, sent, &[b" ", buffer.format(count).as_bytes()])
@@ -74,12 +74,12 @@ fn send_count<O: Output>(writer: &mut O, sent: usize, count: u16) -> Result<usiz
 fn send_counts<O: Output>(writer: &mut O, begun: usize, counts: &[u16]) -> Result<usize, WriteFault>
     requires called { O.called writer.old ≤ 2 ^ 62 + 2 ^ 60 + 1000 }
     requires few { begun ≤ 2 ^ 60 + 1000 }
-    requires eight { length counts.now ≤ 8 }
+    requires short { length counts.now ≤ 64 }
     ensures sent { IsSent (O.written writer.old) (O.written writer.new) begun result
         (flat_map count_text counts.now) }
     ensures failures { O.failed writer.new ≡ O.failed writer.old + fails_by result }
-    ensures calls { O.called writer.new ≤ O.called writer.old + 320 }
-    ensures few { IfOk result (λ total. total ≤ begun + 320) }
+    ensures calls { O.called writer.new ≤ O.called writer.old + 640 }
+    ensures few { IfOk result (λ total. total ≤ begun + 640) }
 {
     let mut sent = begun;
     for count in counts {

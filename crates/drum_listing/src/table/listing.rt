@@ -19,7 +19,7 @@ use drum_times::Mark;
 fn send_rows<O: Output>(writer: &mut O, rows: &[Worst], marks: &[Mark]) -> Result<usize, WriteFault>
     requires called { O.called writer.old ≤ 2 ^ 62 }
     requires few { length rows.now ≤ 2 ^ 40 }
-    requires eight { length marks.now ≤ 8 }
+    requires marks { length marks.now ≤ 64 }
     ensures sent { IsSent (O.written writer.old) (O.written writer.new) 0 result
         (flat_map (λ row. row_line marks.now (row_in row)) rows.now) }
     ensures failures { O.failed writer.new ≡ O.failed writer.old + fails_by result }
@@ -45,7 +45,7 @@ pub fn list_table<O: Output>(
     writer: &mut O,
 ) -> Result<(), WriteFault>
     requires called { O.called writer.old ≤ 2 ^ 62 }
-    requires eight { length marks.now ≤ 8 }
+    requires marks { length marks.now ≤ 64 }
     ensures written { IsWritten (O.written writer.old) (O.written writer.new) result
         (table_text marks.now (rows_in table.now)) }
     ensures failures { O.failed writer.new ≡ O.failed writer.old + fails_by result }

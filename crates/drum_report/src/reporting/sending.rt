@@ -135,13 +135,13 @@ pub fn send_marks<O: Output>(
 ) -> Result<usize, WriteFault>
     requires called { O.called writer.old ≤ 2 ^ 62 + 2 ^ 30 }
     requires few { sent ≤ 2 ^ 30 }
-    requires marks { length marks.now ≤ 8 }
+    requires marks { length marks.now ≤ 64 }
     ensures sent { (walk : List Visited) → ArePasses marks.now walk passed.now
         → IsSent (O.written writer.old) (O.written writer.new) sent result
         (flat_map (mark_line walk) marks.now) }
     ensures failures { O.failed writer.new ≡ O.failed writer.old + fails_by result }
-    ensures calls { O.called writer.new ≤ O.called writer.old + 960 }
-    ensures few { IfOk result (λ total. total ≤ sent + 960) }
+    ensures calls { O.called writer.new ≤ O.called writer.old + 7680 }
+    ensures few { IfOk result (λ total. total ≤ sent + 7680) }
 {
     for (place, mark) in marks.iter().enumerate() {
         sent = send_mark(writer, sent, mark, passed[place])?;

@@ -4,7 +4,7 @@ ghost use Rattle.drum_report.specs.Report.{time_in};
 ghost use Rattle.drum_report.specs.TalliesOf.{AreTallies, tally_of};
 
 use super::tally::Tally;
-use drum_bound::Visit;
+use drum_bound::{Visit, no_passes};
 use drum_core::Deck;
 use drum_times::Mark;
 
@@ -37,12 +37,12 @@ impl Tallies {
     pub fn of(walk: &[Visit], deck: &Deck, marks: &[Mark]) -> Tallies
         requires short { time_in (map seen_visit walk.now) < 2 ^ 62 }
         requires few { length walk.now < 2 ^ 62 }
-        requires marks { length marks.now ≤ 8 }
+        requires marks { length marks.now ≤ 64 }
         ensures { AreTallies deck.now marks.now (map seen_visit walk.now) result }
     {
         let mut cards = no_hops();
         let mut other = Tally::NONE;
-        let mut passed = [0; Mark::MOST];
+        let mut passed = no_passes();
         for visit in walk {
             match deck.card_of(visit.place) {
                 Some(line) => {

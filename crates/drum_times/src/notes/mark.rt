@@ -2,34 +2,66 @@
 
 ghost use Rattle.std.specs.Prelude.{◌≡◌, ◌≤◌, ◌<◌, length, IfSome};
 
+use super::edge::Edge;
+use super::edges::Edges;
+use super::name::Name;
 use drum_core::Location;
 
-/// A mark: a bound on how often a program goes from one location to another.
-#[derive(Clone, Copy, Debug, PartialEq, Eq)]
+/// A mark: a bound on how often a program goes along some edges, that is from one location to
+/// another, or from one of several to another.
+#[derive(Debug, Drop)]
 pub struct Mark {
-    /// Where the edge begins: the location of the step that passes the mark.
+    /// Where its first edge begins: the location of the step that passes the mark.
     pub from: Location,
-    /// Where the edge leads: the location at which that step goes on.
+    /// Where its first edge leads: the location at which that step goes on.
     pub onto: Location,
-    /// How often it is passed at most, 0 to 9999, since the last pass of a mark that it stands
-    /// inside of, directly or through others, or since the beginning of the run.
+    /// Its other edges, if it has any.
+    pub others: Edges,
+    /// How often it is passed at most, 0 to 9999, along its edges together, since the last pass of
+    /// a mark that it stands inside of, directly or through others, or since the beginning of the
+    /// run.
     pub most: u16,
     /// The index, from 0, of the earlier mark that it stands inside of, if there is one.
     pub inside: Option<usize>,
+    /// Its name, if it has one.
+    pub name: Option<Name>,
     pub ghost four_digits: { most ≤ 9999 },
 }
 
 impl Mark {
+    ghost use Rattle.drum_times.specs.EdgeOf.{edge_of};
+    ghost use Rattle.drum_times.specs.Short.{is_plain};
     ghost use Rattle.drum_times.specs.Marks.{is_on as stands_on, mark_on};
 
     /// How many marks notes have at most.
-    pub const MOST: usize = 8;
+    pub const MOST: usize = 64;
+
+    /// How many marks short notes have at most.
+    pub const MOST_SHORT: usize = 8;
+
+    /// Its first edge.
+    pub fn first(&self) -> Edge
+        ensures from { result.from ≡ self.now.from }
+        ensures onto { result.onto ≡ self.now.onto }
+    {
+        Edge {
+            from: self.from,
+            onto: self.onto,
+        }
+    }
+
+    /// Whether it has one edge, and no name.
+    pub fn is_plain(&self) -> bool
+        ensures { result ≡ is_plain self.now }
+    {
+        self.others.is_empty() && self.name.is_none()
+    }
 
     /// Whether it stands on the edge from the one location to the other.
     pub fn is_on(&self, from: Location, onto: Location) -> bool
         ensures { result ≡ stands_on self.now from.number onto.number }
     {
-        self.from.number == from.number && self.onto.number == onto.number
+        self.first().leads(from, onto) || self.others.have(from, onto)
     }
 
     /// The index, from 0, of the first of these marks that stands on the edge from the one location

@@ -5,9 +5,8 @@ use Rattle.drum_bound.proofs.numbers.counts_at.Goals as goal
 
 pub loop-place-init : goal.loop-place-init
 loop-place-init c = record {
-  taken = leads_none c.args.marks.now (replicate 8 0) c.args.number c.requires.few;
-  eight =
-      refl;
+  taken = leads_none c.args.marks.now (replicate 64 0) c.args.number c.requires.few;
+  places = refl;
 }
 
 pub loop-place-preserved : goal.loop-place-preserved
@@ -15,11 +14,11 @@ loop-place-preserved c =
     let marks = c.args.marks.now in
     let place = c.loop-place.place - 1 in
     let d = c.index-marks-place.result in
-    let eight = c.loop-place.invariant.eight in
+    let places = c.loop-place.invariant.places in
     record {
       taken = leads_more marks place c.loop-place.place d c.loop-place.passes c.loop-place.rest c.args.number
-          (omega arith) (omega arith) (omega (arith, eight)) c.loop-place.invariant.taken;
-      eight = length-set c.loop-place.passes place (c.loop-place.rest % ((get_or marks place d).most + 1)) ∙ eight;
+          (omega arith) (omega arith) (omega (arith, places)) c.loop-place.invariant.taken;
+      places = length-set c.loop-place.passes place (c.loop-place.rest % ((get_or marks place d).most + 1)) ∙ places;
     }
 
 pub returns : goal.returns

@@ -7,5 +7,5 @@ abbrev pub invariant-loop-place : goal.invariant-loop-place
 invariant-loop-place l =
     record {
       taken : Leads (drop l.place l.marks) (counts_from l.marks l.place l.passes) l.rest l.number;
-      eight : length l.passes ≡ 8;
+      places : length l.passes ≡ 64;
     }

@@ -1,18 +1,16 @@
-use Rattle.std.proofs.Common.{◌*◌, ◌^◌, ◌≤◌, arith}
-use Rattle.std.proofs.Math.Nat.{mul-le-mul_left, pow-le-pow_right}
+use Rattle.std.proofs.Common.{arith}
+use Rattle.drum_flow.proofs.Products.{told_low}
+use Rattle.drum_ceiling.proofs.Lending.{lent_more, lent_all}
 use Rattle.drum_ceiling.proofs.passes.most_passes.Goals as goal
 
-pub overflow_mul-product : goal.overflow_mul-product
-overflow_mul-product c =
-    let product = c.loop-place.product in
-    let factor = c.factor-product.result in
-    let early : c.loop-place.place ≤ 7 = omega (arith, c.loop-place-test.true, c.requires) in
-    let few : 10000 ^ c.loop-place.place ≤ 10000 ^ 7 = pow-le-pow_right (omega arith) early in
-    let each : product * factor ≤ product * 10000 = mul-le-mul_left product c.factor-product.ensures.few in
-    omega (arith, few, each, c.loop-place.invariant.few)
+pub loop-place-preserved : goal.loop-place-preserved
+loop-place-preserved c = record {
+  all = lent_more c.args.marks.now c.args.passed c.loop-place.place c.loop-place.passes c.product-passes.result
+      c.factor.result c.index-marks-place.result c.loop-place-test.true c.index-marks-place.is c.factor.ensures c.product-passes.ensures
+      c.loop-place.invariant.all;
+  low = told_low _ _ c.product-passes.ensures;
+}
 
-pub returns-clause-few : goal.returns-clause-few
-returns-clause-few c =
-    let all : c.loop-place.place ≤ 8 = omega (arith, c.loop-place.auto.place-end, c.requires) in
-    let few : 10000 ^ c.loop-place.place ≤ 10000 ^ 8 = pow-le-pow_right (omega arith) all in
-    omega (arith, few, c.loop-place.invariant.few)
+pub returns : goal.returns
+returns c = lent_all c.args.marks.now c.args.passed c.loop-place.place c.loop-place.passes
+    (omega (arith, c.loop-place-test.false)) c.loop-place.invariant.low c.loop-place.invariant.all

@@ -8,8 +8,8 @@ use Rattle.std.proofs.Common.{rules}
 use Rattle.std.proofs.lemmas.List.Sorted.{All-permutation, IsNonDecreasingBy-from_sort_by_key, IsPermutation-map}
 use Rattle.std.proofs.lemmas.Result.{IfOk-weaker}
 use Rattle.std.proofs.lemmas.Simd.{map-map}
-use Rattle.drum_loops.specs.declared.edge.Edge.{Edge}
-use Rattle.drum_loops.specs.Loops.{edge_of}
+use Rattle.drum_times.specs.declared.notes.edge.Edge.{Edge}
+use Rattle.drum_times.specs.EdgeOf.{edge_of}
 use Rattle.drum_check.specs.declared.loops.Counted.{Counted}
 use Rattle.drum_check.specs.FindingsOf.{IsInsideIn}
 use Rattle.drum_check.specs.Insides.{AreFewestFirst, AreSoMany}

@@ -1,6 +1,6 @@
 use Rattle.std.proofs.Common.{◌≡◌, map, take}
-use Rattle.drum_loops.specs.declared.edge.Edge.{Edge}
-use Rattle.drum_loops.specs.Loops.{edge_of}
+use Rattle.drum_times.specs.declared.notes.edge.Edge.{Edge}
+use Rattle.drum_times.specs.EdgeOf.{edge_of}
 use Rattle.drum_check.specs.Findings.{closes}
 use Rattle.drum_check.specs.declared.within.Within.TheVariants as within
 use Rattle.drum_check.specs.FindingsOf.{seen}

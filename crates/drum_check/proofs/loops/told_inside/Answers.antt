@@ -2,7 +2,7 @@
 -- marks and the edges so far: so what is so of these is so of all that stand before it.
 use Rattle.std.proofs.Common.{◌≡◌, ◌∷◌, [], ◌++◌, ℕ, ◌+◌, List, map, take, ap, sym, ◌∙◌, subst, append_assoc}
 use Rattle.std.proofs.lemmas.List.{map_push}
-use Rattle.drum_loops.specs.Loops.{edge_of}
+use Rattle.drum_times.specs.EdgeOf.{edge_of}
 use Rattle.drum_check.specs.declared.within.Within.{Within}
 use Rattle.drum_check.specs.Finding.{closes}
 use Rattle.drum_check.specs.FindingsOf.{seen, IsInsideIn}

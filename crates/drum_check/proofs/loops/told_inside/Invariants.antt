@@ -1,5 +1,5 @@
 use Rattle.std.proofs.Common.{◌≡◌, ◌++◌, map, take}
-use Rattle.drum_loops.specs.Loops.{edge_of}
+use Rattle.drum_times.specs.EdgeOf.{edge_of}
 use Rattle.drum_check.specs.FindingsOf.{seen, IsInsideIn}
 use Rattle.drum_check.specs.Insides.{marked_edges, AreToldInside, IsWithin}
 use Rattle.drum_check.proofs.loops.told_inside.Given as goal

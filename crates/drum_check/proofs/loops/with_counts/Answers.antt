@@ -2,7 +2,7 @@ use Rattle.std.proofs.Common.{◌∷◌, [], ◌++◌, ℕ, List, map, ap, sym, 
 use Rattle.std.specs.Prelude.{All}
 use Rattle.std.proofs.lemmas.List.{map_push}
 use Rattle.std.proofs.lemmas.List.Elements.{All-push}
-use Rattle.drum_loops.specs.Loops.{edge_of}
+use Rattle.drum_times.specs.EdgeOf.{edge_of}
 use Rattle.drum_check.specs.declared.loops.Counted.{Counted}
 use Rattle.drum_check.specs.FindingsOf.{IsInsideIn}
 use Rattle.drum_check.specs.Insides.{AreSoMany}

@@ -1,6 +1,6 @@
 use Rattle.std.proofs.Common.{◌≡◌, map, take}
 use Rattle.std.specs.Prelude.{All}
-use Rattle.drum_loops.specs.Loops.{edge_of}
+use Rattle.drum_times.specs.EdgeOf.{edge_of}
 use Rattle.drum_check.specs.declared.loops.Counted.{Counted}
 use Rattle.drum_check.specs.FindingsOf.{IsInsideIn}
 use Rattle.drum_check.specs.Insides.{AreSoMany}

@@ -2,8 +2,8 @@
 -- more edge gives its own number, or leaves what there is.
 use Rattle.std.proofs.Common.{◌≡◌, ℕ, ◌+◌, ◌≤◌, List, true, false, sym, ◌∙◌, subst, map, take, length, arith, Some}
 use Rattle.std.proofs.lemmas.List.{take_all}
-use Rattle.drum_loops.specs.declared.edge.Edge.{Edge}
-use Rattle.drum_loops.specs.Loops.{edge_of}
+use Rattle.drum_times.specs.declared.notes.edge.Edge.{Edge}
+use Rattle.drum_times.specs.EdgeOf.{edge_of}
 use Rattle.drum_check.specs.FindingsOf.{IsInsideIn}
 use Rattle.drum_check.specs.Insides.{IsLastNumber}
 use Rattle.drum_check.proofs.Numbered.{edges_before, edges_more, last_in, last_none, last_out}

@@ -1,7 +1,7 @@
 -- Of loops_round: the count is how many edges so far have a loop inside which the other stands. One
 -- more edge adds one to it, or nothing.
 use Rattle.std.proofs.Common.{◌≡◌, ℕ, ◌+◌, List, true, false, sym, ◌∙◌, subst, map, take, arith}
-use Rattle.drum_loops.specs.Loops.{edge_of}
+use Rattle.drum_times.specs.EdgeOf.{edge_of}
 use Rattle.drum_check.specs.FindingsOf.{IsInsideIn}
 use Rattle.drum_check.specs.Insides.{AreSoMany}
 use Rattle.drum_check.proofs.Numbered.{edges_more, many_in, many_none, many_out}

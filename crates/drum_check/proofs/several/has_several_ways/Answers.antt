@@ -1,7 +1,7 @@
 -- Of has_several_ways: there is one list of where the edges go back to.
 use Rattle.std.proofs.Common.{◌≡◌, ℕ, List, ap, sym, ◌∙◌, map}
 use Rattle.drum_core.specs.declared.location.Location.{Location}
-use Rattle.drum_loops.specs.Loops.{edge_of}
+use Rattle.drum_times.specs.EdgeOf.{edge_of}
 use Rattle.drum_check.specs.Among.{has_twice}
 use Rattle.drum_check.specs.FindingsOf.{IsInsideIn}
 use Rattle.drum_check.proofs.Heads.{heads_one}

@@ -2,7 +2,7 @@
 use Rattle.std.proofs.Common.{◌≡◌, ℕ, ◌+◌, List, ◌++◌, ◌∷◌, [], true, false, ap, sym, ◌∙◌, subst, map, take}
 use Rattle.std.proofs.lemmas.List.{map_push}
 use Rattle.drum_core.specs.declared.location.Location.{Location}
-use Rattle.drum_loops.specs.Loops.{edge_of}
+use Rattle.drum_times.specs.EdgeOf.{edge_of}
 use Rattle.drum_check.specs.FindingsOf.{IsInsideIn}
 use Rattle.drum_check.specs.Insides.{AreHeads}
 use Rattle.drum_check.proofs.Heads.{heads_in, heads_none, heads_out}

@@ -1,6 +1,6 @@
 -- Of has_one_way: the edges are those of the marks.
 use Rattle.std.proofs.Common.{◌≡◌, ℕ, Bool, List, true, false, not, refl, ap, ◌∙◌, subst, map, ◌↔◌, IsTrue}
-use Rattle.drum_loops.specs.Loops.{edge_of}
+use Rattle.drum_times.specs.EdgeOf.{edge_of}
 use Rattle.drum_check.specs.FindingsOf.{IsInsideIn}
 use Rattle.drum_check.specs.Insides.{HasSeveralWays, marked_edges}
 use Rattle.drum_check.proofs.unsaid.has_one_way.Goals as goal

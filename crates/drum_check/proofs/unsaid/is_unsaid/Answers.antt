@@ -6,7 +6,7 @@ use Rattle.drum_times.specs.Allowed.{Notes}
 use Rattle.drum_times.specs.declared.notes.mark.Mark.{Mark}
 use Rattle.drum_machine.specs.Counts.{is_inside}
 use Rattle.drum_flow.specs.Flow.{executed_in}
-use Rattle.drum_loops.specs.Loops.{edge_of}
+use Rattle.drum_times.specs.EdgeOf.{edge_of}
 use Rattle.drum_loops.specs.Nested.{IsNested}
 use Rattle.drum_check.specs.Findings.{edge_at, IsUnsaid}
 use Rattle.drum_check.specs.FindingsOf.{IsInsideIn}

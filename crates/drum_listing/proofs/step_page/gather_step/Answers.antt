@@ -26,7 +26,7 @@ returns-in-Ok-clause-short c held =
     let stride = c.requires.told.0 in
     let is = c.requires.told.1 in
     grown (text_of c.args.page.now) (text_of c.send_step.new.writer)
-    (stride_line (entry_in c.args.times.now) c.args.number stride) c.in-Ok.field-0 500
+    (stride_line (entry_in c.args.times.now) c.args.number stride) c.in-Ok.field-0 1000
     (c.in-Ok.ensures.sent stride is.told is.start is.time is.cards is.held) c.in-Ok.ensures.few
 
 pub returns-in-Err-clause-none : goal.returns-in-Err-clause-none

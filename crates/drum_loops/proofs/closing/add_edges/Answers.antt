@@ -6,7 +6,7 @@ use Rattle.std.proofs.lemmas.List.Elements.{Contains-get_or}
 use Rattle.drum_flow.proofs.Alterations.{number_at}
 use Rattle.drum_flow.proofs.Founds.{numbers}
 use Rattle.drum_loops.specs.Closing.{edges_onto}
-use Rattle.drum_loops.specs.Loops.{edge_of}
+use Rattle.drum_times.specs.EdgeOf.{edge_of}
 use Rattle.drum_loops.proofs.Backs.{edges_more}
 use Rattle.drum_loops.proofs.closing.add_edges.Goals as goal
 

@@ -1,7 +1,7 @@
 use Rattle.std.proofs.Common.{◌≡◌, ◌++◌, map, take}
 use Rattle.drum_core.specs.declared.location.Location.{Location}
 use Rattle.drum_loops.specs.Closing.{edges_onto}
-use Rattle.drum_loops.specs.Loops.{edge_of}
+use Rattle.drum_times.specs.EdgeOf.{edge_of}
 use Rattle.drum_loops.proofs.closing.add_edges.Given as goal
 
 -- the edges to the places so far are added

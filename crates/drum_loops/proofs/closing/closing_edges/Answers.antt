@@ -6,7 +6,8 @@ use Rattle.drum_flow.specs.Flow.{executed_in}
 use Rattle.drum_flow.specs.Graph.{row, size}
 use Rattle.drum_loops.specs.Arranged.{IsArranged}
 use Rattle.drum_loops.specs.Closing.{AreBack}
-use Rattle.drum_loops.specs.Loops.{edge_of, AreClosing}
+use Rattle.drum_times.specs.EdgeOf.{edge_of}
+use Rattle.drum_loops.specs.Loops.{AreClosing}
 use Rattle.drum_loops.specs.Ranks.{AreRanks}
 use Rattle.drum_loops.proofs.Closings.{closes}
 use Rattle.drum_loops.proofs.closing.closing_edges.Goals as goal

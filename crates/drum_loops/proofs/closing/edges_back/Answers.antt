@@ -9,7 +9,7 @@ use Rattle.drum_flow.specs.Graph.{row, size}
 use Rattle.drum_flow.proofs.Alterations.{number_at}
 use Rattle.drum_flow.proofs.Founds.{numbers}
 use Rattle.drum_loops.specs.Closing.{AreBehind, AreBack, edges_onto}
-use Rattle.drum_loops.specs.Loops.{edge_of}
+use Rattle.drum_times.specs.EdgeOf.{edge_of}
 use Rattle.drum_loops.proofs.Backs.{back_more}
 use Rattle.drum_loops.proofs.closing.edges_back.Goals as goal
 

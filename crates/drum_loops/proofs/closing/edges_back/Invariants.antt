@@ -2,7 +2,7 @@ use Rattle.std.proofs.Common.{map}
 use Rattle.drum_flow.specs.Flow.{executed_in}
 use Rattle.drum_flow.specs.Graph.{row}
 use Rattle.drum_loops.specs.Closing.{AreBack}
-use Rattle.drum_loops.specs.Loops.{edge_of}
+use Rattle.drum_times.specs.EdgeOf.{edge_of}
 use Rattle.drum_loops.proofs.closing.edges_back.Given as goal
 
 -- the edges from the nodes so far

@@ -17,10 +17,10 @@ invariant-loop-following g l = record {
   gone : List ℕ;
   sent : IsSent (g.O.Output.written l.fn.out) (g.O.Output.written l.out) 0 (Ok l.sent) gone;
   lines : gone ++ text_of l.page ≡ stride_lines (entry_in l.times) 1 strides;
-  few : l.sent + length (text_of l.page) ≤ 500 * l.following.steps;
+  few : l.sent + length (text_of l.page) ≤ 1000 * l.following.steps;
   calls : g.O.Output.called l.out + length (text_of l.page)
-      ≤ g.O.Output.called l.fn.out + 500 * l.following.steps;
-  gathered : l.page.calls ≤ 500 * l.following.steps;
+      ≤ g.O.Output.called l.fn.out + 1000 * l.following.steps;
+  gathered : l.page.calls ≤ 1000 * l.following.steps;
   failures : g.O.Output.failed l.out ≡ g.O.Output.failed l.fn.out;
 }
 

@@ -1,11 +1,10 @@
 -- Of Keys::round: the counts that are read off a number of counts are within what the marks allow.
 -- For each mark so far the round has the counts after its pass, or nothing where it is full.
-use Rattle.std.proofs.Common.{◌≡◌, ℕ, ◌+◌, ◌<◌, List, length, set, Option, Some, None, refl, sym, ap, ◌∙◌, subst, inl}
+use Rattle.std.proofs.Common.{◌≡◌, ℕ, ◌+◌, ◌<◌, List, length, set, Option, None, sym, ap, ◌∙◌, subst, inl}
 use Rattle.std.proofs.Common.{inr, arith}
-use Rattle.std.specs.Prelude.{slice_get, slice_index_or}
+use Rattle.std.specs.Prelude.{slice_index_or}
 use Rattle.std.proofs.lemmas.Bool.{cases_eq}
 use Rattle.std.proofs.lemmas.List.{get_or-set_other, get_or-set_same, length-set}
-use Rattle.std.proofs.lemmas.Option.{slice_get_read, slice_get_within}
 use Rattle.drum_times.specs.declared.notes.mark.Mark.{Mark}
 use Rattle.drum_machine.specs.Counts.{AreWithin}
 use Rattle.drum_flow.specs.declared.accepted_flow.AcceptedFlow.{AcceptedFlow}
@@ -33,32 +32,23 @@ within keys leading counts are below is =
     subst (AreWithin marks) (sym is) (digits_within marks leading (omega (arith, below, are.counts)))
 
 -- one more mark
-passed_more : (accepted : AcceptedFlow) (number place : ℕ) (passed : List (Option Counted)) (mark : Mark)
-    (after : Option Counted)
+passed_more : (accepted : AcceptedFlow) (number place : ℕ) (passed : List (Option Counted)) (after : Option Counted)
     → place < length passed
-    → slice_get (notes_of accepted.flow).marks place ≡ Some mark
-    → IsPassed accepted (digits (notes_of accepted.flow).marks number) mark after
-    → ((k : ℕ) (one : Mark) → k < place → slice_get (notes_of accepted.flow).marks k ≡ Some one
-    → IsPassed accepted (digits (notes_of accepted.flow).marks number) one (slice_index_or passed k None))
-    → (k : ℕ) (one : Mark) → k < place + 1 → slice_get (notes_of accepted.flow).marks k ≡ Some one
-    → IsPassed accepted (digits (notes_of accepted.flow).marks number) one
-    (slice_index_or (set passed place after) k None)
-passed_more accepted number place passed mark after inside here right before k one below at = elim (cases_eq k place) [
-  | inl same ↦ (
-      let there : slice_get (notes_of accepted.flow).marks place ≡ Some one =
-      subst (λ (n : ℕ). slice_get (notes_of accepted.flow).marks n ≡ Some one) same at in
-      let is : mark ≡ one = one_mark (sym here ∙ there) in
-      subst (λ (n : ℕ). IsPassed accepted (digits (notes_of accepted.flow).marks number) one
-      (slice_index_or (set passed place after) n None)) (sym same)
-      (subst (IsPassed accepted (digits (notes_of accepted.flow).marks number) one)
-      (sym (get_or-set_same passed place after None inside))
-      (subst (λ (m : Mark). IsPassed accepted (digits (notes_of accepted.flow).marks number) m after) is right)))
-  | inr ne ↦ subst (IsPassed accepted (digits (notes_of accepted.flow).marks number) one)
-      (sym (get_or-set_other passed place k after None ne)) (before k one (omega (arith, below, ne)) at)
+    → IsPassed accepted (digits (notes_of accepted.flow).marks number) place after
+    → ((k : ℕ) → k < place
+    → IsPassed accepted (digits (notes_of accepted.flow).marks number) k (slice_index_or passed k None))
+    → (k : ℕ) → k < place + 1
+    → IsPassed accepted (digits (notes_of accepted.flow).marks number) k (slice_index_or (set passed place after) k None)
+passed_more accepted number place passed after inside right before k below = elim (cases_eq k place) [
+  | inl same ↦
+      let Right : ℕ → Type 0 = λ n. IsPassed accepted (digits (notes_of accepted.flow).marks number) n
+      (slice_index_or (set passed place after) n None) in
+      subst Right (sym same)
+      (subst (IsPassed accepted (digits (notes_of accepted.flow).marks number) place)
+      (sym (get_or-set_same passed place after None inside)) right)
+  | inr ne ↦ subst (IsPassed accepted (digits (notes_of accepted.flow).marks number) k)
+      (sym (get_or-set_other passed place k after None ne)) (before k (omega (arith, below, ne)))
 ]
-  where
-    one_mark : {a b : Mark} → Some a ≡ Some b → a ≡ b
-    one_mark e = cc
 
 pub counted_after-requires-clause-within : goal.counted_after-requires-clause-within
 counted_after-requires-clause-within c =
@@ -75,18 +65,12 @@ loop-place-preserved c =
     let is : counts_in c.counts_at-counts.result marks ≡ digits marks c.args.leading =
     counted marks c.args.leading c.counts_at-counts.result c.marks-marks.result.now c.marks-marks.ensures.all
     c.counts_at-counts.ensures in
-    let here : slice_get marks place ≡ Some c.index-marks-place.result =
-    ap (λ (all : List Mark). slice_get all place) (sym c.marks-marks.ensures.all)
-    ∙ slice_get_read c.marks-marks.result.now (length c.marks-marks.result.now) place c.index-marks-place.result refl
-    c.loop-place-test.true c.index-marks-place.is in
     record {
       places = length-set c.loop-place.passed place c.counted_after.result ∙ c.loop-place.invariant.places;
-      passed = passed_more keys.accepted.now c.args.leading place c.loop-place.passed c.index-marks-place.result
-          c.counted_after.result
-          (omega (arith, c.loop-place-test.true, c.marks-marks.ensures.few, c.loop-place.invariant.places)) here
-          (subst (λ (counts : List ℕ). IsPassed keys.accepted.now counts c.index-marks-place.result
-          c.counted_after.result)
-          is c.counted_after.ensures)
+      passed = passed_more keys.accepted.now c.args.leading place c.loop-place.passed c.counted_after.result
+          (omega (arith, c.loop-place-test.true, c.marks-marks.ensures.few, c.loop-place.invariant.places))
+          (subst (λ (counts : List ℕ). IsPassed keys.accepted.now counts place c.counted_after.result) is
+          c.counted_after.ensures)
           c.loop-place.invariant.passed;
     }
 
@@ -106,12 +90,6 @@ returns c =
     c.counts_at-counts.ensures in
     record {
       own = subst (λ (counts : List ℕ). IsCounted keys.accepted.now counts c.counted.result) is c.counted.ensures;
-      passed = λ k mark at. c.loop-place.invariant.passed k mark
-          (omega (
-            arith,
-            slice_get_within marks k mark at,
-            c.loop-place-test.false,
-            ap (λ (all : List Mark). length all)
-                c.marks-marks.ensures.all,
-          )) at;
+      passed = λ k below. c.loop-place.invariant.passed k
+          (omega (arith, below, c.loop-place-test.false, ap (λ (all : List Mark). length all) c.marks-marks.ensures.all));
     }

@@ -7,5 +7,5 @@ abbrev pub invariant-loop-place : goal.invariant-loop-place
 invariant-loop-place l =
     record {
       taken : take l.place l.passes ++ counts_for (drop l.place l.marks) l.rest ≡ counts_for l.marks l.self.counts;
-      eight : length l.passes ≡ 8;
+      places : length l.passes ≡ 64;
     }

@@ -8,7 +8,7 @@ abbrev pub invariant-loop-count : goal.invariant-loop-count
 invariant-loop-count g l = record {
   so_far : IsSent (g.O.Output.written l.fn.writer) (g.O.Output.written l.writer) l.fn.begun (Ok l.sent)
       (flat_map count_text (take l.count-index l.counts));
-  few : l.sent ≤ l.fn.begun + 40 * l.count-index;
-  calls : g.O.Output.called l.writer ≤ g.O.Output.called l.fn.writer + 40 * l.count-index;
+  few : l.sent ≤ l.fn.begun + 10 * l.count-index;
+  calls : g.O.Output.called l.writer ≤ g.O.Output.called l.fn.writer + 10 * l.count-index;
   failures : g.O.Output.failed l.writer ≡ g.O.Output.failed l.fn.writer;
 }

@@ -13,9 +13,9 @@ invariant-loop-row g l = record {
   so_far : IsSent (g.O.Output.written l.fn.writer) (g.O.Output.written l.writer) 0 (Ok l.sent) gone;
   lines : gone ++ text_of l.page
       ≡ flat_map (λ (row : Worst). row_line l.marks (row_in row)) (take l.row-index l.rows);
-  few : l.sent + length (text_of l.page) ≤ 500 * l.row-index;
+  few : l.sent + length (text_of l.page) ≤ 1000 * l.row-index;
   calls : g.O.Output.called l.writer + length (text_of l.page)
-      ≤ g.O.Output.called l.fn.writer + 500 * l.row-index;
-  gathered : l.page.calls ≤ 500 * l.row-index;
+      ≤ g.O.Output.called l.fn.writer + 1000 * l.row-index;
+  gathered : l.page.calls ≤ 1000 * l.row-index;
   failures : g.O.Output.failed l.writer ≡ g.O.Output.failed l.fn.writer;
 }
