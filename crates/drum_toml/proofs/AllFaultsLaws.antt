@@ -44,7 +44,7 @@ refused_by mine bytes D (TwoMarks from onto) one is begin tells = (D, is, subst 
 refused_by mine bytes D (TwoLists location) one is begin tells = (D, is, subst (Begin (mine D)) tells begin)
 
 -- where two lists of faults begin alike, the first that is stated of the one is that of the other
-first_told : (whole mine : Members → List Fault) (bytes : List ℕ) (fault : NoteFault) (others : List NoteFault)
+pub first_told : (whole mine : Members → List Fault) (bytes : List ℕ) (fault : NoteFault) (others : List NoteFault)
     → ((D : Members) (one : Fault) → Begin (whole D) one → Begin (mine D) one)
     → AreAllFaults whole bytes (fault ∷ others) → IsRefused mine bytes fault
 first_told whole mine bytes fault others alike all = elim all [
@@ -59,7 +59,7 @@ none_told [] each = refl
 none_told (one ∷ faults) each = absurd each
 
 -- where nothing is stated, there is no fault
-nothing_told : (whole : Members → List Fault) (bytes : List ℕ) → AreAllFaults whole bytes [] → (D : Members)
+pub nothing_told : (whole : Members → List Fault) (bytes : List ℕ) → AreAllFaults whole bytes [] → (D : Members)
     × IsDocument bytes D × (whole D ≡ [])
 nothing_told whole bytes all = elim all [
   | inl none ↦ cc (none.1)
@@ -150,7 +150,7 @@ marks_same path (Some (boolean b)) none = refl
 marks_same path (Some (datetime d)) none = refl
 marks_same path (Some (table fields)) none = refl
 
-lists_same : (path : List ℕ) (found : Option Data) → said_of (array_faults 0 None said.list_faults path) found ≡ []
+pub lists_same : (path : List ℕ) (found : Option Data) → said_of (array_faults 0 None said.list_faults path) found ≡ []
     → flat_map (locations_at (codes "location")) (said.tables_in found)
     ≡ map (number_at (codes "location")) (said.tables_in found)
 lists_same path None none = refl
@@ -170,7 +170,7 @@ lists_same path (Some (boolean b)) none = refl
 lists_same path (Some (datetime d)) none = refl
 lists_same path (Some (table fields)) none = refl
 
-in_turn_append : (xs ys : List (List Fault)) → in_turn (xs ++ ys) ≡ in_turn xs ++ in_turn ys
+pub in_turn_append : (xs ys : List (List Fault)) → in_turn (xs ++ ys) ≡ in_turn xs ++ in_turn ys
 in_turn_append [] ys = refl
 in_turn_append (x ∷ xs) ys =
     ap (λ (zs : List Fault). x ++ zs) (in_turn_append xs ys) ∙ sym (append_assoc x (in_turn xs) (in_turn ys))
@@ -195,24 +195,23 @@ same_faults D none =
     (ap (said.edge_faults []) edges)
     ∙ sym (notes_split D)
 
-begin_alike : (D : Members) (one : Fault) → Begin (all_notes_faults D) one → Begin (notes_faults D) one
-begin_alike D one begin = go (values_of D) refl
-  where
-    go : (values : List Fault) → values_of D ≡ values → Begin (notes_faults D) one
-    go [] is = subst (λ (faults : List Fault). Begin faults one) (same_faults D is) begin
-    go (first ∷ values) is =
-        let whole : first ∷ values ++ repeated_edges D ++ repeated_locations D ≡ one ∷ begin.0 =
-        ap (λ (xs : List Fault). xs ++ repeated_edges D ++ repeated_locations D) (sym is) ∙ begin.1 in
-        let same : first ≡ one = cc in (
-          values ++ in_turn (drop 6 (notes_checks D)),
-          notes_split D ∙ ap (λ (xs : List Fault). xs ++ in_turn (drop 6 (notes_checks D))) is
-              ∙ ap (λ (x : Fault). x ∷ (values ++ in_turn (drop 6 (notes_checks D)))) same,
-        )
+-- faults that begin with the same values begin alike, where those that follow no value are the same
+pub begin_alike : (values edges places rest mine : List Fault) (one : Fault) → mine ≡ values ++ rest
+    → (values ≡ [] → values ++ edges ++ places ≡ mine) → Begin (values ++ edges ++ places) one → Begin mine one
+begin_alike [] edges places rest mine one split same begin = subst (λ (faults : List Fault). Begin faults one) (same refl) begin
+begin_alike (first ∷ values) edges places rest mine one split same begin =
+    let whole : first ∷ values ++ edges ++ places ≡ one ∷ begin.0 = begin.1 in
+    let is : first ≡ one = cc in (values ++ rest, split ∙ ap (λ (x : Fault). x ∷ (values ++ rest)) is)
+
+notes_alike : (D : Members) (one : Fault) → Begin (all_notes_faults D) one → Begin (notes_faults D) one
+notes_alike D one begin =
+    begin_alike (values_of D) (repeated_edges D) (repeated_locations D) (in_turn (drop 6 (notes_checks D)))
+    (notes_faults D) one (notes_split D) (same_faults D) begin
 
 pub first_of_notes : (bytes : List ℕ) (fault : NoteFault) (others : List NoteFault)
     → AreAllFaults all_notes_faults bytes (fault ∷ others) → IsRefused notes_faults bytes fault
 first_of_notes bytes fault others all =
-    first_told all_notes_faults notes_faults bytes fault others begin_alike all
+    first_told all_notes_faults notes_faults bytes fault others notes_alike all
 
 pub none_of_notes : (bytes : List ℕ) → AreAllFaults all_notes_faults bytes [] → (D : Members) × IsDocument bytes D
     × ((notes : Notes) × IsNotes D notes)

@@ -26,7 +26,7 @@ value_there at keys fields key none among = go (get_member key fields) refl (not
     go (Some value) e lacks = (value, e)
 
 -- a value without a fault is a number with the property
-number_said : (path : List ℕ) (holds : ℕ → Bool) (value : Data) → number_faults path holds value ≡ [] → (n : ℕ)
+pub number_said : (path : List ℕ) (holds : ℕ → Bool) (value : Data) → number_faults path holds value ≡ [] → (n : ℕ)
     × (value ≡ integer (pos n)) × (holds n ≡ true)
 number_said path holds (integer (pos n)) none = (n, refl, go (holds n) none)
   where

@@ -2,8 +2,16 @@ mod Added
 mod Adding
 mod AllFaultsLaws
 mod Choices
+mod EdgeValues
 mod EntryFaults
 mod Faultless
+mod LongChecks
+mod LongFaultless
+mod LongFaults
+mod LongMarks
+mod LongSaid
+mod LongSound
+mod Naming
 mod NotesFaultless
 mod NotesFaults
 mod NotesLaws
@@ -11,6 +19,7 @@ mod NotesSaid
 mod NotesSound
 mod Repeating
 mod Sequences
+mod ShortAreLong
 mod TablesFaults
 mod TimesFaultless
 mod TimesFaults

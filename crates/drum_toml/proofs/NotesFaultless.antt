@@ -3,13 +3,14 @@ use Rattle.std.proofs.Common.{◌≡◌, ℕ, ◌+◌, ◌-◌, ◌<◌, ◌≤�
 use Rattle.std.proofs.Common.{length, Option, Some, None, refl, ap, sym, ◌∙◌, subst, arith}
 use Rattle.std.proofs.lemmas.Bool.{and_parts, leb-true, ltb-true}
 use Rattle.std.specs.List.{AllByRecursion}
-use Rattle.std.specs.Prelude.{codes, decimal, nat_le, nat_lt, IsTrue, IsSome}
+use Rattle.std.specs.Prelude.{codes, decimal, nat_le, nat_lt, IsTrue, IsSome, flat_map}
 use Rattle.drum_core.specs.declared.location.Location.{Location}
 use Rattle.drum_core.specs.Location.{IsLocation, is_location}
 use Rattle.drum_times.specs.declared.notes.mark.Mark.{Mark}
 use Rattle.drum_times.specs.declared.notes.pattern.Pattern.{Pattern}
 use Rattle.drum_times.specs.declared.notes.programmed.Programmed.TheVariants.{Stop, Run, Any}
 use Rattle.drum_times.specs.Allowed.{Notes, Listed}
+use Rattle.drum_times.specs.Marks.{edges_of}
 use Rattle.drum_toml.specs.Document.{Fault, is_count, count_of, range, whole, element_faults, elements_faults}
 use Rattle.drum_toml.specs.Document.{array_faults, location}
 use Rattle.drum_toml.specs.NotesDocument as said
@@ -23,7 +24,7 @@ use Rattle.toml.specs.Data.{Data, string, integer, float, boolean, datetime, arr
 use Rattle.toml.specs.Data.{Members, get_member}
 
 -- a number that passes the test is a location's
-is_location_of : (n : ℕ) → is_location n ≡ true → IsLocation n
+pub is_location_of : (n : ℕ) → is_location n ≡ true → IsLocation n
 is_location_of n is = go (nat_lt n 2000) (nat_le 8000 n) (nat_lt n 8004) refl refl refl is
   where
     go : (low from below : Bool) → nat_lt n 2000 ≡ low → nat_le 8000 n ≡ from → nat_lt n 8004 ≡ below
@@ -34,7 +35,7 @@ is_location_of n is = go (nat_lt n 2000) (nat_le 8000 n) (nat_lt n 8004) refl re
     go false true false is_low is_from is_below test = cc
     go false false below is_low is_from is_below test = cc
 
-place_there : (at key : List ℕ) (fields : Members) (value : Data) → get_member key fields ≡ Some value
+pub place_there : (at key : List ℕ) (fields : Members) (value : Data) → get_member key fields ≡ Some value
     → location at key fields ≡ [] → (place : Location) × HasNumber fields key place.number
 place_there at key fields value has none =
     let found = location_there at key fields value has none in
@@ -69,13 +70,23 @@ mark_said place at fields none =
     let onto = place_there at (codes "to") fields has_onto.0 has_onto.1 each.1.1.1.0 in
     let most = whole_there 0 9999 at (codes "most") fields has_most.0 has_most.1 each.1.1.1.1.0 in
     let inside = inside_there place at fields each.1.1.1.1.1.0 in (
-      record { from = from.0; onto = onto.0; most = most.0; inside = inside.0; four_digits = most.3 },
+      record {
+        from = from.0;
+        onto = onto.0;
+        others = [];
+        most = most.0;
+        inside = inside.0;
+        name = None;
+        four_digits = most.3;
+      },
       record {
         only = known_anywhere at [] said.mark_keys fields each.0;
         from = from.1;
         onto = onto.1;
+        others = refl;
         most = most.1;
         inside = inside.1;
+        name = refl;
       },
       tt,
     )
@@ -156,7 +167,7 @@ abbrev Found : {A : Type 0} → (ℕ → Members → A → Type 0) → (A → Ty
 Found {A} Say Fine low high found = (values : List A) × said.AreFound Say found values
     × (IsSome found → is_count low high (length values) ≡ true) × AllByRecursion Fine values
 
-array_said : {A : Type 0} (Say : ℕ → Members → A → Type 0) (Fine : A → Type 0) (check : ℕ → List ℕ → Members
+pub array_said : {A : Type 0} (Say : ℕ → Members → A → Type 0) (Fine : A → Type 0) (check : ℕ → List ℕ → Members
     → List Fault)
     → ((place : ℕ) (at : List ℕ) (fields : Members) → check (place + 1) at fields ≡ [] → (one : A)
     × Say place fields one × Fine one)
@@ -185,7 +196,7 @@ array_said Say Fine check each low high path (Some (boolean b)) none = cc
 array_said Say Fine check each low high path (Some (datetime d)) none = cc
 array_said Say Fine check each low high path (Some (table fields)) none = cc
 
-list_said : (place : ℕ) (at : List ℕ) (fields : Members) → said.list_faults (place + 1) at fields ≡ [] → (list : Listed)
+pub list_said : (place : ℕ) (at : List ℕ) (fields : Members) → said.list_faults (place + 1) at fields ≡ [] → (list : Listed)
     × said.IsListed fields list × IsFine list
 list_said place at fields none =
     let each = each_none (said.list_checks at fields) none in
@@ -202,12 +213,12 @@ list_said place at fields none =
       (location.2, (leb-true 1 (length patterns.0) both.0, leb-true (length patterns.0) 64 both.1)),
     )
 
-fine_places : (lists : List Listed) → AllByRecursion IsFine lists
+pub fine_places : (lists : List Listed) → AllByRecursion IsFine lists
     → AllByRecursion (λ list. IsTrue (is_location list.location)) lists
 fine_places [] fine = tt
 fine_places (list ∷ lists) fine = (fine.0.0, fine_places lists fine.1)
 
-fine_patterns : (lists : List Listed) → AllByRecursion IsFine lists
+pub fine_patterns : (lists : List Listed) → AllByRecursion IsFine lists
     → AllByRecursion (λ list. (1 ≤ length list.patterns) × (length list.patterns ≤ 64)) lists
 fine_patterns [] fine = tt
 fine_patterns (list ∷ lists) fine = (fine.0.1, fine_patterns lists fine.1)
@@ -232,10 +243,11 @@ notes_said D none =
         programmed = programmed.1;
         load_cards = load_cards.1;
         marks = marks.1;
+        few = few_marks D marks.0 marks.1 marks.2;
         lists = lists.1;
         sound = record {
-          few_marks = few_marks D marks.0 marks.1 marks.2;
-          own_edges = own_edges [] marks.0 (ap (said.edge_faults []) (sym (edges_same D marks.0 marks.1))
+          few_marks = omega (arith, few_marks D marks.0 marks.1 marks.2);
+          own_edges = own_edges [] (flat_map edges_of marks.0) (ap (said.edge_faults []) (sym (edges_same D marks.0 marks.1))
               ∙ each.1.1.1.1.1.1.0);
           nested = nested D marks.0 marks.1;
           own_locations = own_locations [] lists.0 (ap (said.location_faults []) (sym (places_same D lists.0 lists.1))

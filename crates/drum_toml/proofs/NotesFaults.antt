@@ -32,7 +32,7 @@ pub none_in : (checks : List (List Fault)) → AllByRecursion (λ faults. faults
 none_in [] none = refl
 none_in (one ∷ checks) none = no_faults one (in_turn checks) none.0 (none_in checks none.1)
 
-either_true : (b : Bool) → (b || true) ≡ true
+pub either_true : (b : Bool) → (b || true) ≡ true
 either_true true = refl
 either_true false = refl
 

@@ -1,8 +1,9 @@
 -- What a document of notes says, and why the notes are sound.
 use Rattle.std.proofs.Common.{◌≡◌, ℕ, zero, suc, ◌+◌, ◌<◌, Bool, true, false, List, [], ◌∷◌, ◌++◌, map, length, get_or}
 use Rattle.std.proofs.Common.{Option, Some, None, refl, ap, sym, ◌∙◌, arith}
-use Rattle.std.specs.Prelude.{codes}
+use Rattle.std.specs.Prelude.{codes, flat_map}
 use Rattle.drum_times.specs.Listed.{listed}
+use Rattle.drum_times.specs.Marks.{edges_of}
 use Rattle.drum_times.specs.declared.notes.listing.Listing.{Listing}
 use Rattle.drum_times.specs.declared.notes.mark.Mark.{Mark}
 use Rattle.drum_times.specs.declared.notes.programmed.Programmed.{Programmed}
@@ -99,15 +100,39 @@ made_at {A} {B} Say f g same fields key values = go (get_member key fields)
         ap (λ (v : Data). map f (elim v [ array items ↦ said.tables_of items | _ ↦ [] ])) is
         ∙ made_of_tables Say f g same 0 items values are
 
-pair_is : (a b c d : ℕ) → a ≡ c → b ≡ d → (let p : ℕ × ℕ = (a, b) in p) ≡ (c, d)
+pub pair_is : (a b c d : ℕ) → a ≡ c → b ≡ d → (let p : ℕ × ℕ = (a, b) in p) ≡ (c, d)
 pair_is a b c d p q = ap (λ (n : ℕ). let r : ℕ × ℕ = (n, b) in r) p ∙ ap (λ (n : ℕ). let r : ℕ × ℕ = (c, n) in r) q
 
+-- the edge of a mark's table is the mark's one edge
+one_edge : (place : ℕ) (fields : Members) (mark : Mark) → said.IsMark place fields mark
+    → (let edges : List (ℕ × ℕ) = said.edge_in fields ∷ [] in edges) ≡ edges_of mark
+one_edge place fields mark says =
+    let first : ℕ × ℕ = (mark.from.number, mark.onto.number) in
+    ap (λ (e : ℕ × ℕ). let edges : List (ℕ × ℕ) = e ∷ [] in edges)
+    (pair_is _ _ _ _ (number_is fields (codes "from") mark.from.number says.from)
+    (number_is fields (codes "to") mark.onto.number says.onto))
+    ∙ ap (λ (others : List (ℕ × ℕ)). first ∷ others) (sym says.others)
+
+edges_from : (place : ℕ) (items : Items) (marks : List Mark) → said.AreTables said.IsMark place items marks
+    → map said.edge_in (said.tables_of items) ≡ flat_map edges_of marks
+edges_from place no_items [] are = refl
+edges_from place no_items (mark ∷ marks) are = absurd are
+edges_from place (item value items) [] are = absurd are
+edges_from place (item value items) (mark ∷ marks) ((fields, is, says), are) =
+    ap (λ (v : Data). map said.edge_in ((elim v [ table fields ↦ fields ∷ [] | _ ↦ [] ]) ++ said.tables_of items)) is
+    ∙ ap (λ (es : List (ℕ × ℕ)). said.edge_in fields ∷ es) (edges_from (place + 1) items marks are)
+    ∙ ap (λ (es : List (ℕ × ℕ)). es ++ flat_map edges_of marks) (one_edge place fields mark says)
+
 pub edges_same : (fields : Members) (marks : List Mark) → said.HasTables said.IsMark fields (codes "mark") marks
-    → map said.edge_in (said.tables_at (codes "mark") fields) ≡ map said.edge_of marks
-edges_same fields marks has =
-    made_at said.IsMark said.edge_in said.edge_of
-    (λ place one mark says. pair_is _ _ _ _ (number_is one (codes "from") mark.from.number says.from)
-    (number_is one (codes "to") mark.onto.number says.onto)) fields (codes "mark") marks has
+    → map said.edge_in (said.tables_at (codes "mark") fields) ≡ flat_map edges_of marks
+edges_same fields marks = go (get_member (codes "mark") fields)
+  where
+    go : (found : Option Data) → said.AreFound said.IsMark found marks
+        → map said.edge_in (said.tables_in found) ≡ flat_map edges_of marks
+    go None none = ap (flat_map edges_of) (sym none)
+    go (Some value) (items, is, are) =
+        ap (λ (v : Data). map said.edge_in (elim v [ array items ↦ said.tables_of items | _ ↦ [] ])) is
+        ∙ edges_from 0 items marks are
 
 abbrev SaysList : ℕ → Members → Listing → Type 0
 SaysList place fields list = said.IsListed fields (listed list)

@@ -2,11 +2,13 @@
 use Rattle.std.proofs.Common.{◌≡◌, ℕ, suc, ◌+◌, ◌-◌, ◌≤◌, Bool, true, false, ◌&&◌, ◌||◌, cond, List, [], ◌∷◌, ◌++◌, map}
 use Rattle.std.proofs.Common.{length, Option, Some, None, refl, ap, ◌∙◌, le-leb, arith}
 use Rattle.std.specs.List.{AllByRecursion, list_any}
-use Rattle.std.specs.Prelude.{codes, decimal, ◌==◌, nat_le, IsTrue}
+use Rattle.std.specs.Prelude.{codes, decimal, ◌==◌, nat_le, IsTrue, flat_map}
 use Rattle.drum_core.specs.Location.{is_location}
 use Rattle.drum_times.specs.declared.notes.mark.Mark.{Mark}
 use Rattle.drum_times.specs.declared.notes.pattern.Pattern.{Pattern}
-use Rattle.drum_times.specs.Allowed.{Notes, Listed, HaveOwnEdges, HaveOwnLocations, same_edge}
+use Rattle.drum_times.specs.Allowed.{Notes, Listed, HaveOwnLocations}
+use Rattle.drum_times.specs.Edges.{StandOnce}
+use Rattle.drum_times.specs.Marks.{edges_of}
 use Rattle.drum_toml.specs.Document.{Fault, is_count, count_of, missing_in, whole, location, tables, element_faults}
 use Rattle.drum_toml.specs.Document.{elements_faults, array_faults, number_at, number_faults, range, two_marks}
 use Rattle.drum_toml.specs.Document.{two_lists}
@@ -21,7 +23,7 @@ use Rattle.drum_toml.proofs.TimesSaid.{there}
 use Rattle.toml.specs.Data.{Data, Items, no_items, item, Members, get_member}
 
 -- the number of a location has no fault
-place_right : (at key : List ℕ) (fields : Members) (n : ℕ) → HasNumber fields key n → is_location n ≡ true
+pub place_right : (at key : List ℕ) (fields : Members) (n : ℕ) → HasNumber fields key n → is_location n ≡ true
     → location at key fields ≡ []
 place_right at key fields n has is =
     ap (λ (found : Option Data). elim found [ None ↦ [] | Some value ↦ number_faults (at ++ key) is_location value ])
@@ -119,7 +121,7 @@ faults_found check None = []
 faults_found check (Some value) = check value
 
 -- an array of as many tables as there may be, that say values
-tables_right : {A : Type 0} (Say : ℕ → Members → A → Type 0) (Fine : A → Type 0)
+pub tables_right : {A : Type 0} (Say : ℕ → Members → A → Type 0) (Fine : A → Type 0)
     (check : ℕ → List ℕ → Members → List Fault)
     → ((place : ℕ) (at : List ℕ) (fields : Members) (one : A) → Fine one → Say place fields one
     → check (place + 1) at fields ≡ [])
@@ -142,13 +144,13 @@ tables_right {A} Say Fine check right low high at key fields values fine count =
 abbrev pub IsFine : Listed → Type 0
 IsFine list = IsTrue (is_location list.location) × ((1 ≤ length list.patterns) × (length list.patterns ≤ 64))
 
-fine_lists : (lists : List Listed) → AllByRecursion (λ list. IsTrue (is_location list.location)) lists
+pub fine_lists : (lists : List Listed) → AllByRecursion (λ list. IsTrue (is_location list.location)) lists
     → AllByRecursion (λ list. (1 ≤ length list.patterns) × (length list.patterns ≤ 64)) lists
     → AllByRecursion IsFine lists
 fine_lists [] places counts = tt
 fine_lists (list ∷ lists) places counts = ((places.0, counts.0), fine_lists lists places.1 counts.1)
 
-all_fine : {A : Type 0} (values : List A) → AllByRecursion (λ _. Unit {0}) values
+pub all_fine : {A : Type 0} (values : List A) → AllByRecursion (λ _. Unit {0}) values
 all_fine [] = tt
 all_fine (one ∷ more) = (tt, all_fine more)
 
@@ -162,10 +164,10 @@ some_there Say at key fields values some has = go (get_member key fields) refl h
     go None e none = absurd (omega (arith, ap length none, some))
     go (Some value) e are = there at key [] fields value e refl
 
-from_upto : (n : ℕ) → 1 ≤ n → n ≤ 64 → is_count 1 (Some 64) n ≡ true
+pub from_upto : (n : ℕ) → 1 ≤ n → n ≤ 64 → is_count 1 (Some 64) n ≡ true
 from_upto n low high = rw (le-leb 1 n low, le-leb n 64 high) refl
 
-list_right : (number : ℕ) (at : List ℕ) (fields : Members) (list : Listed) → IsFine list → said.IsListed fields list
+pub list_right : (number : ℕ) (at : List ℕ) (fields : Members) (list : Listed) → IsFine list → said.IsListed fields list
     → said.list_faults number at fields ≡ []
 list_right number at fields list fine is =
     none_in (said.list_checks at fields) (
@@ -214,32 +216,27 @@ each_false test (x ∷ xs) none = go (test x) refl none (λ rest. each_false tes
     go false e h further = (e, further h)
 
 -- where no mark has an earlier edge, and each has its own, there is no fault
-edges_right : (earlier : List (ℕ × ℕ)) (marks : List Mark)
-    → AllByRecursion (λ mark. said.has_edge earlier (said.edge_of mark) ≡ false) marks → HaveOwnEdges marks
-    → said.edge_faults earlier (map said.edge_of marks) ≡ []
+pub edges_right : (earlier edges : List (ℕ × ℕ)) → AllByRecursion (λ edge. said.has_edge earlier edge ≡ false) edges
+    → StandOnce edges → said.edge_faults earlier edges ≡ []
 edges_right earlier [] apart own = refl
-edges_right earlier (mark ∷ marks) apart own =
-    ap (λ (b : Bool). cond b (two_marks mark.from.number mark.onto.number ∷ []) []
-    ++ said.edge_faults (earlier ++ said.edge_of mark ∷ []) (map said.edge_of marks)) apart.0
-    ∙ edges_right (earlier ++ said.edge_of mark ∷ []) marks
-    (all_apart earlier mark marks apart.1 (each_false (same_edge mark) marks own.0)) own.1
+edges_right earlier (edge ∷ edges) apart own =
+    ap (λ (b : Bool). cond b (two_marks edge.0 edge.1 ∷ []) [] ++ said.edge_faults (earlier ++ edge ∷ []) edges) apart.0
+    ∙ edges_right (earlier ++ edge ∷ []) edges
+    (all_apart earlier edge edges apart.1 (each_false (same edge) edges own.0)) own.1
   where
-    all_apart : (earlier : List (ℕ × ℕ)) (mark : Mark) (marks : List Mark)
-        → AllByRecursion (λ other. said.has_edge earlier (said.edge_of other) ≡ false) marks
-        → AllByRecursion (λ other. same_edge mark other ≡ false) marks
-        → AllByRecursion (λ other. said.has_edge (earlier ++ said.edge_of mark ∷ []) (said.edge_of other) ≡ false) marks
-    all_apart earlier mark [] a b = tt
-    all_apart earlier mark (other ∷ marks) a b = (
-      any_last (λ (one : ℕ × ℕ). same one (said.edge_of other)) earlier (said.edge_of mark) a.0 b.0,
-      all_apart
-          earlier mark marks a.1 b.1,
-    )
+    all_apart : (earlier : List (ℕ × ℕ)) (edge : ℕ × ℕ) (edges : List (ℕ × ℕ))
+        → AllByRecursion (λ other. said.has_edge earlier other ≡ false) edges
+        → AllByRecursion (λ other. same edge other ≡ false) edges
+        → AllByRecursion (λ other. said.has_edge (earlier ++ edge ∷ []) other ≡ false) edges
+    all_apart earlier edge [] a b = tt
+    all_apart earlier edge (other ∷ edges) a b =
+        (any_last (λ (one : ℕ × ℕ). same one other) earlier edge a.0 b.0, all_apart earlier edge edges a.1 b.1)
 
-none_earlier : (marks : List Mark) → AllByRecursion (λ mark. said.has_edge [] (said.edge_of mark) ≡ false) marks
+pub none_earlier : (edges : List (ℕ × ℕ)) → AllByRecursion (λ edge. said.has_edge [] edge ≡ false) edges
 none_earlier [] = tt
-none_earlier (mark ∷ marks) = (refl, none_earlier marks)
+none_earlier (edge ∷ edges) = (refl, none_earlier edges)
 
-locations_right : (earlier : List ℕ) (lists : List Listed)
+pub locations_right : (earlier : List ℕ) (lists : List Listed)
     → AllByRecursion (λ list. said.has_location earlier list.location ≡ false) lists → HaveOwnLocations lists
     → said.location_faults earlier (map place_of lists) ≡ []
 locations_right earlier [] apart own = refl
@@ -261,7 +258,7 @@ locations_right earlier (list ∷ lists) apart own =
           b.1,
     )
 
-none_before_them : (lists : List Listed) → AllByRecursion (λ list. said.has_location [] list.location ≡ false) lists
+pub none_before_them : (lists : List Listed) → AllByRecursion (λ list. said.has_location [] list.location ≡ false) lists
 none_before_them [] = tt
 none_before_them (list ∷ lists) = (refl, none_before_them lists)
 
@@ -291,7 +288,7 @@ notes_right D notes is =
               tables_right said.IsMark (λ _. Unit {0}) said.mark_faults
                   (λ place at fields mark fine says. mark_right place at fields mark says) 0 (Some 8) [] (codes "mark")
                   D notes.marks (all_fine notes.marks)
-                  (few (length notes.marks) is.sound.few_marks) is.marks,
+                  (few (length notes.marks) is.few) is.marks,
               (
                 tables_right (λ place fields listed. said.IsListed fields listed) IsFine said.list_faults
                     (λ place at fields list fine says. list_right (place + 1) at fields list fine says) 0 None []
@@ -300,7 +297,8 @@ notes_right D notes is =
                     (le-leb 0 (length notes.lists) (omega arith)) is.lists,
                 (
                   ap (said.edge_faults []) (edges_same D notes.marks is.marks)
-                      ∙ edges_right [] notes.marks (none_earlier notes.marks) is.sound.own_edges,
+                      ∙ edges_right [] (flat_map edges_of notes.marks) (none_earlier (flat_map edges_of notes.marks))
+                      is.sound.own_edges,
                   (
                     ap (said.location_faults []) (places_same D notes.lists is.lists)
                         ∙ locations_right [] notes.lists (none_before_them notes.lists) is.sound.own_locations,

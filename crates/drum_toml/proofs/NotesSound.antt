@@ -3,12 +3,14 @@ use Rattle.std.proofs.Common.{◌≡◌, ℕ, ◌+◌, ◌≤◌, Bool, true, fa
 use Rattle.std.proofs.Common.{Option, Some, None, refl, ap, sym, ◌∙◌, subst, append_assoc, arith}
 use Rattle.std.proofs.lemmas.Bool.{and_parts, leb-true}
 use Rattle.std.specs.List.{AllByRecursion, list_any}
-use Rattle.std.specs.Prelude.{codes, ◌==◌, IsTrue, nat_le, IsSome}
+use Rattle.std.specs.Prelude.{codes, ◌==◌, IsTrue, nat_le, IsSome, flat_map}
 use Rattle.drum_core.specs.Location.{is_location}
 use Rattle.drum_times.specs.declared.notes.listing.Listing.{Listing}
 use Rattle.drum_times.specs.declared.notes.mark.Mark.{Mark}
 use Rattle.drum_times.specs.declared.notes.programmed.Programmed.{Programmed}
-use Rattle.drum_times.specs.Allowed.{Listed, HaveOwnEdges, HaveOwnLocations, IsEarlier, StandInEarlier, AreSound}
+use Rattle.drum_times.specs.Allowed.{Listed, HaveOwnLocations, IsEarlier, StandInEarlier, AreSound}
+use Rattle.drum_times.specs.Edges.{StandOnce}
+use Rattle.drum_times.specs.Marks.{edges_of}
 use Rattle.drum_toml.specs.Document.{Fault, two_marks, two_lists, is_count}
 use Rattle.drum_times.specs.Listed.{listed}
 use Rattle.drum_toml.specs.NotesDocument as said
@@ -59,23 +61,12 @@ no_edge_like before one behind (edge ∷ edges) none =
     (ap (λ (es : List (ℕ × ℕ)). said.edge_faults es edges) (sym (append_assoc before (one ∷ behind) (edge ∷ [])))
     ∙ rest))
 
-any_of_edges : (one : ℕ × ℕ) (marks : List Mark)
-    → list_any (same one) (map said.edge_of marks) ≡ list_any (λ other. same one (said.edge_of other)) marks
-any_of_edges one [] = refl
-any_of_edges one (mark ∷ marks) = ap (λ (b : Bool). same one (said.edge_of mark) || b) (any_of_edges one marks)
-
-pub own_edges : (earlier : List (ℕ × ℕ)) (marks : List Mark) → said.edge_faults earlier (map said.edge_of marks) ≡ []
-    → HaveOwnEdges marks
+pub own_edges : (earlier edges : List (ℕ × ℕ)) → said.edge_faults earlier edges ≡ [] → StandOnce edges
 own_edges earlier [] none = tt
-own_edges earlier (mark ∷ marks) none =
-    let rest : said.edge_faults (earlier ++ said.edge_of mark ∷ []) (map said.edge_of marks) ≡ [] =
-    none_behind (cond (said.has_edge earlier (said.edge_of mark)) (two_marks mark.from.number mark.onto.number ∷ []) [])
-    _ none in (
-      sym (any_of_edges (said.edge_of mark) marks)
-          ∙ no_edge_like earlier (said.edge_of mark) [] (map said.edge_of marks) rest,
-      own_edges
-          (earlier ++ said.edge_of mark ∷ []) marks rest,
-    )
+own_edges earlier (edge ∷ edges) none =
+    let rest : said.edge_faults (earlier ++ edge ∷ []) edges ≡ [] =
+    none_behind (cond (said.has_edge earlier edge) (two_marks edge.0 edge.1 ∷ []) []) _ none in
+    (no_edge_like earlier edge [] edges rest, own_edges (earlier ++ edge ∷ []) edges rest)
 
 -- the location of a list
 abbrev pub place_of : Listed → ℕ
@@ -136,16 +127,18 @@ nested fields marks = go (get_member (codes "mark") fields)
     go None none = subst (StandInEarlier 0) (sym none) tt
     go (Some value) (items, is, are) = nested_from 0 items marks are
 
+-- no more elements than there may be
+pub few_found : {A : Type 0} (Say : ℕ → Members → A → Type 0) (high : ℕ) (found : Option Data) (values : List A)
+    → said.AreFound Say found values → (IsSome found → is_count 0 (Some high) (length values) ≡ true)
+    → length values ≤ high
+few_found Say high None values none count = omega (arith, ap length none)
+few_found Say high (Some value) values has count =
+    leb-true (length values) high (and_parts (nat_le 0 (length values)) (nat_le (length values) high) (count refl)).1
+
 -- at most 8 marks
 pub few_marks : (fields : Members) (marks : List Mark) → said.HasTables said.IsMark fields (codes "mark") marks
     → (IsSome (get_member (codes "mark") fields) → is_count 0 (Some 8) (length marks) ≡ true) → length marks ≤ 8
-few_marks fields marks = go (get_member (codes "mark") fields)
-  where
-    go : (found : Option Data) → said.AreFound said.IsMark found marks
-        → (IsSome found → is_count 0 (Some 8) (length marks) ≡ true) → length marks ≤ 8
-    go None none count = omega (arith, ap length none)
-    go (Some value) has count =
-        leb-true (length marks) 8 (and_parts (nat_le 0 (length marks)) (nat_le (length marks) 8) (count refl)).1
+few_marks fields marks = few_found said.IsMark 8 (get_member (codes "mark") fields) marks
 
 pub on_locations : (lists : List Listing)
     → AllByRecursion (λ list. IsTrue (is_location list.location)) (map listed lists)
@@ -158,22 +151,27 @@ some_patterns [] = tt
 some_patterns (list ∷ lists) =
     ((omega (arith, list.some, list.patterns.ok.0), omega (arith, list.few, list.patterns.ok.0)), some_patterns lists)
 
--- notes without a fault
-pub sound_notes : (fields : Members) (programmed : Programmed) (load_cards : Bool) (marks : List Mark)
-    (lists : List Listing) → said.HasTables said.IsMark fields (codes "mark") marks
-    → (IsSome (get_member (codes "mark") fields) → is_count 0 (Some 8) (length marks) ≡ true)
-    → said.edge_faults [] (map said.edge_of marks) ≡ []
-    → said.location_faults [] (map (λ list. list.location.number) lists) ≡ []
-    → AreSound (record { programmed = programmed; load_cards = load_cards; marks = marks; lists = map listed lists })
-sound_notes fields programmed load_cards marks lists has count no_edge no_location = record {
-  few_marks = few_marks fields marks has count;
-  own_edges = own_edges [] marks no_edge;
-  nested = nested fields marks has;
-  own_locations = own_locations [] (map listed lists) (ap (said.location_faults []) (map-map lists) ∙ no_location);
-  locations = on_locations lists;
-  patterns = some_patterns lists;
-}
+-- no two lists are for one location
+pub own_places : (lists : List Listing) → said.location_faults [] (map (λ list. list.location.number) lists) ≡ []
+    → HaveOwnLocations (map listed lists)
+own_places lists none = own_locations [] (map listed lists) (ap (said.location_faults []) (map-map lists) ∙ none)
   where
     map-map : (lists : List Listing) → map place_of (map listed lists) ≡ map (λ list. list.location.number) lists
     map-map [] = refl
     map-map (list ∷ lists) = ap (λ (ps : List ℕ). list.location.number ∷ ps) (map-map lists)
+
+-- notes without a fault
+pub sound_notes : (fields : Members) (programmed : Programmed) (load_cards : Bool) (marks : List Mark)
+    (lists : List Listing) → said.HasTables said.IsMark fields (codes "mark") marks
+    → (IsSome (get_member (codes "mark") fields) → is_count 0 (Some 8) (length marks) ≡ true)
+    → said.edge_faults [] (flat_map edges_of marks) ≡ []
+    → said.location_faults [] (map (λ list. list.location.number) lists) ≡ []
+    → AreSound (record { programmed = programmed; load_cards = load_cards; marks = marks; lists = map listed lists })
+sound_notes fields programmed load_cards marks lists has count no_edge no_location = record {
+  few_marks = omega (arith, few_marks fields marks has count);
+  own_edges = own_edges [] (flat_map edges_of marks) no_edge;
+  nested = nested fields marks has;
+  own_locations = own_places lists no_location;
+  locations = on_locations lists;
+  patterns = some_patterns lists;
+}

@@ -7,7 +7,8 @@ use Rattle.std.proofs.lemmas.List.{append-nil, map-append, drop_more, take_more}
 use Rattle.std.specs.Prelude.{codes, decimal, flat_map}
 use Rattle.drum_core.specs.declared.op.Op.{Op}
 use Rattle.drum_core.specs.declared.location.Location.{Location}
-use Rattle.drum_toml.specs.AllFaults.{edge_numbers}
+use Rattle.drum_times.specs.declared.notes.edge.Edge.{Edge}
+use Rattle.drum_times.specs.EdgeOf.{edge_of}
 use Rattle.drum_toml.specs.Document.{Fault, two_marks, two_lists, missing_in, element_faults, elements_faults}
 use Rattle.drum_toml.specs.NotesDocument.{has_edge, edge_faults, has_location, location_faults}
 use Rattle.drum_toml.specs.TimesDocument.{operation_faults}
@@ -34,19 +35,19 @@ take_item : {A : Type 0} (xs : List A) (i : ℕ) (x : A) → i < length xs → x
 take_item {A} xs i x within is = take_more xs i x within ∙ ap (λ (y : A). take i xs ++ y ∷ []) (sym is)
 
 -- the edges from a place on
-pub edges_left : (edges : List (Location × Location)) (i : ℕ) (edge : Location × Location) → i < length edges
+pub edges_left : (edges : List Edge) (i : ℕ) (edge : Edge) → i < length edges
     → edge ≡ get_or edges i edge
-    → edge_faults (map edge_numbers (take i edges)) (map edge_numbers (drop i edges))
-    ≡ cond (has_edge (map edge_numbers (take i edges)) (edge_numbers edge))
-    (two_marks edge.0.number edge.1.number ∷ []) []
-    ++ edge_faults (map edge_numbers (take (i + 1) edges)) (map edge_numbers (drop (i + 1) edges))
+    → edge_faults (map edge_of (take i edges)) (map edge_of (drop i edges))
+    ≡ cond (has_edge (map edge_of (take i edges)) (edge_of edge))
+    (two_marks edge.from.number edge.onto.number ∷ []) []
+    ++ edge_faults (map edge_of (take (i + 1) edges)) (map edge_of (drop (i + 1) edges))
 edges_left edges i edge within is =
-    ap (λ (es : List (Location × Location)). edge_faults (map edge_numbers (take i edges)) (map edge_numbers es))
+    ap (λ (es : List Edge). edge_faults (map edge_of (take i edges)) (map edge_of es))
     (drop_item edges i edge within is)
-    ∙ ap (λ (earlier : List (ℕ × ℕ)). cond (has_edge (map edge_numbers (take i edges)) (edge_numbers edge))
-    (two_marks edge.0.number edge.1.number ∷ []) [] ++ edge_faults earlier (map edge_numbers (drop (i + 1) edges)))
-    (sym (map-append edge_numbers (take i edges) (edge ∷ []))
-    ∙ ap (map edge_numbers) (sym (take_item edges i edge within is)))
+    ∙ ap (λ (earlier : List (ℕ × ℕ)). cond (has_edge (map edge_of (take i edges)) (edge_of edge))
+    (two_marks edge.from.number edge.onto.number ∷ []) [] ++ edge_faults earlier (map edge_of (drop (i + 1) edges)))
+    (sym (map-append edge_of (take i edges) (edge ∷ []))
+    ∙ ap (map edge_of) (sym (take_item edges i edge within is)))
 
 abbrev number_of : Location → ℕ
 number_of place = place.number

@@ -6,8 +6,11 @@ use Rattle.drum_core.specs.Location.{is_location}
 use Rattle.drum_times.specs.declared.fault.NoteFault.{NoteFault}
 use Rattle.drum_times.specs.declared.fault.NoteFault.TheVariants.{Toml, Memory, Missing, Unknown}
 use Rattle.drum_times.specs.declared.fault.NoteFault.TheVariants.{Range, Kind, TwoMarks, TwoLists}
+use Rattle.drum_times.specs.declared.notes.edge.Edge.{Edge}
+use Rattle.drum_times.specs.EdgeOf.{edge_of}
 use Rattle.drum_toml.specs.Document.{Fault, missing, unknown, range, kind, two_marks, two_lists}
-use Rattle.drum_toml.specs.Document.{in_turn, is_count, count_of}
+use Rattle.drum_toml.specs.Document.{in_turn, is_count, count_of, tables}
+use Rattle.drum_toml.specs.LongNotes.{edges_said, long_mark_faults, long_notes_checks}
 use Rattle.drum_toml.specs.NotesDocument.{notes_checks, tables_of, tables_at, edge_faults}
 use Rattle.drum_toml.specs.NotesDocument.{location_faults}
 use Rattle.drum_toml.specs.Refused.{IsDocument}
@@ -92,14 +95,27 @@ abbrev pub all_notes_faults : Members → List Fault
 all_notes_faults document = in_turn (take 6 (notes_checks document))
     ++ repeated_edges document ++ repeated_locations document
 
--- the number of a location that there may be, the numbers of an edge's two
+-- The faults of long notes, in their order, all of which have a meaning. Edges are looked for that
+-- are there twice where the marks have no other fault.
+abbrev pub long_mark_tables : Members → List Fault
+long_mark_tables document = tables 0 (Some 64) (long_mark_faults document) [] (codes "mark") document
+
+abbrev pub repeated_long_edges : Members → List Fault
+repeated_long_edges document =
+    elim (long_mark_tables document) [
+      | [] ↦ edge_faults [] (flat_map edges_said (tables_at (codes "mark") document))
+      | _ ↦ []
+    ]
+
+abbrev pub all_long_faults : Members → List Fault
+all_long_faults document = in_turn (take 6 (long_notes_checks document))
+    ++ repeated_long_edges document ++ repeated_locations document
+
+-- the number of a location that there may be, and of an edge's locations
 abbrev pub numbers_of : Option Location → List ℕ
 numbers_of None = []
 numbers_of (Some location) = location.number ∷ []
 
-abbrev pub edge_numbers : Location × Location → ℕ × ℕ
-edge_numbers edge = (edge.0.number, edge.1.number)
-
-abbrev pub edges_of : Option (Location × Location) → List (ℕ × ℕ)
+abbrev pub edges_of : Option Edge → List (ℕ × ℕ)
 edges_of None = []
-edges_of (Some edge) = edge_numbers edge ∷ []
+edges_of (Some edge) = edge_of edge ∷ []

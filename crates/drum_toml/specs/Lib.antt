@@ -1,6 +1,7 @@
 pub mod AllFaults
 pub mod Complaint
 pub mod Document
+pub mod LongNotes
 pub mod NotesDocument
 pub mod Refused
 pub mod Says

@@ -1,12 +1,13 @@
 -- The notes as a document: what they say, and their faults in their order.
-use Rattle.std.specs.Prelude.{◌≡◌, ℕ, ◌+◌, ◌-◌, ◌<◌, ◌==◌, ◌&&◌, Bool, true, false, if◌then◌else◌}
-use Rattle.std.specs.Prelude.{List, [], ◌∷◌, ◌++◌, map, codes, Option, Some, None}
+use Rattle.std.specs.Prelude.{◌≡◌, ℕ, ◌+◌, ◌-◌, ◌<◌, ◌≤◌, ◌==◌, Bool, true, false, if◌then◌else◌}
+use Rattle.std.specs.Prelude.{List, [], ◌∷◌, ◌++◌, map, length, codes, Option, Some, None}
 use Rattle.std.specs.List.{list_any}
 use Rattle.drum_times.specs.declared.notes.mark.Mark.{Mark}
 use Rattle.drum_times.specs.declared.notes.pattern.Pattern.{Pattern}
 use Rattle.drum_times.specs.declared.notes.programmed.Programmed.{Programmed}
 use Rattle.drum_times.specs.declared.notes.programmed.Programmed.TheVariants.{Stop, Run, Any}
 use Rattle.drum_times.specs.Allowed.{Notes, Listed, AreSound}
+use Rattle.drum_times.specs.Edges.{leads}
 use Rattle.drum_toml.specs.Document.{Fault, in_turn, two_marks, two_lists, unknown_in, missing_in}
 use Rattle.drum_toml.specs.Document.{whole, location, text, tables, number_at}
 use Rattle.drum_toml.specs.TimesDocument.{HasNumber}
@@ -40,13 +41,15 @@ HasInside index fields None = get_member (codes "inside") fields ≡ None
 HasInside index fields (Some outer) = HasNumber fields (codes "inside") (outer + 1)
     × (outer < index)
 
--- The table says this mark, the one with this index, from 0.
+-- The table says this mark, the one with this index, from 0: it has one edge, and no name.
 pub record IsMark (index : ℕ) (fields : Members) (mark : Mark) : Type 0 where
   pub only : unknown_in [] mark_keys fields ≡ []
   pub from : HasNumber fields (codes "from") mark.from.number
   pub onto : HasNumber fields (codes "to") mark.onto.number
+  pub others : mark.others ≡ []
   pub most : HasNumber fields (codes "most") mark.most
   pub inside : HasInside index fields mark.inside
+  pub name : mark.name ≡ None
 
 -- The table says this pattern.
 pub record IsPattern (fields : Members) (pattern : Pattern) : Type 0 where
@@ -87,7 +90,7 @@ pub record IsListed (fields : Members) (listed : Listed) : Type 0 where
   pub patterns : HasTables (λ place one pattern. IsPattern one pattern) fields
       (codes "pattern") listed.patterns
 
--- The document says these notes, and nothing else.
+-- The document says these notes, and nothing else. They have 8 marks at most.
 pub record IsNotes (document : Members) (notes : Notes) : Type 0 where
   pub only : unknown_in [] note_keys document ≡ []
   pub programmed : get_member (codes "programmed") document
@@ -95,6 +98,7 @@ pub record IsNotes (document : Members) (notes : Notes) : Type 0 where
   pub load_cards : get_member (codes "load_cards") document
       ≡ Some (string (load_text_of notes.load_cards))
   pub marks : HasTables IsMark document (codes "mark") notes.marks
+  pub few : length notes.marks ≤ 8
   pub lists : HasTables (λ place fields listed. IsListed fields listed) document
       (codes "list") notes.lists
   pub sound : AreSound notes
@@ -150,16 +154,13 @@ tables_in (Some value) = elim value [ array items ↦ tables_of items | _ ↦ []
 abbrev pub tables_at : List ℕ → Members → List Members
 tables_at key fields = tables_in (get_member key fields)
 
--- the edge of a mark, and of a table that says one
-abbrev pub edge_of : Mark → ℕ × ℕ
-edge_of mark = (mark.from.number, mark.onto.number)
-
+-- the edge of a table that says a mark
 abbrev pub edge_in : Members → ℕ × ℕ
 edge_in fields = (number_at (codes "from") fields, number_at (codes "to") fields)
 
 -- the edge is among these
 abbrev pub has_edge : List (ℕ × ℕ) → ℕ × ℕ → Bool
-has_edge edges edge = list_any (λ one. one.0 == edge.0 && one.1 == edge.1) edges
+has_edge edges edge = list_any (leads edge.0 edge.1) edges
 
 -- a fault for each edge that is among these earlier ones, or among those before it
 abbrev pub edge_faults : List (ℕ × ℕ) → List (ℕ × ℕ) → List Fault
@@ -179,18 +180,24 @@ location_faults earlier (place ∷ places) =
     (if has_location earlier place then two_lists place ∷ [] else [])
     ++ location_faults (earlier ++ place ∷ []) places
 
--- The faults that each check of a document finds.
-abbrev pub notes_checks : Members → List (List Fault)
-notes_checks document =
+-- The faults that each check of a document finds, of whose marks these are the faults and these the
+-- edges.
+abbrev pub notes_checks_by : List Fault → List (ℕ × ℕ) → Members → List (List Fault)
+notes_checks_by marks edges document =
     unknown_in [] note_keys document
     ∷ missing_in [] (codes "programmed" ∷ codes "load_cards" ∷ []) document
     ∷ text (map text_of (Stop ∷ Run ∷ Any ∷ [])) [] (codes "programmed") document
     ∷ text (map load_text_of (false ∷ true ∷ [])) [] (codes "load_cards") document
-    ∷ tables 0 (Some 8) mark_faults [] (codes "mark") document
+    ∷ marks
     ∷ tables 0 None list_faults [] (codes "list") document
-    ∷ edge_faults [] (map edge_in (tables_at (codes "mark") document))
+    ∷ edge_faults [] edges
     ∷ location_faults [] (map (number_at (codes "location")) (tables_at (codes "list") document))
     ∷ []
+
+abbrev pub notes_checks : Members → List (List Fault)
+notes_checks document =
+    notes_checks_by (tables 0 (Some 8) mark_faults [] (codes "mark") document)
+    (map edge_in (tables_at (codes "mark") document)) document
 
 -- The faults of a document, in their order. The first is why it is refused. A later one may be no
 -- fault at all: where a table doesn't give an edge or a location, 0 stands for it here.

@@ -5,7 +5,8 @@ ghost use Rattle.drum_core.specs.declared.op.Op.{Op};
 ghost use Rattle.drum_times.specs.declared.entry.Entry.{Entry};
 ghost use Rattle.drum_times.specs.Allowed.{Notes};
 ghost use Rattle.drum_times.specs.declared.fault.NoteFault.{NoteFault};
-ghost use Rattle.drum_toml.specs.AllFaults.{AreAllFaults, all_notes_faults};
+ghost use Rattle.drum_toml.specs.AllFaults.{AreAllFaults, all_long_faults, all_notes_faults};
+ghost use Rattle.drum_toml.specs.LongNotes.{IsLongNotes, long_notes_faults};
 ghost use Rattle.drum_toml.specs.NotesDocument.{IsNotes, notes_faults};
 ghost use Rattle.drum_toml.specs.Refused.{IsDocument, IsRefused};
 ghost use Rattle.drum_toml.specs.TimesDocument.{IsTimes, times_faults};
@@ -28,6 +29,20 @@ pub fn says_notes()
         → (notes : Notes) × IsNotes document notes }
 {}
 
+/// And long notes likewise.
+pub fn says_long_notes()
+    ensures right { (document : Members) (notes : Notes) → IsLongNotes document notes
+        → long_notes_faults document ≡ [] }
+    ensures said { (document : Members) → long_notes_faults document ≡ []
+        → (notes : Notes) × IsLongNotes document notes }
+{}
+
+/// What says short notes says the same long notes.
+pub fn short_notes_are_long()
+    ensures { (document : Members) (notes : Notes) → IsNotes document notes
+        → IsLongNotes document notes }
+{}
+
 /// The first of all faults of bytes is the one for which they are refused as a timing table, and
 /// where there are none they are the document of one.
 pub fn tells_times()
@@ -47,4 +62,15 @@ pub fn tells_notes()
     ensures none { (bytes : List ℕ) → AreAllFaults all_notes_faults bytes []
         → (document : Members) × IsDocument bytes document
         × ((notes : Notes) × IsNotes document notes) }
+{}
+
+/// And long notes likewise. (Two marks on one edge are looked for where the marks have no other
+/// fault.)
+pub fn tells_long_notes()
+    ensures first { (bytes : List ℕ) (fault : NoteFault) (others : List NoteFault)
+        → AreAllFaults all_long_faults bytes (fault ∷ others)
+        → IsRefused long_notes_faults bytes fault }
+    ensures none { (bytes : List ℕ) → AreAllFaults all_long_faults bytes []
+        → (document : Members) × IsDocument bytes document
+        × ((notes : Notes) × IsLongNotes document notes) }
 {}

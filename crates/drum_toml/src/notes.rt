@@ -1,7 +1,13 @@
 //! Notes on a program: read from a document, or all faults of one.
 
 pub mod faults;
+pub mod long;
+pub mod long_faults;
+mod long_mark;
+mod mark_faults;
+mod named;
 pub mod read;
+mod read_edges;
 mod read_list;
 mod read_mark;
 mod repeated;

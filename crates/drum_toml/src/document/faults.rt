@@ -1,5 +1,5 @@
 //! All faults of a document, added one behind the other as its tables are checked.
-ghost use Rattle.std.specs.Prelude.{◌≡◌, ◌∷◌, [], ◌++◌, if◌then◌else◌, map, IfOk};
+ghost use Rattle.std.specs.Prelude.{◌≡◌, ◌∷◌, [], ◌++◌, if◌then◌else◌, map, IfOk, string_bytes};
 ghost use Rattle.drum_toml.specs.AllFaults.{Adds};
 ghost use Rattle.drum_toml.specs.Document as document;
 ghost use Rattle.drum_toml.specs.Value.{fault_of};
@@ -7,7 +7,7 @@ ghost use Rattle.toml.specs.View.{table_view};
 
 use super::fields::{Fields, is_among};
 use super::value::{self, ValueFault};
-use drum_times::NoteFault;
+use drum_times::{KeyPath, NoteFault};
 use std::alloc::{AllocError, Global};
 
 /// That bytes are no document, as their one fault.
@@ -64,6 +64,19 @@ impl Faults {
             (fault_of wrong (fields.now.at.now ++ key.now) ∷ [])) }
     {
         let path = fields.path(key)?;
+        match wrong {
+            ValueFault::Kind => self.add(NoteFault::Kind(path))?,
+            ValueFault::Range => self.add(NoteFault::Range(path))?,
+        }
+        Ok(())
+    }
+
+    /// Adds what is wrong with the value at this path.
+    pub fn wrong_at(&mut self, path: String, wrong: ValueFault) -> Result<(), AllocError>
+        ensures { IfOk result (λ _. Adds self.old.all.items self.new.all.items
+            (fault_of wrong (string_bytes path) ∷ [])) }
+    {
+        let path = KeyPath::new(path).ok_or(AllocError)?;
         match wrong {
             ValueFault::Kind => self.add(NoteFault::Kind(path))?,
             ValueFault::Range => self.add(NoteFault::Range(path))?,

@@ -16,6 +16,8 @@ pub struct Fields<'a> {
     /// The path of its keys: empty at the top, else it ends in a dot.
     pub at: &'a str,
     pub table: &'a Table,
+    /// The document that it is part of.
+    pub whole: &'a Table,
 }
 
 impl Fields<'_> {
@@ -48,7 +50,7 @@ impl Fields<'_> {
         ensures { option_map (λ value. view value.now) result
             ≡ get_member key.now (table_view self.now.table.now) }
     {
-        self.table.get(key)
+        member(self.table, key)
     }
 
     /// Checks that each of its keys is known; else Unknown with the first in byte order that isn't.
@@ -93,6 +95,14 @@ impl Fields<'_> {
             None => Err(NoteFault::Missing(self.path(key)?)),
         }
     }
+}
+
+/// The value at a key of a table, if there is one.
+pub fn member<'a>(table: &'a Table, key: &str) -> Option<&'a Value>
+    ensures { option_map (λ value. view value.now) result
+        ≡ get_member key.now (table_view table.now) }
+{
+    table.get(key)
 }
 
 /// Whether a key is one of these.

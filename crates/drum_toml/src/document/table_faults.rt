@@ -11,18 +11,20 @@ use super::fields::Fields;
 use super::tables::{element_path, is_count};
 use super::value::ValueFault;
 use drum_times::{KeyPath, NoteFault};
-use std::alloc::{AllocError, Global};
+use std::alloc::AllocError;
 use toml::Value;
 
 /// What an element of an array of tables is to be.
 pub trait Checked: Sized {
-    /// The faults of the table, the element of this number from 1, whose keys' path begins so.
-    ghost faults: { ℕ → List ℕ → Members → List Fault };
+    /// The faults of the table of a document, the element of this number from 1, whose keys' path
+    /// begins so.
+    ghost faults: { Members → ℕ → List ℕ → Members → List Fault };
 
     /// Adds the faults of the element with this index, from 0.
     fn check(into: &mut Faults, fields: &Fields<'_>, place: usize) -> Result<(), AllocError>
         ensures { IfOk result (λ _. Adds into.old.all.items into.new.all.items
-            (faults (place + 1) fields.now.at.now (table_view fields.now.table.now))) };
+            (faults (table_view fields.now.whole.now) (place + 1) fields.now.at.now
+            (table_view fields.now.table.now))) };
 }
 
 impl Faults {
@@ -36,8 +38,8 @@ impl Faults {
         high: Option<usize>,
     ) -> Result<(), AllocError>
         ensures { IfOk result (λ _. Adds self.old.all.items self.new.all.items
-            (document.tables low high T.faults fields.now.at.now key.now
-            (table_view fields.now.table.now))) }
+            (document.tables low high (T.faults (table_view fields.now.whole.now))
+            fields.now.at.now key.now (table_view fields.now.table.now))) }
     {
         let Some(value) = fields.get(key) else {
             return Ok(());
@@ -51,22 +53,23 @@ impl Faults {
             return Ok(());
         }
         let path = fields.path(key)?;
-        self.elements::<T>(fields.alloc, path.text.as_str(), items)?;
+        self.elements::<T>(fields, path.text.as_str(), items)?;
         Ok(())
     }
 
     /// Adds the faults of the elements of an array at a path.
     fn elements<T: Checked>(
         &mut self,
-        alloc: Global,
+        fields: &Fields<'_>,
         path: &str,
         items: &[Value],
     ) -> Result<(), AllocError>
         ensures { IfOk result (λ _. Adds self.old.all.items self.new.all.items
-            (document.elements_faults T.faults path.now 1 (items_view items.now))) }
+            (document.elements_faults (T.faults (table_view fields.now.whole.now)) path.now 1
+            (items_view items.now))) }
     {
         for (place, value) in items.iter().enumerate() {
-            self.element::<T>(alloc, path, place, value)?;
+            self.element::<T>(fields, path, place, value)?;
         }
         Ok(())
     }
@@ -74,17 +77,17 @@ impl Faults {
     /// Adds those of the element with this index, from 0.
     fn element<T: Checked>(
         &mut self,
-        alloc: Global,
+        fields: &Fields<'_>,
         path: &str,
         place: usize,
         value: &Value,
     ) -> Result<(), AllocError>
         requires { place + 1 < 2 ^ 64 }
         ensures { IfOk result (λ _. Adds self.old.all.items self.new.all.items
-            (document.element_faults T.faults (place + 1)
+            (document.element_faults (T.faults (table_view fields.now.whole.now)) (place + 1)
             (path.now ++ codes "." ++ decimal (place + 1)) (view value.now))) }
     {
-        let mut at = element_path(alloc, path, place)?;
+        let mut at = element_path(fields.alloc, path, place)?;
         let Some(table) = value.as_table() else {
             let path = KeyPath::new(at).ok_or(AllocError)?;
             self.add(NoteFault::Kind(path))?;
@@ -92,9 +95,10 @@ impl Faults {
         };
         at.push_str(".")?;
         let fields = Fields {
-            alloc,
+            alloc: fields.alloc,
             at: at.as_str(),
             table,
+            whole: fields.whole,
         };
         T::check(self, &fields, place)?;
         Ok(())

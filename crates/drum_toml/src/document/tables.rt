@@ -17,18 +17,19 @@ use toml::Value;
 
 /// What an element of an array of tables stands for.
 pub trait Element: Sized {
-    /// The table, the element with this index from 0, says the value.
-    ghost says: { ℕ → Members → Self → Type 0 };
+    /// The table of a document, the element with this index from 0, says the value.
+    ghost says: { Members → ℕ → Members → Self → Type 0 };
     /// The faults of the table, the element of this number from 1, whose keys' path begins so.
-    ghost faults: { ℕ → List ℕ → Members → List Fault };
+    ghost faults: { Members → ℕ → List ℕ → Members → List Fault };
 
     /// The element with this index, from 0.
     fn read(fields: &Fields<'_>, place: usize) -> Result<Self, NoteFault>
-        ensures said { IfOk result (says place (table_view fields.now.table.now)) }
-        ensures none { IfOk result (λ _. faults (place + 1) fields.now.at.now
-            (table_view fields.now.table.now) ≡ []) }
-        ensures first { IfErr result (IsFirst
-            (faults (place + 1) fields.now.at.now (table_view fields.now.table.now))) };
+        ensures said { IfOk result (says (table_view fields.now.whole.now) place
+            (table_view fields.now.table.now)) }
+        ensures none { IfOk result (λ _. faults (table_view fields.now.whole.now) (place + 1)
+            fields.now.at.now (table_view fields.now.table.now) ≡ []) }
+        ensures first { IfErr result (IsFirst (faults (table_view fields.now.whole.now)
+            (place + 1) fields.now.at.now (table_view fields.now.table.now))) };
 }
 
 impl Fields<'_> {
@@ -41,14 +42,17 @@ impl Fields<'_> {
         high: Option<usize>,
     ) -> Result<Vec<T>, NoteFault>
         ensures said { IfOk result (λ elements.
-            HasTables T.says (table_view self.now.table.now) key.now elements.items) }
+            HasTables (T.says (table_view self.now.whole.now)) (table_view self.now.table.now)
+            key.now elements.items) }
         ensures count { IfOk result (λ elements.
             IsSome (get_member key.now (table_view self.now.table.now))
             → document.is_count low high (length elements.items) ≡ true) }
-        ensures none { IfOk result (λ _. document.tables low high T.faults
-            self.now.at.now key.now (table_view self.now.table.now) ≡ []) }
-        ensures first { IfErr result (IsFirst (document.tables low high T.faults
-            self.now.at.now key.now (table_view self.now.table.now))) }
+        ensures none { IfOk result (λ _. document.tables low high
+            (T.faults (table_view self.now.whole.now)) self.now.at.now key.now
+            (table_view self.now.table.now) ≡ []) }
+        ensures first { IfErr result (IsFirst (document.tables low high
+            (T.faults (table_view self.now.whole.now)) self.now.at.now key.now
+            (table_view self.now.table.now))) }
     {
         let Some(value) = self.get(key) else {
             return Ok(Vec::new(self.alloc));
@@ -60,7 +64,7 @@ impl Fields<'_> {
             return Err(self.fault(key, ValueFault::Range));
         }
         let path = self.path(key)?;
-        read_elements(self.alloc, path.text.as_str(), items)
+        read_elements(self, path.text.as_str(), items)
     }
 }
 
@@ -74,23 +78,23 @@ pub fn is_count(count: usize, low: usize, high: Option<usize>) -> bool
     }
 }
 
-/// The elements of an array at a path.
+/// The elements of an array at a path, which the table has.
 fn read_elements<T: Element + Drop>(
-    alloc: Global,
+    fields: &Fields<'_>,
     path: &str,
     items: &[Value],
 ) -> Result<Vec<T>, NoteFault>
-    ensures said { IfOk result (λ elements.
-        AreTables T.says 0 (items_view items.now) elements.items) }
+    ensures said { IfOk result (λ elements. AreTables
+        (T.says (table_view fields.now.whole.now)) 0 (items_view items.now) elements.items) }
     ensures count { IfOk result (λ elements. length elements.items ≡ length items.now) }
-    ensures none { IfOk result (λ _.
-        document.elements_faults T.faults path.now 1 (items_view items.now) ≡ []) }
-    ensures first { IfErr result (IsFirst
-        (document.elements_faults T.faults path.now 1 (items_view items.now))) }
+    ensures none { IfOk result (λ _. document.elements_faults
+        (T.faults (table_view fields.now.whole.now)) path.now 1 (items_view items.now) ≡ []) }
+    ensures first { IfErr result (IsFirst (document.elements_faults
+        (T.faults (table_view fields.now.whole.now)) path.now 1 (items_view items.now))) }
 {
-    let mut elements = Vec::new(alloc);
+    let mut elements = Vec::new(fields.alloc);
     for (place, value) in items.iter().enumerate() {
-        match read_element(alloc, path, place, value) {
+        match read_element(fields, path, place, value) {
             Ok(element) => elements.push(element).map_err(AllocError::from)?,
             Err(fault) => return Err(fault),
         }
@@ -100,19 +104,22 @@ fn read_elements<T: Element + Drop>(
 
 /// The element with this index, from 0, of the array at a path.
 fn read_element<T: Element>(
-    alloc: Global,
+    fields: &Fields<'_>,
     path: &str,
     place: usize,
     value: &Value,
 ) -> Result<T, NoteFault>
     requires { place + 1 < 2 ^ 64 }
-    ensures said { IfOk result (IsTable T.says place (view value.now)) }
-    ensures none { IfOk result (λ _. document.element_faults T.faults (place + 1)
+    ensures said { IfOk result (IsTable (T.says (table_view fields.now.whole.now)) place
+        (view value.now)) }
+    ensures none { IfOk result (λ _. document.element_faults
+        (T.faults (table_view fields.now.whole.now)) (place + 1)
         (path.now ++ codes "." ++ decimal (place + 1)) (view value.now) ≡ []) }
-    ensures first { IfErr result (IsFirst (document.element_faults T.faults (place + 1)
+    ensures first { IfErr result (IsFirst (document.element_faults
+        (T.faults (table_view fields.now.whole.now)) (place + 1)
         (path.now ++ codes "." ++ decimal (place + 1)) (view value.now))) }
 {
-    let mut at = element_path(alloc, path, place)?;
+    let mut at = element_path(fields.alloc, path, place)?;
     let Some(table) = value.as_table() else {
         return Err(match KeyPath::new(at) {
             Some(path) => NoteFault::Kind(path),
@@ -122,9 +129,10 @@ fn read_element<T: Element>(
     at.push_str(".")?;
     T::read(
         &Fields {
-            alloc,
+            alloc: fields.alloc,
             at: at.as_str(),
             table,
+            whole: fields.whole,
         },
         place,
     )

@@ -1,13 +1,15 @@
 //! What may be wrong with a value by itself, whatever its key.
 ghost use Rattle.std.specs.Prelude.{◌≡◌, ℕ, ◌≤◌, ◌&&◌, nat_le, List, ◌∷◌, [], map, pos, IfOk};
-ghost use Rattle.std.specs.Prelude.{IfErr};
+ghost use Rattle.std.specs.Prelude.{IfErr, string_bytes};
 ghost use Rattle.drum_core.specs.Location.{is_location};
 ghost use Rattle.drum_toml.specs.Document as document;
+ghost use Rattle.drum_toml.specs.Refused.{IsFirst};
 ghost use Rattle.drum_toml.specs.Value.{fault_of, StandsFor};
 ghost use Rattle.toml.specs.Data.{integer};
 ghost use Rattle.toml.specs.View.{view};
 
 use drum_core::Location;
+use drum_times::{KeyPath, NoteFault};
 use toml::Value;
 
 /// What is wrong with a value.
@@ -17,6 +19,22 @@ pub enum ValueFault {
     Kind,
     /// It is outside its range.
     Range,
+}
+
+impl ValueFault {
+    /// The fault of the value at this path; Memory past the longest path, for which no machine has
+    /// room.
+    pub fn at(self, path: String) -> NoteFault
+        ensures { IsFirst (fault_of self (string_bytes path) ∷ []) result }
+    {
+        let Some(path) = KeyPath::new(path) else {
+            return NoteFault::Memory;
+        };
+        match self {
+            ValueFault::Kind => NoteFault::Kind(path),
+            ValueFault::Range => NoteFault::Range(path),
+        }
+    }
 }
 
 /// The whole number from `low` to `high` that a value is; else Kind or Range.

@@ -45,12 +45,13 @@ impl Faults {
             alloc,
             at: "",
             table,
+            whole: table,
         };
         self.unknown(&top, &["programmed", "load_cards", "mark", "list"])?;
         self.missing(&top, &["programmed", "load_cards"])?;
         self.choice(&top, "programmed", &PROGRAMMED)?;
         self.choice(&top, "load_cards", &LOAD_CARDS)?;
-        self.tables::<Mark>(&top, "mark", 0, Some(Mark::MOST))?;
+        self.tables::<Mark>(&top, "mark", 0, Some(Mark::MOST_SHORT))?;
         self.tables::<Listing>(&top, "list", 0, None)?;
         self.repeated_marks(&top)?;
         self.repeated_lists(&top)?;
@@ -59,7 +60,7 @@ impl Faults {
 }
 
 impl Checked for Mark {
-    ghost faults = { said.mark_faults };
+    ghost faults = { λ _. said.mark_faults };
 
     fn check(into: &mut Faults, fields: &Fields<'_>, place: usize) -> Result<(), AllocError> {
         into.unknown(fields, &["from", "to", "most", "inside"])?;
@@ -73,7 +74,7 @@ impl Checked for Mark {
 }
 
 impl Checked for Pattern {
-    ghost faults = { said.pattern_faults };
+    ghost faults = { λ _. said.pattern_faults };
 
     fn check(into: &mut Faults, fields: &Fields<'_>, _place: usize) -> Result<(), AllocError> {
         let keys = ["op", "d_from", "d_to", "i"];
@@ -89,7 +90,7 @@ impl Checked for Pattern {
 }
 
 impl Checked for Listing {
-    ghost faults = { said.list_faults };
+    ghost faults = { λ _. said.list_faults };
 
     fn check(into: &mut Faults, fields: &Fields<'_>, _place: usize) -> Result<(), AllocError> {
         let keys = ["location", "pattern"];

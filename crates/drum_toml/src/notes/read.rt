@@ -6,7 +6,7 @@ ghost use Rattle.drum_toml.specs.Refused.{IsDocument, IsFirst, IsRefused};
 ghost use Rattle.toml.specs.Data.{Members};
 ghost use Rattle.toml.specs.View.{table_view};
 
-use super::repeated::{repeated_edge, repeated_location};
+use super::repeated::{edges_of, repeated_edge, repeated_location};
 use crate::document::fields::Fields;
 use crate::document::read_document;
 use drum_times::{Listing, Mark, NoteFault, Notes, Programmed};
@@ -47,15 +47,17 @@ fn read_table(alloc: Global, table: &Table) -> Result<Notes, NoteFault>
         alloc,
         at: "",
         table,
+        whole: table,
     };
     top.only(&["programmed", "load_cards", "mark", "list"])?;
     top.all(&["programmed", "load_cards"])?;
     let programmed = top.choice("programmed", &PROGRAMMED)?;
     let load_cards = top.choice("load_cards", &LOAD_CARDS)?;
-    let marks: Vec<Mark> = top.tables("mark", 0, Some(Mark::MOST))?;
+    let marks: Vec<Mark> = top.tables("mark", 0, Some(Mark::MOST_SHORT))?;
     let lists: Vec<Listing> = top.tables("list", 0, None)?;
-    if let Some((from, onto)) = repeated_edge(&marks) {
-        return Err(NoteFault::TwoMarks(from, onto));
+    let edges = edges_of(alloc, &marks)?;
+    if let Some(edge) = repeated_edge(&edges) {
+        return Err(NoteFault::TwoMarks(edge.from, edge.onto));
     }
     if let Some(location) = repeated_location(&lists) {
         return Err(NoteFault::TwoLists(location));

@@ -8,9 +8,9 @@ use crate::document::tables::Element;
 use drum_times::{Listing, NoteFault, Pattern};
 
 impl Element for Pattern {
-    ghost says = { λ _. said.IsPattern };
+    ghost says = { λ _ _. said.IsPattern };
 
-    ghost faults = { said.pattern_faults };
+    ghost faults = { λ _. said.pattern_faults };
 
     fn read(fields: &Fields<'_>, _place: usize) -> Result<Pattern, NoteFault> {
         let keys = ["op", "d_from", "d_to", "i"];
@@ -30,9 +30,9 @@ impl Element for Pattern {
 }
 
 impl Element for Listing {
-    ghost says = { λ _ fields list. said.IsListed fields (listed list) };
+    ghost says = { λ _ _ fields list. said.IsListed fields (listed list) };
 
-    ghost faults = { said.list_faults };
+    ghost faults = { λ _. said.list_faults };
 
     fn read(fields: &Fields<'_>, _place: usize) -> Result<Listing, NoteFault> {
         let keys = ["location", "pattern"];

@@ -7,12 +7,12 @@ ghost use Rattle.toml.specs.View.{table_view};
 
 use crate::document::fields::Fields;
 use crate::document::tables::Element;
-use drum_times::{Mark, NoteFault};
+use drum_times::{Edges, Mark, NoteFault};
 
 impl Element for Mark {
-    ghost says = { said.IsMark };
+    ghost says = { λ _. said.IsMark };
 
-    ghost faults = { said.mark_faults };
+    ghost faults = { λ _. said.mark_faults };
 
     fn read(fields: &Fields<'_>, place: usize) -> Result<Mark, NoteFault> {
         fields.only(&["from", "to", "most", "inside"])?;
@@ -24,8 +24,10 @@ impl Element for Mark {
         Ok(Mark {
             from,
             onto,
+            others: Edges::none(fields.alloc),
             most: most as u16,
             inside,
+            name: None,
         })
     }
 }

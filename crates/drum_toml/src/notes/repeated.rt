@@ -1,31 +1,47 @@
-//! Marks on one edge, and lists for one location.
-ghost use Rattle.std.specs.Prelude.{◌≡◌, [], map, IfNone, IfSome};
+//! Edges that are there twice among those of marks, and lists for one location.
+ghost use Rattle.std.specs.Prelude.{◌≡◌, [], map, flat_map, IfNone, IfOk, IfSome};
+ghost use Rattle.drum_times.specs.EdgeOf.{edge_of};
+ghost use Rattle.drum_times.specs.Marks.{edges_of as edges_of_mark};
 ghost use Rattle.drum_toml.specs.Document.{two_marks, two_lists};
 ghost use Rattle.drum_toml.specs.NotesDocument as said;
 ghost use Rattle.drum_toml.specs.Refused.{Begin};
 
 use drum_core::Location;
-use drum_times::{Listing, Mark};
+use drum_times::{Edge, Listing, Mark};
+use std::alloc::{AllocError, Global};
 
-/// The edge of the first mark whose edge an earlier one has.
-pub fn repeated_edge(marks: &[Mark]) -> Option<(Location, Location)>
-    ensures none { IfNone result (said.edge_faults [] (map said.edge_of marks.now) ≡ []) }
-    ensures first { IfSome result (λ edge. Begin (said.edge_faults [] (map said.edge_of marks.now))
-        (two_marks edge.0.number edge.1.number)) }
+/// The edges of marks, in order.
+pub fn edges_of(alloc: Global, marks: &[Mark]) -> Result<Vec<Edge>, AllocError>
+    ensures { IfOk result (λ edges. map edge_of edges.items ≡ flat_map edges_of_mark marks.now) }
 {
-    for (place, mark) in marks.iter().enumerate() {
-        if has_edge(&marks[..place], mark) {
-            return Some((mark.from, mark.onto));
+    let mut edges = Vec::new(alloc);
+    for mark in marks {
+        edges.push(mark.first())?;
+        edges.extend_from_slice(mark.others.all())?;
+    }
+    Ok(edges)
+}
+
+/// The first edge that an earlier one is.
+pub fn repeated_edge(edges: &[Edge]) -> Option<Edge>
+    ensures none { IfNone result (said.edge_faults [] (map edge_of edges.now) ≡ []) }
+    ensures first { IfSome result (λ edge. Begin (said.edge_faults [] (map edge_of edges.now))
+        (two_marks edge.from.number edge.onto.number)) }
+{
+    for (place, edge) in edges.iter().enumerate() {
+        if has_edge(&edges[..place], *edge) {
+            return Some(*edge);
         }
     }
     None
 }
 
-fn has_edge(marks: &[Mark], mark: &Mark) -> bool
-    ensures { result ≡ said.has_edge (map said.edge_of marks.now) (said.edge_of mark.now) }
+/// Whether an edge is among these.
+pub fn has_edge(edges: &[Edge], edge: Edge) -> bool
+    ensures { result ≡ said.has_edge (map edge_of edges.now) (edge_of edge) }
 {
-    for one in marks {
-        if one.is_on(mark.from, mark.onto) {
+    for one in edges {
+        if one.leads(edge.from, edge.onto) {
             return true;
         }
     }

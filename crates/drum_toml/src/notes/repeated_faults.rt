@@ -1,5 +1,6 @@
 //! The marks on the edge of an earlier one, and the lists for the location of an earlier one.
 ghost use Rattle.std.specs.Prelude.{◌≡◌, ◌∷◌, [], if◌then◌else◌, map, flat_map, codes, IfOk};
+ghost use Rattle.drum_times.specs.EdgeOf.{edge_of};
 ghost use Rattle.drum_toml.specs.AllFaults as all;
 ghost use Rattle.drum_toml.specs.AllFaults.{Adds};
 ghost use Rattle.drum_toml.specs.Document.{two_marks, two_lists};
@@ -7,11 +8,12 @@ ghost use Rattle.drum_toml.specs.NotesDocument as said;
 ghost use Rattle.toml.specs.Data.{get_member};
 ghost use Rattle.toml.specs.View.{view, table_view, items_view};
 
+use super::repeated::has_edge;
 use crate::document::faults::Faults;
 use crate::document::fields::Fields;
 use crate::document::value;
 use drum_core::Location;
-use drum_times::{Mark, NoteFault};
+use drum_times::{Edge, Mark, NoteFault};
 use std::alloc::{AllocError, Global};
 use toml::Value;
 
@@ -21,15 +23,15 @@ impl Faults {
         ensures { IfOk result (λ _. Adds self.old.all.items self.new.all.items
             (all.repeated_edges (table_view top.now.table.now))) }
     {
-        let edges = edges_of(top.alloc, marks_of(top))?;
+        let edges = stated_edges(top.alloc, marks_of(top))?;
         self.second_edges(&edges)?;
         Ok(())
     }
 
     /// Adds each edge that an earlier one is.
-    fn second_edges(&mut self, edges: &[(Location, Location)]) -> Result<(), AllocError>
+    pub fn second_edges(&mut self, edges: &[Edge]) -> Result<(), AllocError>
         ensures { IfOk result (λ _. Adds self.old.all.items self.new.all.items
-            (said.edge_faults [] (map all.edge_numbers edges.now))) }
+            (said.edge_faults [] (map edge_of edges.now))) }
     {
         for (place, edge) in edges.iter().enumerate() {
             let again = has_edge(&edges[..place], *edge);
@@ -39,12 +41,12 @@ impl Faults {
     }
 
     /// Adds an edge that is there again.
-    fn second_edge(&mut self, again: bool, edge: (Location, Location)) -> Result<(), AllocError>
+    fn second_edge(&mut self, again: bool, edge: Edge) -> Result<(), AllocError>
         ensures { IfOk result (λ _. Adds self.old.all.items self.new.all.items
-            (if again then two_marks edge.0.number edge.1.number ∷ [] else [])) }
+            (if again then two_marks edge.from.number edge.onto.number ∷ [] else [])) }
     {
         if again {
-            self.add(NoteFault::TwoMarks(edge.0, edge.1))?;
+            self.add(NoteFault::TwoMarks(edge.from, edge.onto))?;
         }
         Ok(())
     }
@@ -86,13 +88,13 @@ impl Faults {
 }
 
 /// The edges that some elements say.
-fn edges_of(alloc: Global, items: &[Value]) -> Result<Vec<(Location, Location)>, AllocError>
-    ensures { IfOk result (λ edges. map all.edge_numbers edges.items
+fn stated_edges(alloc: Global, items: &[Value]) -> Result<Vec<Edge>, AllocError>
+    ensures { IfOk result (λ edges. map edge_of edges.items
         ≡ flat_map all.edges_in (said.tables_of (items_view items.now))) }
 {
     let mut edges = Vec::new(alloc);
     for item in items {
-        if let Some(edge) = edge_of(alloc, item) {
+        if let Some(edge) = stated_edge(alloc, item) {
             edges.push(edge)?;
         }
     }
@@ -139,7 +141,7 @@ fn marks_of<'a>(top: &'a Fields<'_>) -> &'a [Value]
     let Some(items) = value.as_array() else {
         return &[];
     };
-    if items.len() > Mark::MOST {
+    if items.len() > Mark::MOST_SHORT {
         return &[];
     }
     items
@@ -156,17 +158,19 @@ fn location_at(fields: &Fields<'_>, key: &str) -> Option<Location>
 }
 
 /// The edge that an element says, if it says one.
-fn edge_of(alloc: Global, item: &Value) -> Option<(Location, Location)>
+fn stated_edge(alloc: Global, item: &Value) -> Option<Edge>
     ensures { flat_map all.edges_in (all.table_of (view item.now)) ≡ all.edges_of result }
 {
+    let table = item.as_table()?;
     let fields = Fields {
         alloc,
         at: "",
-        table: item.as_table()?,
+        table,
+        whole: table,
     };
     let from = location_at(&fields, "from")?;
     let onto = location_at(&fields, "to")?;
-    Some((from, onto))
+    Some(Edge { from, onto })
 }
 
 /// The location that an element is for, if it says one.
@@ -174,22 +178,12 @@ fn listed_location(alloc: Global, item: &Value) -> Option<Location>
     ensures { flat_map (all.locations_at (codes "location")) (all.table_of (view item.now))
         ≡ all.numbers_of result }
 {
+    let table = item.as_table()?;
     let fields = Fields {
         alloc,
         at: "",
-        table: item.as_table()?,
+        table,
+        whole: table,
     };
     location_at(&fields, "location")
-}
-
-/// Whether an edge is among these.
-fn has_edge(edges: &[(Location, Location)], edge: (Location, Location)) -> bool
-    ensures { result ≡ said.has_edge (map all.edge_numbers edges.now) (all.edge_numbers edge) }
-{
-    for (from, onto) in edges {
-        if from.number == edge.0.number && onto.number == edge.1.number {
-            return true;
-        }
-    }
-    false
 }

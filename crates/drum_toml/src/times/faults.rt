@@ -48,6 +48,7 @@ impl Faults {
             alloc,
             at: "",
             table,
+            whole: table,
         };
         self.unknown(&top, &["op"])?;
         let Some(value) = top.get("op") else {
@@ -71,6 +72,7 @@ impl Faults {
             alloc,
             at: "op.",
             table,
+            whole: table,
         };
         let keys = keys();
         self.unknown(&operations, &keys)?;
@@ -117,6 +119,7 @@ impl Faults {
             alloc: operations.alloc,
             at: at.as_str(),
             table,
+            whole: operations.whole,
         };
         self.entry(&fields, op)?;
         Ok(())

@@ -44,12 +44,14 @@ fn read_table(alloc: Global, table: &Table) -> Result<Times, NoteFault>
         alloc,
         at: "",
         table,
+        whole: table,
     };
     top.only(&["op"])?;
     let operations = Fields {
         alloc,
         at: "op.",
         table: top.table("op")?,
+        whole: table,
     };
     let keys = keys();
     operations.only(&keys)?;
@@ -98,6 +100,7 @@ fn read_operation(operations: &Fields<'_>, key: &str, op: Op) -> Result<Entry, N
         alloc: operations.alloc,
         at: at.as_str(),
         table: operations.table(key)?,
+        whole: operations.whole,
     };
     read_entry(&fields, op)
 }

@@ -2,15 +2,16 @@
 -- before one that fails found nothing, so its fault is the first of the document; where all pass,
 -- the notes are what the table says.
 use Rattle.std.proofs.Common.{◌≡◌, ℕ, List, refl, [], ◌∷◌, ◌∙◌, sym, ap, subst, map, true, false}
-use Rattle.std.specs.Prelude.{codes}
+use Rattle.std.specs.Prelude.{codes, flat_map}
 use Rattle.toml.specs.View.{table_view}
 use Rattle.drum_times.specs.declared.notes.programmed.Programmed.TheVariants.{Stop, Run, Any}
 use Rattle.drum_times.specs.declared.fault.NoteFault.TheVariants.{TwoMarks, TwoLists}
 use Rattle.drum_times.specs.declared.notes.listing.Listing.{Listing}
-use Rattle.drum_times.specs.declared.notes.mark.Mark.{Mark}
+use Rattle.drum_times.specs.EdgeOf.{edge_of}
+use Rattle.drum_times.specs.Marks.{edges_of}
 use Rattle.drum_toml.specs.Document.{text, two_marks, two_lists}
 use Rattle.drum_toml.specs.Refused.{Begin}
-use Rattle.drum_toml.proofs.NotesSound.{sound_notes}
+use Rattle.drum_toml.proofs.NotesSound.{sound_notes, few_marks}
 use Rattle.drum_toml.specs.NotesDocument as said
 use Rattle.drum_toml.proofs.NotesFaults.{nth_in}
 use Rattle.drum_toml.proofs.NotesLaws.{location_of, edges_same, locations_same, lists_said, programmed_said}
@@ -99,7 +100,7 @@ returns-in_err-lists-clause-first c =
 
 pub returns-in-Some-clause-first : goal.returns-in-Some-clause-first
 returns-in-Some-clause-first c =
-    nth_in (said.notes_checks (table_view c.args.table.now)) 6 _ (TwoMarks c.in-Some.from c.in-Some.onto) refl (
+    nth_in (said.notes_checks (table_view c.args.table.now)) 6 _ (TwoMarks c.in-Some.edge.from c.in-Some.edge.onto) refl (
       c.in_ok-only.ensures.none,
       (
         c.in_ok-all.ensures.none,
@@ -115,8 +116,8 @@ returns-in-Some-clause-first c =
       ),
     )
     (subst (λ (es : List (ℕ × ℕ)). Begin (said.edge_faults [] es)
-    (two_marks c.in-Some.from.number c.in-Some.onto.number))
-    (ap (map said.edge_of) c.deref.ensures.value
+    (two_marks c.in-Some.edge.from.number c.in-Some.edge.onto.number))
+    (ap (map edge_of) c.deref-2.ensures.value ∙ c.in_ok-edges.ensures ∙ ap (flat_map edges_of) c.deref.ensures.value
     ∙ sym (edges_same (table_view c.args.table.now) c.in_ok-marks.marks.items c.in_ok-marks.ensures.said))
     c.in-Some.ensures.first)
 
@@ -139,8 +140,8 @@ returns-in-Some-repeated_location-clause-first c =
                 c.in_ok-lists.ensures.none,
                 (
                   (subst (λ (es : List (ℕ × ℕ)). said.edge_faults [] es ≡ [])
-                      (ap (map said.edge_of) c.deref.ensures.value
-                      ∙ sym (edges_same (table_view c.args.table.now) c.in_ok-marks.marks.items
+                      (ap (map edge_of) c.deref-2.ensures.value ∙ c.in_ok-edges.ensures
+                      ∙ ap (flat_map edges_of) c.deref.ensures.value ∙ sym (edges_same (table_view c.args.table.now) c.in_ok-marks.marks.items
                       c.in_ok-marks.ensures.said))
                       c.in_default.ensures.none),
                   tt,
@@ -152,7 +153,7 @@ returns-in-Some-repeated_location-clause-first c =
       ),
     )
     (subst (λ (ps : List ℕ). Begin (said.location_faults [] ps) (two_lists c.in-Some-repeated_location.location.number))
-    (ap (map location_of) c.deref-2.ensures.value
+    (ap (map location_of) c.deref-3.ensures.value
     ∙ sym (locations_same (table_view c.args.table.now) c.in_ok-lists.lists.items c.in_ok-lists.ensures.said))
     c.in-Some-repeated_location.ensures.first)
 
@@ -160,9 +161,10 @@ pub new-requires : goal.new-requires
 new-requires c =
     sound_notes (table_view c.args.table.now) c.in_ok-programmed.programmed c.in_ok-load_cards.load_cards
     c.in_ok-marks.marks.items c.in_ok-lists.lists.items c.in_ok-marks.ensures.said c.in_ok-marks.ensures.count
-    (subst (λ (marks : List Mark). said.edge_faults [] (map said.edge_of marks) ≡ []) c.deref.ensures.value
+    (subst (λ (es : List (ℕ × ℕ)). said.edge_faults [] es ≡ [])
+    (ap (map edge_of) c.deref-2.ensures.value ∙ c.in_ok-edges.ensures ∙ ap (flat_map edges_of) c.deref.ensures.value)
     c.in_default.ensures.none)
-    (subst (λ (lists : List Listing). said.location_faults [] (map location_of lists) ≡ []) c.deref-2.ensures.value
+    (subst (λ (lists : List Listing). said.location_faults [] (map location_of lists) ≡ []) c.deref-3.ensures.value
     c.in_default-repeated_location.ensures.none)
 
 pub returns-clause-said : goal.returns-clause-said
@@ -173,12 +175,16 @@ returns-clause-said c =
       programmed = programmed_said (table_view c.args.table.now) _ c.in_ok-programmed.ensures.found;
       load_cards = load_cards_said (table_view c.args.table.now) _ c.in_ok-load_cards.ensures.found;
       marks = c.in_ok-marks.ensures.said;
+      few = few_marks (table_view c.args.table.now) c.in_ok-marks.marks.items c.in_ok-marks.ensures.said
+          c.in_ok-marks.ensures.count;
       lists = lists_said (table_view c.args.table.now) c.in_ok-lists.lists.items c.in_ok-lists.ensures.said;
       sound =
           sound_notes (table_view c.args.table.now) c.in_ok-programmed.programmed c.in_ok-load_cards.load_cards
           c.in_ok-marks.marks.items c.in_ok-lists.lists.items c.in_ok-marks.ensures.said c.in_ok-marks.ensures.count
-          (subst (λ (marks : List Mark). said.edge_faults [] (map said.edge_of marks) ≡ []) c.deref.ensures.value
+          (subst (λ (es : List (ℕ × ℕ)). said.edge_faults [] es ≡ [])
+          (ap (map edge_of) c.deref-2.ensures.value ∙ c.in_ok-edges.ensures
+          ∙ ap (flat_map edges_of) c.deref.ensures.value)
           c.in_default.ensures.none)
-          (subst (λ (lists : List Listing). said.location_faults [] (map location_of lists) ≡ []) c.deref-2.ensures.value
+          (subst (λ (lists : List Listing). said.location_faults [] (map location_of lists) ≡ []) c.deref-3.ensures.value
           c.in_default-repeated_location.ensures.none);
     })

@@ -1,5 +1,5 @@
 use Rattle.std.proofs.Common.{[], map, drop, take}
-use Rattle.drum_toml.specs.AllFaults as all
+use Rattle.drum_times.specs.EdgeOf.{edge_of}
 use Rattle.drum_toml.specs.NotesDocument as said
 use Rattle.drum_toml.proofs.Adding.{Left}
 use Rattle.drum_toml.proofs.document.faults.Faults.second_edges.Given as goal
@@ -8,5 +8,5 @@ use Rattle.drum_toml.proofs.document.faults.Faults.second_edges.Given as goal
 abbrev pub invariant-loop-place : goal.invariant-loop-place
 invariant-loop-place l =
     Left l.initial.self.all.items l.self.all.items
-    (said.edge_faults (map all.edge_numbers (take l.place l.edges)) (map all.edge_numbers (drop l.place l.edges)))
-    (said.edge_faults [] (map all.edge_numbers l.edges))
+    (said.edge_faults (map edge_of (take l.place l.edges)) (map edge_of (drop l.place l.edges)))
+    (said.edge_faults [] (map edge_of l.edges))

@@ -9,7 +9,7 @@ use Rattle.drum_toml.proofs.document.fields.Fields.tables.Goals as goal
 pub returns-then-not-is_count-clause-first : goal.returns-then-not-is_count-clause-first
 returns-then-not-is_count-clause-first g c =
     let are =
-    tables_are c.args.low c.args.high g.T.Element.faults c.args.self.now.at.now c.args.key.now
+    tables_are c.args.low c.args.high (g.T.Element.faults (table_view c.args.self.now.whole.now)) c.args.self.now.at.now c.args.key.now
     (table_view c.args.self.now.table.now) (view c.in-Some.value.now) c.in-Some-as_array.items.now.items
     false c.in-Some.ensures c.in-Some-as_array.ensures
     (sym c.if-not-is_count.true ∙ c.is_count.ensures
@@ -19,7 +19,7 @@ returns-then-not-is_count-clause-first g c =
 pub returns-clause-none : goal.returns-clause-none
 returns-clause-none g c =
     let are =
-    tables_read c.args.low c.args.high g.T.Element.faults c.args.self.now.at.now c.args.key.now
+    tables_read c.args.low c.args.high (g.T.Element.faults (table_view c.args.self.now.whole.now)) c.args.self.now.at.now c.args.key.now
     (table_view c.args.self.now.table.now) (view c.in-Some.value.now) c.in-Some-as_array.items.now.items
     c.deref.result.now c.as_str.result.now c.is_count.result c.in-Some.ensures c.in-Some-as_array.ensures
     (c.is_count.ensures ∙ ap (is_count c.args.low c.args.high) (c.len.ensures ∙ c.in-Some-as_array.items.now.ok.0))
@@ -29,7 +29,7 @@ returns-clause-none g c =
 pub returns-clause-first : goal.returns-clause-first
 returns-clause-first g c =
     let are =
-    tables_read c.args.low c.args.high g.T.Element.faults c.args.self.now.at.now c.args.key.now
+    tables_read c.args.low c.args.high (g.T.Element.faults (table_view c.args.self.now.whole.now)) c.args.self.now.at.now c.args.key.now
     (table_view c.args.self.now.table.now) (view c.in-Some.value.now) c.in-Some-as_array.items.now.items
     c.deref.result.now c.as_str.result.now c.is_count.result c.in-Some.ensures c.in-Some-as_array.ensures
     (c.is_count.ensures ∙ ap (is_count c.args.low c.args.high) (c.len.ensures ∙ c.in-Some-as_array.items.now.ok.0))

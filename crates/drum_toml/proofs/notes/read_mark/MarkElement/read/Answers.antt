@@ -111,6 +111,8 @@ returns-clause-said c = record {
       c.in_ok-only.ensures.none;
   from = c.in_ok-from.ensures.found;
   onto = c.in_ok-onto.ensures.found;
+  others = c.none.ensures;
   most = c.in_ok-most.ensures.found;
   inside = c.in_ok-inside.ensures.said;
+  name = refl;
 }

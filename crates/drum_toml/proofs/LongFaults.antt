@@ -1,0 +1,84 @@
+-- All faults of long notes: edges that are there twice are looked for where the marks have no other
+-- fault. So the first of all is that for which bytes are refused.
+use Rattle.std.proofs.Common.{◌≡◌, ℕ, List, [], ◌∷◌, ◌++◌, map, take, drop, refl, ap, sym, ◌∙◌}
+use Rattle.std.proofs.lemmas.List.{append-nil, append_assoc}
+use Rattle.std.specs.Prelude.{codes, flat_map}
+use Rattle.drum_times.specs.Allowed.{Notes}
+use Rattle.drum_times.specs.declared.fault.NoteFault.{NoteFault}
+use Rattle.drum_times.specs.declared.fault.NoteFault.TheVariants.{Toml, Memory, Missing, Unknown}
+use Rattle.drum_times.specs.declared.fault.NoteFault.TheVariants.{Range, Kind, TwoMarks, TwoLists}
+use Rattle.drum_toml.specs.AllFaults.{AreAllFaults, all_long_faults, long_mark_tables}
+use Rattle.drum_toml.specs.AllFaults.{repeated_locations, repeated_long_edges}
+use Rattle.drum_toml.specs.Document.{Fault, in_turn, number_at}
+use Rattle.drum_toml.specs.LongNotes.{IsLongNotes, edges_said, long_notes_checks, long_notes_faults}
+use Rattle.drum_toml.specs.NotesDocument.{edge_faults, location_faults, tables_at}
+use Rattle.drum_toml.specs.Refused.{Begin, IsDocument, IsFirst, IsRefused}
+use Rattle.drum_toml.proofs.AllFaultsLaws.{begin_alike, first_told, in_turn_append, lists_same, nothing_told}
+use Rattle.drum_toml.proofs.Faultless.{each_none}
+use Rattle.drum_toml.proofs.LongFaultless.{long_notes_said}
+use Rattle.drum_toml.proofs.Sequences.{none_before}
+use Rattle.toml.specs.Data.{Members, get_member}
+
+abbrev edges_where : Members → List Fault → List Fault
+edges_where document faults =
+    elim faults [
+      | [] ↦ edge_faults [] (flat_map edges_said (tables_at (codes "mark") document))
+      | _ ↦ []
+    ]
+
+-- where one is first, none is looked for
+behind_one : (document : Members) (faults : List Fault) (one : Fault) (others : List Fault)
+    → faults ≡ one ∷ others → edges_where document faults ≡ []
+behind_one document faults one others is = ap (edges_where document) is
+
+pub none_where : (document : Members) (fault : NoteFault) → (fault ≡ Memory → ⊥)
+    → IsFirst (long_mark_tables document) fault → repeated_long_edges document ≡ []
+none_where document Toml not_memory first = absurd first
+none_where document Memory not_memory first = absurd (not_memory refl)
+none_where document (Missing path) not_memory first = behind_one document _ _ first.0 first.1
+none_where document (Unknown path) not_memory first = behind_one document _ _ first.0 first.1
+none_where document (Range path) not_memory first = behind_one document _ _ first.0 first.1
+none_where document (Kind path) not_memory first = behind_one document _ _ first.0 first.1
+none_where document (TwoMarks from onto) not_memory first = behind_one document _ _ first.0 first.1
+none_where document (TwoLists location) not_memory first = behind_one document _ _ first.0 first.1
+
+-- and where there is none they are
+pub those_where : (document : Members) → long_mark_tables document ≡ []
+    → repeated_long_edges document ≡ edge_faults [] (flat_map edges_said (tables_at (codes "mark") document))
+those_where document none = ap (edges_where document) none
+
+abbrev long_values_of : Members → List Fault
+long_values_of D = in_turn (take 6 (long_notes_checks D))
+
+long_split : (D : Members) → long_notes_faults D ≡ long_values_of D ++ in_turn (drop 6 (long_notes_checks D))
+long_split D = in_turn_append (take 6 (long_notes_checks D)) (drop 6 (long_notes_checks D))
+
+-- where no value by itself has a fault, the faults are those of the first
+same_long_faults : (D : Members) → long_values_of D ≡ [] → all_long_faults D ≡ long_notes_faults D
+same_long_faults D none =
+    let each = each_none (take 6 (long_notes_checks D)) none in
+    let edges = those_where D each.1.1.1.1.0 in
+    let places = lists_same (codes "list") (get_member (codes "list") D) each.1.1.1.1.1.0 in
+    append_assoc (long_values_of D) (repeated_long_edges D) (repeated_locations D)
+    ∙ ap (λ (xs : List Fault). long_values_of D ++ (repeated_long_edges D ++ xs))
+    (ap (location_faults []) places ∙ sym (append-nil _))
+    ∙ ap (λ (xs : List Fault). long_values_of D ++ (xs ++ (location_faults []
+    (map (number_at (codes "location")) (tables_at (codes "list") D)) ++ []))) edges
+    ∙ sym (long_split D)
+
+long_alike : (D : Members) (one : Fault) → Begin (all_long_faults D) one → Begin (long_notes_faults D) one
+long_alike D one begin =
+    begin_alike (long_values_of D) (repeated_long_edges D) (repeated_locations D)
+    (in_turn (drop 6 (long_notes_checks D))) (long_notes_faults D) one (long_split D) (same_long_faults D) begin
+
+pub first_of_long : (bytes : List ℕ) (fault : NoteFault) (others : List NoteFault)
+    → AreAllFaults all_long_faults bytes (fault ∷ others) → IsRefused long_notes_faults bytes fault
+first_of_long bytes fault others all = first_told all_long_faults long_notes_faults bytes fault others long_alike all
+
+pub none_of_long : (bytes : List ℕ) → AreAllFaults all_long_faults bytes [] → (D : Members) × IsDocument bytes D
+    × ((notes : Notes) × IsLongNotes D notes)
+none_of_long bytes all =
+    let none = nothing_told all_long_faults bytes all in
+    let values = none_before (long_values_of none.0) (repeated_long_edges none.0)
+    (none_before (long_values_of none.0 ++ repeated_long_edges none.0) (repeated_locations none.0) none.2) in
+    (none.0, none.1, long_notes_said none.0 (sym (same_long_faults none.0 values) ∙ none.2))

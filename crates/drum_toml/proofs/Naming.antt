@@ -1,0 +1,92 @@
+-- The names that elements say, from a place on.
+use Rattle.std.proofs.Common.{◌≡◌, ℕ, zero, suc, ◌+◌, ◌<◌, ◌≤◌, Bool, true, false, ◌||◌, List, [], ◌∷◌, length, get_or, take}
+use Rattle.std.proofs.Common.{drop, Option, Some, None, refl, ap, sym, ◌∙◌, inl, inr, arith}
+use Rattle.std.specs.Prelude.{slice_get, min, is_some, IfNone, IfSome}
+use Rattle.std.proofs.Math.Nat.{min-eq_left, min_comm}
+use Rattle.std.proofs.lemmas.Bool.{cases_lt}
+use Rattle.std.proofs.lemmas.List.{drop_all, take_all}
+use Rattle.std.proofs.lemmas.Map.Text.{is_eq-slice_cmp}
+use Rattle.std.proofs.lemmas.Slice.Eq.{bytes_eq-Decides}
+use Rattle.drum_toml.specs.LongNotes.{is_name_of, is_named, name_said, names_said}
+use Rattle.toml.proofs.Views.{items_view-drop}
+use Rattle.toml.specs.View.{view, items_view}
+use Rattle.toml.specs.declared.value.Value.{Value}
+
+-- the name that an element says is this one
+pub is_that : (name : List ℕ) (said : Option (List ℕ)) → is_name_of name said ≡ true → said ≡ Some name
+is_that name None is = cc
+is_that name (Some one) is =
+    ap (λ (text : List ℕ). Some text) ((bytes_eq-Decides one name).0 (sym (is_eq-slice_cmp one name) ∙ is))
+
+-- the name of the element at a place, and those of the ones behind it
+left : (vs : List Value) (place : ℕ) (v : Value) (name : List ℕ) → place < length vs → v ≡ get_or vs place v
+    → is_named (names_said (items_view (drop place vs))) name
+    ≡ (is_name_of name (name_said (view v)) || is_named (names_said (items_view (drop (place + 1) vs))) name)
+left vs place v name within is =
+    ap (λ items. is_named (names_said items) name) (items_view-drop vs place v within)
+    ∙ ap (λ (one : Value). is_name_of name (name_said (view one))
+    || is_named (names_said (items_view (drop (place + 1) vs))) name) (sym is)
+
+pub named_past : (vs : List Value) (place : ℕ) (v : Value) (name : List ℕ) (says all : Bool) → place < length vs
+    → v ≡ get_or vs place v → says ≡ is_name_of name (name_said (view v)) → says ≡ false
+    → is_named (names_said (items_view (drop place vs))) name ≡ all
+    → is_named (names_said (items_view (drop (place + 1) vs))) name ≡ all
+named_past vs place v name says all within is same isnt so_far =
+    let behind : Bool = is_named (names_said (items_view (drop (place + 1) vs))) name in
+    sym (ap (λ (b : Bool). b || behind) (sym same ∙ isnt)) ∙ sym (left vs place v name within is) ∙ so_far
+
+pub named_here : (vs : List Value) (place : ℕ) (v : Value) (name : List ℕ) (says all : Bool) → place < length vs
+    → v ≡ get_or vs place v → says ≡ is_name_of name (name_said (view v)) → says ≡ true
+    → is_named (names_said (items_view (drop place vs))) name ≡ all → all ≡ true
+named_here vs place v name says all within is same holds so_far =
+    let behind : Bool = is_named (names_said (items_view (drop (place + 1) vs))) name in
+    sym so_far ∙ left vs place v name within is ∙ ap (λ (b : Bool). b || behind) (sym same ∙ holds)
+
+pub named_none : (vs : List Value) (place : ℕ) (name : List ℕ) (all : Bool) → length vs ≤ place
+    → is_named (names_said (items_view (drop place vs))) name ≡ all → all ≡ false
+named_none vs place name all past so_far =
+    sym so_far
+    ∙ ap (λ (ws : List Value). is_named (names_said (items_view ws)) name) (drop_all place vs past)
+
+names_at : (vs : List Value) (place : ℕ) (d : Value) → place < length vs
+    → slice_get (names_said (items_view vs)) place ≡ Some (name_said (view (get_or vs place d)))
+names_at [] place d within = absurd (omega (arith, within))
+names_at (v ∷ vs) zero d within = refl
+names_at (v ∷ vs) (suc place) d within = names_at vs place d (omega (arith, within))
+
+pub named_there : (vs : List Value) (place : ℕ) (v : Value) (name : List ℕ) (says : Bool) → place < length vs
+    → v ≡ get_or vs place v → says ≡ is_name_of name (name_said (view v)) → says ≡ true
+    → slice_get (names_said (items_view vs)) place ≡ Some (Some name)
+named_there vs place v name says within is same holds =
+    names_at vs place v within
+    ∙ ap (λ (one : Value). Some (name_said (view one))) (sym is)
+    ∙ ap (λ (said : Option (List ℕ)). Some said) (is_that name (name_said (view v)) (sym same ∙ holds))
+
+names_length : (vs : List Value) → length (names_said (items_view vs)) ≡ length vs
+names_length [] = refl
+names_length (v ∷ vs) = ap suc (names_length vs)
+
+names_take : (count : ℕ) (vs : List Value)
+    → names_said (items_view (take count vs)) ≡ take count (names_said (items_view vs))
+names_take zero vs = refl
+names_take (suc count) [] = refl
+names_take (suc count) (v ∷ vs) = ap (λ (names : List (Option (List ℕ))). name_said (view v) ∷ names) (names_take count vs)
+
+-- the names of the first elements, as many as there are
+pub names_first : (count least : ℕ) (vs : List Value) → least ≡ min count (length vs)
+    → names_said (items_view (take least vs)) ≡ take count (names_said (items_view vs))
+names_first count least vs is = elim (cases_lt count (length vs)) [
+  | inl below ↦ ap (λ (n : ℕ). names_said (items_view (take n vs))) (is ∙ min-eq_left (omega (arith, below)))
+      ∙ names_take count vs
+  | inr past ↦
+      let whole : least ≡ length vs = is ∙ min_comm count (length vs) ∙ min-eq_left past in
+      ap (λ (n : ℕ). names_said (items_view (take n vs))) whole
+      ∙ ap (λ (ws : List Value). names_said (items_view ws)) (take_all (length vs) vs (omega arith))
+      ∙ sym (take_all count (names_said (items_view vs)) (omega (arith, names_length vs, past)))
+]
+
+-- one is found where one says it
+pub found_so : (found : Option ℕ) (says is : Bool) → is ≡ is_some found → IfNone found (says ≡ false)
+    → IfSome found (λ _. says ≡ true) → is ≡ says
+found_so None says is same none some = same ∙ sym none
+found_so (Some place) says is same none some = same ∙ sym some

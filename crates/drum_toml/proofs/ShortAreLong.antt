@@ -1,0 +1,118 @@
+-- What says short notes says the same long notes: a mark has one edge, and no name.
+use Rattle.std.proofs.Common.{◌≡◌, ℕ, ◌+◌, Bool, true, false, ◌||◌, ◌&&◌, cond, List, [], ◌∷◌, ◌++◌, Option, Some, None}
+use Rattle.std.proofs.Common.{refl, ap, sym, ◌∙◌, subst, inl}
+use Rattle.std.proofs.lemmas.Map.Text.{is_eq-slice_cmp}
+use Rattle.std.proofs.lemmas.Slice.Eq.{bytes_eq-Decides}
+use Rattle.std.proofs.Common.{Ordering, Less, Equal, Greater, is_eq, nat_cmp}
+use Rattle.std.specs.Ordering.{match_ordering}
+use Rattle.std.specs.Cmp.Lexicographic.{slice_cmp}
+use Rattle.std.specs.Prelude.{codes, is_some, not, pos}
+use Rattle.drum_times.specs.declared.notes.mark.Mark.{Mark}
+use Rattle.drum_times.specs.Allowed.{Notes}
+use Rattle.drum_times.specs.Marks.{edges_of}
+use Rattle.drum_toml.specs.Document.{unknown, is_among, unknown_in}
+use Rattle.drum_toml.specs.LongNotes.{HasEdges, HasName, IsLongMark, IsLongNotes, StandsIn, lists_edges, long_mark_keys}
+use Rattle.drum_toml.specs.LongNotes.{names_in}
+use Rattle.drum_toml.specs.NotesDocument.{AreFound, AreTables, HasInside, HasTables, IsMark, IsNotes, mark_keys}
+use Rattle.drum_toml.proofs.Sequences.{none_behind}
+use Rattle.toml.specs.Data.{Data, integer, Items, no_items, item, Members, no_members, member, get_member, same_key}
+
+one_more : (a b c d e : Bool) → (a || (b || (c || (d || false)))) ≡ true → (a || (b || (c || (d || (e || false))))) ≡ true
+one_more true b c d e among = refl
+one_more false true c d e among = refl
+one_more false false true d e among = refl
+one_more false false false true e among = refl
+one_more false false false false e among = cc
+
+-- the keys of a mark with one edge are among those of long notes
+known_too : (fields : Members) → unknown_in [] mark_keys fields ≡ [] → unknown_in [] (long_mark_keys false) fields ≡ []
+known_too no_members known = refl
+known_too (member key value fields) known =
+    go (is_among key mark_keys) refl known (λ rest. known_too fields rest)
+  where
+    go : (among : Bool) → is_among key mark_keys ≡ among
+        → cond among [] (unknown key ∷ []) ++ unknown_in [] mark_keys fields ≡ []
+        → (unknown_in [] mark_keys fields ≡ [] → unknown_in [] (long_mark_keys false) fields ≡ [])
+        → unknown_in [] (long_mark_keys false) (member key value fields) ≡ []
+    go true is h further =
+        ap (λ (b : Bool). cond b [] (unknown key ∷ []) ++ unknown_in [] (long_mark_keys false) fields)
+        (one_more (same_key (codes "from") key) (same_key (codes "to") key) (same_key (codes "most") key)
+        (same_key (codes "inside") key) (same_key (codes "name") key) is)
+        ∙ further h
+    go false is h further = cc
+
+-- a key that isn't known isn't there
+not_there : (keys : List (List ℕ)) (key : List ℕ) (fields : Members) → is_among key keys ≡ false
+    → unknown_in [] keys fields ≡ [] → get_member key fields ≡ None
+not_there keys key no_members other known = refl
+not_there keys key (member one value fields) other known =
+    go (slice_cmp nat_cmp key one) refl
+    (not_there keys key fields other (none_behind (cond (is_among one keys) [] (unknown one ∷ []))
+    (unknown_in [] keys fields) known))
+  where
+    here : key ≡ one → ⊥
+    here is =
+        let unknown_one : cond false [] (unknown one ∷ []) ++ unknown_in [] keys fields ≡ [] =
+        ap (λ (b : Bool). cond b [] (unknown one ∷ []) ++ unknown_in [] keys fields)
+        (sym (ap (λ (k : List ℕ). is_among k keys) (sym is) ∙ other)) ∙ known in
+        cc
+
+    go : (order : Ordering) → slice_cmp nat_cmp key one ≡ order → get_member key fields ≡ None
+        → match_ordering order (get_member key fields) (Some value) (get_member key fields) ≡ None
+    go Less is rest = rest
+    go Equal is rest =
+        absurd (here ((bytes_eq-Decides key one).0 (sym (is_eq-slice_cmp key one) ∙ ap is_eq is)))
+    go Greater is rest = rest
+
+one_edge : (fields : Members) → get_member (codes "edges") fields ≡ None → lists_edges fields ≡ false
+one_edge fields none =
+    ap (λ (found : Option Data). is_some found && not (is_some (get_member (codes "from") fields)
+    || is_some (get_member (codes "to") fields))) none
+
+stands_in : (names : List (Option (List ℕ))) (index : ℕ) (fields : Members) (inside : Option ℕ)
+    → HasInside index fields inside → StandsIn names index fields inside
+stands_in names index fields None none = none
+stands_in names index fields (Some outer) (has, below) = (integer (pos (outer + 1)), has, inl refl, below)
+
+mark_is_long : (document : Members) (index : ℕ) (fields : Members) (mark : Mark) → IsMark index fields mark
+    → IsLongMark document index fields mark
+mark_is_long document index fields mark is =
+    let single = one_edge fields (not_there mark_keys (codes "edges") fields refl is.only) in record {
+      only = subst (λ (b : Bool). unknown_in [] (long_mark_keys b) fields ≡ []) (sym single) (known_too fields is.only);
+      edges = subst (λ (b : Bool). HasEdges b fields (edges_of mark)) (sym single) (
+        mark.from.number,
+        mark.onto.number,
+        is.from,
+        is.onto,
+        ap (λ (others : List (ℕ × ℕ)). let all : List (ℕ × ℕ) = (mark.from.number, mark.onto.number) ∷ others in all) is.others,
+      );
+      most = is.most;
+      inside = stands_in (names_in document) index fields mark.inside is.inside;
+      name = subst (HasName (names_in document) index fields) (sym is.name)
+          (not_there mark_keys (codes "name") fields refl is.only);
+    }
+
+marks_are_long : (document : Members) (index : ℕ) (items : Items) (marks : List Mark) → AreTables IsMark index items marks
+    → AreTables (IsLongMark document) index items marks
+marks_are_long document index no_items [] are = tt
+marks_are_long document index no_items (mark ∷ marks) are = absurd are
+marks_are_long document index (item value items) [] are = absurd are
+marks_are_long document index (item value items) (mark ∷ marks) ((fields, is, says), are) = (
+  (fields, is, mark_is_long document index fields mark says),
+  marks_are_long document (index + 1) items marks are,
+)
+
+found_are_long : (document : Members) (found : Option Data) (marks : List Mark) → AreFound IsMark found marks
+    → AreFound (IsLongMark document) found marks
+found_are_long document None marks none = none
+found_are_long document (Some value) marks (items, is, are) = (items, is, marks_are_long document 0 items marks are)
+
+pub short_are_long : (document : Members) (notes : Notes) → IsNotes document notes → IsLongNotes document notes
+short_are_long document notes is = record {
+  only = is.only;
+  programmed = is.programmed;
+  load_cards = is.load_cards;
+  marks = found_are_long document (get_member (codes "mark") document) notes.marks is.marks;
+  lists = is.lists;
+  sound = is.sound;
+}

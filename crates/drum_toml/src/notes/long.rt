@@ -1,0 +1,67 @@
+//! Long notes, read from a document, or the first fault of the document.
+
+ghost use Rattle.std.specs.Prelude.{◌≡◌, map, IfOk, IfErr};
+ghost use Rattle.drum_toml.specs.LongNotes as said;
+ghost use Rattle.drum_toml.specs.Refused.{IsDocument, IsFirst, IsRefused};
+ghost use Rattle.toml.specs.Data.{Members};
+ghost use Rattle.toml.specs.View.{table_view};
+
+use super::long_mark::LongMark;
+use super::read::{LOAD_CARDS, PROGRAMMED};
+use super::repeated::{edges_of, repeated_edge, repeated_location};
+use crate::document::fields::Fields;
+use crate::document::read_document;
+use drum_times::{Listing, Mark, NoteFault, Notes};
+use std::alloc::{AllocError, Global};
+use toml::Table;
+
+/// Reads long notes: a TOML document with the keys `programmed` and `load_cards`, and optionally
+/// `mark` and `list`. Short notes are long notes too, and mean the same.
+///
+/// # Errors
+///
+/// Those of [`crate::read_notes`], in the same order; of a mark its unknown keys in byte order, its
+/// missing keys, and what is wrong with `from`, `to`, `edges`, `most`, `inside`, `name`.
+pub fn read_long_notes(alloc: Global, bytes: &[u8]) -> Result<Notes, NoteFault>
+    ensures read { IfOk result (λ notes. (whole : Members) × IsDocument bytes.now whole
+        × said.IsLongNotes whole notes) }
+    ensures refused { IfErr result (IsRefused said.long_notes_faults bytes.now) }
+{
+    let table = read_document(alloc, bytes)?;
+    read_table(alloc, &table)
+}
+
+/// The marks that were read, in order.
+pub fn marks_of(alloc: Global, long: Vec<LongMark>) -> Result<Vec<Mark>, AllocError>
+    ensures { IfOk result (λ marks. marks.items ≡ map (λ one. one.mark) long.items) }
+{
+    long.into_iter().map(|one| one.mark).collect(alloc)
+}
+
+/// The long notes that a document is.
+fn read_table(alloc: Global, table: &Table) -> Result<Notes, NoteFault>
+    ensures said { IfOk result (said.IsLongNotes (table_view table.now)) }
+    ensures first { IfErr result (IsFirst (said.long_notes_faults (table_view table.now))) }
+{
+    let top = Fields {
+        alloc,
+        at: "",
+        table,
+        whole: table,
+    };
+    top.only(&["programmed", "load_cards", "mark", "list"])?;
+    top.all(&["programmed", "load_cards"])?;
+    let programmed = top.choice("programmed", &PROGRAMMED)?;
+    let load_cards = top.choice("load_cards", &LOAD_CARDS)?;
+    let long: Vec<LongMark> = top.tables("mark", 0, Some(Mark::MOST))?;
+    let lists: Vec<Listing> = top.tables("list", 0, None)?;
+    let marks = marks_of(alloc, long)?;
+    let edges = edges_of(alloc, &marks)?;
+    if let Some(edge) = repeated_edge(&edges) {
+        return Err(NoteFault::TwoMarks(edge.from, edge.onto));
+    }
+    if let Some(location) = repeated_location(&lists) {
+        return Err(NoteFault::TwoLists(location));
+    }
+    Ok(Notes::new(programmed, load_cards, marks, lists))
+}
