@@ -16,6 +16,7 @@ pub(crate) enum Answer<'a> {
     Deck(Result<Deck, DeckFault>),
     Times(Result<Times, NoteFault>),
     Notes(Result<Notes, NoteFault>),
+    Faults(Result<Vec<NoteFault>, AllocError>),
     Inputs(Result<Inputs, InputFault>),
     Machine(Result<Machine, Memory>),
     Flow(Result<Flow<'a>, Refusal>),
@@ -52,6 +53,7 @@ impl Answer<'_> {
             | Answer::Analysis(Err(Refusal::Memory))
             | Answer::Bound(Err(Refusal::Memory))
             | Answer::Ceiling(Err(Refusal::Memory))
+            | Answer::Faults(Err(_))
             | Answer::Findings(Err(_))
             | Answer::Verdict(Err(Fault::Memory | Fault::Refused(Refusal::Memory))) => true,
             Answer::Ran(Status::Failed, out, err) => {

@@ -6,7 +6,7 @@ use drum_bound::{accept, analyse, bound, flow};
 use drum_ceiling::ceiling;
 use drum_core::{Reading, Word, Writing, read_deck, read_whole};
 use drum_machine::{Machine, Setup};
-use drum_toml::{read_notes, read_times};
+use drum_toml::{long_notes_faults, read_long_notes, read_notes, read_times};
 use drum_tool::{Documents, Findings, Inputs, Lacking, read_inputs, replay, run, run_joined};
 use std::alloc::{AllocError, Global};
 use std::test::Fail;
@@ -20,6 +20,8 @@ pub(crate) enum Call<'a> {
     ReadDeck(&'a str),
     ReadTimes(&'a str),
     ReadNotes(&'a str),
+    ReadLongNotes(&'a str),
+    LongNotesFaults(&'a str),
     ReadInputs(&'a str),
     NewMachine(&'a Documents),
     Flow(&'a Documents),
@@ -72,6 +74,12 @@ impl<'a> Call<'a> {
             }
             (Call::ReadTimes(text), _) => Answer::Times(read_times(alloc, text.as_bytes())),
             (Call::ReadNotes(text), _) => Answer::Notes(read_notes(alloc, text.as_bytes())),
+            (Call::ReadLongNotes(text), _) => {
+                Answer::Notes(read_long_notes(alloc, text.as_bytes()))
+            }
+            (Call::LongNotesFaults(text), _) => {
+                Answer::Faults(long_notes_faults(alloc, text.as_bytes()))
+            }
             (Call::ReadInputs(text), _) => {
                 Answer::Inputs(read_inputs(alloc, &mut Reading::new(text.as_bytes())))
             }

@@ -9,7 +9,9 @@ use std::alloc::{AllocError, Global};
 use std::process::Abort;
 use std::test::Fail;
 use test_devices::devices::Tap;
-use test_texts::{BACK, BRANCH_BACK, NOTES, ROADS, STORES, TIMES, TWO_ROADS, TWO_WORDS};
+use test_texts::{
+    BACK, BRANCH_BACK, LONG_MARKS, NOTES, ROADS, STORES, TIMES, TWO_ROADS, TWO_WORDS,
+};
 
 /// That a call answers in each round that there is no memory, where it was refused, or what it
 /// answers in the first.
@@ -80,6 +82,22 @@ fn of_documents_that_are_refused(rt: HostRuntime) -> Result<(), Fail> {
         "programmed = \"stop\"\nload_cards = \"any\"\nmark = [{ from = 1, to = 1, most = 1 }, { from = 1, to = 1, most = 2 }]\n",
     ] {
         holds(&rt, Call::ReadNotes(text))?;
+    }
+    Ok(())
+}
+
+/// Marks of long notes with faults of each kind.
+const FAULTY: &str = "\
+[[mark]]\nedges = [[1, 2], 5, [2000, 8]]\nmost = 10000\ninside = 1\nname = \"a b\"\n\
+[[mark]]\nedges = []\nname = 3\ninside = \"d\"\nmore = 1\n\
+";
+
+#[test]
+fn of_long_notes(rt: HostRuntime) -> Result<(), Fail> {
+    for marks in [LONG_MARKS, FAULTY] {
+        let text = format!(in rt.alloc(); "{NOTES}{marks}")?;
+        holds(&rt, Call::ReadLongNotes(&text))?;
+        holds(&rt, Call::LongNotesFaults(&text))?;
     }
     Ok(())
 }

@@ -67,6 +67,13 @@ pub const LOOPS: &str = "0100 +4501000110\n0110 +4501000120\n0120 +0100000120\nS
 pub const NESTED: &str =
     "[[mark]]\nfrom = 110\nto = 100\nmost = 1\n[[mark]]\nfrom = 100\nto = 100\nmost = 2\ninside = 1\n";
 
+/// Three marks: one of two edges with a name, one inside of it by its name, one by its number.
+pub const LONG_MARKS: &str = "\
+[[mark]]\nedges = [[110, 100], [120, 100]]\nmost = 9\nname = \"cards\"\n\
+[[mark]]\nfrom = 104\nto = 103\nmost = 4\ninside = \"cards\"\nname = \"Words-2\"\n\
+[[mark]]\nedges = [[106, 105]]\nmost = 0\ninside = 2\n\
+";
+
 /// A deck that alters the word at 0210, by which it goes on at 0110 or at 0120.
 pub const TWO_ROADS: &str =
     "0100 +6901500200\n0110 +6901510200\n0120 +0100000120\n0150 +0000000110 +0000000120\n0200 +2402100210\nSTART 0100\n";
