@@ -1,10 +1,11 @@
 //! The edges that close the loops of a flow graph: with a mark on each of them nothing closed is
 //! free of marks, and none of these marks can be spared. And which loop stands inside another.
 //!
-//! Code, from the bottom up. `arrangement` is a depth-first search that puts a graph's nodes into an
-//! order, and `arranging` runs it over all of them. `ranking` tells where each node stands there. `behind` tells which of a node's edges don't
-//! go on, and `closing` lists those as edges of the flow graph. `nesting` tells whether one loop
-//! stands inside another one. `laws` has laws of the definitions.
+//! Code, from the bottom up. `arrangement` is a depth-first search that puts a graph's nodes into
+//! an order, and `arranging` runs it over all of them. `ranking` tells where each node stands
+//! there. `behind` tells which of a node's edges don't go on, and `closing` lists those as edges of
+//! the flow graph. `nesting` tells whether one loop stands inside another one. `laws` has laws of
+//! the definitions.
 //!
 //! Definitions, in the order to read them: `Loops` says which edges close the loops, `Nested` which
 //! loop stands inside another, and `Marked` what notes with more marks are. The others say how

@@ -41,9 +41,9 @@ abbrev pub StandInEarlier : ℕ → List Mark → Type 0
 StandInEarlier index [] = Unit {0}
 StandInEarlier index (mark ∷ marks) = IsEarlier index mark.inside × StandInEarlier (index + 1) marks
 
--- What holds of all notes. There are at most 64 marks; no edge is there twice among theirs, and each
--- mark stands inside of an earlier one or of none. Each list is for a location, no two are for the
--- same one, and each has 1 to 64 patterns.
+-- What holds of all notes. There are at most 64 marks; no edge is there twice among theirs, and
+-- each mark stands inside of an earlier one or of none. Each list is for a location, no two are for
+-- the same one, and each has 1 to 64 patterns.
 pub record AreSound (notes : Notes) : Type 0 where
   pub few_marks : length notes.marks ≤ 64
   pub own_edges : StandOnce (flat_map edges_of notes.marks)

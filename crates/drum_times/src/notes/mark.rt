@@ -1,4 +1,4 @@
-//! Bounds on how often a program goes from one location to another.
+//! Bounds on how often a program goes along edges.
 
 ghost use Rattle.std.specs.Prelude.{◌≡◌, ◌≤◌, ◌<◌, length, IfSome};
 
@@ -7,8 +7,8 @@ use super::edges::Edges;
 use super::name::Name;
 use drum_core::Location;
 
-/// A mark: a bound on how often a program goes along some edges, that is from one location to
-/// another, or from one of several to another.
+/// A mark: a bound on how often a program goes along one edge, that is from one location to
+/// another, or along several edges, counted together.
 #[derive(Debug, Drop)]
 pub struct Mark {
     /// Where its first edge begins: the location of the step that passes the mark.
