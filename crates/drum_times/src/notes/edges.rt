@@ -1,4 +1,4 @@
-//! The further edges of a mark.
+//! Edges in a list: those of a mark behind its first, or of several marks.
 
 ghost use Rattle.std.specs.Prelude.{◌≡◌, ◌==◌, [], length, map};
 ghost use Rattle.std.specs.List.{list_any};
@@ -10,7 +10,7 @@ use drum_core::Location;
 use std::alloc::Global;
 use std::marker::Model;
 
-/// The edges of a mark but its first, in order.
+/// Edges in order, as those of a mark but its first.
 #[derive(Debug, Drop)]
 pub struct Edges {
     list: Vec<Edge>,
@@ -27,7 +27,7 @@ impl Model for Edges {
 }
 
 impl Edges {
-    /// No further edges.
+    /// No edges.
     pub fn none(alloc: Global) -> Edges
         ensures { result ≡ [] }
     {
