@@ -12,7 +12,7 @@ use Rattle.drum_times.specs.declared.notes.pattern.Pattern.{Pattern}
 use Rattle.drum_times.specs.declared.notes.programmed.Programmed.TheVariants as switch
 use Rattle.drum_times.specs.Allowed.{Notes}
 use Rattle.drum_graph.specs.Graph.{Node, node}
-use Rattle.drum_graph.specs.GraphText.{graph_text}
+use Rattle.drum_graph.specs.GraphText.{graph_text, mark_label}
 
 abbrev loads : ℕ → Option Word
 loads n =
@@ -110,6 +110,24 @@ the_text : graph_text marks 100 nodes
     ++ codes "}\n"
 unfolding digits
 the_text = refl
+
+-- a mark with a name
+abbrev named : List Mark
+named =
+    record {
+      from = third;
+      onto = first;
+      others = [];
+      most = 10;
+      inside = None;
+      name = Some (codes "cards");
+      four_digits = few.1;
+    }
+    ∷ []
+
+of_name : mark_label named (Some 0) ≡ codes " [label=\"mark 1 most 10 name cards\" penwidth=3]"
+unfolding digits
+of_name = refl
 
 -- a location that is neither loaded nor listed has its location alone, and ends
 of_nothing : graph_text [] 1999 (map (node loads notes (1999 ∷ [])) (1999 ∷ []))

@@ -3,6 +3,7 @@
 use Rattle.std.specs.Prelude.{ℕ, ◌+◌, Bool, if◌then◌else◌, List, [], ◌++◌, flat_map, slice_get}
 use Rattle.std.specs.Prelude.{Option, Some, None, codes, decimal}
 use Rattle.drum_core.specs.Numeral.{digits_of}
+use Rattle.drum_lines.specs.NameText.{name_text}
 use Rattle.drum_times.specs.declared.notes.mark.Mark.{Mark}
 use Rattle.drum_times.specs.Marks.{mark_on}
 use Rattle.drum_graph.specs.Graph.{Node}
@@ -33,12 +34,17 @@ box_text node =
 abbrev pub most_at : List Mark → ℕ → ℕ
 most_at marks place = elim (slice_get marks place) [ None ↦ 0 | Some mark ↦ mark.most ]
 
--- what is said of the mark with this index: its number, from 1, and its most
+-- the name of the mark with this index, as its label says it
+abbrev pub name_at : List Mark → ℕ → List ℕ
+name_at marks place = elim (slice_get marks place) [ None ↦ [] | Some mark ↦ name_text mark.name ]
+
+-- what is said of the mark with this index: its number, from 1, its most, and its name, if it has
+-- one
 abbrev pub mark_label : List Mark → Option ℕ → List ℕ
 mark_label marks None = []
 mark_label marks (Some place) =
     codes " [label=\"mark " ++ decimal (place + 1) ++ codes " most "
-    ++ decimal (most_at marks place) ++ codes "\" penwidth=3]"
+    ++ decimal (most_at marks place) ++ name_at marks place ++ codes "\" penwidth=3]"
 
 -- the line of an edge, with the mark that stands on it
 abbrev pub edge_text : List Mark → ℕ → ℕ → List ℕ

@@ -10,7 +10,7 @@ ghost use Rattle.drum_graph.specs.GraphText.{edge_text, mark_label, written_text
 
 use drum_core::{Location, Output};
 use drum_flow::executed::Executed;
-use drum_lines::{WriteFault, four_digits, send};
+use drum_lines::{WriteFault, four_digits, name_pieces, send};
 use drum_times::Mark;
 use itoa::Buffer;
 
@@ -56,11 +56,14 @@ fn send_mark<O: Output>(
     };
     let mut number = Buffer::new();
     let mut most = Buffer::new();
-    let pieces: [&[u8]; 6] = [
+    let (label, name) = name_pieces(&marks[place]);
+    let pieces: [&[u8]; 8] = [
         b" [label=\"mark ",
         number.format(place + 1).as_bytes(),
         b" most ",
         most.format(marks[place].most).as_bytes(),
+        label,
+        name,
         b"\" penwidth=3]",
         b"\n",
     ];

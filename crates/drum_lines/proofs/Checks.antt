@@ -1,5 +1,5 @@
 -- Definitions evaluated, with answers that were worked out apart from them.
-use Rattle.std.proofs.Common.{◌≡◌, true, false, [], ◌∷◌, flat_map, refl, arith}
+use Rattle.std.proofs.Common.{◌≡◌, true, false, [], ◌∷◌, flat_map, None, Some, refl, arith}
 use Rattle.std.specs.Prelude.{codes}
 use Rattle.drum_core.specs.declared.deck.fault.DeckFault.TheVariants as of_deck
 use Rattle.drum_core.specs.declared.location.Location.{Location}
@@ -10,6 +10,7 @@ use Rattle.drum_lines.specs.declared.fault.Fault.TheVariants as fault
 use Rattle.drum_lines.specs.declared.part.Part.TheVariants as part
 use Rattle.drum_lines.specs.declared.part.PartFault.TheVariants as bytes
 use Rattle.drum_lines.specs.FaultText.{fault_text, next_location}
+use Rattle.drum_lines.specs.NameText.{name_text}
 
 -- the lines of faults without plain numbers
 of_deck_text : fault_text (fault.Deck of_deck.Read) ≡ codes "fault 1 deck read\n"
@@ -39,3 +40,6 @@ of_locations = (refl, refl, refl, refl)
 
 of_words : (spelling (word true 1968) ≡ codes "-0000001968") × (spelling (word false 6901030106) ≡ codes "+6901030106")
 of_words = (refl, refl)
+
+of_names : (name_text None ≡ []) × (name_text (Some (codes "cards")) ≡ codes " name cards")
+of_names = (refl, refl)

@@ -53,6 +53,18 @@ two_texts between first first' second second' p q =
     ∙ ap (λ (xs : List ℕ). first' ++ (between ++ (xs ++ codes "\n"))) q
     ∙ sym (append_assoc (first' ++ between) second' (codes "\n") ∙ append_assoc first' between (second' ++ codes "\n"))
 
+-- and a name behind them, in two pieces
+pub named_texts : (between first first' second second' label name named : List ℕ)
+    → first ≡ first' → second ≡ second' → label ++ name ≡ named
+    → first ++ (between ++ (second ++ (label ++ (name ++ codes "\n"))))
+    ≡ first' ++ between ++ second' ++ named ++ codes "\n"
+named_texts between first first' second second' label name named p q r =
+    ap (λ (xs : List ℕ). xs ++ (between ++ (second ++ (label ++ (name ++ codes "\n"))))) p
+    ∙ ap (λ (xs : List ℕ). first' ++ (between ++ (xs ++ (label ++ (name ++ codes "\n"))))) q
+    ∙ ap (λ (xs : List ℕ). first' ++ (between ++ (second' ++ xs)))
+    (sym (append_assoc label name (codes "\n")) ∙ ap (λ (xs : List ℕ). xs ++ codes "\n") r)
+    ∙ sym (simp append_assoc)
+
 -- and others behind them
 pub three_texts : (between behind first first' second second' third third' : List ℕ) → first ≡ first' → second ≡ second'
     → third ≡ third'

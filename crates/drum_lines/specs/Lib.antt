@@ -2,6 +2,7 @@ pub mod BoundText
 pub mod Does
 pub mod FaultStatus
 pub mod FaultText
+pub mod NameText
 pub mod Output
 pub mod Reply
 pub mod Sent

@@ -6,14 +6,16 @@
 //! program ends, and `failed_write` how much of a text went out. `print` has the parts of a line;
 //! `print/` writes each line. `print/fault_line` hands a fault to the one of its kind:
 //! `print/deck_fault`, `note_fault`, `input_fault`, `part_fault`, and `refusal_line` for what
-//! refuses an analysis (faults 31 to 36). `telling` writes a text to the output that it is for, and
-//! tells the status then, after a write that failed too.
+//! refuses an analysis (faults 31 to 36). `print/mark_name` has the pieces that end the line of a
+//! mark with a name. `telling` writes a text to the output that it is for, and tells the status
+//! then, after a write that failed too.
 //!
 //! Definitions, in the order to read them: `BoundText`, `VerdictText` and `FaultText` are the
-//! lines. `Status` is the number of each status, and `FaultStatus` which comes after which fault,
-//! and how many failed reads a fault tells. `Reply` is what the program has to say, and that it
-//! tells of as many failed reads as there were; `Output` is what goes out of that. `Does` says what
-//! the code means by one of these, and `Sent` what has gone out of a text.
+//! lines, and `NameText` is how the line of a mark ends with its name. `Status` is the number of
+//! each status, and `FaultStatus` which comes after which fault, and how many failed reads a fault
+//! tells. `Reply` is what the program has to say, and that it tells of as many failed reads as
+//! there were; `Output` is what goes out of that. `Does` says what the code means by one of these,
+//! and `Sent` what has gone out of a text.
 //!
 //! Proofs. `Sending` has laws of texts that go out one behind the other, and `NoLine` says which
 //! replies are no fault's line: both serve the crates above. `Checks` evaluates the definitions.
@@ -33,6 +35,7 @@ pub use fault::Fault;
 pub use limit::Limit;
 pub use part::{Part, PartFault};
 pub use print::fault_line::write_fault;
+pub use print::mark_name::name_pieces;
 pub use print::verdict_line::spelling_of;
 pub use print::{four_digits, send, send_bound, two_digits};
 pub use status::Status;

@@ -9,6 +9,7 @@ ghost use Rattle.drum_lines.specs.Sent.{IsSent, IsWritten, fails_by};
 mod deck_fault;
 pub mod fault_line;
 mod input_fault;
+pub mod mark_name;
 mod note_fault;
 mod part_fault;
 mod refusal_line;

@@ -7,12 +7,15 @@ use Rattle.drum_times.specs.declared.notes.mark.Mark.{Mark}
 use Rattle.drum_times.specs.Allowed.{Notes}
 use Rattle.drum_ceiling.specs.declared.answer.Ceiling.{Ceiling}
 use Rattle.drum_ceiling.specs.CeilingOf.{base_of, passes_in, prices_of, total_of}
+use Rattle.drum_lines.specs.NameText.{name_text}
 
--- the line of a mark that can be passed so often at most, at this price
+-- the line of a mark that can be passed so often at most, at this price, with its name at the end
+-- where it has one
 abbrev pub price_line : Mark → ℕ → ℕ → List ℕ
 price_line mark passes price =
     codes "mark " ++ digits_of 4 mark.from.number ++ codes " " ++ digits_of 4 mark.onto.number
-    ++ codes " passes " ++ decimal passes ++ codes " price " ++ decimal price ++ codes "\n"
+    ++ codes " passes " ++ decimal passes ++ codes " price " ++ decimal price
+    ++ name_text mark.name ++ codes "\n"
 
 -- the same of a mark with its index in the notes, with what the ceiling has there
 abbrev pub price_line_at : Ceiling → ℕ × Mark → List ℕ

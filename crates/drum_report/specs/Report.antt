@@ -9,6 +9,7 @@ use Rattle.drum_times.specs.declared.notes.mark.Mark.{Mark}
 use Rattle.drum_times.specs.Allowed.{Notes}
 use Rattle.drum_bound.specs.Visited.{Visited, passes_in}
 use Rattle.drum_lines.specs.BoundText.{bound_text}
+use Rattle.drum_lines.specs.NameText.{name_text}
 
 -- the card on this line gives the location its word
 abbrev pub is_of_card : Deck → ℕ → ℕ → Bool
@@ -41,12 +42,12 @@ card_line deck walk line =
 abbrev pub other_line : Deck → List Visited → List ℕ
 other_line deck walk = codes "other" ++ spent (visits_at (is_of_none deck) walk)
 
--- the line of a mark
+-- the line of a mark, with its name at the end where it has one
 abbrev pub mark_line : List Visited → Mark → List ℕ
 mark_line walk mark =
     codes "mark " ++ digits_of 4 mark.from.number ++ codes " " ++ digits_of 4 mark.onto.number
     ++ codes " passed " ++ decimal (passes_in mark walk)
-    ++ codes " of " ++ decimal mark.most ++ codes "\n"
+    ++ codes " of " ++ decimal mark.most ++ name_text mark.name ++ codes "\n"
 
 -- the word times used at the end of hops that begin with `used` word times used
 abbrev pub used_after : ℕ → List Visited → ℕ

@@ -5,6 +5,7 @@ use Rattle.drum_core.specs.declared.deck.Deck.{Deck}
 use Rattle.drum_core.specs.Numeral.{digits_of}
 use Rattle.drum_times.specs.declared.notes.mark.Mark.{Mark}
 use Rattle.drum_bound.specs.Visited.{Visited, passes_in}
+use Rattle.drum_lines.specs.NameText.{name_text}
 use Rattle.drum_report.specs.declared.reporting.tally.Tally.{Tally}
 use Rattle.drum_report.specs.declared.reporting.tallies.Tallies.{Tallies}
 use Rattle.drum_report.specs.Report.{is_of_card, is_of_none, time_in, visits_at}
@@ -44,4 +45,5 @@ told_of_others tally = codes "other" ++ told_of tally
 abbrev pub told_of_mark : Mark → ℕ → List ℕ
 told_of_mark mark passes =
     codes "mark " ++ digits_of 4 mark.from.number ++ codes " " ++ digits_of 4 mark.onto.number
-    ++ codes " passed " ++ decimal passes ++ codes " of " ++ decimal mark.most ++ codes "\n"
+    ++ codes " passed " ++ decimal passes ++ codes " of " ++ decimal mark.most
+    ++ name_text mark.name ++ codes "\n"

@@ -8,7 +8,7 @@ ghost use Rattle.drum_lines.specs.Sent.{IsSent, IsWritten, fails_by};
 
 use drum_ceiling::Ceiling;
 use drum_core::Output;
-use drum_lines::{WriteFault, four_digits, send};
+use drum_lines::{WriteFault, four_digits, name_pieces, send};
 use drum_times::{Mark, Notes};
 use itoa::Buffer;
 
@@ -32,7 +32,8 @@ fn send_price<O: Output>(
     let onto = four_digits(mark.onto.number());
     let mut often = Buffer::new();
     let mut cost = Buffer::new();
-    let pieces: [&[u8]; 9] = [
+    let (label, name) = name_pieces(mark);
+    let pieces: [&[u8]; 11] = [
         b"mark ",
         &from,
         b" ",
@@ -41,6 +42,8 @@ fn send_price<O: Output>(
         often.format(passes).as_bytes(),
         b" price ",
         cost.format(price).as_bytes(),
+        label,
+        name,
         b"\n",
     ];
     send(writer, sent, &pieces)

@@ -11,7 +11,7 @@ ghost use Rattle.drum_report.specs.TalliesOf.{told_of_others};
 use super::tallies::LINES;
 use super::tally::Tally;
 use drum_core::{Deck, Output};
-use drum_lines::{WriteFault, four_digits, send};
+use drum_lines::{WriteFault, four_digits, name_pieces, send};
 use drum_times::Mark;
 use itoa::Buffer;
 
@@ -91,7 +91,8 @@ fn send_mark<O: Output>(
     let onto = four_digits(mark.onto.number());
     let mut passes = Buffer::new();
     let mut most = Buffer::new();
-    let pieces: [&[u8]; 9] = [
+    let (label, name) = name_pieces(mark);
+    let pieces: [&[u8]; 11] = [
         b"mark ",
         &from,
         b" ",
@@ -100,6 +101,8 @@ fn send_mark<O: Output>(
         passes.format(passed).as_bytes(),
         b" of ",
         most.format(mark.most).as_bytes(),
+        label,
+        name,
         b"\n",
     ];
     send(writer, sent, &pieces)
