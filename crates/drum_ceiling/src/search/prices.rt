@@ -10,7 +10,7 @@ use std::alloc::{AllocError, Global};
 /// How many halvings an exact search through all numbers takes at most.
 const HALVINGS: u8 = 64;
 
-/// How many leaps are looked at before the last try.
+/// How many leaps and prices are looked at before the last try.
 const LOOKS: u64 = 1 << 22;
 
 /// Prices of the marks, and the most word times from each head on, less prices.

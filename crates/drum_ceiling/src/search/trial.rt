@@ -14,7 +14,7 @@ pub struct Trial {
     pub values: BySlot,
     /// The index of the leap with which that way begins; none, where it passes no mark.
     by: BySlot,
-    /// How many leaps were looked at, in all trials.
+    /// How many leaps and prices were looked at, in all trials.
     pub looks: u64,
 }
 
@@ -34,6 +34,7 @@ impl Trial {
     /// round takes longer than the prices of its marks there is none.
     pub fn run(&mut self, leaps: &Leaps, prices: &[u64]) -> bool {
         self.begin(&leaps.heads);
+        self.looks = self.looks.saturating_add(prices.len() as u64);
         for _ in 0..=leaps.heads.len() {
             let Some(last) = self.sweep(&leaps.list, prices) else {
                 return true;
