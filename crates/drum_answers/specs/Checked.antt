@@ -2,8 +2,8 @@
 use Rattle.std.specs.Prelude.{◌≡◌, ◌≢◌, ◌≤◌, ◌^◌, [], length, Option}
 use Rattle.drum_core.specs.Loads.{loads_in, start_in}
 use Rattle.drum_check.specs.Findings.{AreFindings}
-use Rattle.drum_check.specs.FindingsOf.{found_in}
-use Rattle.drum_check.specs.Lacking.{words_altered}
+use Rattle.drum_check.specs.FindingsOf.{found_in, is_long_in}
+use Rattle.drum_check.specs.Lacking.{are_long, words_altered}
 use Rattle.drum_check.specs.LackingOf.{words_in}
 use Rattle.drum_command.specs.declared.command.Files.{Files}
 use Rattle.drum_faults.specs.FaultLines.{Named}
@@ -11,6 +11,7 @@ use Rattle.drum_answers.specs.declared.checking.Checked.{Checked}
 use Rattle.drum_answers.specs.declared.checking.Checked.TheVariants.{Faulty, Sound}
 use Rattle.drum_documents.specs.declared.documents.Documents.{Documents}
 use Rattle.drum_documents.specs.Documents.{Texts, Say}
+use Rattle.drum_toml.specs.declared.notes.notes_read.NotesRead.TheVariants.{Long}
 use Rattle.drum_answers.specs.Says.{AreLinesOfFaults}
 
 -- The lines of the texts' faults, if they have any; else what is found of the documents that they
@@ -19,9 +20,10 @@ abbrev pub IsChecked : Files → Texts → Option Named → Checked → Type 0
 IsChecked files texts inputs (Faulty lines) =
     (lines.items ≢ []) × AreLinesOfFaults files texts inputs lines.items
 IsChecked files texts inputs (Sound findings lacking) =
-    (documents : Documents) × Say texts documents
+    (documents : Documents) × Say Long texts documents
     × AreFindings (loads_in documents.deck) documents.notes (start_in documents.deck)
     (found_in findings)
+    × (is_long_in findings ≡ are_long documents.notes (found_in findings))
 
 -- beside what is found stands what is lacking
 abbrev pub AreLacking : Checked → Type 0

@@ -8,7 +8,7 @@ use Rattle.drum_bound.specs.Table.{IsTable, Row}
 use Rattle.drum_bound.specs.Visited.{Visited}
 use Rattle.drum_ceiling.specs.declared.answer.Ceiling as ceilings
 use Rattle.drum_check.specs.Findings.{AreFindings, Finding, may_be_meant}
-use Rattle.drum_check.specs.Lacking.{check_text}
+use Rattle.drum_check.specs.Lacking.{are_long, check_text}
 use Rattle.drum_command.specs.declared.command.Files.{Files}
 use Rattle.drum_command.specs.declared.command.Question.{Question}
 use Rattle.drum_command.specs.declared.command.Question.TheVariants.{Bound, Report, Walk, Waits}
@@ -29,8 +29,9 @@ use Rattle.drum_listing.specs.WaitsText.{waits_text}
 use Rattle.drum_listing.specs.WalkText.{walk_text}
 use Rattle.drum_documents.specs.declared.documents.Documents.{Documents}
 use Rattle.drum_documents.specs.Documents.{Say, Texts, setting_of}
-use Rattle.drum_documents.specs.Limits.{IsAnalysisFault, IsBound, IsCeiling, IsCeilingFault}
-use Rattle.drum_documents.specs.Limits.{IsWorstWalk}
+use Rattle.drum_documents.specs.Limits.{AreShort, IsAnalysisFault, IsBound, IsCeiling}
+use Rattle.drum_documents.specs.Limits.{IsCeilingFault, IsShortFault, IsWorstWalk}
+use Rattle.drum_toml.specs.declared.notes.notes_read.NotesRead.TheVariants.{Long}
 
 -- ---- what is said
 
@@ -64,8 +65,9 @@ ceiling_reply documents ceiling = says (ceiling_text documents.notes ceiling) Do
 abbrev pub status_after_check : List Finding → Status
 status_after_check findings = if list_all may_be_meant findings then Done else Refused
 
-abbrev pub findings_reply : List Finding → Reply
-findings_reply findings = says (check_text findings) (status_after_check findings)
+abbrev pub findings_reply : Documents → List Finding → Reply
+findings_reply documents findings =
+    says (check_text (are_long documents.notes findings) findings) (status_after_check findings)
 
 -- ---- what is said of documents
 
@@ -124,29 +126,34 @@ abbrev pub SaysFindings : Documents → Reply → Type 0
 SaysFindings documents reply =
     (findings : List Finding)
     × AreFindings (loads_in documents.deck) documents.notes (start_in documents.deck) findings
-    × (reply ≡ findings_reply findings)
+    × (reply ≡ findings_reply documents findings)
+
+-- what is said of documents with short notes, which go by the bound
+abbrev pub OfShort : (Documents → Reply → Type 0) → Documents → Reply → Type 0
+OfShort Says documents reply = AreShort documents × Says documents reply
 
 -- what is said of documents, where this is asked of them
 abbrev pub Says : Question → Documents → Reply → Type 0
 Says Bound = SaysBound
 Says Report = SaysReport
-Says Walk = SaysWalk
-Says Waits = SaysWaits
+Says Walk = OfShort SaysWalk
+Says Waits = OfShort SaysWaits
 Says Table = SaysTable
 Says Graph = SaysGraph
-Says Draw = SaysPicture
+Says Draw = OfShort SaysPicture
 Says Ceiling = SaysCeiling
 
--- why nothing is said of them: the deck with its notes is refused; of the flow graph, which any
--- deck has, that the program is out of memory, and nothing else
+-- why nothing is said of them: the deck with its notes is refused, or, where the bound is gone by,
+-- has long notes; of the flow graph, which any deck has, that the program is out of memory, and
+-- nothing else
 abbrev pub Refuses : Question → Documents → Fault → Type 0
 Refuses Bound = IsAnalysisFault
 Refuses Report = IsAnalysisFault
-Refuses Walk = IsAnalysisFault
-Refuses Waits = IsAnalysisFault
+Refuses Walk = IsShortFault
+Refuses Waits = IsShortFault
 Refuses Table = IsAnalysisFault
 Refuses Graph = λ documents. IsWanting
-Refuses Draw = IsAnalysisFault
+Refuses Draw = IsShortFault
 Refuses Ceiling = IsCeilingFault
 
 -- ---- what is said of texts
@@ -168,4 +175,4 @@ abbrev pub SaysCheck : Files → Texts → Option printed.Named → Reply → Ty
 SaysCheck files texts inputs reply =
     ((lines : List ℕ) × (lines ≢ []) × AreLinesOfFaults files texts inputs lines
     × (reply ≡ lists lines))
-    ⊎ ((documents : Documents) × Say texts documents × SaysFindings documents reply)
+    ⊎ ((documents : Documents) × Say Long texts documents × SaysFindings documents reply)

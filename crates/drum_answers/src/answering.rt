@@ -4,16 +4,19 @@ ghost use Rattle.std.specs.Prelude.{◌≡◌, ◌^◌, ◌≤◌, IfOk, IfErr};
 ghost use Rattle.drum_bound.specs.AnalysisOf.{angle_of, bound_of, rows_of, visits_of};
 ghost use Rattle.drum_bound.specs.Table.{IsTable};
 ghost use Rattle.drum_documents.specs.Documents.{setting_of};
-ghost use Rattle.drum_documents.specs.Limits.{IsAnalysisFault, IsBound, IsWorstWalk};
+ghost use Rattle.drum_documents.specs.Limits.{IsAnalysisFault, IsBound, IsCeilingFault};
+ghost use Rattle.drum_documents.specs.Limits.{IsShortFault, IsWorstWalk};
 ghost use Rattle.drum_lines.specs.Does.{Does};
 ghost use Rattle.drum_lines.specs.Output.{Device, device};
-ghost use Rattle.drum_answers.specs.Says.{Refuses, Says, SaysPicture};
+ghost use Rattle.drum_lines.specs.FaultStatus.{IsWanting};
+ghost use Rattle.drum_answers.specs.Says.{OfShort, Refuses, Says, SaysBound, SaysCeiling, SaysGraph};
+ghost use Rattle.drum_answers.specs.Says.{SaysPicture, SaysReport, SaysTable, SaysWaits, SaysWalk};
 
 use crate::telling::{tell_ceiling, tell_graph, tell_report, tell_table, tell_waits, tell_walk};
 use drum_bound::{Analysis, Refusal, analyse};
 use drum_command::Question;
 use drum_core::Output;
-use drum_documents::{Documents, bound_of, ceiling_of};
+use drum_documents::{Documents, bound_of, ceiling_of, only_short};
 use drum_graph::Graph;
 use drum_lines::{Fault, Status, tell_bound, tell_text};
 use drum_listing::{Table, Waits};
@@ -39,18 +42,95 @@ fn analysis_of(alloc: Global, documents: &Documents) -> Result<Analysis, Fault>
     Ok(analyse(alloc, &documents.deck, &documents.times, &documents.notes)?)
 }
 
-/// Writes a picture of the worst walk.
+/// Writes the bound.
+fn say_bound<O: Output>(alloc: Global, documents: &Documents, out: &mut O) -> Result<Status, Fault>
+    requires { O.called out.old ≤ 2 ^ 62 }
+    ensures does { (err : Device) → Does (SaysBound documents.now) (IsAnalysisFault documents.now)
+        (device (O.written out.old) (O.failed out.old))
+        (device (O.written out.new) (O.failed out.new)) err err result }
+    ensures spared { IfErr result (λ _. out.new ≡ out.old) }
+{
+    let bound = bound_of(alloc, documents)?;
+    Ok(tell_bound(out, bound))
+}
+
+/// Writes the report.
+fn say_report<O: Output>(alloc: Global, documents: &Documents, out: &mut O) -> Result<Status, Fault>
+    requires { O.called out.old ≤ 2 ^ 62 }
+    ensures does { (err : Device) → Does (SaysReport documents.now) (IsAnalysisFault documents.now)
+        (device (O.written out.old) (O.failed out.old))
+        (device (O.written out.new) (O.failed out.new)) err err result }
+    ensures spared { IfErr result (λ _. out.new ≡ out.old) }
+{
+    let analysis = analysis_of(alloc, documents)?;
+    Ok(tell_report(out, documents, &analysis))
+}
+
+/// Writes a worst walk.
+fn say_walk<O: Output>(alloc: Global, documents: &Documents, out: &mut O) -> Result<Status, Fault>
+    requires { O.called out.old ≤ 2 ^ 62 }
+    ensures does { (err : Device) → Does (OfShort SaysWalk documents.now) (IsShortFault documents.now)
+        (device (O.written out.old) (O.failed out.old))
+        (device (O.written out.new) (O.failed out.new)) err err result }
+    ensures spared { IfErr result (λ _. out.new ≡ out.old) }
+{
+    only_short(documents)?;
+    let analysis = analysis_of(alloc, documents)?;
+    Ok(tell_walk(out, documents, &analysis))
+}
+
+/// Writes where the word times of a worst walk go.
+fn say_waits<O: Output>(alloc: Global, documents: &Documents, out: &mut O) -> Result<Status, Fault>
+    requires { O.called out.old ≤ 2 ^ 62 }
+    ensures does { (err : Device) → Does (OfShort SaysWaits documents.now) (IsShortFault documents.now)
+        (device (O.written out.old) (O.failed out.old))
+        (device (O.written out.new) (O.failed out.new)) err err result }
+    ensures spared { IfErr result (λ _. out.new ≡ out.old) }
+{
+    only_short(documents)?;
+    let analysis = analysis_of(alloc, documents)?;
+    let waits = Waits::of(alloc, &analysis, &documents.times)?;
+    Ok(tell_waits(out, documents, &analysis, &waits))
+}
+
+/// Writes the table of worst times.
+fn say_table<O: Output>(alloc: Global, documents: &Documents, out: &mut O) -> Result<Status, Fault>
+    requires { O.called out.old ≤ 2 ^ 62 }
+    ensures does { (err : Device) → Does (SaysTable documents.now) (IsAnalysisFault documents.now)
+        (device (O.written out.old) (O.failed out.old))
+        (device (O.written out.new) (O.failed out.new)) err err result }
+    ensures spared { IfErr result (λ _. out.new ≡ out.old) }
+{
+    let analysis = analysis_of(alloc, documents)?;
+    let table = Table::of(alloc, &analysis)?;
+    Ok(tell_table(out, documents, &table))
+}
+
+/// Writes the flow graph.
+fn say_graph<O: Output>(alloc: Global, documents: &Documents, out: &mut O) -> Result<Status, Fault>
+    requires { O.called out.old ≤ 2 ^ 62 }
+    ensures does { (err : Device) → Does (SaysGraph documents.now) IsWanting
+        (device (O.written out.old) (O.failed out.old))
+        (device (O.written out.new) (O.failed out.new)) err err result }
+    ensures spared { IfErr result (λ _. out.new ≡ out.old) }
+{
+    let graph = Graph::of(alloc, &documents.deck, &documents.notes)?;
+    Ok(tell_graph(out, documents, &graph))
+}
+
+/// Writes a picture of a worst walk.
 fn say_picture<O: Output>(
     alloc: Global,
     documents: &Documents,
     out: &mut O,
 ) -> Result<Status, Fault>
     requires { O.called out.old ≤ 2 ^ 62 }
-    ensures does { (err : Device) → Does (SaysPicture documents.now) (IsAnalysisFault documents.now)
+    ensures does { (err : Device) → Does (OfShort SaysPicture documents.now) (IsShortFault documents.now)
         (device (O.written out.old) (O.failed out.old))
         (device (O.written out.new) (O.failed out.new)) err err result }
     ensures spared { IfErr result (λ _. out.new ≡ out.old) }
 {
+    only_short(documents)?;
     let analysis = analysis_of(alloc, documents)?;
     match picture(alloc, &analysis, &documents.deck, &documents.times) {
         Ok(text) if text.len() <= PICTURE_BYTES => Ok(tell_text(out, text.as_bytes())),
@@ -58,12 +138,29 @@ fn say_picture<O: Output>(
     }
 }
 
+/// Writes a ceiling.
+fn say_ceiling<O: Output>(
+    alloc: Global,
+    documents: &Documents,
+    out: &mut O,
+) -> Result<Status, Fault>
+    requires { O.called out.old ≤ 2 ^ 62 }
+    ensures does { (err : Device) → Does (SaysCeiling documents.now) (IsCeilingFault documents.now)
+        (device (O.written out.old) (O.failed out.old))
+        (device (O.written out.new) (O.failed out.new)) err err result }
+    ensures spared { IfErr result (λ _. out.new ≡ out.old) }
+{
+    let ceiling = ceiling_of(alloc, documents)?;
+    Ok(tell_ceiling(out, documents, &ceiling))
+}
+
 /// Writes the answer to a question about documents, and tells how the program ends.
 ///
 /// # Errors
 ///
-/// Why there is none: the deck with its notes is refused, or the program is out of memory. Nothing
-/// has been written then. (A write that fails is no error here: the status tells it.)
+/// Why there is none: the deck with its notes is refused, or has long notes where the bound is gone
+/// by, or the program is out of memory. Nothing has been written then. (A write that fails is no
+/// error here: the status tells it.)
 pub fn answer<O: Output>(
     alloc: Global,
     question: Question,
@@ -77,36 +174,13 @@ pub fn answer<O: Output>(
     ensures spared { IfErr result (λ _. out.new ≡ out.old) }
 {
     match question {
-        Question::Bound => {
-            let bound = bound_of(alloc, documents)?;
-            Ok(tell_bound(out, bound))
-        }
-        Question::Report => {
-            let analysis = analysis_of(alloc, documents)?;
-            Ok(tell_report(out, documents, &analysis))
-        }
-        Question::Walk => {
-            let analysis = analysis_of(alloc, documents)?;
-            Ok(tell_walk(out, documents, &analysis))
-        }
-        Question::Waits => {
-            let analysis = analysis_of(alloc, documents)?;
-            let waits = Waits::of(alloc, &analysis, &documents.times)?;
-            Ok(tell_waits(out, documents, &analysis, &waits))
-        }
-        Question::Table => {
-            let analysis = analysis_of(alloc, documents)?;
-            let table = Table::of(alloc, &analysis)?;
-            Ok(tell_table(out, documents, &table))
-        }
-        Question::Graph => {
-            let graph = Graph::of(alloc, &documents.deck, &documents.notes)?;
-            Ok(tell_graph(out, documents, &graph))
-        }
+        Question::Bound => say_bound(alloc, documents, out),
+        Question::Report => say_report(alloc, documents, out),
+        Question::Walk => say_walk(alloc, documents, out),
+        Question::Waits => say_waits(alloc, documents, out),
+        Question::Table => say_table(alloc, documents, out),
+        Question::Graph => say_graph(alloc, documents, out),
         Question::Draw => say_picture(alloc, documents, out),
-        Question::Ceiling => {
-            let ceiling = ceiling_of(alloc, documents)?;
-            Ok(tell_ceiling(out, documents, &ceiling))
-        }
+        Question::Ceiling => say_ceiling(alloc, documents, out),
     }
 }

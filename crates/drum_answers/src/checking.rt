@@ -3,8 +3,8 @@
 ghost use Rattle.std.specs.Prelude.{◌≡◌, IfOk, IfErr, ◌≤◌, ◌^◌, length, option_map};
 ghost use Rattle.drum_core.specs.Loads.{loads_in, start_in};
 ghost use Rattle.drum_check.specs.Findings.{AreFindings};
-ghost use Rattle.drum_check.specs.FindingsOf.{found_in};
-ghost use Rattle.drum_check.specs.Lacking.{words_altered};
+ghost use Rattle.drum_check.specs.FindingsOf.{found_in, is_long_in};
+ghost use Rattle.drum_check.specs.Lacking.{are_long, words_altered};
 ghost use Rattle.drum_check.specs.LackingOf.{words_in};
 ghost use Rattle.drum_faults.specs.NamedTexts.{named};
 ghost use Rattle.drum_answers.specs.Checked.{AreLacking, IsChecked, IsShort};
@@ -19,6 +19,7 @@ use drum_documents::{Documents, Texts};
 use drum_faults::{NamedText, fault_lines};
 use drum_flow::Refusal;
 use drum_lines::Fault;
+use drum_toml::NotesRead;
 use std::alloc::Global;
 
 /// What a check of texts comes to.
@@ -75,6 +76,8 @@ pub fn named_inputs<'a>(name: Option<&'a str>, text: &'a Option<Vec<u8>>) -> Opt
 fn findings_of(alloc: Global, documents: &Documents) -> Result<(Findings, Lacking), Fault>
     ensures findings { IfOk result (λ checked. AreFindings (loads_in documents.now.deck)
         documents.now.notes (start_in documents.now.deck) (found_in checked.0)) }
+    ensures long { IfOk result (λ checked. is_long_in checked.0
+        ≡ are_long documents.now.notes (found_in checked.0)) }
     ensures lacking { IfOk result (λ checked.
         words_in checked.1 ≡ words_altered (found_in checked.0)) }
     ensures wanting { IfErr result (λ fault. fault ≡ Fault.Refused Refusal.Memory) }
@@ -107,7 +110,8 @@ pub fn check(
     if !lines.is_empty() {
         return Ok(Checked::Faulty(lines));
     }
-    let Ok(documents) = Documents::of_texts(alloc, &texts.deck, &texts.times, &texts.notes) else {
+    let (deck, times, notes) = (&texts.deck, &texts.times, &texts.notes);
+    let Ok(documents) = Documents::of_texts(alloc, deck, times, notes, NotesRead::Long) else {
         // No text has a fault: only memory can be lacking.
         return Err(Fault::Memory);
     };

@@ -3,7 +3,7 @@
 ghost use Rattle.std.specs.Prelude.{◌≡◌, ◌^◌, ◌≤◌};
 ghost use Rattle.drum_times.specs.Entries.{entry_in};
 ghost use Rattle.drum_bound.specs.AnalysisOf.{angle_of, bound_of, visits_of};
-ghost use Rattle.drum_check.specs.FindingsOf.{found_in};
+ghost use Rattle.drum_check.specs.FindingsOf.{found_in, is_long_in};
 ghost use Rattle.drum_check.specs.Lacking.{check_text, words_altered};
 ghost use Rattle.drum_check.specs.LackingOf.{words_in};
 ghost use Rattle.drum_graph.specs.GraphOf.{nodes_in, start_of};
@@ -130,7 +130,8 @@ pub fn tell_findings<O: Output>(out: &mut O, findings: &Findings, lacking: &Lack
     requires called { O.called out.old ≤ 2 ^ 62 }
     requires right { words_in lacking.now ≡ words_altered (found_in findings.now) }
     ensures { GetsResult (device (O.written out.old) (O.failed out.old))
-        (device (O.written out.new) (O.failed out.new)) (check_text (found_in findings.now))
+        (device (O.written out.new) (O.failed out.new))
+        (check_text (is_long_in findings.now) (found_in findings.now))
         (status_after_check (found_in findings.now)) result }
 {
     ended(list_findings(findings, lacking, out), status_of(findings))

@@ -1,8 +1,8 @@
--- What refuses the analysis is found first.
+-- What refuses the analysis is found first: of short notes a bound's refusal, of long ones a ceiling's.
 use Rattle.std.proofs.Common.{◌≡◌, ℕ, zero, suc, ◌+◌, ◌<◌, ◌≤◌, Bool, true, false, List, [], ◌∷◌, ◌++◌, map, length}
 use Rattle.std.proofs.Common.{get_or, take, drop, refl, ap, sym, ◌∙◌, subst, inl, inr, arith, Option, Some, is_some}
-use Rattle.std.specs.Prelude.{Contains, cond, filter, flat_map, slice_get}
-use Rattle.std.proofs.lemmas.Bool.{cases_lt, le-ltb, lt-ltb}
+use Rattle.std.specs.Prelude.{Contains, IsTrue, cond, filter, flat_map, slice_get}
+use Rattle.std.proofs.lemmas.Bool.{cases_lt}
 use Rattle.std.proofs.lemmas.List.{length-take, get_or-take}
 use Rattle.std.proofs.lemmas.Option.{get_or_from_slice_get, slice_get-get_or, slice_get_within}
 use Rattle.drum_core.specs.declared.instruction.Instruction.{Instruction}
@@ -10,13 +10,14 @@ use Rattle.drum_core.specs.declared.location.Location.{Location}
 use Rattle.drum_core.specs.declared.word.Word.{Word}
 use Rattle.drum_core.specs.Op.{op_of}
 use Rattle.drum_times.specs.Allowed.{Notes, allowed}
+use Rattle.drum_times.specs.Short.{is_short}
 use Rattle.drum_flow.specs.declared.refusal.Refusal.{Refusal}
 use Rattle.drum_flow.specs.declared.refusal.Refusal.TheVariants.{Memory, NotLoaded, NotInProfile, Alters, Unbounded}
 use Rattle.drum_flow.specs.declared.refusal.Refusal.TheVariants.{TooLarge}
-use Rattle.drum_flow.specs.Acceptance.{IsRefusal}
+use Rattle.drum_flow.specs.Acceptance.{IsAdmissionRefusal, IsRefusal}
 use Rattle.drum_flow.specs.Accepted as said
 use Rattle.drum_flow.specs.Accepted.{IsAltered, IsFirstOutside, IsFree, IsGood, IsLowestAltered, IsMet}
-use Rattle.drum_flow.specs.Accepted.{IsSound, IsTooLarge, IsUnbounded, product_of, told}
+use Rattle.drum_flow.specs.Accepted.{IsFreeRound, IsNotInProfile, IsNotLoaded, IsSound, IsTooLarge, product_of, told}
 use Rattle.drum_flow.proofs.Products.{many_told}
 use Rattle.drum_flow.specs.Executed.{added_by, found_after}
 use Rattle.drum_flow.specs.Graph.{IsClosed}
@@ -38,6 +39,7 @@ use Rattle.drum_check.proofs.Fixeds.{fixed_only, fixed_so}
 use Rattle.drum_check.proofs.Nothing.{all_nothing}
 use Rattle.drum_check.proofs.Outsides.{inside_none, outside_of}
 use Rattle.drum_check.proofs.Silent.{round_left}
+use Rattle.drum_check.proofs.Sizes.{large_told, long_untold, small_untold}
 use Rattle.drum_check.proofs.Tellings.{first_told}
 use Rattle.drum_check.proofs.WriteRanges.{writes_range}
 
@@ -91,7 +93,7 @@ module _ (loads : ℕ → Option Word) (notes : Notes) (start : ℕ) where
     second_part = flat_map (altering loads notes a.executed) a.executed
 
     abbrev third_part : List Finding
-    third_part = too_many (product_of a.executed notes.marks)
+    third_part = too_many notes (product_of a.executed notes.marks)
 
     -- where each part stands
     told_first : (x : Finding) → BeginsWith first_part x → BeginsWith findings x
@@ -216,8 +218,9 @@ module _ (loads : ℕ → Option Word) (notes : Notes) (start : ℕ) where
         (begins_mapped told (altered loads notes a.executed writer) word
         (begins_new (flat_map (altered_by notes a.executed) (allowed loads notes writer)) word adds)))
 
-    large_first : (product : ℕ) → IsTooLarge loads notes start product → BeginsWith findings (too_large product)
-    large_first product is =
+    large_first : (product : ℕ) → is_short notes ≡ true → IsTooLarge loads notes start product
+        → BeginsWith findings (too_large product)
+    large_first product short is =
         let parts = sound_parts is.0 in
         let order = is.2 in
         let same : order.0 ≡ a.executed =
@@ -226,53 +229,69 @@ module _ (loads : ℕ → Option Word) (notes : Notes) (start : ℕ) where
         sym (order.2 ∙ ap (λ (all : List ℕ). told (product_of all notes.marks)) same) in
         told_third (too_large product) parts.0 parts.1 (
           [],
-          ap (λ (b : Bool). cond b (too_large (told (product_of a.executed notes.marks)) ∷ []) [])
-              (lt-ltb 4000000 (product_of a.executed notes.marks)
-              (many_told (product_of a.executed notes.marks) (omega (arith, equal, is.1))))
+          large_told notes (product_of a.executed notes.marks) short
+              (many_told (product_of a.executed notes.marks) (omega (arith, equal, is.1)))
               ∙ ap (λ (n : ℕ). let found : List Finding = too_large n ∷ [] in found) equal,
         )
 
-    round_first : (cycle : List ℕ) → IsUnbounded loads notes start cycle
+    round_first : (cycle : List ℕ) → third_part ≡ [] → IsFreeRound loads notes start cycle
         → (edge : ℕ × ℕ) × (mark : Within) × BeginsWith findings (closes edge mark)
-    round_first cycle is = go a.edges refl
+    round_first cycle small is = go a.edges refl
       where
-        small : third_part ≡ []
-        small = ap (λ (b : Bool). cond b (too_large (told (product_of a.executed notes.marks)) ∷ []) [])
-            (le-ltb 4000000 (product_of a.executed notes.marks) (is.small a.executed a.found.order))
-
         closed : (places : List ℕ) → cycle ≡ places → a.edges ≡ [] → IsClosed (IsFree loads notes) places → ⊥
         closed [] same none round = round
         closed (place ∷ places) same none round =
             a.closing.enough place places
-            (is.round.executed place
+            (is.executed place
             (subst (λ (all : List ℕ). Contains all place) (sym same) (contains_here place places)))
             (round_left loads notes a.edges place place places none round)
 
         go : (edges : List (ℕ × ℕ)) → a.edges ≡ edges
             → (edge : ℕ × ℕ) × (mark : Within) × BeginsWith findings (closes edge mark)
-        go [] none = absurd (closed cycle refl none is.round.closed)
+        go [] none = absurd (closed cycle refl none is.closed)
         go (edge ∷ edges) same =
-            let parts = sound_parts is.round.sound in
+            let parts = sound_parts is.sound in
             let first = first_told loads notes start a.executed edge edges a.loops
             (subst (λ (all : List (ℕ × ℕ)). AreLoops loads notes start a.executed all a.loops) same a.told) in
             (edge, first.0, told_fourth (closes edge first.0) parts.0 parts.1 small first.1)
 
-    pub refusal_first : (refusal : Refusal) → IsRefusal loads notes start refusal → IsFoundFirst refusal findings
-    refusal_first (NotLoaded location) is =
-        unfit_first location.number is.0 (not_loaded location.number)
-        (begins_left (not_there loads notes location.number)
-        (map (not_in_profile location.number) (operations_outside loads notes location.number))
-        (not_loaded location.number) ([], absent_told loads notes location.number is.1))
-    refusal_first (NotInProfile location op) is =
-        unfit_first location.number is.0 (not_in_profile location.number op)
-        (begins_behind (not_there loads notes location.number)
-        (map (not_in_profile location.number) (operations_outside loads notes location.number))
-        (not_in_profile location.number op) (there_untold loads notes location.number is.1)
-        (begins_mapped (not_in_profile location.number) (operations_outside loads notes location.number) op
-        (outside_first location.number op is.2)))
-    refusal_first (Alters writer word) is =
+    unloaded_first : (place : ℕ) → IsNotLoaded loads notes start place → BeginsWith findings (not_loaded place)
+    unloaded_first place is =
+        unfit_first place is.0 (not_loaded place)
+        (begins_left (not_there loads notes place)
+        (map (not_in_profile place) (operations_outside loads notes place))
+        (not_loaded place) ([], absent_told loads notes place is.1))
+
+    operation_first : (place op : ℕ) → IsNotInProfile loads notes start place op
+        → BeginsWith findings (not_in_profile place op)
+    operation_first place op is =
+        unfit_first place is.0 (not_in_profile place op)
+        (begins_behind (not_there loads notes place)
+        (map (not_in_profile place) (operations_outside loads notes place))
+        (not_in_profile place op) (there_untold loads notes place is.1)
+        (begins_mapped (not_in_profile place) (operations_outside loads notes place) op
+        (outside_first place op is.2)))
+
+    pub refusal_first : (refusal : Refusal) → is_short notes ≡ true → IsRefusal loads notes start refusal
+        → IsFoundFirst refusal findings
+    refusal_first (NotLoaded location) short is = unloaded_first location.number is
+    refusal_first (NotInProfile location op) short is = operation_first location.number op is
+    refusal_first (Alters writer word) short is =
         (kept_of loads notes writer.number word.number, altered_first writer.number word.number is)
-    refusal_first (TooLarge product) is = large_first product is
-    refusal_first (Unbounded cycle) is =
-        round_first (map (λ (location : Location). location.number) cycle.locations.items) is
-    refusal_first Memory is = tt
+    refusal_first (TooLarge product) short is = large_first product short is
+    refusal_first (Unbounded cycle) short is =
+        round_first (map (λ (location : Location). location.number) cycle.locations.items)
+        (small_untold notes (product_of a.executed notes.marks) (is.small a.executed a.found.order)) is.round
+    refusal_first Memory short is = tt
+
+    pub admission_refusal_first : (refusal : Refusal) → ¬ IsTrue (is_short notes)
+        → IsAdmissionRefusal loads notes start refusal → IsFoundFirst refusal findings
+    admission_refusal_first (NotLoaded location) long is = unloaded_first location.number is
+    admission_refusal_first (NotInProfile location op) long is = operation_first location.number op is
+    admission_refusal_first (Alters writer word) long is =
+        (kept_of loads notes writer.number word.number, altered_first writer.number word.number is)
+    admission_refusal_first (TooLarge product) long is = absurd is
+    admission_refusal_first (Unbounded cycle) long is =
+        round_first (map (λ (location : Location). location.number) cycle.locations.items)
+        (long_untold notes (product_of a.executed notes.marks) long) is
+    admission_refusal_first Memory long is = tt

@@ -7,8 +7,10 @@ pub mod Fits
 pub mod Fixeds
 pub mod Heads
 pub mod Lacks
+pub mod Marked
 pub mod Nothing
 pub mod Numbered
+pub mod Ones
 pub mod Outsides
 pub mod Pasted
 pub mod Rearranged
@@ -16,6 +18,7 @@ pub mod Silent
 pub mod Sizes
 pub mod Tellings
 pub mod Unsaids
+pub mod Ways
 pub mod Whole
 pub mod Words
 pub mod WriteRanges

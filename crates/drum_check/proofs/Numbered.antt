@@ -1,7 +1,7 @@
--- How many of some edges have a property, and which of them is the last that has it, one edge more.
+-- How many of some edges have a property, and which of some marks is the last that has it, one more.
 use Rattle.std.proofs.Common.{◌≡◌, ℕ, suc, ◌+◌, ◌<◌, List, [], ◌∷◌, ◌++◌, map, take, length, get_or, refl, ap, sym}
 use Rattle.std.proofs.Common.{◌∙◌, subst, inl, inr, arith, length-append, length-take, append_assoc, Option, Some, None}
-use Rattle.std.proofs.lemmas.List.{append-nil, length-map, map_more}
+use Rattle.std.proofs.lemmas.List.{append-nil, map_more, take_more}
 use Rattle.std.proofs.lemmas.List.Elements.{Contains-push_cases}
 use Rattle.drum_flow.proofs.Lists.{contains_none}
 use Rattle.drum_check.specs.Insides.{AreSoMany, IsLastNumber}
@@ -26,24 +26,25 @@ module _ (P : ℕ × ℕ → Type 0) where
     counted = omega (arith, length-append so.those (x ∷ []), so.counted);
   }
 
+module _ (P : List (ℕ × ℕ) → Type 0) where
   pub last_none : IsLastNumber P [] None
-  last_none edge there = absurd (contains_none edge there)
+  last_none mark there = absurd (contains_none mark there)
 
-  pub last_in : (xs : List (ℕ × ℕ)) (x : ℕ × ℕ) (n : ℕ) → n ≡ suc (length xs) → P x
+  pub last_in : (xs : List (List (ℕ × ℕ))) (x : List (ℕ × ℕ)) (n : ℕ) → n ≡ suc (length xs) → P x
       → IsLastNumber P (xs ++ x ∷ []) (Some n)
   last_in xs x n here is = (xs, x, [], refl, here, is, λ other there. absurd (contains_none other there))
 
-  pub last_out : (xs : List (ℕ × ℕ)) (x : ℕ × ℕ) (number : Option ℕ) → IsLastNumber P xs number → ¬ P x
+  pub last_out : (xs : List (List (ℕ × ℕ))) (x : List (ℕ × ℕ)) (number : Option ℕ) → IsLastNumber P xs number → ¬ P x
       → IsLastNumber P (xs ++ x ∷ []) number
-  last_out xs x None none not = λ edge there. elim (Contains-push_cases xs x edge there) [
-    | inl earlier ↦ none edge earlier
+  last_out xs x None none not = λ mark there. elim (Contains-push_cases xs x mark there) [
+    | inl earlier ↦ none mark earlier
     | inr same ↦ (λ is. not (subst P (sym same) is))
   ]
   last_out xs x (Some number) last not = (
     last.0,
     last.1,
     last.2 ++ x ∷ [],
-    ap (λ (all : List (ℕ × ℕ)). all ++ x ∷ []) last.3 ∙ append_assoc last.0 (last.1 ∷ last.2) (x ∷ []),
+    ap (λ (all : List (List (ℕ × ℕ))). all ++ x ∷ []) last.3 ∙ append_assoc last.0 (last.1 ∷ last.2) (x ∷ []),
     last.4,
     last.5,
     λ other there. elim (Contains-push_cases last.2 x other there) [
@@ -52,12 +53,16 @@ module _ (P : ℕ × ℕ → Type 0) where
     ],
   )
 
--- the edges of the first things of a list, with one thing more
-module _ {X : Type 0} (edge_in : X → ℕ × ℕ) (xs : List X) (k : ℕ) (x : X) (inside : k < length xs)
+-- the first things of a list, with one thing more
+module _ {X Y : Type 0} (edge_in : X → Y) (xs : List X) (k : ℕ) (x : X) (inside : k < length xs)
     (here : x ≡ get_or xs k x) where
   pub edges_more : map edge_in (take (k + 1) xs) ≡ map edge_in (take k xs) ++ edge_in x ∷ []
   edges_more = map_more edge_in xs k x inside
       ∙ ap (λ (one : X). map edge_in (take k xs) ++ edge_in one ∷ []) (sym here)
 
-  pub edges_before : k + 1 ≡ suc (length (map edge_in (take k xs)))
-  edges_before = omega (arith, length-map (take k xs) edge_in, length-take k xs, inside)
+module _ {X : Type 0} (xs : List X) (k : ℕ) (x : X) (inside : k < length xs) (here : x ≡ get_or xs k x) where
+  pub things_more : take (k + 1) xs ≡ take k xs ++ x ∷ []
+  things_more = take_more xs k x inside ∙ ap (λ (one : X). take k xs ++ one ∷ []) (sym here)
+
+  pub things_before : k + 1 ≡ suc (length (take k xs))
+  things_before = omega (arith, length-take k xs, inside)

@@ -1,27 +1,28 @@
--- Where nothing is found, the deck with its notes is accepted.
+-- Where nothing is found, the deck with its notes is admitted; and accepted, where they are short.
 use Rattle.std.proofs.Common.{◌≡◌, ℕ, ◌≤◌, Bool, true, false, List, [], ◌∷◌, ◌++◌, map, refl, ap, sym, ◌∙◌, subst}
 use Rattle.std.proofs.Common.{inl, inr, ◌⊎◌, Option, is_some}
 use Rattle.std.specs.Prelude.{Contains, IsSome, IsTrue, cond, flat_map, ◌||◌}
-use Rattle.std.proofs.lemmas.Bool.{cases_lt, lt-ltb}
 use Rattle.drum_core.specs.declared.instruction.Instruction.{Instruction}
 use Rattle.drum_core.specs.declared.word.Word.{Word}
 use Rattle.drum_core.specs.Op.{op_of}
 use Rattle.drum_times.specs.Allowed.{Notes, allowed, is_listed}
+use Rattle.drum_times.specs.Short.{is_short}
 use Rattle.drum_machine.specs.Writes.{writes}
-use Rattle.drum_flow.specs.Accepted.{IsAccepted, IsFixed, IsFree, IsInProfile, IsThere, product_of, told}
+use Rattle.drum_flow.specs.Accepted.{IsAccepted, IsAdmitted, IsFixed, IsFree, IsInProfile, IsThere, product_of}
 use Rattle.drum_flow.specs.Flow.{AreFound}
 use Rattle.drum_flow.specs.Graph.{LeadRound}
 use Rattle.drum_flow.specs.Hops.{IsExecuted}
 use Rattle.drum_flow.proofs.Acceptances.{one_order}
 use Rattle.drum_flow.proofs.Lists.{contains_here, contains_none}
 use Rattle.drum_loops.specs.Loops.{IsFreeBeside}
-use Rattle.drum_check.specs.Findings.{AreFindings, Finding, not_loaded, not_in_profile, alters, too_large}
+use Rattle.drum_check.specs.Findings.{AreFindings, Finding, not_loaded, not_in_profile, alters}
 use Rattle.drum_check.specs.Findings.{altered, altered_by, altering, is_fixed, not_there, operations_outside}
 use Rattle.drum_check.specs.Kept.{kept_of}
 use Rattle.drum_check.specs.Findings.{outside, too_many, unfit, unused, inside_at, AreLooseEnds, IsUnsaid, pairs_of}
 use Rattle.drum_check.proofs.Fixeds.{fixed_so}
 use Rattle.drum_check.proofs.Nothing.{before_nothing, both_nothing, each_nothing, in_filter, in_flat_map, none_added, of_nothing}
 use Rattle.drum_check.proofs.Outsides.{outside_of}
+use Rattle.drum_check.proofs.Sizes.{told_small}
 use Rattle.drum_check.proofs.Tellings.{told_none}
 use Rattle.drum_check.proofs.Unsaids.{those_one}
 
@@ -59,16 +60,6 @@ told_inside loads notes place none ins there = go (is_some (op_of ins.op)) refl
         (in_flat_map outside_of (allowed loads notes place) ins ins.op there
         (subst (λ (all : List ℕ). Contains all ins.op) (sym alone) (contains_here ins.op []))))
 
--- a size that isn't found to be too large is small
-told_small : (product : ℕ) → too_many product ≡ [] → product ≤ 4000000
-told_small product none = elim (cases_lt 4000000 product) [
-  | inl large ↦ (let found : too_many product ≡ too_large (told product) ∷ [] =
-      ap (λ (b : Bool). cond b (too_large (told product) ∷ []) []) (lt-ltb 4000000 product large) in
-      let clash : ◌≡◌ {A = List Finding} (too_large (told product) ∷ []) [] = sym found ∙ none in
-      cc)
-  | inr small ↦ small
-]
-
 -- the loose ends are one list
 pub one_loose : (loads : ℕ → Option Word) (notes : Notes) (start : ℕ) (executed : List ℕ) (some others : List Finding)
     → AreLooseEnds loads notes start executed some → AreLooseEnds loads notes start executed others → some ≡ others
@@ -96,7 +87,7 @@ module _ (loads : ℕ → Option Word) (notes : Notes) (start : ℕ) (executed :
   -- what keeps the deck from a bound
   abbrev in_the_way : List Finding
   in_the_way = flat_map (unfit loads notes) a.executed ++ flat_map (altering loads notes a.executed) a.executed
-      ++ too_many (product_of a.executed notes.marks) ++ a.loops
+      ++ too_many notes (product_of a.executed notes.marks) ++ a.loops
 
   none_in_the_way : in_the_way ≡ []
   none_in_the_way =
@@ -105,17 +96,24 @@ module _ (loads : ℕ → Option Word) (notes : Notes) (start : ℕ) (executed :
       before_nothing in_the_way a.loose
       (one_loose loads notes start a.executed a.loose findings a.are_loose here ∙ a.all)
 
-  pub silent_accepted : IsAccepted loads notes start executed
-  silent_accepted =
-      let parts = both_nothing (flat_map (unfit loads notes) a.executed
-      ++ flat_map (altering loads notes a.executed) a.executed ++ too_many (product_of a.executed notes.marks))
-      a.loops (sym none_in_the_way) in
-      let three = both_nothing (flat_map (unfit loads notes) a.executed
-      ++ flat_map (altering loads notes a.executed) a.executed) (too_many (product_of a.executed notes.marks))
-      (sym parts.0) in
+  none_but_loops : (flat_map (unfit loads notes) a.executed
+      ++ flat_map (altering loads notes a.executed) a.executed ++ too_many notes (product_of a.executed notes.marks) ≡ [])
+      × (a.loops ≡ [])
+  none_but_loops = both_nothing (flat_map (unfit loads notes) a.executed
+      ++ flat_map (altering loads notes a.executed) a.executed ++ too_many notes (product_of a.executed notes.marks))
+      a.loops (sym none_in_the_way)
+
+  none_but_size : (flat_map (unfit loads notes) a.executed ++ flat_map (altering loads notes a.executed) a.executed ≡ [])
+      × (too_many notes (product_of a.executed notes.marks) ≡ [])
+  none_but_size = both_nothing (flat_map (unfit loads notes) a.executed
+      ++ flat_map (altering loads notes a.executed) a.executed) (too_many notes (product_of a.executed notes.marks))
+      (sym none_but_loops.0)
+
+  pub silent_admitted : IsAdmitted loads notes start executed
+  silent_admitted =
       let two = both_nothing (flat_map (unfit loads notes) a.executed)
-      (flat_map (altering loads notes a.executed) a.executed) (sym three.0) in
-      let no_edges : a.edges ≡ [] = told_none loads notes start a.executed a.edges a.loops a.told parts.1 in
+      (flat_map (altering loads notes a.executed) a.executed) (sym none_but_size.0) in
+      let no_edges : a.edges ≡ [] = told_none loads notes start a.executed a.edges a.loops a.told none_but_loops.1 in
       let fit : (place : ℕ) → IsExecuted loads notes start place
       → (not_there loads notes place ≡ []) × (operations_outside loads notes place ≡ []) = λ place executed.
       let both = both_nothing (not_there loads notes place)
@@ -126,16 +124,21 @@ module _ (loads : ℕ → Option Word) (notes : Notes) (start : ℕ) (executed :
       λ place executed. of_nothing (λ (word : ℕ). alters place word (kept_of loads notes place word))
       (altered loads notes a.executed place)
       (each_nothing (altering loads notes a.executed) a.executed place two.1 (a.found.all place executed)) in
-      subst (IsAccepted loads notes start) (sym same_executed) (record {
-        admitted = record {
-          order = a.found.order;
-          there = λ place executed. told_there loads notes place (fit place executed).0;
-          profile = λ place executed. told_inside loads notes place (fit place executed).1;
-          unaltered =
-              λ place ins at executed there written. told_unaltered place ins at (unaltered place executed) there written;
-          bounded =
-              λ first others executed closed. a.closing.enough first others executed
-              (round_left loads notes a.edges first first others no_edges closed);
-        };
-        small = told_small (product_of a.executed notes.marks) three.1;
+      subst (IsAdmitted loads notes start) (sym same_executed) (record {
+        order = a.found.order;
+        there = λ place executed. told_there loads notes place (fit place executed).0;
+        profile = λ place executed. told_inside loads notes place (fit place executed).1;
+        unaltered =
+            λ place ins at executed there written. told_unaltered place ins at (unaltered place executed) there written;
+        bounded =
+            λ first others executed closed. a.closing.enough first others executed
+            (round_left loads notes a.edges first first others no_edges closed);
       })
+
+  pub silent_accepted : is_short notes ≡ true → IsAccepted loads notes start executed
+  silent_accepted short = record {
+    admitted = silent_admitted;
+    small =
+        subst (λ (all : List ℕ). product_of all notes.marks ≤ 4000000) (sym same_executed)
+        (told_small notes (product_of a.executed notes.marks) short none_but_size.1);
+  }

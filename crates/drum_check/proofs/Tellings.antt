@@ -35,7 +35,7 @@ module _ (loads : ℕ → Option Word) (notes : Notes) (start : ℕ) (executed :
   -- no edges close loops, and none is listed
   pub none_told : (edges : List (ℕ × ℕ)) (loops : List Finding) → edges ≡ []
       → AreLoops loads notes start executed edges loops → loops ≡ []
-  none_told [] loops none (inl told) = told.2
+  none_told [] loops none (inl told) = told.2.2
   none_told [] loops none (inr told) = told.1
   none_told (edge ∷ edges) loops none told = cc
 
@@ -43,7 +43,7 @@ module _ (loads : ℕ → Option Word) (notes : Notes) (start : ℕ) (executed :
   pub first_told : (edge : ℕ × ℕ) (edges : List (ℕ × ℕ)) (loops : List Finding)
       → AreLoops loads notes start executed (edge ∷ edges) loops
       → (mark : Within) × BeginsWith loops (closes edge mark)
-  first_told edge edges loops (inl told) = (told.2.0, (told.2.1, told.2.3))
+  first_told edge edges loops (inl told) = (told.2.2.0, (told.2.2.1, told.2.2.3))
   first_told edge edges loops (inr told) = (within.Run, (map (λ (one : ℕ × ℕ). closes one within.Run) edges, told.1))
 
   -- where none is listed no edges close loops

@@ -13,6 +13,16 @@ one_in P x is = inl (is, ([], refl, refl))
 pub one_out : {X : Type 0} (P : X → Type 0) (x : X) → ¬ P x → AreThose P (x ∷ []) []
 one_out P x not = inr (not, refl)
 
+-- of a list none has it
+pub those_none : {X Y : Type 0} (P : X → Type 0) (f : Y → X) (ys : List Y) → ((y : Y) → ¬ P (f y))
+    → AreThose P (map f ys) []
+those_none P f [] not = refl
+those_none P f (y ∷ ys) not = inr (not y, those_none P f ys not)
+
+pub those_nothing : {X : Type 0} (P : X → Type 0) (xs : List X) → ((x : X) → ¬ P x) → AreThose P xs []
+those_nothing P [] not = refl
+those_nothing P (x ∷ xs) not = inr (not x, those_nothing P xs not)
+
 -- those of two lists, one behind the other
 pub those_append : {X : Type 0} (P : X → Type 0) (xs ys ones bs : List X) → AreThose P xs ones → AreThose P ys bs
     → AreThose P (xs ++ ys) (ones ++ bs)

@@ -1,6 +1,6 @@
 -- What is among others: a location among the executed ones, an edge in the flow graph, and those of
 -- a list that have a property.
-use Rattle.std.specs.Prelude.{◌≡◌, ℕ, ◌==◌, ◌&&◌, ◌||◌, Bool, false, List, [], ◌∷◌, ◌⊎◌, Option}
+use Rattle.std.specs.Prelude.{◌≡◌, ℕ, ◌==◌, ◌&&◌, Bool, List, [], ◌∷◌, ◌⊎◌, Option}
 use Rattle.std.specs.List.{list_any}
 use Rattle.drum_core.specs.declared.word.Word.{Word}
 use Rattle.drum_times.specs.Allowed.{Notes}
@@ -14,11 +14,6 @@ is_among executed place = list_any (λ one. one == place) executed
 abbrev pub has_edge : (ℕ → Option Word) → Notes → List ℕ → ℕ → ℕ → Bool
 has_edge loads notes executed from onto =
     is_among executed from && is_among (successors loads notes from) onto
-
--- whether one of these locations stands there twice
-abbrev pub has_twice : List ℕ → Bool
-has_twice [] = false
-has_twice (place ∷ places) = is_among places place || has_twice places
 
 -- these are those of a list that have a property, in order
 abbrev pub AreThose : {X : Type 0} → (X → Type 0) → List X → List X → Type 0

@@ -1,25 +1,27 @@
 -- All that keeps a deck from having a bound under its notes, and the loose ends of the notes.
 -- `loads` says which word the deck loads into a location.
-use Rattle.std.specs.Prelude.{◌≡◌, ℕ, nat_lt, if◌then◌else◌, ◌||◌, ◌&&◌, not, Bool, true, false}
-use Rattle.std.specs.Prelude.{List, [], ◌∷◌, ◌++◌, map, filter, flat_map, length, slice_get}
-use Rattle.std.specs.Prelude.{Option, Some, None, is_some}
+use Rattle.std.specs.Prelude.{◌≡◌, ◌≢◌, ◌≤◌, ℕ, nat_lt, if◌then◌else◌, ◌||◌, ◌&&◌, not, Bool}
+use Rattle.std.specs.Prelude.{true, false, List, [], ◌∷◌, ◌++◌, map, filter, flat_map, length}
+use Rattle.std.specs.Prelude.{slice_get, Option, Some, None, is_some}
 use Rattle.std.specs.List.{range_with_len}
 use Rattle.drum_core.specs.declared.instruction.Instruction.{Instruction}
 use Rattle.drum_core.specs.declared.word.Word.{Word}
 use Rattle.drum_core.specs.Op.{op_of}
 use Rattle.drum_times.specs.declared.notes.mark.Mark.{Mark}
 use Rattle.drum_times.specs.Allowed.{Notes, is_listed, allowed}
+use Rattle.drum_times.specs.Marks.{edges_of}
+use Rattle.drum_times.specs.Short.{is_short}
 use Rattle.drum_machine.specs.Counts.{is_inside}
 use Rattle.drum_machine.specs.Writes.{writes}
 use Rattle.drum_flow.specs.Accepted.{product_of, told}
 use Rattle.drum_flow.specs.Executed.{with_new}
 use Rattle.drum_flow.specs.Flow.{AreFound}
 use Rattle.drum_loops.specs.Loops.{AreClosing}
-use Rattle.drum_loops.specs.Nested.{IsNested}
 pub use Rattle.drum_check.specs.Among.{is_among, has_edge, AreThose}
 pub use Rattle.drum_check.specs.Finding.{Finding, not_loaded, not_in_profile, alters, too_large}
 pub use Rattle.drum_check.specs.Finding.{closes, unused_mark, unused_list, inside}
-use Rattle.drum_check.specs.Insides.{AreLoops, HasSeveralWays, StandsInside, marked_edges}
+use Rattle.drum_check.specs.Insides.{AreLoops, HasSeveralWays, IsMarkRound, IsRound, StandsInside}
+use Rattle.drum_check.specs.Insides.{marked_edges, marks_of}
 use Rattle.drum_check.specs.Kept.{kept_of}
 
 -- whether a location is loaded or listed
@@ -64,15 +66,20 @@ altering loads notes executed place =
     map (λ word. alters place word (kept_of loads notes place word))
     (altered loads notes executed place)
 
--- that executed words times counts are past 4,000,000, if they are
-abbrev pub too_many : ℕ → List Finding
-too_many product = if nat_lt 4000000 product then too_large (told product) ∷ [] else []
+-- that executed words times counts are past 4,000,000, if they are, and the notes are short: no
+-- command reads long ones whose work grows with that product
+abbrev pub too_many : Notes → ℕ → List Finding
+too_many notes product =
+    if is_short notes && nat_lt 4000000 product then too_large (told product) ∷ [] else []
 
--- a mark on an edge that isn't there
+-- that a mark stands on an edge that isn't there
+abbrev pub missing : (ℕ → Option Word) → Notes → List ℕ → ℕ × ℕ → List Finding
+missing loads notes executed edge =
+    if has_edge loads notes executed edge.0 edge.1 then [] else unused_mark edge ∷ []
+
+-- the edges of a mark that aren't there
 abbrev pub astray : (ℕ → Option Word) → Notes → List ℕ → Mark → List Finding
-astray loads notes executed mark =
-    if has_edge loads notes executed mark.from.number mark.onto.number then []
-    else unused_mark (mark.from.number, mark.onto.number) ∷ []
+astray loads notes executed mark = flat_map (missing loads notes executed) (edges_of mark)
 
 -- a list for a location that isn't executed
 abbrev pub idle : Notes → List ℕ → ℕ → List Finding
@@ -83,14 +90,14 @@ idle notes executed place =
 unfoldable pub all_locations : List ℕ
 all_locations = range_with_len 0 2000 ++ range_with_len 8000 4
 
--- what the notes say that nothing comes to: each such mark, in order, and each such list, by its
--- location
+-- what the notes say that nothing comes to: each such edge of a mark, in order, and each such list,
+-- by its location
 abbrev pub unused : (ℕ → Option Word) → Notes → List ℕ → List Finding
 unused loads notes executed =
     flat_map (astray loads notes executed) notes.marks
     ++ flat_map (idle notes executed) all_locations
 
--- the edge of the mark with this index
+-- the first edge of the mark with this index
 abbrev pub edge_at : List Mark → ℕ → ℕ × ℕ
 edge_at marks index =
     elim (slice_get marks index) [
@@ -98,24 +105,28 @@ edge_at marks index =
       | Some mark ↦ (mark.from.number, mark.onto.number)
     ]
 
--- whether the flow graph has the edge of the mark with this index
-abbrev pub is_on_edge : (ℕ → Option Word) → Notes → List ℕ → ℕ → Bool
-is_on_edge loads notes executed index =
-    has_edge loads notes executed (edge_at notes.marks index).0 (edge_at notes.marks index).1
+-- all edges of that mark
+abbrev pub edges_at : List Mark → ℕ → List (ℕ × ℕ)
+edges_at marks index =
+    elim (slice_get marks index) [
+      | None ↦ []
+      | Some mark ↦ edges_of mark
+    ]
 
--- Of two marks, by their indices: the loop that the first one's edge closes stands inside the loop
--- of the second one's, and the first doesn't say that it stands inside the second, directly or
--- through others, though it doesn't stand inside several ways back of one loop.
+-- Of two marks, by their indices: the loop of one of the first one's edges stands inside that of
+-- one of the second one's, and the first doesn't say that it stands inside the second, directly or
+-- through others, though it doesn't stand inside several ways back of one loop. With more than 64
+-- edges in all it isn't looked for: it would take too long.
 pub record IsUnsaid (loads : ℕ → Option Word) (notes : Notes) (start : ℕ) (executed : List ℕ)
     (pair : ℕ × ℕ) : Type 0 where
-  pub inner : is_on_edge loads notes executed pair.0 ≡ true
-  pub outer : is_on_edge loads notes executed pair.1 ≡ true
-  pub nested : IsNested loads notes start (edge_at notes.marks pair.1)
-      (edge_at notes.marks pair.0)
+  pub few : length (marked_edges notes) ≤ 64
+  pub different : pair.0 ≢ pair.1
   pub unsaid : is_inside notes.marks pair.0 pair.1 ≡ false
   pub one_way : ¬ HasSeveralWays
-      (λ outer. StandsInside loads notes start executed outer (edge_at notes.marks pair.0))
-      (marked_edges notes.marks)
+      (IsRound (StandsInside loads notes start executed) (edges_at notes.marks pair.0))
+      (marks_of notes)
+  pub nested : IsMarkRound (StandsInside loads notes start executed)
+      (edges_at notes.marks pair.0) (edges_at notes.marks pair.1)
 
 -- all pairs of marks' indices, by the first and then by the second
 abbrev pub pairs_of : List Mark → List (ℕ × ℕ)
@@ -127,8 +138,8 @@ pairs_of marks =
 abbrev pub inside_at : List Mark → ℕ × ℕ → Finding
 inside_at marks pair = inside (edge_at marks pair.0) (edge_at marks pair.1)
 
--- The loose ends of the notes: the marks and the lists that are unused, and each pair of marks
--- whose loops stand one inside the other where the notes don't say so.
+-- The loose ends of the notes: the marks' edges and the lists that are unused, and each pair of
+-- marks whose loops stand one inside the other where the notes don't say so.
 pub record AreLooseEnds (loads : ℕ → Option Word) (notes : Notes) (start : ℕ)
     (executed : List ℕ) (loose : List Finding) : Type 0 where
   pub pairs : List (ℕ × ℕ)
@@ -156,4 +167,4 @@ pub record AreFindings (loads : ℕ → Option Word) (notes : Notes) (start : �
   pub are_loose : AreLooseEnds loads notes start executed loose
   pub all : findings ≡ flat_map (unfit loads notes) executed
       ++ flat_map (altering loads notes executed) executed
-      ++ too_many (product_of executed notes.marks) ++ loops ++ loose
+      ++ too_many notes (product_of executed notes.marks) ++ loops ++ loose

@@ -1,5 +1,5 @@
 -- What was found, as it is held.
-use Rattle.std.specs.Prelude.{ℕ, List, map}
+use Rattle.std.specs.Prelude.{ℕ, Bool, List, map}
 use Rattle.drum_flow.specs.declared.fixed.Fixed.{Fixed}
 use Rattle.drum_flow.specs.declared.flow_graph.Flow.{Flow}
 use Rattle.drum_flow.specs.Fixed.{AreFlagged}
@@ -26,6 +26,10 @@ seen (finding.Inside inner outer) = inside (edge_of inner) (edge_of outer)
 -- all of them, in order
 abbrev pub found_in : Findings → List Finding
 found_in findings = map seen findings.all.items
+
+-- whether marks are lacking, and the notes are long once they have them
+abbrev pub is_long_in : Findings → Bool
+is_long_in findings = findings.long
 
 -- the flags are those of the flow graph's executed locations without a list
 abbrev pub AreFixed : Flow → Fixed → Type 0

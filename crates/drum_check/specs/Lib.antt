@@ -6,5 +6,7 @@ pub mod FindingsText
 pub mod First
 pub mod Insides
 pub mod Kept
+pub mod KnownInside
 pub mod Lacking
 pub mod LackingOf
+pub mod Shared

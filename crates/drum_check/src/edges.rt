@@ -1,18 +1,19 @@
-//! Whether the flow graph has a location, or an edge; and the edges of marks.
+//! Whether the flow graph has a location, or an edge; and marks by their edges.
 
-ghost use Rattle.std.specs.Prelude.{◌≡◌, IfOk, map};
+ghost use Rattle.std.specs.Prelude.{◌≡◌, ◌++◌, [], ◌∷◌, IfOk, OnOk, map};
 ghost use Rattle.drum_core.specs.Loads.{loads_in};
 ghost use Rattle.drum_flow.specs.Executed.{successors};
 ghost use Rattle.drum_flow.specs.Flow.{executed_in};
 ghost use Rattle.drum_check.specs.Findings as said;
 ghost use Rattle.drum_check.specs.Findings.{is_among};
-ghost use Rattle.drum_check.specs.Insides.{marked_edges};
+ghost use Rattle.drum_check.specs.Insides.{marked_edges, marks_of};
 ghost use Rattle.drum_times.specs.EdgeOf.{edge_of};
+ghost use Rattle.drum_times.specs.Marks.{edges_of};
 
 use drum_core::{Deck, Location};
 use drum_flow::Flow;
 use drum_flow::executed::Executed;
-use drum_times::{Edge, Notes};
+use drum_times::{Edge, Edges, Mark, Notes};
 use std::alloc::{AllocError, Global};
 
 /// Whether the location is executed.
@@ -54,17 +55,51 @@ pub fn has_edge(
     goes_on(alloc, flow.deck(), flow.notes(), from, onto)
 }
 
-/// The edges of the marks that there are.
+/// Adds the edges of a mark.
+fn add_edges(edges: &mut Vec<Edge>, mark: &Mark) -> Result<(), AllocError>
+    ensures { OnOk result (map edge_of edges.new.items
+        ≡ map edge_of edges.old.items ++ edges_of mark.now) }
+{
+    edges.push(mark.first())?;
+    edges.extend_from_slice(mark.others.all())
+}
+
+/// The edges of the notes' marks.
 pub fn marked_edges(alloc: Global, flow: &Flow<'_>) -> Result<Vec<Edge>, AllocError>
-    ensures { IfOk result (λ edges. map edge_of edges.items
-        ≡ marked_edges flow.now.notes.now.marks) }
+    ensures { IfOk result (λ edges. map edge_of edges.items ≡ marked_edges flow.now.notes.now) }
 {
     let mut edges = Vec::new(alloc);
     for mark in flow.notes().marks() {
-        edges.push(Edge {
-            from: mark.from,
-            onto: mark.onto,
-        })?;
+        add_edges(&mut edges, mark)?;
     }
     Ok(edges)
+}
+
+/// The edges of a mark.
+fn edges_in(alloc: Global, mark: &Mark) -> Result<Edges, AllocError>
+    ensures { IfOk result (λ edges. edges ≡ edges_of mark.now) }
+{
+    let mut edges = Vec::new(alloc);
+    add_edges(&mut edges, mark)?;
+    Ok(Edges::new(edges))
+}
+
+/// The notes' marks, each by its edges.
+pub fn marks_of(alloc: Global, flow: &Flow<'_>) -> Result<Vec<Edges>, AllocError>
+    ensures { IfOk result (λ marks. marks.items ≡ marks_of flow.now.notes.now) }
+{
+    let mut marks = Vec::new(alloc);
+    for mark in flow.notes().marks() {
+        marks.push(edges_in(alloc, mark)?)?;
+    }
+    Ok(marks)
+}
+
+/// A mark on one edge alone.
+pub fn mark_alone(alloc: Global, edge: Edge) -> Result<Edges, AllocError>
+    ensures { IfOk result (λ mark. mark ≡ edge_of edge ∷ []) }
+{
+    let mut edges = Vec::new(alloc);
+    edges.push(edge)?;
+    Ok(Edges::new(edges))
 }

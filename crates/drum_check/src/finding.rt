@@ -19,19 +19,21 @@ pub enum Finding {
         kept: Kept,
     },
     /// Executed words times counts, the product of `most + 1` over the marks, is this product,
-    /// which is more than 4,000,000.
+    /// which is more than 4,000,000; and the notes are short.
     TooLarge(u128),
-    /// An edge free of marks closes a loop of such edges, and needs a mark.
+    /// An edge free of marks closes a loop of such edges, and needs a mark of its own, or shares
+    /// that of another one.
     Loop {
         edge: Edge,
         within: Within,
     },
-    /// A mark stands on an edge that the flow graph doesn't have.
+    /// A mark stands on this edge, which the flow graph doesn't have.
     UnusedMark(Edge),
     /// A location that isn't executed has a list.
     UnusedList(Location),
-    /// The loop that a mark's edge closes stands inside the one that another mark's edge closes,
-    /// and the notes don't say that the one mark stands inside the other.
+    /// The loop that an edge of a mark closes stands inside the one that an edge of another mark
+    /// closes, and the notes don't say that the one mark stands inside the other. These are the
+    /// marks' first edges.
     Inside {
         inner: Edge,
         outer: Edge,
@@ -39,9 +41,54 @@ pub enum Finding {
 }
 
 impl Finding {
-    ghost use Rattle.std.specs.Prelude.{◌≡◌};
+    ghost use Rattle.std.specs.Prelude.{◌≡◌, is_some, option_map};
     ghost use Rattle.drum_check.specs.Findings as said;
     ghost use Rattle.drum_check.specs.FindingsOf.{seen};
+    ghost use Rattle.drum_check.specs.Shared as shared;
+    ghost use Rattle.drum_check.specs.Shared.{asks_for_mark, asks_to_share};
+    ghost use Rattle.drum_times.specs.EdgeOf.{edge_of};
+
+    /// Whether it asks for a mark of its own.
+    pub(crate) fn asks_for_mark(&self) -> bool
+        ensures { result ≡ asks_for_mark (seen self.now) }
+    {
+        match self {
+            Finding::Loop { within, .. } => !within.is_shared(),
+            _ => false,
+        }
+    }
+
+    /// Whether it asks to share one.
+    pub(crate) fn asks_to_share(&self) -> bool
+        ensures { result ≡ asks_to_share (seen self.now) }
+    {
+        match self {
+            Finding::Loop { within, .. } => within.is_shared(),
+            _ => false,
+        }
+    }
+
+    /// Its edge, if that shares a mark, and goes back to this location.
+    pub(crate) fn shared_onto(&self, head: Location) -> Option<Edge>
+        ensures { option_map edge_of result ≡ shared.shared_onto head.number (seen self.now) }
+    {
+        match self {
+            Finding::Loop { edge, within } => {
+                if within.is_shared() && edge.onto.number() == head.number() {
+                    return Some(*edge);
+                }
+                None
+            }
+            _ => None,
+        }
+    }
+
+    /// Whether it has such an edge.
+    pub(crate) fn is_shared_onto(&self, head: Location) -> bool
+        ensures { result ≡ is_some (shared.shared_onto head.number (seen self.now)) }
+    {
+        self.shared_onto(head).is_some()
+    }
 
     /// Whether it may be meant as it is: a mark that doesn't say inside which other one it stands
     /// may be one whose passes are counted over the whole run.

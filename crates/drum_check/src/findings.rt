@@ -4,6 +4,7 @@ use crate::altered::altered_at;
 use crate::edges::{has_edge, is_executed};
 use crate::finding::Finding;
 use crate::kept::Kept;
+use crate::lengths::are_long;
 use crate::loops::unmarked_loops;
 use crate::operations::operations_outside;
 use crate::unsaid::{are_unsaid, unsaid_marks};
@@ -15,8 +16,9 @@ use drum_flow::{Flow, discover};
 use drum_times::{Edge, Mark, Notes};
 use std::alloc::{AllocError, Global};
 
-/// The most findings that are held, far more than any deck has.
-const LIMIT: usize = 1 << 40;
+/// The most findings that are held, more than any deck has: of each two of the 2,004 locations
+/// there may be an altered word, a loop and an unused edge, and few others of each location.
+const LIMIT: usize = 1 << 24;
 
 /// The most that executed words times counts may be.
 const PRODUCT_LIMIT: u128 = 4_000_000;
@@ -25,7 +27,9 @@ const PRODUCT_LIMIT: u128 = 4_000_000;
 #[derive(Debug, Drop)]
 pub struct Findings {
     pub(crate) all: Vec<Finding>,
-    ghost few: { vec_len all ≤ 1099511627776 },
+    /// Whether marks are lacking, and the notes are long once they have them.
+    pub(crate) long: bool,
+    ghost few: { vec_len all ≤ 16777216 },
 }
 
 impl Findings {
@@ -36,11 +40,13 @@ impl Findings {
     ghost use Rattle.drum_core.specs.Loads.{loads_in, start_in};
     ghost use Rattle.drum_flow.specs.Accepted as said;
     ghost use Rattle.drum_flow.specs.Flow.{executed_in, of_flow, AreFound};
+    ghost use Rattle.drum_times.specs.EdgeOf.{edge_of};
     ghost use Rattle.drum_check.specs.Findings.{not_there, unfit, altering, too_many};
-    ghost use Rattle.drum_check.specs.Findings.{astray, idle, may_be_meant, unused};
+    ghost use Rattle.drum_check.specs.Findings.{astray, idle, may_be_meant, missing, unused};
     ghost use Rattle.drum_check.specs.Findings.{not_in_profile, alters, AreFindings};
-    ghost use Rattle.drum_check.specs.FindingsOf.{AreFixed, seen, found_in};
+    ghost use Rattle.drum_check.specs.FindingsOf.{AreFixed, seen, found_in, is_long_in};
     ghost use Rattle.drum_check.specs.Kept.{kept_of};
+    ghost use Rattle.drum_check.specs.Lacking as lacking;
 
     /// None yet.
     fn none(alloc: Global) -> Findings
@@ -48,6 +54,7 @@ impl Findings {
     {
         Findings {
             all: Vec::new(alloc),
+            long: false,
         }
     }
 
@@ -183,11 +190,14 @@ impl Findings {
         Ok(())
     }
 
-    /// Adds that the analysis is too large, if it is.
+    /// Adds that the analysis is too large, if it is, and if the notes are short.
     fn add_size(&mut self, flow: &Flow<'_>) -> Result<(), AllocError>
-        ensures { OnOk result (found_in self.new ≡ found_in self.old
-            ++ too_many (said.product_of (executed_in flow.now) flow.now.notes.now.marks)) }
+        ensures { OnOk result (found_in self.new ≡ found_in self.old ++ too_many flow.now.notes.now
+            (said.product_of (executed_in flow.now) flow.now.notes.now.marks)) }
     {
+        if !flow.notes().is_short() {
+            return Ok(());
+        }
         let product = product_of(flow.executed().len(), flow.notes().marks());
         if product <= PRODUCT_LIMIT {
             return Ok(());
@@ -196,21 +206,45 @@ impl Findings {
     }
 
     /// Adds that a mark stands on an edge that the flow graph doesn't have, if it is so.
+    fn add_missing(&mut self, alloc: Global, flow: &Flow<'_>, edge: Edge) -> Result<(), AllocError>
+        ensures { OnOk result (found_in self.new ≡ found_in self.old
+            ++ missing (loads_in flow.now.deck.now) flow.now.notes.now (executed_in flow.now)
+            (edge_of edge)) }
+    {
+        if has_edge(alloc, flow, edge.from, edge.onto)? {
+            return Ok(());
+        }
+        self.add(Finding::UnusedMark(edge))
+    }
+
+    /// Adds those of some edges of a mark that the flow graph doesn't have.
+    fn add_all_missing(
+        &mut self,
+        alloc: Global,
+        flow: &Flow<'_>,
+        edges: &[Edge],
+    ) -> Result<(), AllocError>
+        ensures { OnOk result (found_in self.new ≡ found_in self.old
+            ++ flat_map (missing (loads_in flow.now.deck.now) flow.now.notes.now
+            (executed_in flow.now)) (map edge_of edges.now)) }
+    {
+        for edge in edges {
+            self.add_missing(alloc, flow, *edge)?;
+        }
+        Ok(())
+    }
+
+    /// Adds those edges of a mark that the flow graph doesn't have.
     fn add_astray(&mut self, alloc: Global, flow: &Flow<'_>, mark: &Mark) -> Result<(), AllocError>
         ensures { OnOk result (found_in self.new ≡ found_in self.old
             ++ astray (loads_in flow.now.deck.now) flow.now.notes.now (executed_in flow.now)
             mark.now) }
     {
-        if has_edge(alloc, flow, mark.from, mark.onto)? {
-            return Ok(());
-        }
-        self.add(Finding::UnusedMark(Edge {
-            from: mark.from,
-            onto: mark.onto,
-        }))
+        self.add_missing(alloc, flow, mark.first())?;
+        self.add_all_missing(alloc, flow, mark.others.all())
     }
 
-    /// Adds each mark on an edge that the flow graph doesn't have.
+    /// Adds each edge of a mark that the flow graph doesn't have.
     fn add_all_astray(&mut self, alloc: Global, flow: &Flow<'_>) -> Result<(), AllocError>
         ensures { OnOk result (found_in self.new ≡ found_in self.old
             ++ flat_map (astray (loads_in flow.now.deck.now) flow.now.notes.now
@@ -265,18 +299,20 @@ impl Findings {
 
     /// All that keeps the deck from having a bound under these notes, and the loose ends of the
     /// notes: first what is wrong with each executed location by itself, in the order of discovery,
-    /// then what the instructions of each alter, then the size, and then the edges that close
-    /// loops, those first whose loop stands inside the fewest others (in any order, where there
-    /// would be more than 8 marks); and last the loose ends of the notes: the marks and the lists
-    /// that are unused, each mark in order and each list by its location, and the marks that don't
-    /// say inside which other one they stand.
+    /// then what the instructions of each alter, then the size, where the notes are short, and then
+    /// the edges that close loops, those first whose loop stands inside the fewest others (in any
+    /// order, where they and the marks' edges are more than 64); and last the loose ends of the
+    /// notes: the marks' edges and the lists that are unused, each edge in order and each list by
+    /// its location, and the marks that don't say inside which other one they stand.
     ///
     /// # Errors
     ///
     /// [`AllocError`] where there is no memory.
     pub fn of(alloc: Global, deck: &Deck, notes: &Notes) -> Result<Findings, AllocError>
-        ensures { IfOk result (λ findings. AreFindings (loads_in deck.now) notes.now
+        ensures found { IfOk result (λ findings. AreFindings (loads_in deck.now) notes.now
             (start_in deck.now) (found_in findings)) }
+        ensures long { IfOk result (λ findings. is_long_in findings
+            ≡ lacking.are_long notes.now (found_in findings)) }
     {
         let flow = discover(alloc, deck, notes)?;
         let fixed = Fixed::of(alloc, flow.executed(), notes)?;
@@ -289,6 +325,7 @@ impl Findings {
         findings.add_all(&loops)?;
         findings.add_unused(alloc, &flow)?;
         findings.add_all(&unsaid)?;
+        findings.long = are_long(notes, &findings.all);
         Ok(findings)
     }
 

@@ -1,27 +1,35 @@
 //! The loops that lack a mark, in the order in which they are listed: those inside the fewest of
 //! the others first, each with the mark that a mark on its edge is to stand inside of.
 
-ghost use Rattle.std.specs.Prelude.{◌≡◌, ◌++◌, ◌+◌, ◌<◌, ◌↔◌, ℕ, List, map, All, IfOk, IsTrue};
-ghost use Rattle.std.specs.Prelude.{IsPermutation};
+ghost use Rattle.std.specs.Prelude.{◌≡◌, ◌++◌, ◌+◌, ◌<◌, ◌↔◌, [], ℕ, List, map, All, IfOk};
+ghost use Rattle.std.specs.Prelude.{IsPermutation, IsTrue};
 ghost use Rattle.drum_flow.specs.Flow.{executed_in, of_flow, AreFound};
 ghost use Rattle.drum_times.specs.EdgeOf.{edge_of};
 ghost use Rattle.drum_loops.specs.Loops.{AreClosing};
 ghost use Rattle.drum_check.specs.Findings.{closes};
 ghost use Rattle.drum_check.specs.FindingsOf.{seen, IsInsideIn};
+ghost use Rattle.drum_check.specs.KnownInside.{AreKnown};
 ghost use Rattle.drum_check.specs.Insides as said;
 ghost use Rattle.drum_check.specs.Insides.{AreLoops, AreFewestFirst, AreSoMany, AreToldInside};
-ghost use Rattle.drum_check.specs.Insides.{IsWithin};
+ghost use Rattle.drum_check.specs.Insides.{AreToldApart, IsTold, IsToldBehind, IsWithin};
 ghost use Rattle.drum_check.specs.declared.within.Within.TheVariants as within;
 
-use crate::edges::marked_edges;
+use crate::edges::{marked_edges, marks_of};
 use crate::finding::Finding;
 use crate::nested::{last_round, loops_round};
+use crate::nesting::Nesting;
 use crate::several::has_several_ways;
+use crate::sharing::{add_new_mark, all_marks, begins, mark_on, shared_heads};
 use crate::within::Within;
+use drum_core::Location;
 use drum_flow::Flow;
 use drum_loops::closing_edges;
-use drum_times::{Edge, Mark};
+use drum_times::{Edge, Edges};
 use std::alloc::{AllocError, Global};
+
+/// How many edges may be compared, each with each other one: as many as marks of notes can have if
+/// each has one.
+pub const MOST_EDGES: usize = 64;
 
 /// An edge, with inside how many loops its own stands.
 #[derive(Clone, Copy, Debug)]
@@ -31,16 +39,21 @@ struct Counted {
 }
 
 /// Edges, each with inside how many of their loops its own stands.
-fn with_counts(alloc: Global, flow: &Flow<'_>, edges: &[Edge]) -> Result<Vec<Counted>, AllocError>
+fn with_counts(
+    alloc: Global,
+    nesting: &Nesting<'_>,
+    edges: &[Edge],
+) -> Result<Vec<Counted>, AllocError>
+    requires { AreKnown nesting.now }
     ensures same { IfOk result (λ counted. map (λ one. edge_of one.edge) counted.items
         ≡ map edge_of edges.now) }
     ensures counts { IfOk result (λ counted. All
-        (λ one. AreSoMany (λ outer. IsInsideIn flow.now outer (edge_of one.edge))
+        (λ one. AreSoMany (λ outer. IsInsideIn nesting.now.flow.now outer (edge_of one.edge))
         (map edge_of edges.now) one.many) counted.items) }
 {
     let mut counted = Vec::new(alloc);
     for edge in edges {
-        let many = loops_round(alloc, flow, edges, *edge)?;
+        let many = loops_round(alloc, nesting, edges, *edge)?;
         counted.push(Counted { edge: *edge, many })?;
     }
     Ok(counted)
@@ -55,67 +68,109 @@ fn edges_of(alloc: Global, counted: &[Counted]) -> Result<Vec<Edge>, AllocError>
 
 /// Edges in the order in which they are listed: those first whose loop stands inside the fewest of
 /// their loops.
-fn fewest_first(alloc: Global, flow: &Flow<'_>, edges: &[Edge]) -> Result<Vec<Edge>, AllocError>
+fn fewest_first(
+    alloc: Global,
+    nesting: &Nesting<'_>,
+    edges: &[Edge],
+) -> Result<Vec<Edge>, AllocError>
+    requires { AreKnown nesting.now }
     ensures same { IfOk result (λ sorted. IsPermutation (map edge_of edges.now)
         (map edge_of sorted.items)) }
-    ensures sorted { IfOk result (λ sorted. AreFewestFirst (IsInsideIn flow.now)
+    ensures sorted { IfOk result (λ sorted. AreFewestFirst (IsInsideIn nesting.now.flow.now)
         (map edge_of sorted.items)) }
 {
-    let mut counted = with_counts(alloc, flow, edges)?;
+    let mut counted = with_counts(alloc, nesting, edges)?;
     counted.sort_by_key(|one| one.many)?;
     edges_of(alloc, &counted)
 }
 
-/// The edges of the marks that there are, and then these.
-fn all_edges(alloc: Global, flow: &Flow<'_>, edges: &[Edge]) -> Result<Vec<Edge>, AllocError>
-    ensures { IfOk result (λ all. map edge_of all.items
-        ≡ said.marked_edges flow.now.notes.now.marks ++ map edge_of edges.now) }
-{
-    let mut all = marked_edges(alloc, flow)?;
-    all.extend_from_slice(edges)?;
-    Ok(all)
-}
-
-/// Which mark a mark on an edge is to stand inside of: of all edges with a mark then, and of those
-/// before it.
+/// Which mark a mark on these edges is to stand inside of: of all marks then, and of those before
+/// it.
 fn within_of(
     alloc: Global,
-    flow: &Flow<'_>,
-    all: &[Edge],
-    before: &[Edge],
-    edge: Edge,
+    nesting: &Nesting<'_>,
+    all: &[Edges],
+    before: &[Edges],
+    mark: &[Edge],
 ) -> Result<Within, AllocError>
-    ensures { IfOk result (IsWithin (IsInsideIn flow.now) (map edge_of all.now)
-        (map edge_of before.now) (edge_of edge)) }
+    requires { AreKnown nesting.now }
+    ensures { IfOk result (IsWithin (IsInsideIn nesting.now.flow.now) all.now before.now
+        (map edge_of mark.now)) }
 {
-    if has_several_ways(alloc, flow, all, edge)? {
+    if has_several_ways(alloc, nesting, all, mark)? {
         return Ok(Within::SeveralWays);
     }
-    match last_round(alloc, flow, before, edge)? {
+    match last_round(alloc, nesting, before, mark)? {
         Some(number) => Ok(Within::Mark(number)),
         None => Ok(Within::Run),
     }
 }
 
-/// The loops of these edges, each with the mark that a mark on it is to stand inside of.
-fn told_inside(alloc: Global, flow: &Flow<'_>, edges: &[Edge]) -> Result<Vec<Finding>, AllocError>
-    ensures { IfOk result (λ loops. AreToldInside (IsWithin (IsInsideIn flow.now)
-        (said.marked_edges flow.now.notes.now.marks ++ map edge_of edges.now))
-        (said.marked_edges flow.now.notes.now.marks) (map edge_of edges.now)
-        (map seen loops.items)) }
+/// Which mark the mark of an edge is to stand inside of, if the edge is its first; else that it
+/// shares the mark.
+fn told_of(
+    alloc: Global,
+    nesting: &Nesting<'_>,
+    all: &[Edges],
+    before: &[Edges],
+    mark: &[Edge],
+    edge: Edge,
+) -> Result<Within, AllocError>
+    requires { AreKnown nesting.now }
+    ensures { IfOk result (IsTold (IsInsideIn nesting.now.flow.now) all.now before.now
+        (map edge_of mark.now) (edge_of edge)) }
 {
-    let all = all_edges(alloc, flow, edges)?;
-    let mut before = marked_edges(alloc, flow)?;
+    if !begins(mark, edge) {
+        return Ok(Within::Shared);
+    }
+    within_of(alloc, nesting, all, before, mark)
+}
+
+/// The loops of these edges, each with the mark that a mark on it is to stand inside of. At these
+/// locations edges share a mark.
+fn told_inside(
+    alloc: Global,
+    nesting: &Nesting<'_>,
+    shared: &[Location],
+    edges: &[Edge],
+) -> Result<Vec<Finding>, AllocError>
+    requires { AreKnown nesting.now }
+    ensures { IfOk result (λ loops. AreToldInside (IsToldBehind (IsInsideIn nesting.now.flow.now)
+        (said.marks_of nesting.now.flow.now.notes.now) (map (λ head. head.number) shared.now)
+        (map edge_of edges.now)) [] (map edge_of edges.now) (map seen loops.items)) }
+{
+    let all = all_marks(alloc, nesting.flow, shared, edges)?;
+    let mut before = marks_of(alloc, nesting.flow)?;
     let mut loops = Vec::new(alloc);
     for edge in edges {
-        let within = within_of(alloc, flow, &all, &before, *edge)?;
+        let mark = mark_on(alloc, shared, edges, *edge)?;
+        let within = told_of(alloc, nesting, &all, &before, mark.all(), *edge)?;
         loops.push(Finding::Loop {
             edge: *edge,
             within,
         })?;
-        before.push(*edge)?;
+        add_new_mark(&mut before, alloc, shared, edges, *edge)?;
     }
     Ok(loops)
+}
+
+/// The same, with the locations at which edges share a mark found first; these are the edges of the
+/// notes' marks.
+fn told_apart(
+    alloc: Global,
+    nesting: &Nesting<'_>,
+    marked: &[Edge],
+    edges: &[Edge],
+) -> Result<Vec<Finding>, AllocError>
+    requires known { AreKnown nesting.now }
+    requires marked { map edge_of marked.now ≡ said.marked_edges nesting.now.flow.now.notes.now }
+    ensures { IfOk result (λ loops. AreToldApart (IsInsideIn nesting.now.flow.now)
+        nesting.now.flow.now.notes.now (map edge_of edges.now) (map seen loops.items)) }
+{
+    let mut inners = marked.to_vec(alloc)?;
+    inners.extend_from_slice(edges)?;
+    let shared = shared_heads(alloc, nesting, &inners, edges)?;
+    told_inside(alloc, nesting, &shared, edges)
 }
 
 /// The loops of these edges, none of which is said to stand inside a mark.
@@ -133,25 +188,46 @@ fn told_alone(alloc: Global, edges: &[Edge]) -> Result<Vec<Finding>, AllocError>
     Ok(loops)
 }
 
-/// Whether marks and further edges are more than short notes have marks.
-fn is_past_short(marks: usize, edges: usize) -> bool
-    ensures { IsTrue result ↔ (8 < marks + edges) }
+/// Whether the edges of marks and further ones are more than [`MOST_EDGES`].
+fn are_many(marked: usize, edges: usize) -> bool
+    ensures { IsTrue result ↔ (64 < marked + edges) }
 {
-    marks > Mark::MOST_SHORT || edges > Mark::MOST_SHORT - marks
+    marked > MOST_EDGES || edges > MOST_EDGES - marked
 }
 
-/// The loops that lack a mark, in the order in which they are listed. Where they are so many that
-/// notes can't have a mark for each, none is said to stand inside another one. It takes as long as
-/// [`closing_edges`], and at most some four hundred times as long as discovery.
+/// The loops of these edges, in the order in which they are listed, each with the mark that a mark
+/// on it is to stand inside of. The marked ones are those of the notes' marks.
+fn told_in_order(
+    alloc: Global,
+    flow: &Flow<'_>,
+    marked: &[Edge],
+    edges: &[Edge],
+) -> Result<Vec<Finding>, AllocError>
+    requires { map edge_of marked.now ≡ said.marked_edges flow.now.notes.now }
+    ensures { IfOk result (λ loops. (sorted : List (ℕ × ℕ))
+        × IsPermutation (map edge_of edges.now) sorted
+        × AreFewestFirst (IsInsideIn flow.now) sorted
+        × AreToldApart (IsInsideIn flow.now) flow.now.notes.now sorted (map seen loops.items)) }
+{
+    let mut all = marked.to_vec(alloc)?;
+    all.extend_from_slice(edges)?;
+    let nesting = Nesting::of(alloc, flow, &all, edges)?;
+    let sorted = fewest_first(alloc, &nesting, edges)?;
+    told_apart(alloc, &nesting, marked, &sorted)
+}
+
+/// The loops that lack a mark, in the order in which they are listed. Where they and the marks that
+/// there are have more than [`MOST_EDGES`], none is said to stand inside another one. It takes as
+/// long as [`closing_edges`], and at most some ten thousand times as long as discovery.
 pub fn unmarked_loops(alloc: Global, flow: &Flow<'_>) -> Result<Vec<Finding>, AllocError>
     requires { of_flow AreFound flow.now (executed_in flow.now) }
     ensures { IfOk result (λ loops. (edges : List (ℕ × ℕ)) × of_flow AreClosing flow.now edges
         × of_flow AreLoops flow.now (executed_in flow.now) edges (map seen loops.items)) }
 {
     let edges = closing_edges(alloc, flow)?;
-    if is_past_short(flow.notes().marks().len(), edges.len()) {
+    let marked = marked_edges(alloc, flow)?;
+    if are_many(marked.len(), edges.len()) {
         return told_alone(alloc, &edges);
     }
-    let edges = fewest_first(alloc, flow, &edges)?;
-    told_inside(alloc, flow, &edges)
+    told_in_order(alloc, flow, &marked, &edges)
 }

@@ -1,47 +1,31 @@
 //! Whether the loop of one edge stands inside that of another one: how many loops stand round it,
-//! and which of them is the last.
+//! and which mark's is the last.
 
 ghost use Rattle.std.specs.Prelude.{◌↔◌, IsTrue, IfOk, map};
 ghost use Rattle.drum_times.specs.EdgeOf.{edge_of};
 ghost use Rattle.drum_check.specs.FindingsOf.{IsInsideIn};
-ghost use Rattle.drum_check.specs.Insides.{AreSoMany, IsLastNumber};
+ghost use Rattle.drum_check.specs.KnownInside.{AreKnown};
+ghost use Rattle.drum_check.specs.Insides.{AreSoMany, IsLastNumber, IsMarkRound, IsRound};
 
-use crate::edges::has_edge;
-use drum_flow::Flow;
-use drum_loops::is_nested;
-use drum_times::Edge;
+use crate::nesting::Nesting;
+use drum_times::{Edge, Edges};
 use std::alloc::{AllocError, Global};
-
-/// Whether the loop of the inner edge stands inside that of the outer one, and the flow graph has
-/// the outer edge. It takes as long as discovery, twice.
-pub fn stands_inside(
-    alloc: Global,
-    flow: &Flow<'_>,
-    outer: Edge,
-    inner: Edge,
-) -> Result<bool, AllocError>
-    ensures { IfOk result (λ stands. IsTrue stands
-        ↔ IsInsideIn flow.now (edge_of outer) (edge_of inner)) }
-{
-    if !has_edge(alloc, flow, outer.from, outer.onto)? {
-        return Ok(false);
-    }
-    is_nested(alloc, flow, outer, inner)
-}
 
 /// Inside how many loops of some edges that of another one stands.
 pub fn loops_round(
     alloc: Global,
-    flow: &Flow<'_>,
+    nesting: &Nesting<'_>,
     edges: &[Edge],
     inner: Edge,
 ) -> Result<usize, AllocError>
-    ensures { IfOk result (λ many. AreSoMany (λ outer. IsInsideIn flow.now outer (edge_of inner))
+    requires { AreKnown nesting.now }
+    ensures { IfOk result (λ many. AreSoMany
+        (λ outer. IsInsideIn nesting.now.flow.now outer (edge_of inner))
         (map edge_of edges.now) many) }
 {
     let mut many = 0;
     for outer in edges {
-        if !stands_inside(alloc, flow, *outer, inner)? {
+        if !nesting.stands_inside(alloc, *outer, inner)? {
             continue;
         }
         many += 1;
@@ -49,19 +33,58 @@ pub fn loops_round(
     Ok(many)
 }
 
-/// The number, from 1, of the last of some edges inside whose loop that of another one stands.
+/// Whether the loop of one of a mark's edges stands inside that of another edge.
+pub fn is_round(
+    alloc: Global,
+    nesting: &Nesting<'_>,
+    outer: Edge,
+    mark: &[Edge],
+) -> Result<bool, AllocError>
+    requires { AreKnown nesting.now }
+    ensures { IfOk result (λ round. IsTrue round
+        ↔ IsRound (IsInsideIn nesting.now.flow.now) (map edge_of mark.now) (edge_of outer)) }
+{
+    for inner in mark {
+        if nesting.stands_inside(alloc, outer, *inner)? {
+            return Ok(true);
+        }
+    }
+    Ok(false)
+}
+
+/// Whether the loop of one of a mark's edges stands inside that of one of another mark's.
+pub fn is_mark_round(
+    alloc: Global,
+    nesting: &Nesting<'_>,
+    edges: &[Edge],
+    mark: &[Edge],
+) -> Result<bool, AllocError>
+    requires { AreKnown nesting.now }
+    ensures { IfOk result (λ round. IsTrue round ↔ IsMarkRound
+        (IsInsideIn nesting.now.flow.now) (map edge_of mark.now) (map edge_of edges.now)) }
+{
+    for outer in edges {
+        if is_round(alloc, nesting, *outer, mark)? {
+            return Ok(true);
+        }
+    }
+    Ok(false)
+}
+
+/// The number, from 1, of the last of some marks inside whose loop that of another one stands.
 pub fn last_round(
     alloc: Global,
-    flow: &Flow<'_>,
-    edges: &[Edge],
-    inner: Edge,
+    nesting: &Nesting<'_>,
+    marks: &[Edges],
+    mark: &[Edge],
 ) -> Result<Option<usize>, AllocError>
+    requires { AreKnown nesting.now }
     ensures { IfOk result (λ number. IsLastNumber
-        (λ outer. IsInsideIn flow.now outer (edge_of inner)) (map edge_of edges.now) number) }
+        (IsMarkRound (IsInsideIn nesting.now.flow.now) (map edge_of mark.now)) marks.now number) }
 {
     let mut number = None;
-    for (place, outer) in edges.iter().enumerate() {
-        if !stands_inside(alloc, flow, *outer, inner)? {
+    for (place, outer) in marks.iter().enumerate() {
+        if !is_mark_round(alloc, nesting, outer.all(), mark)? {
             continue;
         }
         number = Some(place + 1);

@@ -3,149 +3,19 @@
 ghost use Rattle.std.specs.Prelude.{◌≡◌, ◌+◌, ◌^◌, ◌≤◌, ◌++◌, codes, decimal, IfOk, flat_map};
 ghost use Rattle.std.specs.Prelude.{length};
 ghost use Rattle.drum_lines.specs.Sent.{IsSent, IsWritten, fails_by};
-ghost use Rattle.drum_times.specs.EdgeOf.{edge_of};
-ghost use Rattle.drum_check.specs.declared.within.Within.TheVariants as within;
-ghost use Rattle.drum_check.specs.FindingsOf.{seen, found_in};
-ghost use Rattle.drum_check.specs.Lacking.{check_text, comment_text, edge_text, gap, within_text};
-ghost use Rattle.drum_check.specs.Lacking.{list_text, mark_for, mark_text, part_text, pattern_text};
-ghost use Rattle.drum_check.specs.Lacking.{words_altered};
+ghost use Rattle.drum_check.specs.FindingsOf.{found_in, is_long_in};
+ghost use Rattle.drum_check.specs.Lacking.{check_text, comment_text, gap, list_text, part_text};
+ghost use Rattle.drum_check.specs.Lacking.{pattern_text, words_altered};
 ghost use Rattle.drum_check.specs.LackingOf.{pair_of, words_in};
 
-use crate::finding::Finding;
 use crate::findings::Findings;
 use crate::kept::Kept;
 use crate::lacking::{Lack, Lacking};
 use crate::listing::send_findings;
-use crate::within::Within;
+use crate::marking::{send_long, send_marks};
 use drum_core::{Location, Output, Word};
 use drum_lines::{WriteFault, send, spelling_of};
-use drum_times::Edge;
 use itoa::Buffer;
-
-/// Writes the mark of an edge where `sent` bytes have gone out before, and returns how many have
-/// gone out then.
-fn send_edge<O: Output>(writer: &mut O, sent: usize, edge: Edge) -> Result<usize, WriteFault>
-    requires called { O.called writer.old ≤ 2 ^ 62 + 2 ^ 60 }
-    requires few { sent ≤ 2 ^ 60 }
-    ensures sent { IsSent (O.written writer.old) (O.written writer.new) sent result
-        (edge_text (edge_of edge)) }
-    ensures failures { O.failed writer.new ≡ O.failed writer.old + fails_by result }
-    ensures calls { O.called writer.new ≤ O.called writer.old + 100 }
-    ensures few { IfOk result (λ total. total ≤ sent + 100) }
-{
-    let mut from = Buffer::new();
-    let mut onto = Buffer::new();
-    let pieces: [&[u8]; 5] = [
-        b"[[mark]]\nmost =\nfrom = ",
-        from.format(edge.from.number()).as_bytes(),
-        b"\nto = ",
-        onto.format(edge.onto.number()).as_bytes(),
-        b"\n",
-    ];
-    send(writer, sent, &pieces)
-}
-
-/// Writes the line that says inside which mark, of this number, another one stands.
-fn send_inside<O: Output>(writer: &mut O, sent: usize, mark: usize) -> Result<usize, WriteFault>
-    requires called { O.called writer.old ≤ 2 ^ 62 + 2 ^ 61 }
-    requires few { sent ≤ 2 ^ 61 }
-    ensures sent { IsSent (O.written writer.old) (O.written writer.new) sent result
-        (within_text (within.Mark mark)) }
-    ensures failures { O.failed writer.new ≡ O.failed writer.old + fails_by result }
-    ensures calls { O.called writer.new ≤ O.called writer.old + 100 }
-    ensures few { IfOk result (λ total. total ≤ sent + 100) }
-{
-    let mut number = Buffer::new();
-    let pieces: [&[u8]; 3] = [
-        b"inside = ",
-        number.format(mark).as_bytes(),
-        b" # without this line, most is of the whole run\n",
-    ];
-    send(writer, sent, &pieces)
-}
-
-/// Writes the line that says inside which other mark a mark stands, if it does, or why there is
-/// none.
-fn send_within<O: Output>(writer: &mut O, sent: usize, within: Within) -> Result<usize, WriteFault>
-    requires called { O.called writer.old ≤ 2 ^ 62 + 2 ^ 61 }
-    requires few { sent ≤ 2 ^ 61 }
-    ensures sent { IsSent (O.written writer.old) (O.written writer.new) sent result
-        (within_text within) }
-    ensures failures { O.failed writer.new ≡ O.failed writer.old + fails_by result }
-    ensures calls { O.called writer.new ≤ O.called writer.old + 100 }
-    ensures few { IfOk result (λ total. total ≤ sent + 100) }
-{
-    match within {
-        Within::Run => Ok(sent),
-        Within::Mark(mark) => send_inside(writer, sent, mark),
-        Within::SeveralWays => {
-            let pieces: [&[u8]; 1] = [
-                b"# inside several ways back of one loop: most is of the whole run\n",
-            ];
-            send(writer, sent, &pieces)
-        }
-    }
-}
-
-/// Writes the mark of an edge, with the mark that it is to stand inside of.
-fn send_mark<O: Output>(
-    writer: &mut O,
-    sent: usize,
-    edge: Edge,
-    within: Within,
-) -> Result<usize, WriteFault>
-    requires called { O.called writer.old ≤ 2 ^ 62 + 2 ^ 60 }
-    requires few { sent ≤ 2 ^ 60 }
-    ensures sent { IsSent (O.written writer.old) (O.written writer.new) sent result
-        (mark_text (edge_of edge) within) }
-    ensures failures { O.failed writer.new ≡ O.failed writer.old + fails_by result }
-    ensures calls { O.called writer.new ≤ O.called writer.old + 200 }
-    ensures few { IfOk result (λ total. total ≤ sent + 200) }
-{
-    let sent = send_edge(writer, sent, edge)?;
-    send_within(writer, sent, within)
-}
-
-/// Writes the mark that a finding asks for, if it does.
-fn send_mark_for<O: Output>(
-    writer: &mut O,
-    sent: usize,
-    finding: &Finding,
-) -> Result<usize, WriteFault>
-    requires called { O.called writer.old ≤ 2 ^ 62 + 2 ^ 60 }
-    requires few { sent ≤ 2 ^ 60 }
-    ensures sent { IsSent (O.written writer.old) (O.written writer.new) sent result
-        (mark_for (seen finding.now)) }
-    ensures failures { O.failed writer.new ≡ O.failed writer.old + fails_by result }
-    ensures calls { O.called writer.new ≤ O.called writer.old + 200 }
-    ensures few { IfOk result (λ total. total ≤ sent + 200) }
-{
-    match *finding {
-        Finding::Loop { edge, within } => send_mark(writer, sent, edge, within),
-        _ => Ok(sent),
-    }
-}
-
-/// Writes the marks that are lacking.
-fn send_marks<O: Output>(
-    writer: &mut O,
-    begun: usize,
-    findings: &Findings,
-) -> Result<usize, WriteFault>
-    requires called { O.called writer.old ≤ 2 ^ 62 + 2 ^ 51 }
-    requires few { begun ≤ 2 ^ 51 }
-    ensures sent { IsSent (O.written writer.old) (O.written writer.new) begun result
-        (flat_map mark_for (found_in findings.now)) }
-    ensures failures { O.failed writer.new ≡ O.failed writer.old + fails_by result }
-    ensures calls { O.called writer.new ≤ O.called writer.old + 2 ^ 50 }
-    ensures few { IfOk result (λ total. total ≤ begun + 2 ^ 50) }
-{
-    let mut sent = begun;
-    for finding in &findings.all {
-        sent = send_mark_for(writer, sent, finding)?;
-    }
-    Ok(sent)
-}
 
 /// The digits of a part that stays; none where it has to be thought about.
 fn part_of(buffer: &mut Buffer, part: Option<u16>) -> &[u8]
@@ -275,8 +145,8 @@ fn send_lists<O: Output>(
     begun: usize,
     lacking: &Lacking,
 ) -> Result<usize, WriteFault>
-    requires called { O.called writer.old ≤ 2 ^ 62 + 2 ^ 52 }
-    requires few { begun ≤ 2 ^ 52 }
+    requires called { O.called writer.old ≤ 2 ^ 62 + 2 ^ 58 }
+    requires few { begun ≤ 2 ^ 58 }
     ensures sent { IsSent (O.written writer.old) (O.written writer.new) begun result
         (flat_map list_text (words_in lacking.now)) }
     ensures failures { O.failed writer.new ≡ O.failed writer.old + fails_by result }
@@ -289,8 +159,9 @@ fn send_lists<O: Output>(
 }
 
 /// Writes what was found, a line each, and then the notes that are lacking, as TOML: a mark for
-/// each edge that closes a loop, with the number of the mark inside which it stands, and a list for
-/// each word that is altered. What is lacking has to be that of what was found. It takes no memory.
+/// each edge that closes a loop, or for several that share it, with the number of the mark inside
+/// which it stands, behind a line that says so where these make long notes; and a list for each
+/// word that is altered. What is lacking has to be that of what was found. It takes no memory.
 ///
 /// # Errors
 ///
@@ -304,10 +175,11 @@ pub fn list_findings<O: Output>(
     requires called { O.called writer.old ≤ 2 ^ 62 }
     requires right { words_in lacking.now ≡ words_altered (found_in findings.now) }
     ensures written { IsWritten (O.written writer.old) (O.written writer.new) result
-        (check_text (found_in findings.now)) }
+        (check_text (is_long_in findings.now) (found_in findings.now)) }
     ensures failures { O.failed writer.new ≡ O.failed writer.old + fails_by result }
 {
     let sent = send_findings(writer, findings)?;
+    let sent = send_long(writer, sent, findings.long)?;
     let sent = send_marks(writer, sent, findings)?;
     send_lists(writer, sent, lacking)?;
     Ok(())

@@ -1,30 +1,35 @@
-//! Whether a loop stands inside several ways back of one loop: edges that go back to one location.
+//! Whether a loop stands inside several ways back of one loop: edges of different marks that go
+//! back to one location.
 
 ghost use Rattle.std.specs.Prelude.{◌≡◌, ◌↔◌, IsTrue, IfOk, map};
+ghost use Rattle.std.specs.List.{list_any};
 ghost use Rattle.drum_times.specs.EdgeOf.{edge_of};
-ghost use Rattle.drum_check.specs.Among.{has_twice, is_among};
+ghost use Rattle.drum_check.specs.Among.{is_among};
 ghost use Rattle.drum_check.specs.FindingsOf.{IsInsideIn};
-ghost use Rattle.drum_check.specs.Insides.{AreHeads, HasSeveralWays};
+ghost use Rattle.drum_check.specs.KnownInside.{AreKnown};
+ghost use Rattle.drum_check.specs.Insides.{AreHeads, HasSeveralWays, IsRound};
 
-use crate::nested::stands_inside;
+use crate::nested::is_round;
+use crate::nesting::Nesting;
 use drum_core::Location;
-use drum_flow::Flow;
-use drum_times::Edge;
+use drum_times::{Edge, Edges};
 use std::alloc::{AllocError, Global};
 
-/// Where those of some edges go back to inside whose loop that of another one stands.
+/// Where those of some edges go back to inside whose loop that of a mark stands.
 fn heads_round(
     alloc: Global,
-    flow: &Flow<'_>,
+    nesting: &Nesting<'_>,
     edges: &[Edge],
-    inner: Edge,
+    mark: &[Edge],
 ) -> Result<Vec<Location>, AllocError>
-    ensures { IfOk result (λ heads. AreHeads (λ outer. IsInsideIn flow.now outer (edge_of inner))
+    requires { AreKnown nesting.now }
+    ensures { IfOk result (λ heads. AreHeads
+        (IsRound (IsInsideIn nesting.now.flow.now) (map edge_of mark.now))
         (map edge_of edges.now) (map (λ head. head.number) heads.items)) }
 {
     let mut heads = Vec::new(alloc);
     for outer in edges {
-        if !stands_inside(alloc, flow, *outer, inner)? {
+        if !is_round(alloc, nesting, *outer, mark)? {
             continue;
         }
         heads.push(outer.onto)?;
@@ -33,7 +38,7 @@ fn heads_round(
 }
 
 /// Whether this is one of some locations.
-fn is_one_of(places: &[Location], place: Location) -> bool
+pub fn is_one_of(places: &[Location], place: Location) -> bool
     ensures { result ≡ is_among (map (λ one. one.number) places.now) place.number }
 {
     for one in places {
@@ -44,30 +49,38 @@ fn is_one_of(places: &[Location], place: Location) -> bool
     false
 }
 
-/// Whether one of some locations stands there twice.
-fn has_one_twice(places: &[Location]) -> bool
-    ensures { result ≡ has_twice (map (λ one. one.number) places.now) }
+/// Whether some location is one of these, and one of those.
+fn have_common(these: &[Location], those: &[Location]) -> bool
+    ensures { result ≡ list_any (is_among (map (λ one. one.number) these.now))
+        (map (λ one. one.number) those.now) }
 {
-    for (index, place) in places.iter().enumerate() {
-        if is_one_of(&places[index + 1..], *place) {
+    for place in those {
+        if is_one_of(these, *place) {
             return true;
         }
     }
     false
 }
 
-/// Whether the loop of one edge stands inside those of two of these that go back to one location.
-/// It takes as long as discovery, twice for each of them.
+/// Whether the loop of a mark stands inside loops of two of these marks that go back to one
+/// location. It takes as long as discovery, twice for each two edges.
 pub fn has_several_ways(
     alloc: Global,
-    flow: &Flow<'_>,
-    edges: &[Edge],
-    inner: Edge,
+    nesting: &Nesting<'_>,
+    marks: &[Edges],
+    mark: &[Edge],
 ) -> Result<bool, AllocError>
-    ensures { IfOk result (λ several. IsTrue several
-        ↔ HasSeveralWays (λ outer. IsInsideIn flow.now outer (edge_of inner))
-        (map edge_of edges.now)) }
+    requires { AreKnown nesting.now }
+    ensures { IfOk result (λ several. IsTrue several ↔ HasSeveralWays
+        (IsRound (IsInsideIn nesting.now.flow.now) (map edge_of mark.now)) marks.now) }
 {
-    let heads = heads_round(alloc, flow, edges, inner)?;
-    Ok(has_one_twice(&heads))
+    let mut seen = Vec::new(alloc);
+    for other in marks {
+        let heads = heads_round(alloc, nesting, other.all(), mark)?;
+        if have_common(&seen, &heads) {
+            return Ok(true);
+        }
+        seen.extend_from_slice(&heads)?;
+    }
+    Ok(false)
 }

@@ -1,111 +1,151 @@
 //! The marks that don't say inside which other one they stand.
 
-ghost use Rattle.std.specs.Prelude.{◌≡◌, ◌++◌, ◌↔◌, ◌<◌, ℕ, List, IsTrue, IfOk, OnOk, map};
+ghost use Rattle.std.specs.Prelude.{◌≡◌, ◌++◌, ◌↔◌, ◌<◌, ◌≤◌, ℕ, List, IsTrue, IfOk, OnOk, map};
 ghost use Rattle.std.specs.Prelude.{length};
 ghost use Rattle.std.specs.List.{list_all, range_with_len};
 ghost use Rattle.drum_core.specs.Loads.{loads_in, start_in};
 ghost use Rattle.drum_flow.specs.Flow.{executed_in};
 ghost use Rattle.drum_times.specs.EdgeOf.{edge_of};
-ghost use Rattle.drum_check.specs.Findings.{edge_at, inside_at, is_on_edge, may_be_meant, pairs_of};
+ghost use Rattle.drum_check.specs.Findings.{edge_at, edges_at, inside_at, may_be_meant, pairs_of};
 ghost use Rattle.drum_check.specs.Findings.{AreThose, IsUnsaid};
 ghost use Rattle.drum_check.specs.FindingsOf.{seen, IsInsideIn};
-ghost use Rattle.drum_check.specs.Insides as said;
-ghost use Rattle.drum_check.specs.Insides.{HasSeveralWays};
+ghost use Rattle.drum_check.specs.KnownInside.{AreKnown};
+ghost use Rattle.drum_check.specs.Insides.{HasSeveralWays, IsRound, marked_edges, marks_of};
 
-use crate::edges::{has_edge, marked_edges};
+use crate::edges::{marked_edges, marks_of};
 use crate::finding::Finding;
+use crate::loops::MOST_EDGES;
+use crate::nested::is_mark_round;
+use crate::nesting::Nesting;
 use crate::several::has_several_ways;
 use drum_flow::Flow;
-use drum_loops::is_nested;
 use drum_machine::is_inside;
-use drum_times::Edge;
+use drum_times::{Edge, Edges};
 use std::alloc::{AllocError, Global};
 
-/// The edge of the mark with this index.
+/// The first edge of the mark with this index.
 fn marked_edge(flow: &Flow<'_>, place: usize) -> Edge
     requires { place < length flow.now.notes.now.marks }
     ensures { edge_of result ≡ edge_at flow.now.notes.now.marks place }
 {
-    let mark = &flow.notes().marks()[place];
-    Edge {
-        from: mark.from,
-        onto: mark.onto,
-    }
+    flow.notes().marks()[place].first()
 }
 
-/// Whether the flow graph has the edge of the mark with this index.
-fn is_on_its_edge(alloc: Global, flow: &Flow<'_>, place: usize) -> Result<bool, AllocError>
-    requires { place < length flow.now.notes.now.marks }
-    ensures { IfOk result (λ has. has ≡ is_on_edge (loads_in flow.now.deck.now)
-        flow.now.notes.now (executed_in flow.now) place) }
+/// Whether the loop of the mark with one index stands inside that of the mark with another, and the
+/// notes don't say so. These are the notes' marks, and the one doesn't stand inside several ways
+/// back of one loop.
+fn is_unsaid(
+    alloc: Global,
+    nesting: &Nesting<'_>,
+    marks: &[Edges],
+    inner: usize,
+    outer: usize,
+) -> Result<bool, AllocError>
+    requires known { AreKnown nesting.now }
+    requires marks { marks.now ≡ marks_of nesting.now.flow.now.notes.now }
+    requires inner { inner < length marks.now }
+    requires outer { outer < length marks.now }
+    requires few { length (marked_edges nesting.now.flow.now.notes.now) ≤ 64 }
+    requires one_way { ¬ HasSeveralWays (IsRound (IsInsideIn nesting.now.flow.now)
+        (edges_at nesting.now.flow.now.notes.now.marks inner)) marks.now }
+    ensures { let flow = nesting.now.flow.now in IfOk result (λ unsaid. IsTrue unsaid
+        ↔ IsUnsaid (loads_in flow.deck.now) flow.notes.now (start_in flow.deck.now)
+        (executed_in flow) (inner, outer)) }
 {
-    let edge = marked_edge(flow, place);
-    has_edge(alloc, flow, edge.from, edge.onto)
+    if inner == outer {
+        return Ok(false);
+    }
+    if is_inside(nesting.flow.notes().marks(), inner, outer) {
+        return Ok(false);
+    }
+    is_mark_round(alloc, nesting, marks[outer].all(), marks[inner].all())
 }
 
-/// Whether the loop of an edge doesn't stand inside marks on several ways back of one loop.
-fn has_one_way(alloc: Global, flow: &Flow<'_>, inner: Edge) -> Result<bool, AllocError>
-    ensures { IfOk result (λ one. IsTrue one
-        ↔ ¬ HasSeveralWays (λ outer. IsInsideIn flow.now outer (edge_of inner))
-        (said.marked_edges flow.now.notes.now.marks)) }
-{
-    let edges = marked_edges(alloc, flow)?;
-    Ok(!has_several_ways(alloc, flow, &edges, inner)?)
-}
-
-/// Whether the loop of the mark with one index stands inside that of the mark with another, but not
-/// inside several ways back of one loop, and the notes don't say so.
-fn is_unsaid(alloc: Global, flow: &Flow<'_>, inner: usize, outer: usize) -> Result<bool, AllocError>
-    requires inner { inner < length flow.now.notes.now.marks }
-    requires outer { outer < length flow.now.notes.now.marks }
-    ensures { IfOk result (λ unsaid. IsTrue unsaid ↔ IsUnsaid (loads_in flow.now.deck.now)
-        flow.now.notes.now (start_in flow.now.deck.now) (executed_in flow.now) (inner, outer)) }
-{
-    if is_inside(flow.notes().marks(), inner, outer) {
-        return Ok(false);
-    }
-    if !is_on_its_edge(alloc, flow, inner)? {
-        return Ok(false);
-    }
-    if !is_on_its_edge(alloc, flow, outer)? {
-        return Ok(false);
-    }
-    let edge = marked_edge(flow, inner);
-    if !is_nested(alloc, flow, marked_edge(flow, outer), edge)? {
-        return Ok(false);
-    }
-    has_one_way(alloc, flow, edge)
-}
-
-/// Adds those marks inside which the one with this index stands, and doesn't say so.
-fn add_unsaid_of(
+/// Adds those marks inside which the one with this index stands, and doesn't say so, where it
+/// doesn't stand inside several ways back of one loop. These are the notes' marks.
+fn add_unsaid_one_way(
     found: &mut Vec<Finding>,
     alloc: Global,
-    flow: &Flow<'_>,
+    nesting: &Nesting<'_>,
+    marks: &[Edges],
     inner: usize,
 ) -> Result<(), AllocError>
-    requires { inner < length flow.now.notes.now.marks }
-    ensures { OnOk result ((outers : List (ℕ × ℕ))
-        × AreThose (IsUnsaid (loads_in flow.now.deck.now) flow.now.notes.now
-        (start_in flow.now.deck.now) (executed_in flow.now))
-        (map (λ outer. (inner, outer)) (range_with_len 0 (length flow.now.notes.now.marks))) outers
+    requires known { AreKnown nesting.now }
+    requires marks { marks.now ≡ marks_of nesting.now.flow.now.notes.now }
+    requires inner { inner < length marks.now }
+    requires few { length (marked_edges nesting.now.flow.now.notes.now) ≤ 64 }
+    requires one_way { ¬ HasSeveralWays (IsRound (IsInsideIn nesting.now.flow.now)
+        (edges_at nesting.now.flow.now.notes.now.marks inner)) marks.now }
+    ensures { let flow = nesting.now.flow.now in OnOk result ((outers : List (ℕ × ℕ))
+        × AreThose (IsUnsaid (loads_in flow.deck.now) flow.notes.now (start_in flow.deck.now)
+        (executed_in flow))
+        (map (λ outer. (inner, outer)) (range_with_len 0 (length flow.notes.now.marks))) outers
         × (map seen found.new.items ≡ map seen found.old.items
-        ++ map (inside_at flow.now.notes.now.marks) outers)) }
+        ++ map (inside_at flow.notes.now.marks) outers)) }
 {
-    for outer in 0..flow.notes().marks().len() {
-        if !is_unsaid(alloc, flow, inner, outer)? {
+    for outer in 0..marks.len() {
+        if !is_unsaid(alloc, nesting, marks, inner, outer)? {
             continue;
         }
         found.push(Finding::Inside {
-            inner: marked_edge(flow, inner),
-            outer: marked_edge(flow, outer),
+            inner: marked_edge(nesting.flow, inner),
+            outer: marked_edge(nesting.flow, outer),
         })?;
     }
     Ok(())
 }
 
+/// Adds those marks inside which the one with this index stands, and doesn't say so; none where it
+/// stands inside several ways back of one loop. These are the notes' marks.
+fn add_unsaid_of(
+    found: &mut Vec<Finding>,
+    alloc: Global,
+    nesting: &Nesting<'_>,
+    marks: &[Edges],
+    inner: usize,
+) -> Result<(), AllocError>
+    requires known { AreKnown nesting.now }
+    requires marks { marks.now ≡ marks_of nesting.now.flow.now.notes.now }
+    requires inner { inner < length marks.now }
+    requires few { length (marked_edges nesting.now.flow.now.notes.now) ≤ 64 }
+    ensures { let flow = nesting.now.flow.now in OnOk result ((outers : List (ℕ × ℕ))
+        × AreThose (IsUnsaid (loads_in flow.deck.now) flow.notes.now (start_in flow.deck.now)
+        (executed_in flow))
+        (map (λ outer. (inner, outer)) (range_with_len 0 (length flow.notes.now.marks))) outers
+        × (map seen found.new.items ≡ map seen found.old.items
+        ++ map (inside_at flow.notes.now.marks) outers)) }
+{
+    if has_several_ways(alloc, nesting, marks, marks[inner].all())? {
+        return Ok(());
+    }
+    add_unsaid_one_way(found, alloc, nesting, marks, inner)
+}
+
+/// The pairs of these marks of which the one stands inside the other, and doesn't say so. They are
+/// the notes' marks.
+fn unsaid_of(
+    alloc: Global,
+    nesting: &Nesting<'_>,
+    marks: &[Edges],
+) -> Result<Vec<Finding>, AllocError>
+    requires known { AreKnown nesting.now }
+    requires marks { marks.now ≡ marks_of nesting.now.flow.now.notes.now }
+    requires few { length (marked_edges nesting.now.flow.now.notes.now) ≤ 64 }
+    ensures { let flow = nesting.now.flow.now in IfOk result (λ found. (pairs : List (ℕ × ℕ))
+        × AreThose (IsUnsaid (loads_in flow.deck.now) flow.notes.now (start_in flow.deck.now)
+        (executed_in flow)) (pairs_of flow.notes.now.marks) pairs
+        × (map seen found.items ≡ map (inside_at flow.notes.now.marks) pairs)) }
+{
+    let mut found = Vec::new(alloc);
+    for inner in 0..marks.len() {
+        add_unsaid_of(&mut found, alloc, nesting, marks, inner)?;
+    }
+    Ok(found)
+}
+
 /// The pairs of marks of which the one stands inside the other, and doesn't say so: by the index of
-/// the one, and then of the other. For each pair it takes as long as discovery, twice.
+/// the one, and then of the other; none where the marks have more than [`MOST_EDGES`]. For each two
+/// edges it takes as long as discovery, twice.
 pub fn unsaid_marks(alloc: Global, flow: &Flow<'_>) -> Result<Vec<Finding>, AllocError>
     ensures { IfOk result (λ found. (pairs : List (ℕ × ℕ))
         × AreThose (IsUnsaid (loads_in flow.now.deck.now) flow.now.notes.now
@@ -113,11 +153,13 @@ pub fn unsaid_marks(alloc: Global, flow: &Flow<'_>) -> Result<Vec<Finding>, Allo
         pairs
         × (map seen found.items ≡ map (inside_at flow.now.notes.now.marks) pairs)) }
 {
-    let mut found = Vec::new(alloc);
-    for inner in 0..flow.notes().marks().len() {
-        add_unsaid_of(&mut found, alloc, flow, inner)?;
+    let marked = marked_edges(alloc, flow)?;
+    if marked.len() > MOST_EDGES {
+        return Ok(Vec::new(alloc));
     }
-    Ok(found)
+    let nesting = Nesting::of(alloc, flow, &marked, &marked)?;
+    let marks = marks_of(alloc, flow)?;
+    unsaid_of(alloc, &nesting, &marks)
 }
 
 /// Whether all that was found are such pairs.

@@ -2,10 +2,11 @@
 use Rattle.std.proofs.Common.{ℕ, List}
 use Rattle.drum_lines.specs.declared.fault.Fault.{Fault}
 use Rattle.drum_lines.specs.declared.fault.Fault.TheVariants as faults
+use Rattle.drum_toml.specs.declared.notes.notes_read.NotesRead.TheVariants.{Short}
 use Rattle.drum_documents.specs.Documents.{SayNone, Texts}
 use Rattle.drum_documents.specs.Joined.{AreParts, JoinsNone}
 
-pub joins_none : (text : List ℕ) (parts : Texts) (fault : Fault) → AreParts text parts → SayNone parts fault
+pub joins_none : (text : List ℕ) (parts : Texts) (fault : Fault) → AreParts text parts → SayNone Short parts fault
     → JoinsNone text fault
 joins_none text parts (faults.Refused refusal) are none = absurd none
 joins_none text parts faults.NoPart are none = absurd none
@@ -16,3 +17,4 @@ joins_none text parts (faults.Times fault) are none = (parts, are, none)
 joins_none text parts (faults.Notes fault) are none = (parts, are, none)
 joins_none text parts (faults.Inputs fault) are none = absurd none
 joins_none text parts (faults.Loaded location) are none = absurd none
+joins_none text parts faults.LongNotes are none = absurd none

@@ -1,5 +1,6 @@
 -- What limits a run, and why nothing does.
-use Rattle.std.proofs.Common.{◌≡◌, ◌≢◌, ℕ, ◌≤◌, refl, arith}
+use Rattle.std.proofs.Common.{◌≢◌, ℕ, ◌≤◌, Bool, true, false, refl, arith}
+use Rattle.std.specs.Prelude.{IsTrue, not}
 use Rattle.drum_flow.specs.declared.refusal.Refusal.TheVariants as refusal
 use Rattle.drum_flow.specs.Bounded.{IsBounded}
 use Rattle.drum_lines.specs.declared.fault.Fault.{Fault}
@@ -11,7 +12,9 @@ use Rattle.drum_ceiling.specs.CeilingOf.{base_of, prices_of, total_of}
 use Rattle.drum_ceiling.specs.Right.{IsTooDear}
 use Rattle.drum_documents.specs.declared.documents.Documents.{Documents}
 use Rattle.drum_documents.specs.Documents.{setting_of}
-use Rattle.drum_documents.specs.Limits.{IsAnalysisFault, IsCeiling, IsCeilingFault, IsLimit, IsLimitFault}
+use Rattle.drum_times.specs.Short.{is_short}
+use Rattle.drum_documents.specs.Limits.{AreLong, AreShort, HaveNoBound, IsAnalysisFault, IsCeiling, IsCeilingFault}
+use Rattle.drum_documents.specs.Limits.{IsLimit, IsLimitFault}
 
 -- why there is no bound is why there is no limit, unless it is the size
 pub no_limit : (documents : Documents) (fault : Fault)
@@ -31,16 +34,18 @@ no_limit documents (faults.Times fault) other is = absurd is
 no_limit documents (faults.Notes fault) other is = absurd is
 no_limit documents (faults.Inputs fault) other is = absurd is
 no_limit documents (faults.Loaded location) other is = absurd is
+no_limit documents faults.LongNotes other is = absurd is
 
 -- and so is why there is no ceiling
-pub no_ceiling : (documents : Documents) (fault : Fault) → IsCeilingFault documents fault
-    → IsLimitFault documents fault
-no_ceiling documents (faults.Refused (refusal.NotLoaded location)) is = is
-no_ceiling documents (faults.Refused (refusal.NotInProfile location op)) is = is
-no_ceiling documents (faults.Refused (refusal.Alters writer word)) is = is
-no_ceiling documents (faults.Refused (refusal.Unbounded cycle)) is = is
-no_ceiling documents (faults.Refused (refusal.TooLarge product)) is = (
-  is.0,
+pub no_ceiling : (documents : Documents) (fault : Fault) → HaveNoBound documents
+    → IsCeilingFault documents fault → IsLimitFault documents fault
+no_ceiling documents (faults.Refused (refusal.NotLoaded location)) none is = is
+no_ceiling documents (faults.Refused (refusal.NotInProfile location op)) none is = is
+no_ceiling documents (faults.Refused (refusal.Alters writer word)) none is = is
+no_ceiling documents (faults.Refused (refusal.Unbounded cycle)) none is = is
+no_ceiling documents (faults.Refused (refusal.TooLarge product)) none is = (
+  none,
+  is.0.2,
   record {
     executed = is.1.executed;
     admitted = is.1.admitted;
@@ -50,15 +55,16 @@ no_ceiling documents (faults.Refused (refusal.TooLarge product)) is = (
     large = omega (arith, is.1.large);
   },
 )
-no_ceiling documents (faults.Refused refusal.Memory) is = is
-no_ceiling documents faults.NoPart is = absurd is
-no_ceiling documents (faults.Part part what) is = absurd is
-no_ceiling documents faults.Memory is = absurd is
-no_ceiling documents (faults.Deck fault) is = absurd is
-no_ceiling documents (faults.Times fault) is = absurd is
-no_ceiling documents (faults.Notes fault) is = absurd is
-no_ceiling documents (faults.Inputs fault) is = absurd is
-no_ceiling documents (faults.Loaded location) is = absurd is
+no_ceiling documents (faults.Refused refusal.Memory) none is = is
+no_ceiling documents faults.NoPart none is = absurd is
+no_ceiling documents (faults.Part part what) none is = absurd is
+no_ceiling documents faults.Memory none is = absurd is
+no_ceiling documents (faults.Deck fault) none is = absurd is
+no_ceiling documents (faults.Times fault) none is = absurd is
+no_ceiling documents (faults.Notes fault) none is = absurd is
+no_ceiling documents (faults.Inputs fault) none is = absurd is
+no_ceiling documents (faults.Loaded location) none is = absurd is
+no_ceiling documents faults.LongNotes none is = absurd is
 
 -- a ceiling that comes to so much
 pub too_dear : (documents : Documents) (ceiling : Ceiling) (least : ℕ) → IsCeiling documents ceiling
@@ -75,6 +81,14 @@ too_dear documents ceiling least is large = record {
 -- no kept run uses more than what limits it
 pub bounded_by : (documents : Documents) (by : limits.Limit) (most : ℕ) → IsLimit documents by most
     → IsBounded (setting_of documents) most
-bounded_by documents limit.Bound most is = is.bounded
+bounded_by documents limit.Bound most is = is.1.bounded
 bounded_by documents limit.Ceiling most is =
     λ s steps first run kept. omega (arith, is.1.1.kept s steps first run kept, is.1.2)
+
+-- notes aren't both short and long
+pub short_or_long : (documents : Documents) → AreShort documents → AreLong documents → ⊥
+short_or_long documents short long = go (is_short documents.notes) short long
+  where
+    go : (b : Bool) → IsTrue b → IsTrue (not b) → ⊥
+    go true short long = cc
+    go false short long = cc

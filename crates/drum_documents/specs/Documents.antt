@@ -7,7 +7,8 @@ use Rattle.drum_core.specs.declared.deck.fault.DeckFault.TheVariants as of_deck
 use Rattle.drum_core.specs.DeckText as text
 use Rattle.drum_core.specs.Holds.{IsDeckOf}
 use Rattle.drum_times.specs.declared.times.Times.{Times}
-use Rattle.drum_toml.specs.Says.{SayTimes, SayNotes, AreNoTimes, AreNoNotes}
+use Rattle.drum_toml.specs.declared.notes.notes_read.NotesRead.{NotesRead}
+use Rattle.drum_toml.specs.Says.{SayTimes, SayNotesOf, AreNoTimes, AreNoNotesOf}
 use Rattle.drum_inputs.specs.declared.fault.InputFault.{InputFault}
 use Rattle.drum_inputs.specs.declared.fault.InputFault.TheVariants as of_inputs
 use Rattle.drum_inputs.specs.declared.inputs.Inputs.{Inputs}
@@ -51,9 +52,9 @@ abbrev pub RefusesTimes : List ℕ → Fault → Type 0
 RefusesTimes bytes (fault.Times one) = AreNoTimes bytes one
 RefusesTimes bytes _ = ⊥
 
-abbrev pub RefusesNotes : List ℕ → Fault → Type 0
-RefusesNotes bytes (fault.Notes one) = AreNoNotes bytes one
-RefusesNotes bytes _ = ⊥
+abbrev pub RefusesNotes : NotesRead → List ℕ → Fault → Type 0
+RefusesNotes read bytes (fault.Notes one) = AreNoNotesOf read bytes one
+RefusesNotes read bytes _ = ⊥
 
 abbrev pub RefusesInputs : List ℕ → Fault → Type 0
 RefusesInputs bytes (fault.Inputs one) = AreNoInputs bytes one
@@ -68,18 +69,19 @@ pub record Texts : Type 0 where
 abbrev pub texts_of : List ℕ → List ℕ → List ℕ → Texts
 texts_of deck times notes = record { deck = deck; times = times; notes = notes }
 
-pub record Say (texts : Texts) (documents : Documents) : Type 0 where
+-- The texts say these documents, where such notes are read: short ones alone, or long ones.
+pub record Say (read : NotesRead) (texts : Texts) (documents : Documents) : Type 0 where
   pub deck : SaysDeck texts.deck documents.deck
   pub times : SayTimes texts.times documents.times
-  pub notes : SayNotes texts.notes documents.notes
+  pub notes : SayNotesOf read texts.notes documents.notes
 
 -- Why texts say no documents: the first of them that is refused, the deck, the timing table or the
 -- notes.
-abbrev pub SayNone : Texts → Fault → Type 0
-SayNone texts (fault.Deck one) = IsNoDeck texts.deck one
-SayNone texts (fault.Times one) =
+abbrev pub SayNone : NotesRead → Texts → Fault → Type 0
+SayNone read texts (fault.Deck one) = IsNoDeck texts.deck one
+SayNone read texts (fault.Times one) =
     ((deck : Deck) × SaysDeck texts.deck deck) × AreNoTimes texts.times one
-SayNone texts (fault.Notes one) =
+SayNone read texts (fault.Notes one) =
     ((deck : Deck) × SaysDeck texts.deck deck) × ((times : Times) × SayTimes texts.times times)
-    × AreNoNotes texts.notes one
-SayNone texts _ = ⊥
+    × AreNoNotesOf read texts.notes one
+SayNone read texts _ = ⊥

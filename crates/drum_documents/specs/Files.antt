@@ -7,7 +7,8 @@ use Rattle.drum_core.specs.declared.device.whole.WholeError.{WholeError}
 use Rattle.drum_core.specs.declared.device.whole.WholeError.TheVariants as why
 use Rattle.drum_times.specs.declared.times.Times.{Times}
 use Rattle.drum_times.specs.Allowed.{Notes}
-use Rattle.drum_toml.specs.Says.{SayTimes, SayNotes}
+use Rattle.drum_toml.specs.declared.notes.notes_read.NotesRead.{NotesRead}
+use Rattle.drum_toml.specs.Says.{SayTimes, SayNotes, SayNotesOf}
 use Rattle.drum_inputs.specs.declared.fault.InputFault.TheVariants as of_inputs
 use Rattle.drum_inputs.specs.declared.inputs.Inputs.{Inputs}
 use Rattle.drum_documents.specs.declared.documents.Documents.{Documents}
@@ -88,7 +89,7 @@ HoldsNone of Refuses file one =
     HoldsNoText of file one
     ⊎ ((bytes : List ℕ) × HoldsText of file bytes × Refuses bytes one)
 
--- the file is that of a deck, a timing table, notes, inputs
+-- the file is that of a deck, a timing table, notes (short ones, or such as are read), inputs
 abbrev pub HoldsDeck : Option (List ℕ) → Deck → Type 0
 HoldsDeck = Holds part.Deck SaysDeck
 
@@ -97,6 +98,9 @@ HoldsTimes = Holds part.Times SayTimes
 
 abbrev pub HoldsNotes : Option (List ℕ) → Notes → Type 0
 HoldsNotes = Holds part.Notes SayNotes
+
+abbrev pub HoldsNotesOf : NotesRead → Option (List ℕ) → Notes → Type 0
+HoldsNotesOf read = Holds part.Notes (SayNotesOf read)
 
 abbrev pub HoldsInputs : Option (List ℕ) → Inputs → Type 0
 HoldsInputs = Holds part.Inputs SayInputs
@@ -108,33 +112,35 @@ HoldsNoDeck = HoldsNone part.Deck RefusesDeck
 abbrev pub HoldsNoTimes : Option (List ℕ) → Fault → Type 0
 HoldsNoTimes = HoldsNone part.Times RefusesTimes
 
-abbrev pub HoldsNoNotes : Option (List ℕ) → Fault → Type 0
-HoldsNoNotes = HoldsNone part.Notes RefusesNotes
+abbrev pub HoldsNoNotes : NotesRead → Option (List ℕ) → Fault → Type 0
+HoldsNoNotes read = HoldsNone part.Notes (RefusesNotes read)
 
 abbrev pub HoldsNoInputs : Option (List ℕ) → Fault → Type 0
 HoldsNoInputs = HoldsNone part.Inputs RefusesInputs
 
--- the files of three parts are those of documents
-pub record AreHeld (held : Held) (documents : Documents) : Type 0 where
+-- the files of three parts are those of documents, where such notes are read
+pub record AreHeld (read : NotesRead) (held : Held) (documents : Documents) : Type 0 where
   pub deck : HoldsDeck (held part.Deck) documents.deck
   pub times : HoldsTimes (held part.Times) documents.times
-  pub notes : HoldsNotes (held part.Notes) documents.notes
+  pub notes : HoldsNotesOf read (held part.Notes) documents.notes
 
 -- why they are not: the first of them, the deck, the timing table, the notes, that is refused
-abbrev pub AreNotHeld : Held → Fault → Type 0
-AreNotHeld held one =
+abbrev pub AreNotHeld : NotesRead → Held → Fault → Type 0
+AreNotHeld read held one =
     HoldsNoDeck (held part.Deck) one
     ⊎ ((deck : Deck) × HoldsDeck (held part.Deck) deck
     × (HoldsNoTimes (held part.Times) one
     ⊎ ((times : Times) × HoldsTimes (held part.Times) times
-    × HoldsNoNotes (held part.Notes) one)))
+    × HoldsNoNotes read (held part.Notes) one)))
 
 -- and a fourth is that of inputs
-abbrev pub AreHeldWithInputs : Held → Documents × Inputs → Type 0
-AreHeldWithInputs held read = AreHeld held read.0 × HoldsInputs (held part.Inputs) read.1
+abbrev pub AreHeldWithInputs : NotesRead → Held → Documents × Inputs → Type 0
+AreHeldWithInputs read held found =
+    AreHeld read held found.0 × HoldsInputs (held part.Inputs) found.1
 
 -- why they are not: one of the three is refused, or else that of the inputs
-abbrev pub AreNotHeldWithInputs : Held → Fault → Type 0
-AreNotHeldWithInputs held one =
-    AreNotHeld held one
-    ⊎ (((documents : Documents) × AreHeld held documents) × HoldsNoInputs (held part.Inputs) one)
+abbrev pub AreNotHeldWithInputs : NotesRead → Held → Fault → Type 0
+AreNotHeldWithInputs read held one =
+    AreNotHeld read held one
+    ⊎ (((documents : Documents) × AreHeld read held documents)
+    × HoldsNoInputs (held part.Inputs) one)

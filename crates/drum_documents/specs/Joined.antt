@@ -7,6 +7,7 @@ use Rattle.drum_lines.specs.declared.fault.Fault.{Fault}
 use Rattle.drum_lines.specs.declared.fault.Fault.TheVariants as fault
 use Rattle.drum_lines.specs.declared.part.Part.TheVariants as part
 use Rattle.drum_lines.specs.declared.part.PartFault.TheVariants as what
+use Rattle.drum_toml.specs.declared.notes.notes_read.NotesRead.TheVariants.{Short}
 use Rattle.drum_documents.specs.Documents.{Texts, Say, SayNone}
 
 -- nothing, or bytes whose last is a line feed
@@ -40,12 +41,12 @@ LacksPart text =
 
 -- the documents that a joined form says, by its parts
 abbrev pub Joins : List ℕ → Documents → Type 0
-Joins text documents = (parts : Texts) × AreParts text parts × Say parts documents
+Joins text documents = (parts : Texts) × AreParts text parts × Say Short parts documents
 
 -- why a joined form says none: a part is missing; else the first part that is refused
 abbrev pub JoinsNone : List ℕ → Fault → Type 0
 JoinsNone text fault.NoPart = LacksPart text
-JoinsNone text one = (parts : Texts) × AreParts text parts × SayNone parts one
+JoinsNone text one = (parts : Texts) × AreParts text parts × SayNone Short parts one
 
 -- the documents of an input that gives these bytes
 abbrev pub Gives : List ℕ → Documents → Type 0

@@ -1,14 +1,18 @@
 -- What is known of documents: their bound, a worst walk, a ceiling, and what limits a run of
 -- theirs.
-use Rattle.std.specs.Prelude.{◌≡◌, ℕ, ◌^◌, ◌<◌, List}
+use Rattle.std.specs.Prelude.{◌≡◌, ℕ, ◌^◌, ◌<◌, List, IsTrue, not, ◌⊎◌}
 use Rattle.drum_core.specs.Loads.{loads_in, start_in}
 use Rattle.drum_flow.specs.declared.refusal.Refusal.{Refusal}
-use Rattle.drum_flow.specs.Acceptance.{IsRefusal}
-use Rattle.drum_flow.specs.Accepted.{IsTooLarge}
+use Rattle.drum_flow.specs.declared.refusal.Refusal.TheVariants.{TooLarge}
+use Rattle.drum_flow.specs.Acceptance.{IsAdmissionRefusal, IsRefusal}
+use Rattle.drum_flow.specs.Accepted.{IsTooLarge, product_of, told}
+use Rattle.drum_flow.specs.Executed.{IsOrder}
+use Rattle.drum_times.specs.Short.{is_short}
 use Rattle.drum_bound.specs.BoundOf as of_setting
 use Rattle.drum_bound.specs.Visited.{AreLongest, Visited, IsWalkOf}
 use Rattle.drum_ceiling.specs.declared.answer.Ceiling.{Ceiling}
-use Rattle.drum_ceiling.specs.CeilingOf.{IsCeilingOf, IsCeilingRefusal, IsRefusedFrom, total_of}
+use Rattle.drum_ceiling.specs.CeilingOf.{IsCeilingOf, IsCeilingRefusal, total_of}
+use Rattle.drum_ceiling.specs.Right.{IsTooDear}
 use Rattle.drum_lines.specs.declared.fault.Fault.{Fault}
 use Rattle.drum_lines.specs.declared.fault.Fault.TheVariants as fault
 use Rattle.drum_lines.specs.declared.limit.Limit.{Limit}
@@ -51,19 +55,49 @@ abbrev pub IsTooLargeForBound : Documents → ℕ → Type 0
 IsTooLargeForBound documents =
     IsTooLarge (loads_in documents.deck) documents.notes (start_in documents.deck)
 
--- What a run that keeps to the notes uses at most: the bound; or, where the deck with its notes is
--- too large for one, and nothing else is wrong, the total of a ceiling that is below 2 ^ 50.
+-- their notes are short, so that they go by the bound
+abbrev pub AreShort : Documents → Type 0
+AreShort documents = IsTrue (is_short documents.notes)
+
+-- or they are long
+abbrev pub AreLong : Documents → Type 0
+AreLong documents = IsTrue (not (is_short documents.notes))
+
+-- why nothing goes by their bound: their notes are long, or they have none
+abbrev pub IsShortFault : Documents → Fault → Type 0
+IsShortFault documents one =
+    ((one ≡ fault.LongNotes) × AreLong documents)
+    ⊎ (AreShort documents × IsAnalysisFault documents one)
+
+-- they are too large for a bound, or have long notes, which go by none
+abbrev pub HaveNoBound : Documents → Type 0
+HaveNoBound documents =
+    (AreShort documents × (product : ℕ) × IsTooLargeForBound documents product)
+    ⊎ AreLong documents
+
+-- What a run that keeps to the notes uses at most: of short notes the bound; where there is none
+-- for the size alone, and of long notes, the total of a ceiling that is below 2 ^ 50.
 abbrev pub IsLimit : Documents → Limit → ℕ → Type 0
-IsLimit documents limit.Bound most = IsBound documents most
+IsLimit documents limit.Bound most = AreShort documents × IsBound documents most
 IsLimit documents limit.Ceiling most =
-    ((product : ℕ) × IsTooLargeForBound documents product)
+    HaveNoBound documents
     × ((ceiling : Ceiling) × IsCeiling documents ceiling × (most ≡ total_of ceiling))
     × (most < 2 ^ 50)
 
--- why there is neither: as of a ceiling, but that the sum of a certificate is 2 ^ 50 or more
+-- executed words times counts, as it is told
+abbrev pub IsProduct : Documents → ℕ → Type 0
+IsProduct documents product =
+    (executed : List ℕ)
+    × IsOrder (loads_in documents.deck) documents.notes (start_in documents.deck) executed
+    × (product ≡ told (product_of executed documents.notes.marks))
+
+-- Why there is neither: the deck with its notes is refused, but for its size; or they have no
+-- bound, and what some certificate comes to is 2 ^ 50 or more. Then the product is told.
 abbrev pub IsLimitRefusal : Documents → Refusal → Type 0
-IsLimitRefusal documents =
-    IsRefusedFrom (2 ^ 50) documents.deck documents.times documents.notes
+IsLimitRefusal documents (TooLarge product) =
+    HaveNoBound documents × IsProduct documents product × IsTooDear (setting_of documents) (2 ^ 50)
+IsLimitRefusal documents refusal =
+    IsAdmissionRefusal (loads_in documents.deck) documents.notes (start_in documents.deck) refusal
 
 abbrev pub IsLimitFault : Documents → Fault → Type 0
 IsLimitFault documents = IsRefusedFor (IsLimitRefusal documents)

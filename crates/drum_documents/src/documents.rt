@@ -4,7 +4,7 @@ ghost use Rattle.drum_documents.specs.Documents.{Say, SayNone, texts_of};
 use drum_core::{Deck, deck_of};
 use drum_lines::Fault;
 use drum_times::{Notes, Times};
-use drum_toml::{read_notes, read_times};
+use drum_toml::{NotesRead, read_notes_of, read_times};
 use std::alloc::Global;
 
 /// A deck, its timing table and its notes.
@@ -16,7 +16,7 @@ pub struct Documents {
 }
 
 impl Documents {
-    /// The documents that three texts say, checked one after the other.
+    /// The documents that three texts say, checked one after the other, where such notes are read.
     ///
     /// # Errors
     ///
@@ -26,16 +26,17 @@ impl Documents {
         deck: &[u8],
         times: &[u8],
         notes: &[u8],
+        read: NotesRead,
     ) -> Result<Documents, Fault>
-        ensures said { IfOk result (Say (texts_of deck.now times.now notes.now)) }
-        ensures fault { IfErr result (SayNone (texts_of deck.now times.now notes.now)) }
+        ensures said { IfOk result (Say read (texts_of deck.now times.now notes.now)) }
+        ensures fault { IfErr result (SayNone read (texts_of deck.now times.now notes.now)) }
     {
         let deck = deck_of(alloc, deck)?;
         let times = match read_times(alloc, times) {
             Ok(times) => times,
             Err(fault) => return Err(Fault::Times(fault)),
         };
-        match read_notes(alloc, notes) {
+        match read_notes_of(alloc, read, notes) {
             Ok(notes) => Ok(Documents { deck, times, notes }),
             Err(fault) => Err(Fault::Notes(fault)),
         }

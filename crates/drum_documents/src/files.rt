@@ -8,7 +8,7 @@ ghost use Rattle.drum_documents.specs.Asked.{all_named_in, most_of, named_in, re
 ghost use Rattle.drum_documents.specs.Files.{AreHeld, AreHeldWithInputs, AreNotHeld};
 ghost use Rattle.drum_documents.specs.Files.{AreNotHeldWithInputs, AreTold, Held, HoldsDeck};
 ghost use Rattle.drum_documents.specs.Files.{HoldsInputs, HoldsNoDeck, HoldsNoInputs, HoldsNoNotes};
-ghost use Rattle.drum_documents.specs.Files.{HoldsNotes, HoldsNoText, HoldsNoTimes, HoldsText};
+ghost use Rattle.drum_documents.specs.Files.{HoldsNotesOf, HoldsNoText, HoldsNoTimes, HoldsText};
 ghost use Rattle.drum_documents.specs.Files.{HoldsTimes, behind};
 ghost use Rattle.drum_documents.specs.Files as said;
 
@@ -20,7 +20,7 @@ use drum_core::{Deck, DeckFault, Input, WholeError, deck_of, read_whole};
 use drum_inputs::{InputFault, Inputs, inputs_of};
 use drum_lines::{Fault, Part, PartFault};
 use drum_times::{Notes, Times};
-use drum_toml::{read_notes, read_times};
+use drum_toml::{NotesRead, read_notes_of, read_times};
 use std::alloc::Global;
 
 /// The most bytes of a text of this part.
@@ -138,20 +138,25 @@ fn times_in<S: Source>(alloc: Global, source: &mut S, name: &str) -> Result<Time
     }
 }
 
-/// The notes of a file.
-fn notes_in<S: Source>(alloc: Global, source: &mut S, name: &str) -> Result<Notes, Fault>
+/// The notes of a file: short ones alone, or long ones.
+fn notes_in<S: Source>(
+    alloc: Global,
+    source: &mut S,
+    name: &str,
+    read: NotesRead,
+) -> Result<Notes, Fault>
     requires few { S.failed source.old ≤ 2 ^ 62 }
     ensures behind { S.files source.new ≡ behind (S.files source.old) }
     ensures counted { S.failed source.new ≡ S.failed source.old + failed_by result }
     ensures notes { IfOk result (λ notes. (file : Option (List ℕ))
-        → S.files source.old 0 name.now ≡ Some file → HoldsNotes file notes) }
+        → S.files source.old 0 name.now ≡ Some file → HoldsNotesOf read file notes) }
     ensures fault { IfErr result (λ fault. (file : Option (List ℕ))
-        → S.files source.old 0 name.now ≡ Some file → HoldsNoNotes file fault) }
+        → S.files source.old 0 name.now ≡ Some file → HoldsNoNotes read file fault) }
     ensures asked { AsksFor (S.asked source.old) (S.asked source.new)
         (IsLookedAt Part.Notes name.now (fault_in result)) }
 {
     let text = read_text(alloc, source, Part::Notes, name)?;
-    match read_notes(alloc, &text) {
+    match read_notes_of(alloc, read, &text) {
         Ok(notes) => Ok(notes),
         Err(fault) => Err(Fault::Notes(fault)),
     }
@@ -179,7 +184,7 @@ pub fn inputs_in<S: Source>(alloc: Global, source: &mut S, name: &str) -> Result
     Ok(inputs)
 }
 
-/// The documents of three files, read and checked one after the other.
+/// The documents of three files, read and checked one after the other, where such notes are read.
 ///
 /// # Errors
 ///
@@ -189,21 +194,22 @@ pub fn documents_in<S: Source>(
     alloc: Global,
     source: &mut S,
     files: Files<'_>,
+    read: NotesRead,
 ) -> Result<Documents, Fault>
     requires few { S.failed source.old ≤ 2 ^ 61 }
     ensures behind { IfOk result (λ _.
         S.files source.new ≡ behind (behind (behind (S.files source.old)))) }
     ensures counted { S.failed source.new ≡ S.failed source.old + failed_by result }
     ensures held { IfOk result (λ documents. (held : Held)
-        → AreTold (S.files source.old) held (named_in files.entry) → AreHeld held documents) }
+        → AreTold (S.files source.old) held (named_in files.entry) → AreHeld read held documents) }
     ensures fault { IfErr result (λ fault. (held : Held)
-        → AreTold (S.files source.old) held (named_in files.entry) → AreNotHeld held fault) }
+        → AreTold (S.files source.old) held (named_in files.entry) → AreNotHeld read held fault) }
     ensures asked { AsksFor (S.asked source.old) (S.asked source.new)
         (LooksFor (named_in files.entry) result) }
 {
     let deck = deck_in(alloc, source, files.deck)?;
     let times = times_in(alloc, source, files.times)?;
-    let notes = notes_in(alloc, source, files.notes)?;
+    let notes = notes_in(alloc, source, files.notes, read)?;
     Ok(Documents { deck, times, notes })
 }
 
@@ -218,19 +224,20 @@ pub fn documents_with_inputs<S: Source>(
     source: &mut S,
     files: Files<'_>,
     inputs: &str,
+    read: NotesRead,
 ) -> Result<(Documents, Inputs), Fault>
     requires { S.failed source.old ≤ 2 ^ 61 }
     ensures held { IfOk result (λ done. (held : Held)
         → AreTold (S.files source.old) held (all_named_in files.entry inputs.entry.now)
-        → AreHeldWithInputs held done) }
+        → AreHeldWithInputs read held done) }
     ensures fault { IfErr result (λ fault. (held : Held)
         → AreTold (S.files source.old) held (all_named_in files.entry inputs.entry.now)
-        → AreNotHeldWithInputs held fault) }
+        → AreNotHeldWithInputs read held fault) }
     ensures counted { S.failed source.new ≡ S.failed source.old + failed_by result }
     ensures asked { AsksFor (S.asked source.old) (S.asked source.new)
         (LooksFor (all_named_in files.entry inputs.entry.now) result) }
 {
-    let documents = documents_in(alloc, source, files)?;
+    let documents = documents_in(alloc, source, files, read)?;
     let inputs = inputs_in(alloc, source, inputs)?;
     Ok((documents, inputs))
 }

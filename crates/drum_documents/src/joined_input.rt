@@ -8,12 +8,13 @@ use crate::documents::Documents;
 use crate::joined::Parts;
 use drum_core::{Input, WholeError, read_whole};
 use drum_lines::{Fault, Part, PartFault};
+use drum_toml::NotesRead;
 use std::alloc::Global;
 
 /// The most bytes of the joined form.
 pub const BYTES: usize = 16_777_216;
 
-/// The documents of a joined form. Its parts are checked one after the other.
+/// The documents of a joined form, with short notes. Its parts are checked one after the other.
 ///
 /// # Errors
 ///
@@ -25,7 +26,13 @@ fn joined(alloc: Global, text: &[u8]) -> Result<Documents, Fault>
     let Some(parts) = Parts::of(text) else {
         return Err(Fault::NoPart);
     };
-    Documents::of_texts(alloc, parts.deck, parts.times, parts.notes)
+    Documents::of_texts(
+        alloc,
+        parts.deck,
+        parts.times,
+        parts.notes,
+        NotesRead::Short,
+    )
 }
 
 /// The documents of the joined form that an input gives, of 16,777,216 bytes at most.

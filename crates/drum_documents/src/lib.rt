@@ -4,10 +4,10 @@
 //!
 //! Code, from the bottom up. `documents` is a deck with its timing table and notes. `limits` has
 //! what documents have as a bound, as a ceiling, and what limits a run of theirs: the bound or,
-//! past the limit of one, a ceiling. A `source` opens files and takes each text back. `files` reads
-//! a file to its limit, and the documents and the inputs that files hold; `texts` reads the texts
-//! alone, for a check. `joined` has the parts of a joined form, and `joined_input` the documents of
-//! one. `laws` has laws of the definitions.
+//! past the limit of one and of long notes, a ceiling. A `source` opens files and takes each text
+//! back. `files` reads a file to its limit, and the documents and the inputs that files hold;
+//! `texts` reads the texts alone, for a check. `joined` has the parts of a joined form, and
+//! `joined_input` the documents of one. `laws` has laws of the definitions.
 //!
 //! Definitions, in the order to read them: `Documents` says which texts say documents, and `Limits`
 //! what is known of these. Then come the texts of a joined form (`Joined`) and of files (`Files`,
@@ -30,6 +30,6 @@ mod texts;
 pub use documents::Documents;
 pub use files::{documents_in, documents_with_inputs};
 pub use joined_input::documents_of;
-pub use limits::{bound_of, ceiling_of, limit_of};
+pub use limits::{bound_of, ceiling_of, limit_of, only_short};
 pub use source::Source;
 pub use texts::{Texts, texts_with_inputs};

@@ -1,12 +1,15 @@
 //! What documents have as a bound, as a ceiling, and what limits a run of theirs.
 
-ghost use Rattle.std.specs.Prelude.{◌^◌, ◌<◌, IfOk, IfErr};
-ghost use Rattle.drum_documents.specs.Limits.{IsAnalysisFault, IsBound, IsCeiling, IsCeilingFault};
-ghost use Rattle.drum_documents.specs.Limits.{IsLimit, IsLimitFault, IsTooLargeForBound};
+ghost use Rattle.std.specs.Prelude.{◌≡◌, ◌^◌, ◌<◌, IfOk, IfErr};
+ghost use Rattle.drum_documents.specs.Limits.{AreLong, AreShort, HaveNoBound, IsAnalysisFault};
+ghost use Rattle.drum_documents.specs.Limits.{IsBound, IsCeiling, IsCeilingFault, IsLimit};
+ghost use Rattle.drum_documents.specs.Limits.{IsLimitFault, IsProduct};
 
 use crate::documents::Documents;
 use drum_bound::{Refusal, bound};
 use drum_ceiling::{Ceiling, ceiling};
+use drum_flow::counts::product_of;
+use drum_flow::discover;
 use drum_lines::{Fault, Limit};
 use std::alloc::Global;
 
@@ -39,8 +42,25 @@ pub fn ceiling_of(alloc: Global, documents: &Documents) -> Result<Ceiling, Fault
     Ok(ceiling(alloc, &documents.deck, &documents.times, &documents.notes)?)
 }
 
+/// Refuses documents with long notes, where what is asked for goes by the bound.
+///
+/// # Errors
+///
+/// [`Fault::LongNotes`] where the notes are long.
+pub fn only_short(documents: &Documents) -> Result<(), Fault>
+    ensures short { IfOk result (λ _. AreShort documents.now) }
+    ensures long { IfErr result (λ fault. (fault ≡ Fault.LongNotes) × AreLong documents.now) }
+{
+    if documents.notes.is_short() {
+        Ok(())
+    } else {
+        Err(Fault::LongNotes)
+    }
+}
+
 /// What a run of documents that keeps to the notes uses at most, in word times, and how that is
-/// known: by the bound; or, where they are too large for one, by a ceiling.
+/// known: of short notes by the bound; where they are too large for one, and of long notes, by a
+/// ceiling.
 ///
 /// # Errors
 ///
@@ -51,24 +71,36 @@ pub fn limit_of(alloc: Global, documents: &Documents) -> Result<(Limit, u64), Fa
     ensures below { IfOk result (λ found. found.1 < 2 ^ 50) }
     ensures fault { IfErr result (IsLimitFault documents.now) }
 {
+    if !documents.notes.is_short() {
+        return past_bound(alloc, documents);
+    }
     match bound_of(alloc, documents) {
         Ok(most) => Ok((Limit::Bound, most)),
-        Err(Fault::Refused(Refusal::TooLarge(product))) => past_limit(alloc, documents, product),
+        Err(Fault::Refused(Refusal::TooLarge(_))) => past_bound(alloc, documents),
         Err(fault) => Err(fault),
     }
 }
 
-/// The same, where they are too large for a bound, and this is the product.
-fn past_limit(alloc: Global, documents: &Documents, product: u128) -> Result<(Limit, u64), Fault>
-    requires large { IsTooLargeForBound documents.now product }
+/// The same, where they have no bound.
+fn past_bound(alloc: Global, documents: &Documents) -> Result<(Limit, u64), Fault>
+    requires none { HaveNoBound documents.now }
     ensures limit { IfOk result (λ found. IsLimit documents.now found.0 found.1) }
     ensures below { IfOk result (λ found. found.1 < 2 ^ 50) }
     ensures fault { IfErr result (IsLimitFault documents.now) }
 {
     let total = ceiling_of(alloc, documents)?.total();
     if total < LONGEST {
-        Ok((Limit::Ceiling, total as u64))
-    } else {
-        Err(Fault::Refused(Refusal::TooLarge(product)))
+        return Ok((Limit::Ceiling, total as u64));
     }
+    let product = product(alloc, documents)?;
+    Err(Fault::Refused(Refusal::TooLarge(product)))
+}
+
+/// Executed words times counts; 2^127 where that is more.
+fn product(alloc: Global, documents: &Documents) -> Result<u128, Fault>
+    ensures product { IfOk result (IsProduct documents.now) }
+    ensures memory { IfErr result (λ fault. fault ≡ Fault.Refused Refusal.Memory) }
+{
+    let flow = discover(alloc, &documents.deck, &documents.notes)?;
+    Ok(product_of(flow.executed().len(), documents.notes.marks()))
 }

@@ -10,7 +10,7 @@ use Rattle.drum_inputs.specs.declared.fault.InputFault.{InputFault}
 use Rattle.drum_inputs.specs.InputsText.{AreInputs, given_in}
 use Rattle.drum_inputs.specs.InputsText as input_lines
 use Rattle.drum_lines.specs.FaultText.{deck_text, input_text, note_text}
-use Rattle.drum_toml.specs.AllFaults.{AreAllFaults, all_notes_faults}
+use Rattle.drum_toml.specs.AllFaults.{AreAllFaults, all_long_faults}
 use Rattle.drum_toml.specs.Complaint.{line_at, column_at}
 use Rattle.drum_times.specs.declared.fault.NoteFault.{NoteFault}
 use Rattle.drum_toml.specs.Document.{Fault}
@@ -132,7 +132,7 @@ pub record AreFaultLines (deck times notes : Named) (inputs : Option Named)
   pub of_times : List ℕ
   pub times_are : AreDocumentLines times_faults (codes "times") times of_times
   pub of_notes : List ℕ
-  pub notes_are : AreDocumentLines all_notes_faults (codes "notes") notes of_notes
+  pub notes_are : AreDocumentLines all_long_faults (codes "notes") notes of_notes
   pub of_inputs : List ℕ
   pub inputs_are : AreLinesOfInputs deck inputs of_inputs
   pub all : lines ≡ flat_map (deck_fault_text deck.name) faults ++ of_times ++ of_notes ++ of_inputs

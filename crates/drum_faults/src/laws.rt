@@ -13,13 +13,13 @@ ghost use Rattle.drum_faults.specs.DeckFaults.{AreDeckFaults};
 ghost use Rattle.drum_faults.specs.FaultLines.{Named, AreFaultLines};
 ghost use Rattle.drum_times.specs.declared.entry.Entry.{Entry};
 ghost use Rattle.drum_times.specs.Allowed.{Notes};
-ghost use Rattle.drum_toml.specs.NotesDocument.{IsNotes};
+ghost use Rattle.drum_toml.specs.LongNotes.{IsLongNotes};
 ghost use Rattle.drum_toml.specs.Refused.{IsDocument};
 ghost use Rattle.drum_toml.specs.TimesDocument.{IsTimes};
 ghost use Rattle.toml.specs.Data.{Members};
 ghost use Rattle.drum_faults.specs.declared.placed_fault.PlacedFault.{PlacedFault};
 
-use drum_toml::laws::{tells_notes, tells_times};
+use drum_toml::laws::{tells_long_notes, tells_times};
 
 /// The first of all faults is the one that a reader refuses the deck for, and only a text that is a
 /// deck has none.
@@ -49,8 +49,8 @@ pub fn input_faults_begin()
         → AreInputFaults text faults → AreInputFaults text others → faults ≡ others }
 {}
 
-/// Where there is no line, the texts are a deck, a timing table, notes, and inputs where there are
-/// any.
+/// Where there is no line, the texts are a deck, a timing table, long notes, and inputs where there
+/// are any.
 pub fn sound_where_none()
     ensures { (deck times notes : Named) (inputs : Option Named)
         → AreFaultLines deck times notes inputs []
@@ -58,9 +58,9 @@ pub fn sound_where_none()
         × ((document : Members) × (meant : Op → Entry) × IsDocument times.bytes document
         × IsTimes document meant)
         × ((document : Members) × (meant : Notes) × IsDocument notes.bytes document
-        × IsNotes document meant)
+        × IsLongNotes document meant)
         × IfSome inputs (λ text. (lines : List input_lines.Line) × AreInputs text.bytes lines) }
 {
     tells_times();
-    tells_notes();
+    tells_long_notes();
 }

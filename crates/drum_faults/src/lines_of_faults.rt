@@ -16,16 +16,16 @@ use crate::faults_of_deck::deck_faults;
 use crate::faults_of_inputs::input_faults;
 use crate::loaded::loaded_twice;
 use crate::named_text::NamedText;
-use drum_toml::{Complaint, notes_faults, times_faults, toml_complaint};
+use drum_toml::{Complaint, long_notes_faults, times_faults, toml_complaint};
 use std::alloc::{AllocError, Global};
 
 /// The most bytes of all lines: for more no machine has room.
 const LONGEST: usize = 1 << 61;
 
-/// The lines of all faults of a deck, a timing table and notes, and of inputs where there are any;
-/// empty where they have none. Of a timing table or notes that are no document, the last line is
-/// what `toml` says, and where. Where deck and inputs are sound, each location that both load is a
-/// fault of the inputs, and has its line.
+/// The lines of all faults of a deck, a timing table and long notes, and of inputs where there are
+/// any; empty where they have none. Of a timing table or notes that are no document, the last line
+/// is what `toml` says, and where. Where deck and inputs are sound, each location that both load is
+/// a fault of the inputs, and has its line.
 ///
 /// # Errors
 ///
@@ -65,13 +65,13 @@ fn with_times(alloc: Global, text: Vec<u8>, times: NamedText<'_>) -> Result<Vec<
     with_complaint(text, times.name, complaint)
 }
 
-/// Behind a text the lines of all faults of notes.
+/// Behind a text the lines of all faults of long notes.
 fn with_notes(alloc: Global, text: Vec<u8>, notes: NamedText<'_>) -> Result<Vec<u8>, AllocError>
     ensures { IfOk result (λ new. (lines : List ℕ)
-        × AreDocumentLines of_notes.all_notes_faults (codes "notes") (named notes.entry) lines
+        × AreDocumentLines of_notes.all_long_faults (codes "notes") (named notes.entry) lines
         × (new.items ≡ text.items ++ lines)) }
 {
-    let faults = notes_faults(alloc, notes.bytes)?;
+    let faults = long_notes_faults(alloc, notes.bytes)?;
     let complaint = toml_complaint(alloc, notes.bytes)?;
     let text = with_notes_faults(text, notes.name, faults)?;
     with_complaint(text, notes.name, complaint)

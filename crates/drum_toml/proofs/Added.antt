@@ -1,30 +1,25 @@
 -- The faults that are added of a value at a key.
-use Rattle.std.proofs.Common.{◌≡◌, ℕ, zero, suc, ◌<◌, ◌≤◌, Bool, true, false, ◌||◌, cond, List, [], ◌∷◌, ◌++◌, map}
-use Rattle.std.proofs.Common.{length, get_or, Option, Some, None, Bor, refl, ap, sym, ◌∙◌, subst, le-leb, arith}
-use Rattle.std.proofs.lemmas.Bool.{leb-true}
+use Rattle.std.proofs.Common.{◌≡◌, ℕ, zero, suc, ◌<◌, Bool, true, false, ◌||◌, cond, List, [], ◌∷◌, ◌++◌, map}
+use Rattle.std.proofs.Common.{length, get_or, Option, Some, None, Bor, refl, ap, sym, ◌∙◌, subst, arith}
 use Rattle.std.proofs.lemmas.List.{length-map}
 use Rattle.std.proofs.lemmas.Map.Text.{is_eq-slice_cmp}
 use Rattle.std.proofs.lemmas.Slice.Eq.{bytes_eq-Decides}
-use Rattle.std.specs.Prelude.{codes, nat_le, pos, negsuc}
+use Rattle.std.specs.Prelude.{codes, pos, negsuc}
 use Rattle.drum_core.specs.declared.op.Op.{Op}
 use Rattle.drum_core.specs.Location.{is_location}
 use Rattle.drum_toml.specs.declared.document.value.ValueFault.{ValueFault}
 use Rattle.drum_times.specs.declared.fault.NoteFault.{NoteFault}
 use Rattle.drum_toml.specs.declared.times.read_entry.Form.{Form}
-use Rattle.drum_toml.specs.AllFaults.{Adds, location_of, location_in, locations_at, marks_of, marks_in}
+use Rattle.drum_toml.specs.AllFaults.{Adds, location_of, location_in, locations_at}
 use Rattle.drum_toml.specs.Document.{Fault, kind, missing, range, unknown_in, missing_in, at_key, array_faults}
-use Rattle.drum_toml.specs.Document.{element_faults, number_faults, is_among, is_count, text}
-use Rattle.drum_toml.specs.NotesDocument.{tables_of}
+use Rattle.drum_toml.specs.Document.{element_faults, number_faults, is_among, text}
 use Rattle.drum_toml.specs.TimesDocument.{key_of, keys_of, form_of, entry_faults, plain_faults, rest_faults}
 use Rattle.drum_toml.specs.TimesDocument.{operation_faults, operations_faults, times_faults}
 use Rattle.drum_toml.specs.Value.{fault_of, StandsFor}
 use Rattle.drum_toml.proofs.Adding.{adds_more}
 use Rattle.drum_toml.proofs.EntryFaults.{text_is_right}
-use Rattle.drum_toml.proofs.TablesFaults.{array_from, count_seen}
 use Rattle.toml.specs.Data.{Data, string, integer, float, boolean, datetime, array, table, as_array, as_table}
 use Rattle.toml.specs.Data.{Members, get_member, same_key}
-use Rattle.toml.specs.View.{items_view}
-use Rattle.toml.specs.declared.value.Value.{Value}
 
 -- none without the key
 pub key_none : (check : List ℕ → Data → List Fault) (at key : List ℕ) (fields : Members)
@@ -186,45 +181,6 @@ no_location (table fields) wrong faults = refl
 pub wrong_location : (fields : Members) (key : List ℕ) (d : Data) (wrong : ValueFault) → Some d ≡ get_member key fields
     → ((path : List ℕ) → number_faults path is_location d ≡ fault_of wrong path ∷ []) → locations_at key fields ≡ []
 wrong_location fields key d wrong has faults = ap location_in (sym has) ∙ no_location d wrong faults
-
--- the tables of as many marks as there may be, or of too many
-marks_are : (found : Option Data) (d : Data) (vs : List Value) (fits : Bool) → Some d ≡ found
-    → Some (items_view vs) ≡ as_array d → is_count 0 (Some 8) (length vs) ≡ fits
-    → marks_in found ≡ cond fits (tables_of (items_view vs)) []
-marks_are found d vs fits has is_array fit =
-    ap marks_in (sym has) ∙ ap marks_of (array_from d (items_view vs) (sym is_array))
-    ∙ ap (λ (n : ℕ). cond (is_count 0 (Some 8) n) (tables_of (items_view vs)) []) (count_seen vs)
-    ∙ ap (λ (b : Bool). cond b (tables_of (items_view vs)) []) fit
-
-pub few_marks_are : (found : Option Data) (d : Data) (vs vs' : List Value) → Some d ≡ found
-    → Some (items_view vs) ≡ as_array d → vs' ≡ vs → length vs ≤ 8 → tables_of (items_view vs') ≡ marks_in found
-few_marks_are found d vs vs' has is_array same few =
-    let from : 0 ≤ length vs = omega arith in
-    ap (λ (ws : List Value). tables_of (items_view ws)) same
-    ∙ sym (marks_are found d vs true has is_array (rw (le-leb 0 (length vs) from, le-leb (length vs) 8 few) refl))
-
-pub many_marks_are : (found : Option Data) (d : Data) (vs : List Value) → Some d ≡ found
-    → Some (items_view vs) ≡ as_array d → 8 < length vs → [] ≡ marks_in found
-many_marks_are found d vs has is_array many =
-    let from : 0 ≤ length vs = omega arith in
-    sym (marks_are found d vs false has is_array
-    (rw (le-leb 0 (length vs) from) (go (nat_le (length vs) 8) refl)))
-  where
-    go : (b : Bool) → nat_le (length vs) 8 ≡ b → b ≡ false
-    go true test = absurd (omega (arith, leb-true (length vs) 8 test, many))
-    go false test = refl
-
-pub no_marks_are : (found : Option Data) (d : Data) → Some d ≡ found → None ≡ as_array d → [] ≡ marks_in found
-no_marks_are found d has is = sym (ap marks_in (sym has) ∙ none d is)
-  where
-    none : (d : Data) → None ≡ as_array d → marks_of d ≡ []
-    none (string s) is = refl
-    none (integer z) is = refl
-    none (float x) is = refl
-    none (boolean b) is = refl
-    none (datetime dt) is = refl
-    none (array items) is = cc
-    none (table fields) is = refl
 
 -- a text for which one of some choices stands is among theirs
 among_of : {T : Type 0} (choices : List (Bor (List ℕ) × T)) (one : List ℕ) (chosen : T) (k : ℕ)

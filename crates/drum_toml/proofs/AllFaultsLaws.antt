@@ -1,7 +1,7 @@
 -- The first of all faults is that for which bytes are refused; where there are none, they are read.
-use Rattle.std.proofs.Common.{◌≡◌, ℕ, ◌+◌, Bool, true, false, cond, List, [], ◌∷◌, ◌++◌, map, take, drop, Option, Some}
+use Rattle.std.proofs.Common.{◌≡◌, ℕ, ◌+◌, Bool, true, false, cond, List, [], ◌∷◌, ◌++◌, map, Option, Some}
 use Rattle.std.proofs.Common.{None, refl, ap, sym, ◌∙◌, subst, inl, inr}
-use Rattle.std.proofs.lemmas.List.{append-nil, append_assoc}
+use Rattle.std.proofs.lemmas.List.{append_assoc}
 use Rattle.std.specs.Prelude.{codes, decimal, flat_map}
 use Rattle.drum_core.specs.declared.op.Op.{Op}
 use Rattle.drum_core.specs.Location.{is_location}
@@ -9,22 +9,18 @@ use Rattle.drum_times.specs.declared.entry.Entry.{Entry}
 use Rattle.drum_times.specs.declared.fault.NoteFault.{NoteFault}
 use Rattle.drum_times.specs.declared.fault.NoteFault.TheVariants.{Toml, Memory, Missing, Unknown, Range, Kind, TwoMarks}
 use Rattle.drum_times.specs.declared.fault.NoteFault.TheVariants.{TwoLists}
-use Rattle.drum_times.specs.Allowed.{Notes}
-use Rattle.drum_toml.specs.AllFaults.{Tells, TellEach, AreAllFaults, location_in, locations_at, edges_in, marks_in}
-use Rattle.drum_toml.specs.AllFaults.{repeated_edges, repeated_locations, all_notes_faults}
+use Rattle.drum_toml.specs.AllFaults.{Tells, TellEach, AreAllFaults, location_in, locations_at}
 use Rattle.drum_toml.specs.Document.{Fault, in_turn, range, is_count, count_of, array_faults}
 use Rattle.drum_toml.specs.Document.{elements_faults, number_at}
 use Rattle.drum_toml.specs.NotesDocument as said
-use Rattle.drum_toml.specs.NotesDocument.{IsNotes, notes_checks, notes_faults}
 use Rattle.drum_toml.specs.Refused.{Begin, IsDocument, IsRefused}
 use Rattle.drum_toml.specs.TimesDocument.{HasNumber, IsTimes, times_faults}
 use Rattle.drum_toml.proofs.Faultless.{said_of, value_there, location_there, each_none}
-use Rattle.drum_toml.proofs.NotesFaultless.{notes_said}
 use Rattle.drum_toml.proofs.NotesLaws.{number_is}
 use Rattle.drum_toml.proofs.Sequences.{none_before, none_behind}
 use Rattle.drum_toml.proofs.TimesFaultless.{times_said}
 use Rattle.toml.specs.Data.{Data, string, integer, float, boolean, datetime, array, table, Items, no_items, item}
-use Rattle.toml.specs.Data.{Members, get_member}
+use Rattle.toml.specs.Data.{Members}
 
 -- what is stated first is the first fault
 begin_told : (fault : NoteFault) (others : List NoteFault) (faults : List Fault) → TellEach (fault ∷ others) faults
@@ -81,28 +77,7 @@ location_found : (key : List ℕ) (fields : Members) (n : ℕ) → HasNumber fie
     → locations_at key fields ≡ n ∷ []
 location_found key fields n has is = ap location_in has ∙ ap (λ (b : Bool). cond b (n ∷ []) []) is
 
-abbrev edges_with : List ℕ → List ℕ → List (ℕ × ℕ)
-edges_with froms ontos = flat_map (λ from. map (λ onto. (from, onto)) ontos) froms
-
--- a mark's table without a fault says its edge
-mark_edge : (number : ℕ) (at : List ℕ) (fields : Members) → said.mark_faults number at fields ≡ []
-    → edges_in fields ≡ said.edge_in fields ∷ []
-mark_edge number at fields none =
-    let keys : List (List ℕ) = codes "from" ∷ codes "to" ∷ codes "most" ∷ [] in
-    let each = each_none (said.mark_checks number at fields) none in
-    let has_from = value_there at keys fields (codes "from") each.1.0 refl in
-    let has_onto = value_there at keys fields (codes "to") each.1.0 refl in
-    let from = location_there at (codes "from") fields has_from.0 has_from.1 each.1.1.0 in
-    let onto = location_there at (codes "to") fields has_onto.0 has_onto.1 each.1.1.1.0 in
-    ap (λ (froms : List ℕ). edges_with froms (locations_at (codes "to") fields))
-    (location_found (codes "from") fields from.0 from.1 from.2)
-    ∙ ap (λ (ontos : List ℕ). edges_with (from.0 ∷ []) ontos)
-    (location_found (codes "to") fields onto.0 onto.1 onto.2)
-    ∙ ap (λ (n : ℕ). (n, onto.0) ∷ []) (sym (number_is fields (codes "from") from.0 from.1))
-    ∙ ap (λ (n : ℕ). (number_at (codes "from") fields, n) ∷ [])
-    (sym (number_is fields (codes "to") onto.0 onto.1))
-
--- and a list's its location
+-- a list's table without a fault says its location
 list_place : (number : ℕ) (at : List ℕ) (fields : Members) → said.list_faults number at fields ≡ []
     → locations_at (codes "location") fields ≡ number_at (codes "location") fields ∷ []
 list_place number at fields none =
@@ -134,22 +109,6 @@ elements_same check many single each path number (item (boolean b) items) none =
 elements_same check many single each path number (item (datetime d) items) none = cc
 elements_same check many single each path number (item (array more) items) none = cc
 
-marks_same : (path : List ℕ) (found : Option Data) → said_of (array_faults 0 (Some 8) said.mark_faults path) found ≡ []
-    → flat_map edges_in (marks_in found) ≡ map said.edge_in (said.tables_in found)
-marks_same path None none = refl
-marks_same path (Some (array items)) none = go (is_count 0 (Some 8) (count_of items)) none
-  where
-    go : (fits : Bool) → cond fits (elements_faults said.mark_faults path 1 items) (range path ∷ []) ≡ []
-        → flat_map edges_in (cond fits (said.tables_of items) []) ≡ map said.edge_in (said.tables_of items)
-    go true fine = elements_same said.mark_faults edges_in said.edge_in mark_edge path 1 items fine
-    go false fine = cc
-marks_same path (Some (string s)) none = refl
-marks_same path (Some (integer z)) none = refl
-marks_same path (Some (float x)) none = refl
-marks_same path (Some (boolean b)) none = refl
-marks_same path (Some (datetime d)) none = refl
-marks_same path (Some (table fields)) none = refl
-
 pub lists_same : (path : List ℕ) (found : Option Data) → said_of (array_faults 0 None said.list_faults path) found ≡ []
     → flat_map (locations_at (codes "location")) (said.tables_in found)
     ≡ map (number_at (codes "location")) (said.tables_in found)
@@ -175,26 +134,6 @@ in_turn_append [] ys = refl
 in_turn_append (x ∷ xs) ys =
     ap (λ (zs : List Fault). x ++ zs) (in_turn_append xs ys) ∙ sym (append_assoc x (in_turn xs) (in_turn ys))
 
-abbrev values_of : Members → List Fault
-values_of D = in_turn (take 6 (notes_checks D))
-
-notes_split : (D : Members) → notes_faults D ≡ values_of D ++ in_turn (drop 6 (notes_checks D))
-notes_split D = in_turn_append (take 6 (notes_checks D)) (drop 6 (notes_checks D))
-
--- where no value by itself has a fault, the faults are those of the first
-same_faults : (D : Members) → values_of D ≡ [] → all_notes_faults D ≡ notes_faults D
-same_faults D none =
-    let each = each_none (take 6 (notes_checks D)) none in
-    let edges = marks_same (codes "mark") (get_member (codes "mark") D) each.1.1.1.1.0 in
-    let places = lists_same (codes "list") (get_member (codes "list") D) each.1.1.1.1.1.0 in
-    append_assoc (values_of D) (repeated_edges D) (repeated_locations D)
-    ∙ ap (λ (xs : List Fault). values_of D ++ (repeated_edges D ++ xs))
-    (ap (said.location_faults []) places ∙ sym (append-nil _))
-    ∙ ap (λ (xs : List Fault). values_of D ++ (xs ++ (said.location_faults []
-    (map (number_at (codes "location")) (said.tables_at (codes "list") D)) ++ [])))
-    (ap (said.edge_faults []) edges)
-    ∙ sym (notes_split D)
-
 -- faults that begin with the same values begin alike, where those that follow no value are the same
 pub begin_alike : (values edges places rest mine : List Fault) (one : Fault) → mine ≡ values ++ rest
     → (values ≡ [] → values ++ edges ++ places ≡ mine) → Begin (values ++ edges ++ places) one → Begin mine one
@@ -202,21 +141,3 @@ begin_alike [] edges places rest mine one split same begin = subst (λ (faults :
 begin_alike (first ∷ values) edges places rest mine one split same begin =
     let whole : first ∷ values ++ edges ++ places ≡ one ∷ begin.0 = begin.1 in
     let is : first ≡ one = cc in (values ++ rest, split ∙ ap (λ (x : Fault). x ∷ (values ++ rest)) is)
-
-notes_alike : (D : Members) (one : Fault) → Begin (all_notes_faults D) one → Begin (notes_faults D) one
-notes_alike D one begin =
-    begin_alike (values_of D) (repeated_edges D) (repeated_locations D) (in_turn (drop 6 (notes_checks D)))
-    (notes_faults D) one (notes_split D) (same_faults D) begin
-
-pub first_of_notes : (bytes : List ℕ) (fault : NoteFault) (others : List NoteFault)
-    → AreAllFaults all_notes_faults bytes (fault ∷ others) → IsRefused notes_faults bytes fault
-first_of_notes bytes fault others all =
-    first_told all_notes_faults notes_faults bytes fault others notes_alike all
-
-pub none_of_notes : (bytes : List ℕ) → AreAllFaults all_notes_faults bytes [] → (D : Members) × IsDocument bytes D
-    × ((notes : Notes) × IsNotes D notes)
-none_of_notes bytes all =
-    let none = nothing_told all_notes_faults bytes all in
-    let values = none_before (values_of none.0) (repeated_edges none.0)
-    (none_before (values_of none.0 ++ repeated_edges none.0) (repeated_locations none.0) none.2) in
-    (none.0, none.1, notes_said none.0 (sym (same_faults none.0 values) ∙ none.2))

@@ -7,8 +7,8 @@ use Rattle.drum_times.specs.Allowed.{Notes}
 use Rattle.drum_times.specs.declared.fault.NoteFault.{NoteFault}
 use Rattle.drum_times.specs.declared.fault.NoteFault.TheVariants.{Toml, Memory, Missing, Unknown}
 use Rattle.drum_times.specs.declared.fault.NoteFault.TheVariants.{Range, Kind, TwoMarks, TwoLists}
-use Rattle.drum_toml.specs.AllFaults.{AreAllFaults, all_long_faults, long_mark_tables}
-use Rattle.drum_toml.specs.AllFaults.{repeated_locations, repeated_long_edges}
+use Rattle.drum_toml.specs.AllFaults.{AreAllFaults, all_long_faults, mark_tables_faults}
+use Rattle.drum_toml.specs.AllFaults.{repeated_locations, repeated_edges}
 use Rattle.drum_toml.specs.Document.{Fault, in_turn, number_at}
 use Rattle.drum_toml.specs.LongNotes.{IsLongNotes, edges_said, long_notes_checks, long_notes_faults}
 use Rattle.drum_toml.specs.NotesDocument.{edge_faults, location_faults, tables_at}
@@ -32,7 +32,7 @@ behind_one : (document : Members) (faults : List Fault) (one : Fault) (others : 
 behind_one document faults one others is = ap (edges_where document) is
 
 pub none_where : (document : Members) (fault : NoteFault) → (fault ≡ Memory → ⊥)
-    → IsFirst (long_mark_tables document) fault → repeated_long_edges document ≡ []
+    → IsFirst (mark_tables_faults document) fault → repeated_edges document ≡ []
 none_where document Toml not_memory first = absurd first
 none_where document Memory not_memory first = absurd (not_memory refl)
 none_where document (Missing path) not_memory first = behind_one document _ _ first.0 first.1
@@ -43,8 +43,8 @@ none_where document (TwoMarks from onto) not_memory first = behind_one document 
 none_where document (TwoLists location) not_memory first = behind_one document _ _ first.0 first.1
 
 -- and where there is none they are
-pub those_where : (document : Members) → long_mark_tables document ≡ []
-    → repeated_long_edges document ≡ edge_faults [] (flat_map edges_said (tables_at (codes "mark") document))
+pub those_where : (document : Members) → mark_tables_faults document ≡ []
+    → repeated_edges document ≡ edge_faults [] (flat_map edges_said (tables_at (codes "mark") document))
 those_where document none = ap (edges_where document) none
 
 abbrev long_values_of : Members → List Fault
@@ -59,8 +59,8 @@ same_long_faults D none =
     let each = each_none (take 6 (long_notes_checks D)) none in
     let edges = those_where D each.1.1.1.1.0 in
     let places = lists_same (codes "list") (get_member (codes "list") D) each.1.1.1.1.1.0 in
-    append_assoc (long_values_of D) (repeated_long_edges D) (repeated_locations D)
-    ∙ ap (λ (xs : List Fault). long_values_of D ++ (repeated_long_edges D ++ xs))
+    append_assoc (long_values_of D) (repeated_edges D) (repeated_locations D)
+    ∙ ap (λ (xs : List Fault). long_values_of D ++ (repeated_edges D ++ xs))
     (ap (location_faults []) places ∙ sym (append-nil _))
     ∙ ap (λ (xs : List Fault). long_values_of D ++ (xs ++ (location_faults []
     (map (number_at (codes "location")) (tables_at (codes "list") D)) ++ []))) edges
@@ -68,7 +68,7 @@ same_long_faults D none =
 
 long_alike : (D : Members) (one : Fault) → Begin (all_long_faults D) one → Begin (long_notes_faults D) one
 long_alike D one begin =
-    begin_alike (long_values_of D) (repeated_long_edges D) (repeated_locations D)
+    begin_alike (long_values_of D) (repeated_edges D) (repeated_locations D)
     (in_turn (drop 6 (long_notes_checks D))) (long_notes_faults D) one (long_split D) (same_long_faults D) begin
 
 pub first_of_long : (bytes : List ℕ) (fault : NoteFault) (others : List NoteFault)
@@ -79,6 +79,6 @@ pub none_of_long : (bytes : List ℕ) → AreAllFaults all_long_faults bytes [] 
     × ((notes : Notes) × IsLongNotes D notes)
 none_of_long bytes all =
     let none = nothing_told all_long_faults bytes all in
-    let values = none_before (long_values_of none.0) (repeated_long_edges none.0)
-    (none_before (long_values_of none.0 ++ repeated_long_edges none.0) (repeated_locations none.0) none.2) in
+    let values = none_before (long_values_of none.0) (repeated_edges none.0)
+    (none_before (long_values_of none.0 ++ repeated_edges none.0) (repeated_locations none.0) none.2) in
     (none.0, none.1, long_notes_said none.0 (sym (same_long_faults none.0 values) ∙ none.2))

@@ -13,7 +13,7 @@ use Rattle.drum_times.specs.Marks.{edges_of}
 use Rattle.drum_toml.specs.Document.{unknown, is_among, unknown_in}
 use Rattle.drum_toml.specs.LongNotes.{HasEdges, HasName, IsLongMark, IsLongNotes, StandsIn, lists_edges, long_mark_keys}
 use Rattle.drum_toml.specs.LongNotes.{names_in}
-use Rattle.drum_toml.specs.NotesDocument.{AreFound, AreTables, HasInside, HasTables, IsMark, IsNotes, mark_keys}
+use Rattle.drum_toml.specs.NotesDocument.{AreFound, AreTables, HasInside, IsMark, IsNotes, mark_keys}
 use Rattle.drum_toml.proofs.Sequences.{none_behind}
 use Rattle.toml.specs.Data.{Data, integer, Items, no_items, item, Members, no_members, member, get_member, same_key}
 

@@ -201,6 +201,5 @@ notes_checks document =
 
 -- The faults of a document, in their order. The first is why it is refused. A later one may be no
 -- fault at all: where a table doesn't give an edge or a location, 0 stands for it here.
--- (`all_notes_faults` has those that are faults.)
 abbrev pub notes_faults : Members → List Fault
 notes_faults document = in_turn (notes_checks document)

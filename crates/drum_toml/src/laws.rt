@@ -5,7 +5,7 @@ ghost use Rattle.drum_core.specs.declared.op.Op.{Op};
 ghost use Rattle.drum_times.specs.declared.entry.Entry.{Entry};
 ghost use Rattle.drum_times.specs.Allowed.{Notes};
 ghost use Rattle.drum_times.specs.declared.fault.NoteFault.{NoteFault};
-ghost use Rattle.drum_toml.specs.AllFaults.{AreAllFaults, all_long_faults, all_notes_faults};
+ghost use Rattle.drum_toml.specs.AllFaults.{AreAllFaults, all_long_faults};
 ghost use Rattle.drum_toml.specs.LongNotes.{IsLongNotes, long_notes_faults};
 ghost use Rattle.drum_toml.specs.NotesDocument.{IsNotes, notes_faults};
 ghost use Rattle.drum_toml.specs.Refused.{IsDocument, IsRefused};
@@ -52,20 +52,9 @@ pub fn tells_times()
         × IsDocument bytes document × ((times : Op → Entry) × IsTimes document times) }
 {}
 
-/// And notes likewise: all faults of them begin with that for which they are refused. (Two marks on
-/// one edge and two lists for one location are looked for last, and are among all faults even where
-/// their tables have other faults.)
-pub fn tells_notes()
-    ensures first { (bytes : List ℕ) (fault : NoteFault) (others : List NoteFault)
-        → AreAllFaults all_notes_faults bytes (fault ∷ others)
-        → IsRefused notes_faults bytes fault }
-    ensures none { (bytes : List ℕ) → AreAllFaults all_notes_faults bytes []
-        → (document : Members) × IsDocument bytes document
-        × ((notes : Notes) × IsNotes document notes) }
-{}
-
-/// And long notes likewise. (Two marks on one edge are looked for where the marks have no other
-/// fault.)
+/// And long notes likewise: all faults of them begin with that for which they are refused. (Two
+/// marks on one edge are looked for where the marks have no other fault, and two lists for one
+/// location even where the lists have others.)
 pub fn tells_long_notes()
     ensures first { (bytes : List ℕ) (fault : NoteFault) (others : List NoteFault)
         → AreAllFaults all_long_faults bytes (fault ∷ others)

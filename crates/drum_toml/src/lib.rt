@@ -6,19 +6,21 @@
 //! `document/fields` at its keys (there a key's path is put together), `document/value` at a value
 //! by itself, `document/values` at the values of keys, `document/tables` at arrays of tables.
 //! `times/read` and `times/read_entry` read a timing table. `notes/read`, `notes/read_mark` and
-//! `notes/read_list` read notes, and `notes/repeated` looks last for edges and locations that stand
-//! there twice. `notes/long` reads long notes, and `notes/long_mark` one of their marks:
-//! `notes/read_edges` its list of edges, and `notes/named` looks for the names of earlier marks. A
-//! check wants all faults. `document/faults` and `document/table_faults` gather
-//! those of tables; `times/faults` and `notes/faults` (with `notes/repeated_faults`) those of a
-//! document. `complaint` has what `toml` says of bytes that are no document. `laws` has laws of the
-//! definitions.
+//! `notes/read_list` read short notes, and `notes/repeated` looks last for edges and locations that
+//! stand there twice. `notes/long` reads long notes, and `notes/long_mark` one of their marks:
+//! `notes/read_edges` its list of edges, and `notes/named` looks for the names of earlier marks.
+//! `notes/notes_read` reads the one or the other. A check wants all faults: `document/faults` and
+//! `document/table_faults` gather those of tables; `times/faults` those of a timing table;
+//! `notes/long_faults` those of notes, with `notes/mark_faults`, `notes/list_faults` and
+//! `notes/repeated_faults`. `complaint` has what `toml` says of bytes that are no document. `laws`
+//! has laws of the definitions.
 //!
 //! Definitions, in the order to read them: `Document` has what both documents share, the faults of
 //! a table first of all. `TimesDocument` and `NotesDocument` say what each document says, and its
-//! faults in their order; `LongNotes` says it of long notes, where they differ. `Refused` says which fault a document is refused for, `AllFaults` which
-//! faults it has, and `Says` which timing table and which notes bytes say. `Complaint` is a place
-//! in bytes. `Value` says what the code means by a value's fault.
+//! faults in their order; `LongNotes` says it of long notes, where they differ. `Refused` says
+//! which fault a document is refused for, `AllFaults` which faults it has, and `Says` which timing
+//! table and which notes bytes say. `Complaint` is a place in bytes. `Value` says what the code
+//! means by a value's fault.
 //!
 //! Proofs. `TimesFaults` and `NotesFaults` follow the checks one after the other. `TimesSaid`,
 //! `TimesFaultless`, `NotesSaid` and `NotesFaultless` show that a document says something exactly
@@ -34,9 +36,9 @@ mod notes;
 mod times;
 
 pub use complaint::{Complaint, toml_complaint};
-pub use notes::faults::notes_faults;
 pub use notes::long::read_long_notes;
 pub use notes::long_faults::long_notes_faults;
+pub use notes::notes_read::{NotesRead, read_notes_of};
 pub use notes::read::read_notes;
 pub use times::faults::times_faults;
 pub use times::read::read_times;

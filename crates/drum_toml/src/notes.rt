@@ -1,11 +1,12 @@
 //! Notes on a program: read from a document, or all faults of one.
 
-pub mod faults;
+mod list_faults;
 pub mod long;
 pub mod long_faults;
 mod long_mark;
 mod mark_faults;
 mod named;
+pub mod notes_read;
 pub mod read;
 mod read_edges;
 mod read_list;

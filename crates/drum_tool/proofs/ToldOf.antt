@@ -8,6 +8,7 @@ use Rattle.drum_command.specs.declared.command.Question.TheVariants.{Bound, Repo
 use Rattle.drum_command.specs.declared.refused.Refused.{Refused}
 use Rattle.drum_command.specs.Line.{drum650, said_by}
 use Rattle.drum_documents.specs.declared.documents.Documents.{Documents}
+use Rattle.drum_toml.specs.declared.notes.notes_read.NotesRead.TheVariants.{Short}
 use Rattle.drum_lines.specs.declared.fault.Fault.{Fault}
 use Rattle.drum_lines.specs.declared.fault.Fault.TheVariants as faults
 use Rattle.drum_documents.specs.Limits.{IsAnalysisFault, IsBound}
@@ -80,7 +81,7 @@ of_files told_of held deck times notes (Answer Bound files) failures reply told 
         (subst (λ (name : Text). told_of 2 name ≡ Some (held part.Notes)) (sym notes_is) told.1.1.0, tt),
       ),
     ) in
-    elim (reply_of_bound (AreHeld held) (AreNotHeld held) failures reply (answers told_so)) [
+    elim (reply_of_bound (AreHeld Short held) (AreNotHeld Short held) failures reply (answers told_so)) [
       | inl (documents, are, bound, is, so) ↦ inl (
         bound,
         record {

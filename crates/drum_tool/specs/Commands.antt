@@ -4,6 +4,9 @@ use Rattle.drum_command.specs.declared.command.Command.{Command}
 use Rattle.drum_command.specs.declared.command.Command.TheVariants.{Answer, Check, Replay, Trace}
 use Rattle.drum_command.specs.declared.command.Files.{Files}
 use Rattle.drum_command.specs.declared.command.Question.{Question}
+use Rattle.drum_command.specs.declared.command.Question.TheVariants.{Bound, Report, Table}
+use Rattle.drum_toml.specs.declared.notes.notes_read.NotesRead.{NotesRead}
+use Rattle.drum_toml.specs.declared.notes.notes_read.NotesRead.TheVariants.{Short, Long}
 use Rattle.drum_faults.specs.FaultLines as printed
 use Rattle.drum_inputs.specs.declared.inputs.Inputs.{Inputs}
 use Rattle.drum_lines.specs.declared.fault.Fault.{Fault}
@@ -38,10 +41,19 @@ Replies {A = A} Are AreNone Says Refuses failures reply =
 abbrev pub AnswersJoined : List ℕ → ℕ → Reply → Type 0
 AnswersJoined bytes = Replies (Gives bytes) (GivesNone bytes) SaysBound IsAnalysisFault
 
+-- which notes are read for a question: short ones alone, where it is one of the bound, of a report
+-- or of the table
+abbrev pub read_for : Question → NotesRead
+read_for Bound = Short
+read_for Report = Short
+read_for Table = Short
+read_for _ = Long
+
 -- the reply to a question about three files
 abbrev pub AnswersQuestion : Held → Question → ℕ → Reply → Type 0
 AnswersQuestion held question =
-    Replies (AreHeld held) (AreNotHeld held) (Says question) (Refuses question)
+    Replies (AreHeld (read_for question) held) (AreNotHeld (read_for question) held)
+    (Says question) (Refuses question)
 
 -- to a check of texts in files, and in one of inputs, if it is named
 abbrev pub AnswersCheck : Held → Files → Option (List ℕ) → ℕ → Reply → Type 0
@@ -50,12 +62,13 @@ AnswersCheck held files name =
     (λ read. AreTextsHeld held read.0 × IsInputsText held name read.1) (AreNoneHeld held name)
     (λ read. SaysCheck files read.0 read.1) (λ read. IsWanting)
 
--- To a command that lets the deck run: of the documents and the inputs, what it says of the run
--- that the inputs fix.
-abbrev pub AnswersRun : Held → (Documents → Given → Reply → Type 0)
+-- To a command that lets the deck run: of the documents, where such notes are read, and the inputs,
+-- what it says of the run that the inputs fix.
+abbrev pub AnswersRun : NotesRead → Held → (Documents → Given → Reply → Type 0)
     → (Documents → Given → Fault → Type 0) → ℕ → Reply → Type 0
-AnswersRun held Says Refuses =
-    Replies {A = Documents × Inputs} (AreHeldWithInputs held) (AreNotHeldWithInputs held)
+AnswersRun notes held Says Refuses =
+    Replies {A = Documents × Inputs} (AreHeldWithInputs notes held)
+    (AreNotHeldWithInputs notes held)
     (λ read. Says read.0 (given read.1)) (λ read. Refuses read.0 (given read.1))
 
 -- the reply to a command, where the files of its parts hold this and `failures` reads failed
@@ -63,5 +76,5 @@ abbrev pub AnswersCommand : Held → Command → ℕ → Reply → Type 0
 AnswersCommand held (Answer question files) = AnswersQuestion held question
 AnswersCommand held (Check files inputs) = AnswersCheck held files (name_in inputs)
 AnswersCommand held (Replay files inputs) =
-    AnswersRun held SaysVerdict (λ documents. IsReplayFault (setting_of documents))
-AnswersCommand held (Trace files inputs) = AnswersRun held SaysTrace IsTraceFault
+    AnswersRun Short held SaysVerdict (λ documents. IsReplayFault (setting_of documents))
+AnswersCommand held (Trace files inputs) = AnswersRun Long held SaysTrace IsTraceFault

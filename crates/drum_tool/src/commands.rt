@@ -8,6 +8,7 @@ ghost use Rattle.drum_documents.specs.Asked.{name_in, named_in, named_with};
 ghost use Rattle.drum_documents.specs.Files.{AreTold, Held};
 ghost use Rattle.drum_lines.specs.Output.{Device, Tells, device};
 ghost use Rattle.drum_lines.specs.Reply.{Reply, TellsOfReads};
+ghost use Rattle.drum_tool.specs.Commands as said;
 ghost use Rattle.drum_tool.specs.Commands.{AnswersCommand};
 ghost use Rattle.drum_tool.specs.DoesCommand.{DoesCommand};
 ghost use Rattle.drum_tool.specs.Words.{LooksAsTold};
@@ -18,7 +19,19 @@ use drum_core::Output;
 use drum_documents::{Source, documents_in, documents_with_inputs, texts_with_inputs};
 use drum_lines::{Fault, Limit, Status, complain, tell_faults, tell_verdict};
 use drum_replay::{begin_trace, replay, tell_trace};
+use drum_toml::NotesRead;
 use std::alloc::Global;
+
+/// Which notes are read for a question: long ones, unless it is one of the bound, of a report or of
+/// the table.
+fn read_for(question: Question) -> NotesRead
+    ensures { result ≡ said.read_for question }
+{
+    match question {
+        Question::Bound | Question::Report | Question::Table => NotesRead::Short,
+        _ => NotesRead::Long,
+    }
+}
 
 /// Answers a question about the documents in files.
 fn answer_of_files<S: Source, O: Output>(
@@ -39,7 +52,7 @@ fn answer_of_files<S: Source, O: Output>(
     ensures asked { AsksFor (S.asked source.old) (S.asked source.new)
         (Looks (named_in files.entry) (fault_in result)) }
 {
-    let documents = documents_in(alloc, source, files)?;
+    let documents = documents_in(alloc, source, files, read_for(question))?;
     answer(alloc, question, &documents, out)
 }
 
@@ -92,7 +105,13 @@ fn replay_files<S: Source, O: Output>(
     ensures asked { AsksFor (S.asked source.old) (S.asked source.new)
         (Looks (all_named_in files.entry inputs.entry.now) (fault_in result)) }
 {
-    let (documents, inputs) = documents_with_inputs(alloc, source, files, inputs)?;
+    let (documents, inputs) = documents_with_inputs(
+        alloc,
+        source,
+        files,
+        inputs,
+        NotesRead::Short,
+    )?;
     let verdict = replay(
         alloc,
         &documents.deck,
@@ -122,7 +141,7 @@ fn trace_files<S: Source, O: Output>(
     ensures asked { AsksFor (S.asked source.old) (S.asked source.new)
         (Looks (all_named_in files.entry inputs.entry.now) (fault_in result)) }
 {
-    let (documents, inputs) = documents_with_inputs(alloc, source, files, inputs)?;
+    let (documents, inputs) = documents_with_inputs(alloc, source, files, inputs, NotesRead::Long)?;
     let begun = begin_trace(alloc, &documents, inputs)?;
     Ok(tell_trace(out, &documents, begun))
 }

@@ -58,17 +58,17 @@ impl Faults {
         self.choice(&top, "load_cards", &LOAD_CARDS)?;
         self.tables::<LongMark>(&top, "mark", 0, Some(Mark::MOST))?;
         self.tables::<Listing>(&top, "list", 0, None)?;
-        self.repeated_long_marks(&top)?;
+        self.repeated_marks(&top)?;
         self.repeated_lists(&top)?;
         Ok(())
     }
 
     /// Adds each edge that is there twice, where the marks have no other fault.
-    fn repeated_long_marks(&mut self, top: &Fields<'_>) -> Result<(), AllocError>
+    fn repeated_marks(&mut self, top: &Fields<'_>) -> Result<(), AllocError>
         requires whole { table_view top.now.whole.now ≡ table_view top.now.table.now }
         requires top { top.now.at.now ≡ [] }
         ensures { IfOk result (λ _. Adds self.old.all.items self.new.all.items
-            (all.repeated_long_edges (table_view top.now.table.now))) }
+            (all.repeated_edges (table_view top.now.table.now))) }
     {
         let long: Vec<LongMark> = match top.tables("mark", 0, Some(Mark::MOST)) {
             Ok(long) => long,

@@ -1,11 +1,19 @@
-use Rattle.drum_check.proofs.Accepting.{accepted_silent}
-use Rattle.drum_check.proofs.Silent.{silent_accepted}
+use Rattle.drum_check.proofs.Accepting.{accepted_silent, admitted_silent}
+use Rattle.drum_check.proofs.Silent.{silent_accepted, silent_admitted}
 use Rattle.drum_check.proofs.laws.none_found_where_accepted.Goals as goal
 
 pub returns-clause-accepted : goal.returns-clause-accepted
-returns-clause-accepted c loads notes start executed findings found a alone =
-    silent_accepted loads notes start executed findings found a alone
+returns-clause-accepted c loads notes start executed findings short found a alone =
+    silent_accepted loads notes start executed findings found a alone short
 
 pub returns-clause-none : goal.returns-clause-none
 returns-clause-none c loads notes start executed findings accepted a =
-    accepted_silent loads notes start executed findings accepted a
+    accepted_silent loads notes start executed findings a accepted
+
+pub returns-clause-admitted : goal.returns-clause-admitted
+returns-clause-admitted c loads notes start executed findings found a alone =
+    silent_admitted loads notes start executed findings found a alone
+
+pub returns-clause-none_of_long : goal.returns-clause-none_of_long
+returns-clause-none_of_long c loads notes start executed findings long admitted a =
+    admitted_silent loads notes start executed findings a long admitted

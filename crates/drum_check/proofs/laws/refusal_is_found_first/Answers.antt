@@ -1,5 +1,10 @@
-use Rattle.drum_check.proofs.Firsts.{refusal_first}
+use Rattle.drum_check.proofs.Firsts.{admission_refusal_first, refusal_first}
 use Rattle.drum_check.proofs.laws.refusal_is_found_first.Goals as goal
 
-pub returns : goal.returns
-returns c loads notes start refusal findings is a = refusal_first loads notes start findings a refusal is
+pub returns-clause-short : goal.returns-clause-short
+returns-clause-short c loads notes start refusal findings short is a =
+    refusal_first loads notes start findings a refusal short is
+
+pub returns-clause-long : goal.returns-clause-long
+returns-clause-long c loads notes start refusal findings long is a =
+    admission_refusal_first loads notes start findings a refusal long is

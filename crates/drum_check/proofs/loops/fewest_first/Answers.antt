@@ -45,7 +45,7 @@ returns-clause-same c =
 pub returns-clause-sorted : goal.returns-clause-sorted
 returns-clause-sorted c =
     let edges = c.args.edges.now in
-    let flow = c.args.flow.now in
+    let flow = c.args.nesting.now.flow.now in
     let counted = c.in_ok-counted.counted.items in
     let sorted = c.sort_by_key.new.self.items in
     let P : Counted → Type 0 = λ one. AreSoMany (λ outer. IsInsideIn flow outer (edge_of one.edge)) (map edge_of edges) one.many in

@@ -1,15 +1,15 @@
-use Rattle.std.proofs.Common.{◌≡◌, ◌++◌, map, take}
+use Rattle.std.proofs.Common.{◌≡◌, ◌++◌, [], map, take}
 use Rattle.drum_times.specs.EdgeOf.{edge_of}
 use Rattle.drum_check.specs.FindingsOf.{seen, IsInsideIn}
-use Rattle.drum_check.specs.Insides.{marked_edges, AreToldInside, IsWithin}
+use Rattle.drum_check.specs.Insides.{marks_of, new_marks, AreToldInside, IsToldBehind}
 use Rattle.drum_check.proofs.loops.told_inside.Given as goal
 
--- the loops of the edges so far are listed, and these edges stand behind those of the marks
+-- the loops of the edges so far are listed, and the marks that come with these stand behind the notes'
 abbrev pub invariant-loop-edge : goal.invariant-loop-edge
 invariant-loop-edge l = record {
-  before : map edge_of l.before.items
-      ≡ marked_edges l.flow.notes.now.marks ++ map edge_of (take l.edge-index l.edges);
-  told : AreToldInside
-      (IsWithin (IsInsideIn l.flow) (marked_edges l.flow.notes.now.marks ++ map edge_of l.edges))
-      (marked_edges l.flow.notes.now.marks) (map edge_of (take l.edge-index l.edges)) (map seen l.loops.items);
+  before : l.before.items ≡ marks_of l.nesting.flow.now.notes.now
+      ++ new_marks (map (λ head. head.number) l.shared) (map edge_of l.edges) (map edge_of (take l.edge-index l.edges));
+  told : AreToldInside (IsToldBehind (IsInsideIn l.nesting.flow.now) (marks_of l.nesting.flow.now.notes.now)
+      (map (λ head. head.number) l.shared) (map edge_of l.edges)) []
+      (map edge_of (take l.edge-index l.edges)) (map seen l.loops.items);
 }

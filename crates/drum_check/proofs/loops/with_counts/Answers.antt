@@ -18,7 +18,7 @@ loop-edge-preserved c =
     let old = c.loop-edge.counted.items in
     let edge = c.edge-item.result in
     let one : Counted = record { edge = edge; many = c.in_ok-many.many } in
-    let P : Counted → Type 0 = λ one. AreSoMany (λ outer. IsInsideIn c.args.flow.now outer (edge_of one.edge))
+    let P : Counted → Type 0 = λ one. AreSoMany (λ outer. IsInsideIn c.args.nesting.now.flow.now outer (edge_of one.edge))
     (map edge_of edges) one.many in
     record {
       same =

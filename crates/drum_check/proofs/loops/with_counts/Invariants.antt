@@ -10,6 +10,6 @@ use Rattle.drum_check.proofs.loops.with_counts.Given as goal
 abbrev pub invariant-loop-edge : goal.invariant-loop-edge
 invariant-loop-edge l = record {
   same : map (λ (one : Counted). edge_of one.edge) l.counted.items ≡ map edge_of (take l.edge-index l.edges);
-  counts : All (λ (one : Counted). AreSoMany (λ outer. IsInsideIn l.flow outer (edge_of one.edge)) (map edge_of l.edges)
+  counts : All (λ (one : Counted). AreSoMany (λ outer. IsInsideIn l.nesting.flow.now outer (edge_of one.edge)) (map edge_of l.edges)
       one.many) l.counted.items;
 }

@@ -10,12 +10,12 @@ use Rattle.drum_check.proofs.nested.loops_round.Goals as goal
 pub loop-outer-init : goal.loop-outer-init
 loop-outer-init c = record {
   few = omega arith;
-  so_far = many_none (λ outer. IsInsideIn c.args.flow.now outer (edge_of c.args.inner));
+  so_far = many_none (λ outer. IsInsideIn c.args.nesting.now.flow.now outer (edge_of c.args.inner));
 }
 
 pub loop-outer-preserved-then-not-branch : goal.loop-outer-preserved-then-not-branch
 loop-outer-preserved-then-not-branch c =
-    let P : ℕ × ℕ → Type 0 = λ outer. IsInsideIn c.args.flow.now outer (edge_of c.args.inner) in
+    let P : ℕ × ℕ → Type 0 = λ outer. IsInsideIn c.args.nesting.now.flow.now outer (edge_of c.args.inner) in
     let edges = c.args.edges.now in
     let k = c.loop-outer.outer-index in
     let one = c.outer-item.result in
@@ -30,7 +30,7 @@ loop-outer-preserved-then-not-branch c =
 
 pub loop-outer-preserved : goal.loop-outer-preserved
 loop-outer-preserved c =
-    let P : ℕ × ℕ → Type 0 = λ outer. IsInsideIn c.args.flow.now outer (edge_of c.args.inner) in
+    let P : ℕ × ℕ → Type 0 = λ outer. IsInsideIn c.args.nesting.now.flow.now outer (edge_of c.args.inner) in
     let edges = c.args.edges.now in
     let k = c.loop-outer.outer-index in
     let one = c.outer-item.result in

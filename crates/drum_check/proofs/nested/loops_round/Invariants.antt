@@ -8,6 +8,6 @@ use Rattle.drum_check.proofs.nested.loops_round.Given as goal
 abbrev pub invariant-loop-outer : goal.invariant-loop-outer
 invariant-loop-outer l = record {
   few : l.many ≤ l.outer-index;
-  so_far : AreSoMany (λ outer. IsInsideIn l.flow outer (edge_of l.inner)) (map edge_of (take l.outer-index l.edges))
+  so_far : AreSoMany (λ outer. IsInsideIn l.nesting.flow.now outer (edge_of l.inner)) (map edge_of (take l.outer-index l.edges))
       l.many;
 }

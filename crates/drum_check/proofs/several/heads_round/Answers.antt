@@ -4,20 +4,20 @@ use Rattle.std.proofs.lemmas.List.{map_push}
 use Rattle.drum_core.specs.declared.location.Location.{Location}
 use Rattle.drum_times.specs.EdgeOf.{edge_of}
 use Rattle.drum_check.specs.FindingsOf.{IsInsideIn}
-use Rattle.drum_check.specs.Insides.{AreHeads}
-use Rattle.drum_check.proofs.Heads.{heads_in, heads_none, heads_out}
+use Rattle.drum_check.specs.Insides.{AreHeads, IsRound}
+use Rattle.drum_check.proofs.Ways.{heads_in, heads_none, heads_out}
 use Rattle.drum_check.proofs.Numbered.{edges_more}
 use Rattle.drum_check.proofs.several.heads_round.Goals as goal
 
 pub loop-outer-init : goal.loop-outer-init
 loop-outer-init c =
-    let P : ℕ × ℕ → Type 0 = λ outer. IsInsideIn c.args.flow.now outer (edge_of c.args.inner) in
+    let P : ℕ × ℕ → Type 0 = IsRound (IsInsideIn c.args.nesting.now.flow.now) (map edge_of c.args.mark.now) in
     subst (λ (places : List Location). AreHeads P [] (map (λ (head : Location). head.number) places))
     (sym c.new-heads.ensures.items) (heads_none P)
 
 pub loop-outer-preserved-then-not-branch : goal.loop-outer-preserved-then-not-branch
 loop-outer-preserved-then-not-branch c =
-    let P : ℕ × ℕ → Type 0 = λ outer. IsInsideIn c.args.flow.now outer (edge_of c.args.inner) in
+    let P : ℕ × ℕ → Type 0 = IsRound (IsInsideIn c.args.nesting.now.flow.now) (map edge_of c.args.mark.now) in
     let edges = c.args.edges.now in
     let k = c.loop-outer.outer-index in
     let one = c.outer-item.result in
@@ -25,11 +25,11 @@ loop-outer-preserved-then-not-branch c =
     subst (λ (all : List (ℕ × ℕ)). AreHeads P all heads)
     (sym (edges_more edge_of edges k one c.loop-outer-test.true c.outer-item.is))
     (heads_out P (map edge_of (take k edges)) (edge_of one) heads c.loop-outer.invariant
-    (λ is. let clash : true ≡ false = sym (c.in_ok-stands_inside.ensures.1 is) ∙ c.if-not-branch.true in cc))
+    (λ is. let clash : true ≡ false = sym (c.in_ok-is_round.ensures.1 is) ∙ c.if-not-branch.true in cc))
 
 pub loop-outer-preserved : goal.loop-outer-preserved
 loop-outer-preserved c =
-    let P : ℕ × ℕ → Type 0 = λ outer. IsInsideIn c.args.flow.now outer (edge_of c.args.inner) in
+    let P : ℕ × ℕ → Type 0 = IsRound (IsInsideIn c.args.nesting.now.flow.now) (map edge_of c.args.mark.now) in
     let edges = c.args.edges.now in
     let k = c.loop-outer.outer-index in
     let one = c.outer-item.result in
@@ -41,4 +41,4 @@ loop-outer-preserved c =
     (subst (λ (all : List (ℕ × ℕ)). AreHeads P all (heads ++ one.onto.number ∷ []))
     (sym (edges_more edge_of edges k one c.loop-outer-test.true c.outer-item.is))
     (heads_in P (map edge_of (take k edges)) (edge_of one) heads c.loop-outer.invariant
-    (c.in_ok-stands_inside.ensures.0 c.if-not-branch.false)))
+    (c.in_ok-is_round.ensures.0 c.if-not-branch.false)))

@@ -1,11 +1,11 @@
 use Rattle.std.proofs.Common.{map, take}
 use Rattle.drum_times.specs.EdgeOf.{edge_of}
 use Rattle.drum_check.specs.FindingsOf.{IsInsideIn}
-use Rattle.drum_check.specs.Insides.{AreHeads}
+use Rattle.drum_check.specs.Insides.{AreHeads, IsRound}
 use Rattle.drum_check.proofs.several.heads_round.Given as goal
 
--- where the edges so far go back to whose loops stand round the inner one
+-- where the edges so far go back to whose loops stand round the mark's
 abbrev pub invariant-loop-outer : goal.invariant-loop-outer
 invariant-loop-outer l =
-    AreHeads (λ outer. IsInsideIn l.flow outer (edge_of l.inner)) (map edge_of (take l.outer-index l.edges))
+    AreHeads (IsRound (IsInsideIn l.nesting.flow.now) (map edge_of l.mark)) (map edge_of (take l.outer-index l.edges))
     (map (λ head. head.number) l.heads.items)

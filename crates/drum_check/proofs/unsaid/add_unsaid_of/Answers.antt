@@ -1,44 +1,43 @@
--- Of add_unsaid_of: what was added are those of the marks so far inside which the one at the place
--- stands without saying so. One more mark is added where it is one of these, and nothing else is.
-use Rattle.std.proofs.Common.{◌≡◌, ◌∷◌, [], ◌++◌, ℕ, true, false, map, ap, sym, ◌∙◌, arith}
-use Rattle.std.proofs.lemmas.List.{map_push}
+-- Of add_unsaid_of: where the mark stands inside several ways back nothing is left unsaid of it.
+use Rattle.std.proofs.Common.{◌≡◌, ℕ, List, [], map, length, true, false, sym, ◌∙◌, subst}
+use Rattle.std.specs.List.{range_with_len}
+use Rattle.std.proofs.lemmas.List.{append-nil}
 use Rattle.drum_core.specs.Loads.{loads_in, start_in}
 use Rattle.drum_flow.specs.Flow.{executed_in}
 use Rattle.drum_times.specs.EdgeOf.{edge_of}
-use Rattle.drum_check.specs.Findings.{edge_at, inside, inside_at, IsUnsaid}
-use Rattle.drum_check.specs.FindingsOf.{seen}
-use Rattle.drum_check.proofs.Unsaids.{pair_in, pair_out}
+use Rattle.drum_check.specs.Findings.{edges_at, IsUnsaid}
+use Rattle.drum_check.specs.FindingsOf.{seen, IsInsideIn}
+use Rattle.drum_check.specs.Insides.{HasSeveralWays, IsRound}
+use Rattle.drum_check.proofs.Marked.{edges_here}
+use Rattle.drum_check.proofs.Unsaids.{those_none}
 use Rattle.drum_check.proofs.unsaid.add_unsaid_of.Goals as goal
 
-pub loop-outer-preserved-then-not-branch : goal.loop-outer-preserved-then-not-branch
-loop-outer-preserved-then-not-branch c =
-    let flow = c.args.flow.now in
-    record {
-      within = omega (arith, c.loop-outer-test.true);
-      so_far =
-          pair_out (IsUnsaid (loads_in flow.deck.now) flow.notes.now (start_in flow.deck.now) (executed_in flow))
-          (inside_at flow.notes.now.marks) c.args.inner c.loop-outer.outer (map seen c.args.found.now.items)
-          (map seen c.loop-outer.found.items) c.loop-outer.invariant.so_far
-          (λ is. let clash : true ≡ false = sym (c.in_ok-is_unsaid.ensures.1 is) ∙ c.if-not-branch.true in cc);
-    }
+pub returns-then-branch : goal.returns-then-branch
+returns-then-branch c =
+    let flow = c.args.nesting.now.flow.now in
+    let notes = flow.notes.now in
+    let Several : List (ℕ × ℕ) → Type 0 = λ edges. HasSeveralWays (IsRound (IsInsideIn flow) edges) c.args.marks.now in
+    let here : map edge_of c.all.result.now ≡ edges_at notes.marks c.args.inner =
+    c.all.ensures ∙ edges_here c.args.marks.now notes.marks c.args.inner c.index-marks-inner.result c.requires.marks
+    c.requires.inner c.index-marks-inner.is in
+    let several : Several (edges_at notes.marks c.args.inner) =
+    subst Several here (c.in_ok-has_several_ways.ensures.0 c.if-branch.true) in
+    let pair : ℕ → ℕ × ℕ = λ outer. (c.args.inner, outer) in (
+      [],
+      those_none (IsUnsaid (loads_in flow.deck.now) notes (start_in flow.deck.now) (executed_in flow)) pair
+          (range_with_len 0 (length notes.marks))
+          (λ outer is. is.one_way
+          (subst (HasSeveralWays (IsRound (IsInsideIn flow) (edges_at notes.marks c.args.inner))) c.requires.marks several)),
+      sym (append-nil (map seen c.args.found.now.items)),
+    )
 
-pub loop-outer-preserved : goal.loop-outer-preserved
-loop-outer-preserved c =
-    let flow = c.args.flow.now in
-    let marks = flow.notes.now.marks in
-    let before = map seen c.loop-outer.found.items in
-    let one = c.marked_edge.result in
-    let other = c.marked_edge-in-loop-outer.result in
-    let grown : map seen c.push.new.self.items ≡ before ++ inside_at marks (c.args.inner, c.loop-outer.outer) ∷ [] =
-    ap (map seen) c.in_ok-push.ensures.items ∙ map_push seen c.loop-outer.found.items _
-    ∙ ap (λ (edge : ℕ × ℕ). before ++ inside edge (edge_of other) ∷ []) c.marked_edge.ensures
-    ∙ ap (λ (edge : ℕ × ℕ). before ++ inside (edge_at marks c.args.inner) edge ∷ [])
-    c.marked_edge-in-loop-outer.ensures in
-    record {
-      within = omega (arith, c.loop-outer-test.true);
-      so_far =
-          pair_in (IsUnsaid (loads_in flow.deck.now) flow.notes.now (start_in flow.deck.now) (executed_in flow))
-          (inside_at marks) c.args.inner c.loop-outer.outer (map seen c.args.found.now.items) before
-          (map seen c.push.new.self.items) c.loop-outer.invariant.so_far
-          (c.in_ok-is_unsaid.ensures.0 c.if-not-branch.false) grown;
-    }
+pub add_unsaid_one_way-requires-clause-one_way : goal.add_unsaid_one_way-requires-clause-one_way
+add_unsaid_one_way-requires-clause-one_way c several =
+    let flow = c.args.nesting.now.flow.now in
+    let Several : List (ℕ × ℕ) → Type 0 = λ edges. HasSeveralWays (IsRound (IsInsideIn flow) edges) c.args.marks.now in
+    let here : map edge_of c.all.result.now ≡ edges_at flow.notes.now.marks c.args.inner =
+    c.all.ensures ∙ edges_here c.args.marks.now flow.notes.now.marks c.args.inner c.index-marks-inner.result
+    c.requires.marks c.requires.inner c.index-marks-inner.is in
+    let clash : true ≡ false = sym (c.in_ok-has_several_ways.ensures.1 (subst Several (sym here) several))
+    ∙ c.if-branch.false in
+    cc

@@ -1,22 +1,31 @@
-use Rattle.std.proofs.Common.{ℕ, [], length, map, arith}
-use Rattle.std.specs.List.{range_with_len}
+-- Of unsaid_marks: where the marks have too many edges nothing is told.
+use Rattle.std.proofs.Common.{◌<◌, [], map, length, ap, arith}
+use Rattle.std.proofs.lemmas.List.{length-map}
 use Rattle.drum_core.specs.Loads.{loads_in, start_in}
 use Rattle.drum_flow.specs.Flow.{executed_in}
-use Rattle.drum_check.specs.Findings.{inside_at, IsUnsaid}
+use Rattle.drum_times.specs.EdgeOf.{edge_of}
+use Rattle.drum_check.specs.Findings.{IsUnsaid, pairs_of}
 use Rattle.drum_check.specs.FindingsOf.{seen}
-use Rattle.drum_check.proofs.Unsaids.{row_in}
+use Rattle.drum_check.specs.Insides.{marked_edges}
+use Rattle.drum_check.proofs.Unsaids.{those_nothing}
 use Rattle.drum_check.proofs.unsaid.unsaid_marks.Goals as goal
 
-pub loop-inner-preserved : goal.loop-inner-preserved
-loop-inner-preserved c =
+pub returns-then-len-gt-MOST_EDGES : goal.returns-then-len-gt-MOST_EDGES
+returns-then-len-gt-MOST_EDGES c =
     let flow = c.args.flow.now in
-    let more = c.in_ok-add_unsaid_of.ensures in
-    record {
-      within = omega (arith, c.loop-inner-test.true);
-      so_far =
-          row_in (IsUnsaid (loads_in flow.deck.now) flow.notes.now (start_in flow.deck.now) (executed_in flow))
-          (inside_at flow.notes.now.marks)
-          (λ inner. map {A = ℕ} {B = ℕ × ℕ} (λ outer. (inner, outer)) (range_with_len 0 (length flow.notes.now.marks)))
-          c.loop-inner.inner [] (map seen c.loop-inner.found.items) (map seen c.add_unsaid_of.new.found.items)
-          c.loop-inner.invariant.so_far (record { those = more.0; are = more.1; added = more.2 });
-    }
+    let notes = flow.notes.now in
+    let marked = c.in_ok-marked.marked.items in
+    let many : 64 < length (marked_edges notes) =
+    omega (
+      arith,
+      c.if-len-gt-MOST_EDGES.true,
+      c.len.ensures,
+      c.in_ok-marked.marked.ok.0,
+      ap length c.in_ok-marked.ensures,
+      length-map marked edge_of,
+    ) in (
+      [],
+      those_nothing (IsUnsaid (loads_in flow.deck.now) notes (start_in flow.deck.now) (executed_in flow))
+          (pairs_of notes.marks) (λ pair is. absurd (omega (arith, many, is.few))),
+      ap (map seen) c.new.ensures.items,
+    )

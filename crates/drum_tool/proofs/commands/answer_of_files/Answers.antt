@@ -1,8 +1,11 @@
 -- Of answer_of_files: what is answered of the documents is answered of the files that hold them; a
 -- fault is that of the first file that has one, or that of the answer, which is of no file.
-use Rattle.std.proofs.Common.{None, refl, inl, inr, arith}
+use Rattle.std.proofs.Common.{None, refl, subst, inl, inr, arith}
 use Rattle.std.proofs.lemmas.Result.{err_from_is_err_and}
 use Rattle.drum_documents.specs.Asked.{named_in}
+use Rattle.drum_documents.specs.Files.{AreHeld, AreNotHeld, AreTold, Held}
+use Rattle.drum_toml.specs.declared.notes.notes_read.NotesRead.{NotesRead}
+use Rattle.drum_tool.specs.Commands.{read_for}
 use Rattle.drum_lines.specs.Output.{device}
 use Rattle.drum_tool.proofs.Looking.{of_file, of_result}
 use Rattle.drum_tool.proofs.Doing.{does_as, faults_as}
@@ -12,13 +15,22 @@ use Rattle.drum_tool.proofs.commands.answer_of_files.Goals as goal
 pub returns-in_err-documents-clause-does : goal.returns-in_err-documents-clause-does
 returns-in_err-documents-clause-does g c =
     let p = err_from_is_err_and c.from_residual.result c.from_residual.ensures.1 in
+    let fault = c.in_err-documents.field-0.0 in
     rw (p.1, p.2) (λ err held told.
-    inr (c.in_err-documents.field-0.0, inl (c.in_err-documents.ensures.fault held told), refl, refl))
+    inr (
+      fault,
+      inl (subst (λ (read : NotesRead). AreNotHeld read held fault) c.read_for.ensures (c.in_err-documents.ensures.fault held told)),
+      refl,
+      refl,
+    ))
 
 pub returns-clause-does : goal.returns-clause-does
 returns-clause-does g c err =
     let documents = c.in_ok-documents.documents in
-    let held = c.in_ok-documents.ensures.held in
+    let held : (files : Held) → AreTold (g.S.Source.files c.args.source.now) files (named_in c.args.files)
+    → AreHeld (read_for c.args.question) files documents =
+    λ files told. subst (λ (read : NotesRead). AreHeld read files documents) c.read_for.ensures
+    (c.in_ok-documents.ensures.held files told) in
     does_as _ _ _ _ _ _ _ _ (λ reply says files told. inl (documents, held files told, refl, says))
     (λ fault is files told. inr (fault, inr (documents, held files told, is), refl, refl))
     c.answer.result (c.answer.ensures.does err)

@@ -1,9 +1,10 @@
 -- Of check_files: what is found of the texts is found of the files that hold them; a fault is that of
 -- the first file that can't be had, or lack of memory.
-use Rattle.std.proofs.Common.{List, ℕ, Option, inl, inr, refl, sym, subst, arith}
+use Rattle.std.proofs.Common.{Bool, List, ℕ, Option, inl, inr, refl, sym, subst, arith}
 use Rattle.std.proofs.lemmas.Result.{err_from_is_err_and}
 use Rattle.std.specs.Prelude.{option_map}
 use Rattle.drum_check.specs.FindingsOf.{found_in}
+use Rattle.drum_check.specs.Lacking.{check_text}
 use Rattle.drum_faults.specs.FaultLines.{Named}
 use Rattle.drum_faults.specs.NamedTexts.{named}
 use Rattle.drum_answers.specs.declared.checking.Checked.{Checked}
@@ -12,8 +13,8 @@ use Rattle.drum_documents.specs.Asked.{name_in, named_with}
 use Rattle.drum_answers.specs.Checked.{IsChecked}
 use Rattle.drum_documents.specs.TextsOf.{inputs_in, texts_in}
 use Rattle.drum_documents.specs.Documents.{Texts}
-use Rattle.drum_lines.specs.Output.{GetsComplaint, device}
-use Rattle.drum_answers.specs.Says.{findings_reply}
+use Rattle.drum_lines.specs.Output.{GetsComplaint, GetsResult, device}
+use Rattle.drum_answers.specs.Says.{findings_reply, status_after_check}
 use Rattle.drum_lines.specs.Reply.{lists}
 use Rattle.drum_documents.specs.TextsHeld.{IsInputsText}
 use Rattle.drum_lines.proofs.NoLine.{no_line, no_line_of_lists}
@@ -69,14 +70,19 @@ returns-clause-does g c =
     let read : Texts × Option Named = (texts_in c.in_ok-texts.texts, inputs) in
     let found = found_in c.in-Sound.findings in
     let sound : IsChecked c.args.files read.0 inputs (Sound c.in-Sound.findings c.in-Sound.lacking) =
-    subst (λ (one : Checked). IsChecked c.args.files read.0 inputs one) c.in-Sound.is c.in_ok-checked.ensures.checked in (
-      findings_reply found,
+    subst (λ (one : Checked). IsChecked c.args.files read.0 inputs one) c.in-Sound.is c.in_ok-checked.ensures.checked in
+    let old = device (g.O.Output.written c.args.out.now) (g.O.Output.failed c.args.out.now) in
+    let new = device (g.O.Output.written c.tell_findings.new.out) (g.O.Output.failed c.tell_findings.new.out) in
+    let gets =
+    subst (λ (long : Bool). GetsResult old new (check_text long found) (status_after_check found) c.tell_findings.result)
+    sound.3 c.tell_findings.ensures in (
+      findings_reply sound.0 found,
       (λ held told.
           let named_so : IsInputsText held name inputs =
           subst (λ (one : Option Named). IsInputsText held name one) (sym c.named_inputs.ensures) (texts.inputs held told) in
           inl (read, (texts.texts held told, named_so), refl, inr (sound.0, sound.1, (found, sound.2, refl)))),
       no_line _ _,
-      (c.tell_findings.ensures, refl),
+      (gets, refl),
     )
 
 pub returns-in_err-texts-clause-asked : goal.returns-in_err-texts-clause-asked

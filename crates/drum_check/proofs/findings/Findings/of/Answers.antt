@@ -13,8 +13,8 @@ use Rattle.drum_check.specs.FindingsOf.{found_in, seen}
 use Rattle.drum_check.proofs.Whole.{in_turn}
 use Rattle.drum_check.proofs.findings.Findings.of.Goals as goal
 
-pub returns : goal.returns
-returns c =
+pub returns-clause-found : goal.returns-clause-found
+returns-clause-found c =
     let flow = c.in_ok-flow.flow in
     let loads = loads_in flow.deck.now in
     let notes = flow.notes.now in
@@ -44,7 +44,7 @@ returns c =
       all = in_turn (found_in c.none-findings.result) (found_in c.add_all_unfit.new.self)
           (found_in c.add_all_altering.new.self) sized (found_in c.add_all.new.self) (found_in c.add_all-2.new.self)
           (flat_map (unfit loads notes) executed) (flat_map (altering loads notes executed) executed)
-          (too_many (product_of executed notes.marks)) (map seen c.in_ok-loops.loops.items)
+          (too_many notes (product_of executed notes.marks)) (map seen c.in_ok-loops.loops.items)
           (unused loads notes executed ++ meant)
           c.none-findings.ensures
           c.in_ok-add_all_unfit.ensures c.in_ok-add_all_altering.ensures c.in_ok-add_size.ensures

@@ -11,5 +11,5 @@ returns c =
     (adds_more _ _ _ _ _ c.in_ok-choice-2.ensures
     (adds_more _ _ _ _ _ c.in_ok-tables.ensures
     (adds_more _ _ _ _ _ c.in_ok-tables-2.ensures (adds_none _)))))))
-    c.in_ok-repeated_long_marks.ensures)
+    c.in_ok-repeated_marks.ensures)
     c.in_ok-repeated_lists.ensures

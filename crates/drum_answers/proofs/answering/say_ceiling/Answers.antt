@@ -1,0 +1,13 @@
+use Rattle.std.proofs.Common.{refl}
+use Rattle.drum_answers.specs.Says.{ceiling_reply}
+use Rattle.drum_lines.proofs.NoLine.{no_line}
+use Rattle.drum_answers.proofs.answering.say_ceiling.Goals as goal
+
+pub returns-clause-does : goal.returns-clause-does
+returns-clause-does g c err =
+    let ceiling = c.in_ok-ceiling.ceiling in (
+      ceiling_reply c.args.documents.now ceiling,
+      (ceiling, c.in_ok-ceiling.ensures.ceiling, refl),
+      no_line _ _,
+      (c.tell_ceiling.ensures, refl),
+    )

@@ -1,0 +1,119 @@
+//! Which loops stand inside which others: each two edges are looked at once.
+
+ghost use Rattle.std.specs.Prelude.{◌↔◌, All, IfOk, IsTrue, OnOk};
+ghost use Rattle.drum_times.specs.EdgeOf.{edge_of};
+ghost use Rattle.drum_check.specs.FindingsOf.{IsInsideIn};
+ghost use Rattle.drum_check.specs.KnownInside.{IsKnown};
+
+use crate::edges::has_edge;
+use drum_flow::Flow;
+use drum_loops::is_nested;
+use drum_times::Edge;
+use std::alloc::{AllocError, Global};
+
+/// Whether the loop of an inner edge stands inside that of an outer one.
+#[derive(Clone, Copy, Debug)]
+pub(crate) struct Known {
+    pub(crate) outer: Edge,
+    pub(crate) inner: Edge,
+    pub(crate) stands: bool,
+}
+
+/// A flow graph, with what is known of which loops stand inside which others.
+#[derive(Debug, Drop)]
+pub struct Nesting<'a> {
+    pub(crate) flow: &'a Flow<'a>,
+    pub(crate) known: Vec<Known>,
+}
+
+/// Whether the loop of the inner edge stands inside that of the outer one, and the flow graph has
+/// both edges. It takes as long as discovery, twice.
+fn stands_in_flow(
+    alloc: Global,
+    flow: &Flow<'_>,
+    outer: Edge,
+    inner: Edge,
+) -> Result<bool, AllocError>
+    ensures { IfOk result (λ stands. IsTrue stands
+        ↔ IsInsideIn flow.now (edge_of outer) (edge_of inner)) }
+{
+    if !has_edge(alloc, flow, outer.from, outer.onto)? {
+        return Ok(false);
+    }
+    if !has_edge(alloc, flow, inner.from, inner.onto)? {
+        return Ok(false);
+    }
+    is_nested(alloc, flow, outer, inner)
+}
+
+/// Adds what is to be known of an outer edge and these inner ones.
+fn add_known(
+    known: &mut Vec<Known>,
+    alloc: Global,
+    flow: &Flow<'_>,
+    outer: Edge,
+    inners: &[Edge],
+) -> Result<(), AllocError>
+    requires { All (IsKnown flow.now) known.old.items }
+    ensures { OnOk result (All (IsKnown flow.now) known.new.items) }
+{
+    for inner in inners {
+        let stands = stands_in_flow(alloc, flow, outer, *inner)?;
+        known.push(Known {
+            outer,
+            inner: *inner,
+            stands,
+        })?;
+    }
+    Ok(())
+}
+
+impl<'a> Nesting<'a> {
+    ghost use Rattle.std.specs.Prelude.{◌≡◌, IfSome};
+    ghost use Rattle.drum_check.specs.KnownInside.{AreKnown};
+
+    /// The same flow graph, with what is known of these outer edges and these inner ones. For each
+    /// two it takes as long as discovery, twice.
+    pub fn of(
+        alloc: Global,
+        flow: &'a Flow<'a>,
+        outers: &[Edge],
+        inners: &[Edge],
+    ) -> Result<Nesting<'a>, AllocError>
+        ensures flow { IfOk result (λ nesting. nesting.flow.now ≡ flow.now) }
+        ensures known { IfOk result AreKnown }
+    {
+        let mut known = Vec::new(alloc);
+        for outer in outers {
+            add_known(&mut known, alloc, flow, *outer, inners)?;
+        }
+        Ok(Nesting { flow, known })
+    }
+
+    /// What is known of two edges.
+    fn known_of(&self, outer: Edge, inner: Edge) -> Option<bool>
+        requires { AreKnown self.now }
+        ensures { IfSome result (λ stands. IsTrue stands
+            ↔ IsInsideIn self.now.flow.now (edge_of outer) (edge_of inner)) }
+    {
+        for one in &self.known {
+            if one.outer.leads(outer.from, outer.onto) && one.inner.leads(inner.from, inner.onto) {
+                return Some(one.stands);
+            }
+        }
+        None
+    }
+
+    /// Whether the loop of the inner edge stands inside that of the outer one, and the flow graph
+    /// has both edges. Where it isn't known it takes as long as discovery, twice.
+    pub fn stands_inside(&self, alloc: Global, outer: Edge, inner: Edge) -> Result<bool, AllocError>
+        requires { AreKnown self.now }
+        ensures { IfOk result (λ stands. IsTrue stands
+            ↔ IsInsideIn self.now.flow.now (edge_of outer) (edge_of inner)) }
+    {
+        match self.known_of(outer, inner) {
+            Some(stands) => Ok(stands),
+            None => stands_in_flow(alloc, self.flow, outer, inner),
+        }
+    }
+}

@@ -1,8 +1,0 @@
-use Rattle.std.proofs.lemmas.Result.{err_from_is_err_and}
-use Rattle.drum_documents.proofs.Limiting.{no_ceiling}
-use Rattle.drum_documents.proofs.limits.past_limit.Goals as goal
-
-pub returns-in_err-ceiling_of-clause-fault : goal.returns-in_err-ceiling_of-clause-fault
-returns-in_err-ceiling_of-clause-fault c =
-    let p = err_from_is_err_and c.from_residual.result c.from_residual.ensures.1 in
-    rw (p.1, p.2) (no_ceiling c.args.documents.now c.in_err-ceiling_of.field-0.0 c.in_err-ceiling_of.ensures.fault)
