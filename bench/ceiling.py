@@ -40,7 +40,7 @@ class Flow:
     def __init__(self, walks):
         self.walks = walks
         self.start = walks.start, walks.start % 50
-        self.marks = {(one["from"], one["to"]): at for at, one in enumerate(walks.marks)}
+        self.marks = {edge: at for at, one in enumerate(walks.marks) for edge in one.edges}
         self.stops, self.edges = {}, {}
         todo = [self.start]
         while todo:
@@ -65,7 +65,7 @@ class Flow:
 
     def most(self, place, onto):
         mark = self.marks.get((place, onto))
-        return None if mark is None else self.walks.marks[mark]["most"]
+        return None if mark is None else self.walks.marks[mark].most
 
     def owed(self, node):
         """What a walk is worth at least that ends there: where a mark's edge leads, or at the start,
@@ -75,10 +75,10 @@ class Flow:
 
     def passes(self, mark):
         """How often a mark can be passed at all."""
-        passes, outer = mark["most"], mark.get("inside")
+        passes, outer = mark.most, mark.inside
         while outer is not None:
-            passes *= self.walks.marks[outer - 1]["most"] + 1
-            outer = self.walks.marks[outer - 1].get("inside")
+            passes *= self.walks.marks[outer].most + 1
+            outer = self.walks.marks[outer].inside
         return passes
 
     def program(self):
@@ -139,7 +139,7 @@ class Bench:
         *marks, base, ceiling = self.lines("ceiling")
         total = int(base.removeprefix("base "))
         for line in marks:
-            passes, price = re.fullmatch(r"mark \d+ \d+ passes (\d+) price (\d+)", line).groups()
+            passes, price = re.fullmatch(r"mark \d+ \d+ passes (\d+) price (\d+).*", line).groups()
             total += int(passes) * int(price)
         if total != int(ceiling.removeprefix("ceiling ")):
             sys.exit("the lines add up to %d: %s" % (total, ceiling))
@@ -149,7 +149,7 @@ class Bench:
         """The optimum of the linear program; None without glpsol."""
         if self.solver is None:
             return None
-        walks = model.Walks(self.path("deck"), self.times, self.path("notes"))
+        walks = model.walks_of(self.path("deck"), self.times, self.path("notes"))
         with open(self.path("lp"), "w") as file:
             file.write(Flow(walks).program())
         words = [self.solver, "--lp", self.path("lp"), "-w", self.path("solved")]

@@ -56,6 +56,21 @@ def mark(source, target, most, inside=None):
     return text if inside is None else text + "inside = %d\n" % inside
 
 
+def mark_of(edges, most):
+    """A mark of several edges."""
+    return "[[mark]]\nedges = %s\nmost = %d\n" % ([list(edge) for edge in edges], most)
+
+
+def name(text):
+    """The line of a mark's name."""
+    return 'name = "%s"\n' % text
+
+
+def inside(text):
+    """The line of the name of the mark that a mark stands inside of."""
+    return 'inside = "%s"\n' % text
+
+
 def notes(programmed, load_cards, *more):
     head = 'programmed = "%s"\nload_cards = "%s"\n' % (programmed, load_cards)
     return head + "".join(more)
@@ -91,6 +106,17 @@ CARDS = """* reads, punches, stops
 0012 +0100000012
 0049 +0100000049
 0300 +0000000001 -0000000002 +0000000003 +0000000004 +0000000005 +0000000006 +0000000007
+START 0100
+"""
+# A deck with a loop inside two ways back of another one, and what sends a run round both.
+TWO_WAYS = """0000 +6510000001 +1510010002 +4500010003 +4400000004 +1510020005 +4600000006
+0006 +0100000006
+START 0000
+"""
+ROUND_BOTH = "1000 -0000000002\n1001 +0000000001\n1002 -0000000001\n"
+# A deck of nine loops in a row.
+NINE_LOOPS = """0100 +4501000101 +4501010102 +4501020103 +4501030104 +4501040105 +4501050106
+0106 +4501060107 +4501070108 +4501080109 +0100000109
 START 0100
 """
 # A deck that divides, multiplies, shifts and stops.
@@ -130,7 +156,16 @@ PAST_LIMIT = notes(
     mark(110, 110, 9999),
 )
 
-# A deck, notes and inputs. Undamaged, each is accepted, or would be but for its size.
+# Long notes: of a mark with two edges, of more marks than short ones have, with names alone, and
+# some that say what short ones do.
+COUNTED_TOGETHER = (
+    LEAST + mark_of([(3, 0), (5, 0)], 2) + name("loop-1") + mark(2, 1, 1) + inside("loop-1")
+)
+NINE_MARKS = LEAST + "".join(mark(place, place, place // 107) for place in range(100, 109))
+NAMED = LEAST + mark(110, 100, 1) + name("loop-1") + mark(100, 100, 2, inside=1) + name("loop-2")
+ONE_EDGE_EACH = LEAST + mark_of([(110, 100)], 1) + mark_of([(100, 100)], 2) + "inside = 1\n"
+
+# A deck, notes and inputs. Undamaged, each is accepted, or would be but for its size or its loops.
 EXAMPLES = [
     (TWO_WORDS, LEAST, "ANGLE 01\n"),
     (TWO_WORDS, notes("any", "none", mark(106, 106, 2)), "ANGLE 49\nPROGRAMMED RUN\n"),
@@ -143,6 +178,12 @@ EXAMPLES = [
     (TWO_ROADS, LEAST + mark(210, 110, 1) + mark(210, 120, 1) + ROADS, "PROGRAMMED STOP\n"),
     (CARDS, notes("any", "any", mark(12, 12, 1), mark(49, 49, 1)), WHOLE),
     (SUMS, LEAST, "LATCH OFF\nONOVERFLOW STOP\nSWITCHES +0000000000\n"),
+    (TWO_WAYS, COUNTED_TOGETHER, ROUND_BOTH),
+    (TWO_WAYS, LEAST + mark(2, 1, 1) + name("loop-2"), ROUND_BOTH),
+    (TWO_WAYS, LEAST, ROUND_BOTH),
+    (NINE_LOOPS, NINE_MARKS, "ACCUMULATOR +%020d\n" % 0),
+    (LOOPS, NAMED, "ACCUMULATOR +%020d\n" % 10**10),
+    (LOOPS, ONE_EDGE_EACH, "ANGLE 01\n"),
 ]
 
 with open(os.path.join(TOP, "examples", "times.toml"), "rb") as file:

@@ -61,6 +61,8 @@ EXAMPLES = [
         "notes.toml",
         {"inputs": from_300(sorted(UNSORTED)), "backwards": from_300(range(1, 11))},
     ),
+    Example("twelve loops in a row", "twelve", "deck", "notes.toml", {"inputs": {}}),
+    Example("a loop with two ways back", "ways", "deck", "notes.toml", {"inputs": {50: 0, 60: -1}}),
 ]
 
 # Decks to hold an emulator to: what each shows, its name, and its notes where it has notes of its

@@ -1,19 +1,24 @@
-"""All that keeps a deck from a bound, worked out from its text and its notes, and whether what
-`check` prints is that. Which edges it tells for the loops is held to what is asked of them: that
-they are enough, and that none can be spared."""
+"""All that keeps a deck from a bound, or under long notes from a ceiling, worked out from its text
+and its notes, and whether what `check` prints is that. Which edges it tells for the loops is held
+to what is asked of them: that they are enough, and that none can be spared."""
 
 import re
 from math import prod
 
+from marks import Mark, are_short, is_inside, marks_of, place_on
 from model import is_location, suits
 from results import cards_of, entries_of, start_of
 from toml_text import document_of
 
-# The most words times counts, and the most marks.
+# The most words times counts, and the most edges of marks whose loops are looked at one in the
+# other.
 KEYS = 4_000_000
-MARKS = 8
-# What stands behind the `inside` of a mark that is lacking.
+EDGES = 64
+# What stands behind the `inside` of a mark that is lacking, what in place of it where there are
+# several, and what stands before marks that make long notes.
 RUN = " # without this line, most is of the whole run"
+SEVERAL = "# inside several ways back of one loop: most is of the whole run"
+LONG = "# long notes: check, graph, ceiling and trace read them, no other command"
 
 
 class Flow:
@@ -29,8 +34,8 @@ class Flow:
         self.notes = document_of(files["notes"])
         self.profile = set(entries_of(files["times"]))
         self.lists = {one["location"]: one["pattern"] for one in self.notes.get("list", [])}
-        self.marks = self.notes.get("mark", [])
-        self.targets, self.order = {}, [start_of(files["deck"])]
+        self.marks = marks_of(self.notes)
+        self.led, self.targets, self.order = {}, {}, [start_of(files["deck"])]
         for place in self.order:
             self.targets[place] = list(dict.fromkeys(self.nexts_at(place)))
             self.order += [onto for onto in self.targets[place] if onto not in self.order]
@@ -71,62 +76,124 @@ class Flow:
             if word in fixed:
                 yield "alters %04d %04d" % (place, word)
 
+    def product(self):
+        """Executed words times counts, as they are told: 2^127 in place of what is more."""
+        counts = prod(mark.most + 1 for mark in self.marks)
+        return min(len(self.order) * counts, 2**127)
+
     def too_large(self):
-        product = len(self.order) * prod(mark["most"] + 1 for mark in self.marks)
-        return ["toolarge %d" % product] if product > KEYS else []
+        is_past = are_short(self.marks) and self.product() > KEYS
+        return ["toolarge %d" % self.product()] if is_past else []
+
+    def is_there(self, edge):
+        return edge[1] in self.targets.get(edge[0], [])
 
     def unused(self):
-        """Marks on edges that aren't there, and lists of locations that aren't executed."""
+        """Edges of marks that aren't there, and lists of locations that aren't executed."""
         for mark in self.marks:
-            if mark["to"] not in self.targets.get(mark["from"], []):
-                yield "unused mark %04d %04d" % (mark["from"], mark["to"])
+            for edge in mark.edges:
+                if not self.is_there(edge):
+                    yield "unused mark %04d %04d" % edge
         for place in sorted(set(self.lists) - set(self.order)):
             yield "unused list %04d" % place
 
-    def is_inside(self, inner, outer):
-        """Whether the notes say that the mark at one place stands inside the one at another."""
-        around = self.marks[inner].get("inside")
-        return around is not None and (around - 1 == outer or self.is_inside(around - 1, outer))
+    def reached_past(self, head, place):
+        """The locations that edges lead to from one, none of them onto the head."""
+        if (head, place) not in self.led:
+            edges = [(one, onto) for one in self.order for onto in self.targets[one]]
+            self.led[head, place] = reached([edge for edge in edges if edge[1] != head], place)
+        return self.led[head, place]
 
     def is_nested(self, outer, inner):
         """Whether the loop of one edge stands inside that of another: past the outer loop's head
         the inner one's leads round its loop and to the outer edge, and the start leads to it
         through that head alone."""
-        head, place = outer[1], inner[1]
-        past = [(one, onto) for one in self.order for onto in self.targets[one] if onto != head]
-        here = reached(past, place)
-        is_entered = self.order[0] == head or place not in reached(past, self.order[0])
-        return place != head and {inner[0], outer[0]} <= here and is_entered
+        head, place, start = outer[1], inner[1], self.order[0]
+        if place == head or not {inner[0], outer[0]} <= self.reached_past(head, place):
+            return False
+        return start == head or place not in self.reached_past(head, start)
+
+    def around(self, edges, mark):
+        """The edges of a mark inside whose loops that of one of these edges stands."""
+        return [
+            outer
+            for outer in filter(self.is_there, mark.edges)
+            if any(self.is_nested(outer, inner) for inner in filter(self.is_there, edges))
+        ]
+
+    def edges(self):
+        """The edges of all marks, in order."""
+        return [edge for mark in self.marks for edge in mark.edges]
 
     def unsaid(self):
         """Marks whose loop stands inside another one's where the notes don't say so."""
-        edges = [(mark["from"], mark["to"]) for mark in self.marks]
-        for at, inner in enumerate(edges):
-            for around, outer in enumerate(edges):
-                are_there = all(to in self.targets.get(source, []) for source, to in (inner, outer))
-                if are_there and self.is_nested(outer, inner) and not self.is_inside(at, around):
-                    yield "inside %04d %04d %04d %04d" % (*inner, *outer)
+        if len(self.edges()) > EDGES:
+            return
+        for at, mark in enumerate(self.marks):
+            around = [self.around(mark.edges, other) for other in self.marks]
+            for outer, edges in enumerate(around):
+                is_asked = edges and outer != at and not is_inside(self.marks, at, outer)
+                if is_asked and not are_several_ways(around):
+                    first = self.marks[outer].first
+                    yield "inside %04d %04d %04d %04d" % (*mark.first, *first)
+
+    def is_few(self, told):
+        """Whether the marks and these edges have few enough edges for all loops to be looked at one
+        in the other."""
+        return len(self.edges()) + len(told) <= EDGES
 
     def rounds(self, inner, edges):
-        """The places of those edges inside whose loop that of another one stands, from 1."""
-        for place, outer in enumerate(edges, 1):
-            is_there = outer[1] in self.targets.get(outer[0], [])
-            if is_there and self.is_nested(outer, inner):
-                yield place
+        """How many of some edges there are inside whose loop that of another one stands."""
+        return sum(self.is_nested(outer, inner) for outer in edges)
 
     def in_order(self, told):
         """The edges of loops, those first that stand inside fewer of them."""
-        if len(self.marks) + len(told) > MARKS:
-            return told
-        return sorted(told, key=lambda edge: len(list(self.rounds(edge, told))))
+        return sorted(told, key=lambda edge: self.rounds(edge, told)) if self.is_few(told) else told
 
-    def around(self, told):
-        """For each of these edges the last mark before it inside whose loop its own stands."""
-        edges = [(mark["from"], mark["to"]) for mark in self.marks]
+    def is_shared(self, ways, told):
+        """Whether these edges, which go back to one location, share a mark: the loop of some edge
+        stands inside those of two of them."""
+        edges = [*filter(self.is_there, self.edges()), *told]
+        return any(self.rounds(inner, ways) > 1 for inner in edges)
+
+    def pasted(self, told):
+        """The edges of each mark that is lacking, where these edges were told for the loops."""
+        if not self.is_few(told):
+            return [[edge] for edge in told]
+        shared, tables = set(), []
         for edge in told:
-            rounds = list(self.rounds(edge, edges))
-            yield rounds[-1] if rounds and len(self.marks) + len(told) <= MARKS else None
-            edges.append(edge)
+            ways = [other for other in told if other[1] == edge[1]]
+            if edge[1] not in shared:
+                is_shared = self.is_shared(ways, told)
+                shared |= {edge[1]} if is_shared else set()
+                tables.append(ways if is_shared else [edge])
+        return tables
+
+    def insides(self, tables):
+        """For each mark that is lacking, by its edges, the lines that say inside which mark it
+        stands: the last one before it inside whose loop its own stands."""
+        marks = self.marks + [Mark(edges, None, None, None) for edges in tables]
+        for place, edges in enumerate(tables, len(self.marks)):
+            around = [self.around(edges, mark) for mark in marks]
+            numbers = [number for number, ones in enumerate(around[:place], 1) if ones]
+            if are_several_ways(around):
+                yield [SEVERAL]
+            else:
+                yield ["inside = %d%s" % (numbers[-1], RUN)] if numbers else []
+
+    def lacking_marks(self, told):
+        """The marks that are lacking, as TOML."""
+        tables = self.pasted(told)
+        marks = self.marks + [Mark(edges, None, None, None) for edges in tables]
+        yield from [LONG] if tables and not are_short(marks) else []
+        insides = self.insides(tables) if self.is_few(told) else [[]] * len(tables)
+        for edges, inside in zip(tables, insides):
+            yield from ["[[mark]]", "most ="]
+            if len(edges) == 1:
+                yield from ["from = %d" % edges[0][0], "to = %d" % edges[0][1]]
+            else:
+                yield "edges = [%s]" % ", ".join("[%d, %d]" % edge for edge in edges)
+            yield from inside
 
     def lines(self):
         """All that comes before the loops."""
@@ -136,9 +203,7 @@ class Flow:
 
     def lacking(self, told):
         """The notes that are lacking, as TOML, where these edges were told for the loops."""
-        for edge, around in zip(told, self.around(told)):
-            yield from ["[[mark]]", "most =", "from = %d" % edge[0], "to = %d" % edge[1]]
-            yield from [] if around is None else ["inside = %d%s" % (around, RUN)]
+        yield from self.lacking_marks(told)
         writers = {}
         for place in self.order:
             for line in self.altering(place):
@@ -164,9 +229,15 @@ class Flow:
 
     def free_edges(self):
         """The edges without a mark, in order."""
-        marked = {(mark["from"], mark["to"]) for mark in self.marks}
         edges = [(place, onto) for place in self.order for onto in self.targets[place]]
-        return [edge for edge in edges if edge not in marked]
+        return [edge for edge in edges if place_on(self.marks, edge) is None]
+
+
+def are_several_ways(around):
+    """Whether edges of two different marks go back to one location, of those that are listed of
+    each mark."""
+    heads = [head for edges in around for head in {onto for _, onto in edges}]
+    return len(heads) > len(set(heads))
 
 
 def parts_of(word):

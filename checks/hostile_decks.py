@@ -219,6 +219,16 @@ def ceiling(case, marks_in_it, total):
     return Case(name, last, "ceiling", holds=holds, **case.parts)
 
 
+def marks_of_many():
+    """As many marks as there may be, each of as many edges, and with a name."""
+    text = b""
+    for mark in range(64):
+        edges = ", ".join("[%d, %d]" % (mark, 200 + onto) for onto in range(64))
+        text += b"[[mark]]\nmost = 9999\nedges = [%s]\n" % edges.encode()
+        text += b'name = "%020d"\n' % mark
+    return text
+
+
 def of_ceilings():
     """Decks at the limit of a bound, and far past it."""
     yield ceiling(storing_drum(64), 0, 49 + 1999 * 101 + 1)
@@ -230,6 +240,16 @@ def of_ceilings():
     line = traced.line.replace(b"bound", b"ceiling")
     holds = has_lines(1998 * ROUNDS + 2, line)
     yield Case("%s by its ceiling" % traced.name, line, "trace", holds=holds, **parts)
+    # Nobody passes a mark of these.
+    notes = NOTES + marks_of_many()
+    holds = has_lines(64 + 2, b"ceiling 56\n")
+    yield Case("64 marks of 64 edges", b"ceiling 56\n", "ceiling", notes=notes, holds=holds)
+    name = "check of 64 marks of 64 edges"
+    last = b"unused mark 0063 0263\n"
+    yield Case(name, last, "check", notes=notes, holds=has_lines(64 * 64, last))
+    nested = marks([(1000 + mark, 0, 9999, mark) for mark in range(64)])
+    line = fault(36, b"toolarge", b"%d" % 2**127)
+    yield Case("64 nested marks of 9999", line, "ceiling", notes=NOTES + nested)
 
 
 def of_checks():
@@ -239,14 +259,15 @@ def of_checks():
         for here in range(2000)
     )
     # Each edge that doesn't go on to a greater number goes back: a line, and four lines of a mark.
+    # One line more says that these make long notes.
     last = b"to = 1999\n"
-    holds = has_lines(5 * 2000 * 2001 // 2, last)
+    holds = has_lines(5 * 2000 * 2001 // 2 + 1, last)
     parts = {"deck": b"START 0000\n", "notes": NOTES + every, "holds": holds}
     yield Case("check of 2,001,000 loops", last, "check", **parts)
     # Eight of these edges are marked. Seven loops stand inside that of the start, by one line each.
     edges = [(1999 - mark, mark, 1, 0) for mark in range(8)]
     parts["notes"] += marks(edges)
-    parts["holds"] = has_lines(5 * (2000 * 2001 // 2 - 8) + 7, last)
+    parts["holds"] = has_lines(5 * (2000 * 2001 // 2 - 8) + 7 + 1, last)
     yield Case("check of 2,000,992 loops and eight marks", last, "check", **parts)
     halves = b"".join(
         b"[[list]]\nlocation=%d\npattern=[{op=20,d_from=0,d_to=1999,i=%d}]\n" % (here, here + 1)

@@ -113,6 +113,15 @@ def of_lengths():
     million = b" = [" + b"{}," * 1_000_000 + b"]\n"
     line = fault(15, b"notes", b"range", b"mark")
     yield Case("1,000,000 marks", line, notes=NOTES + b"mark" + million)
+    yield Case("ceiling of 1,000,000 marks", line, "ceiling", notes=NOTES + b"mark" + million)
+    marks = NOTES + b"[[mark]]\nfrom = 100\nto = 100\nmost = 1\n" * 65
+    yield Case("ceiling of 65 marks", line, "ceiling", notes=marks)
+    line = fault(15, b"notes", b"range", b"mark.1.edges")
+    edges = NOTES + b"[[mark]]\nmost = 1\nedges" + million
+    yield Case("1,000,000 edges", line, "ceiling", notes=edges)
+    line = fault(15, b"notes", b"range", b"mark.1.name")
+    name = b'[[mark]]\nfrom = 100\nto = 100\nmost = 1\nname = "%s"\n' % (b"n" * 1_000_000)
+    yield Case("a name of 1 MB", line, "ceiling", notes=NOTES + name)
     line = fault(13, b"notes", b"missing", b"list.1.location")
     yield Case("1,000,000 lists", line, notes=NOTES + b"list" + million)
     yield Case("8 MB of lists", line, notes=NOTES + b"[[list]]\n" * (room // 9))

@@ -3,9 +3,11 @@ checks/damaged-inputs holds to it the cases of checks/damage.py."""
 
 from collections import namedtuple
 
-from damage import CHECKS, FILES, files_of_joined, joined
-from faults import fault_of, has_its_form, is_accepted, names_what_is_there
-from findings import is_check, is_first_of, is_loose_end
+from damage import CHECKS, FILES, LEAST, files_of_joined, joined
+from faults import Fault, fault_of, has_its_form, is_accepted, names_what_is_there
+from findings import Flow, is_check, is_first_of, is_loose_end
+from marks import are_short, marks_of, short_text
+from note_faults import notes_faults
 from results import (
     bound_of,
     ceiling_of,
@@ -14,13 +16,14 @@ from results import (
     pictured_bound,
     report_of_walk,
     reported_bound,
-    traced_verdict,
     waited_bound,
     waits_of_walk,
     walked_bound,
 )
-from tables import graphed, tabled
+from tables import graphed, least_ceiling, tabled
 from text_faults import listed_faults
+from toml_text import document_of
+from traces import traced_verdict
 
 # What a run gave: its status and both outputs.
 Ran = namedtuple("Ran", "status out err")
@@ -30,6 +33,9 @@ Told = namedtuple("Told", "kind bound used fault by", defaults=[None, None, None
 
 # The commands that tell of the worst walk, line by line.
 WALKED = ["walk", "report", "waits"]
+# Those that read long notes, and of these the ones that go by the bound all the same.
+OF_LONG = [*CHECKS, "graph", "ceiling", "walk", "waits", "draw", "trace"]
+BY_BOUND = ["walk", "waits", "draw"]
 
 # From so many word times on no trace goes by a ceiling.
 LONGEST = 2**50
@@ -63,9 +69,18 @@ def status_of_check(text):
     return DONE if are_asked else REFUSED
 
 
+def faults_of_notes(asked):
+    """The lines of all faults of the notes that were asked about; None where they are no
+    document."""
+    command, files = asked
+    return notes_faults(files["notes"], command in OF_LONG)
+
+
 def result_of(asked, status, text):
     """What a result tells that was asked for; None where it is none."""
     command, files = asked
+    if faults_of_notes(asked) != []:
+        return None
     if command in CHECKS:
         is_told = status == status_of_check(text) and is_check(text, files)
         return Told("check") if is_told else None
@@ -154,6 +169,13 @@ def is_within(told, bound, files):
     return other.fault is None and told.used <= other.bound and told.bound in (None, other.bound)
 
 
+def words_of(command):
+    """The words of a command over the files."""
+    if command in CHECKS:
+        return ["check"] + FILES[: 3 + CHECKS.index(command)]
+    return [command] + FILES[: 4 if command in ("replay", "trace") else 3]
+
+
 def is_no_lower(told, bound, files):
     """Whether a ceiling goes with what `bound` gives: it isn't below the bound, and has the same
     fault; where a bound has too many counts there may be a ceiling, or a round without a mark."""
@@ -166,38 +188,99 @@ def is_no_lower(told, bound, files):
     return told.fault == other.fault and (told.fault is not None or other.bound <= told.bound)
 
 
-def is_said_first(ran, told, bound, files):
-    """Whether a check goes with what `bound` gives: it tells of unused notes at most where there is
-    a bound, else its first line is that of the analysis's fault; a fault of a text is the same."""
-    other = told_of(("bound", files), bound)
+def is_said_first(ran, told, limit, other):
+    """Whether a check goes with what `bound` gives, or under long notes `ceiling`, which ran so and
+    told this: it tells of unused notes at most where there is a limit (or a ceiling past all
+    numbers), else its first line is that of the analysis's fault; a fault of a text is the same."""
     if other is None or told.fault:
         return other is not None and told.fault == other.fault
     if all(map(is_loose_end, ran.out.decode().splitlines())):
-        return other.fault is None
+        return other.fault is None or other.fault.ending == "product"
     is_refused = other.fault is not None and other.fault.about == "analysis"
-    return is_refused and is_first_of(bound.err.decode(), ran.out.decode())
+    return is_refused and is_first_of(limit.err.decode(), ran.out.decode())
 
 
-def is_within_ceiling(told, bound, ceiling, files):
-    """Whether a trace past the limit of a bound goes with what `ceiling` gives: it tells that, no
-    time in it is above it, and without one it has the same fault, or one of the inputs; a ceiling
-    that is too long is no better than none."""
-    other = told_of(("ceiling", files), ceiling)
+def is_within_ceiling(told, other, past):
+    """Whether a trace without a bound goes with what `ceiling` told: it tells that, no time in it
+    is above it, and without one it has the same fault, or one of the inputs; a ceiling that is too
+    long is no better than none, and has a fault of its own."""
     if other is None:
         return False
     if told.fault:
         is_too_long = other.fault is None and other.bound >= LONGEST
-        fault = told_of(("bound", files), bound).fault if is_too_long else other.fault
+        fault = past if is_too_long else other.fault
         return told.fault.about == "inputs" or told.fault == fault
     is_told = told.bound in (None, other.bound) and told.by in (None, "ceiling")
     return other.fault is None and told.used <= other.bound < LONGEST and is_told
 
 
+def are_read_alike(text):
+    """Whether all commands come to the same with a text of notes: it is of short ones, or has the
+    same first fault as short and as long ones."""
+    short, long = (notes_faults(text, is_long) for is_long in (False, True))
+    return short is None or short[:1] == long[:1]
+
+
+def fault_before_notes(files, run):
+    """The fault of a deck or of a timing table, if there is one."""
+    plain = dict(files, notes=LEAST.encode())
+    fault = told_of(("bound", plain), run(words_of("bound"), plain, b"")).fault
+    return fault if fault and fault.about in ("deck", "times") else None
+
+
+def is_as_of_short(asked, ran, told, run):
+    """Whether a run over notes that say what short ones do gives what it does over these."""
+    command, files = asked
+    short = dict(files, notes=short_text(document_of(files["notes"])).encode())
+    other = run(words_of(command), short, b"")
+    is_one = (ran.status, ran.out) == (other.status, other.out)
+    return is_one and told == told_of((command, short), other)
+
+
+def agrees_of_long(asked, ran, told, run):
+    """Whether a run over long notes without a fault agrees with what the other commands tell."""
+    command, files = asked
+    ceiling = ran if command == "ceiling" else run(words_of("ceiling"), files, b"")
+    limit = told_of(("ceiling", files), ceiling)
+    past = Fault("analysis", "product", str(Flow(files).product()))
+    if limit is None or limit.fault and limit.fault.ending == "product" and limit.fault != past:
+        return False
+    if command == "graph":
+        return told.fault is None
+    if command in BY_BOUND:
+        return told.fault is not None and told.fault.ending == "longnotes"
+    if command == "ceiling":
+        check = run(words_of(CHECKS[0]), files, b"")
+        checked = told_of((CHECKS[0], files), check)
+        is_first = checked is not None and is_said_first(check, checked, ceiling, limit)
+        return is_first and (told.fault is not None or least_ceiling(files) <= told.bound)
+    if command == "trace":
+        return is_within_ceiling(told, limit, past)
+    if told.fault and told.fault.about == "inputs":
+        trace = told_of(("trace", files), run(words_of("trace"), files, b""))
+        return trace is not None and told.fault == trace.fault
+    return is_said_first(ran, told, ceiling, limit)
+
+
+def agrees_apart(asked, ran, told, run):
+    """Whether a run agrees with what the other commands tell of the same files, the notes among
+    which aren't read alike."""
+    command, files = asked
+    before = fault_before_notes(files, run)
+    if before or faults_of_notes(asked):
+        # Which one of the notes is told is held to the model.
+        return told.fault is not None and told.fault == (before or told.fault)
+    if are_short(marks_of(document_of(files["notes"]))):
+        return is_as_of_short(asked, ran, told, run)
+    return agrees_of_long(asked, ran, told, run)
+
+
 def agrees(asked, ran, told, run):
     """Whether a run agrees with what the other commands tell of the same files."""
     command, files = asked
-    words = lambda command: [command] + FILES[: 4 if command in ("replay", "trace") else 3]
-    other = lambda command: run(words(command), files, b"")
+    if not are_read_alike(files["notes"]):
+        return agrees_apart(asked, ran, told, run)
+    other = lambda command: run(words_of(command), files, b"")
     bound = other("bound")
     if command == "joined":
         return ran == bound
@@ -211,7 +294,7 @@ def agrees(asked, ran, told, run):
         if command == CHECKS[1] and told.fault:
             replay = told_of(("replay", files), other("replay"))
             return replay is not None and told.fault == replay.fault
-        return is_said_first(ran, told, bound, files)
+        return is_said_first(ran, told, bound, told_of(("bound", files), bound))
     if command == "table":
         return (ran.status, ran.err) == (bound.status, bound.err)
     if command == "graph":
@@ -229,11 +312,22 @@ def agrees(asked, ran, told, run):
         return False
     limit = told_of(("bound", files), bound).fault
     if limit and limit.ending == "product":
-        return is_within_ceiling(traced, bound, other("ceiling"), files)
+        return is_within_ceiling(traced, told_of(("ceiling", files), other("ceiling")), limit)
     return ends_alike(trace, replay) and traced == replayed
 
 
 # The properties.
+
+
+def reads_notes(asked, told):
+    """Whether a run that comes to the notes tells their first fault, or goes past them where they
+    have none."""
+    fault, lines = told.fault, faults_of_notes(asked)
+    if fault is None or is_accepted(fault, "notes"):
+        return lines == []
+    if fault.about != "notes" or fault.ending in ("open", "fail", "toml"):
+        return True
+    return bool(lines) and fault == fault_of(lines[0] + "\n", REFUSED)
 
 
 def writes_where_its_status_says(ran, asked):
@@ -279,6 +373,7 @@ def judged(case, ran, run):
     command, files = asked
     if told.fault:
         hold("names what is there", names_what_is_there(told.fault, files))
+    hold("reads notes", reads_notes(asked, told))
     for part in FILES[: 4 if command in ("replay", "trace", CHECKS[1]) else 3]:
         is_taken = is_accepted(told.fault, part)
         hold("takes what has its form", not is_taken or has_its_form(part, files[part]))

@@ -3,8 +3,10 @@ report, and where its word times go by instruction and way. Of the longest walks
 that arrive as late as any does wherever they come; where these don't all come to the same, there
 is none. And the table of these latest arrivals."""
 
+import sys
 from collections import namedtuple
 
+from marks import place_on
 from model import WAITS_FOR_DATA, found
 
 MANY = "more than one"
@@ -30,8 +32,7 @@ class Cards:
                 self.lines.append(number)
 
     def mark_of(self, hop):
-        edges = [(mark["from"], mark["to"]) for mark in self.marks]
-        return edges.index((hop.place, hop.way)) if (hop.place, hop.way) in edges else None
+        return place_on(self.marks, (hop.place, hop.way))
 
     def nothing(self):
         """The tally of a walk that hasn't begun."""
@@ -65,8 +66,8 @@ class Tally:
         lines = ["card %04d visits %d time %d" % one for one in cards]
         lines.append("other visits %d time %d" % (self.visits[-1], self.times[-1]))
         for mark, passes in zip(self.cards.marks, self.passes):
-            told = mark["from"], mark["to"], passes, mark["most"]
-            lines.append("mark %04d %04d passed %d of %d" % told)
+            told = *mark.first, passes, mark.most, mark.ending()
+            lines.append("mark %04d %04d passed %d of %d%s" % told)
         return lines
 
 
@@ -176,6 +177,8 @@ class Latest:
         start = self.walks.start, (0,) * len(self.walks.marks)
         angle = (self.walks.start + 1) % 50
         self.arrivals[start] = angle, self.nothing
+        # The order is looked for as deep as a walk has hops.
+        sys.setrecursionlimit(1_000_000)
         for key in reversed(self.order(start, set(), [])):
             self.take(key)
         end, tally = self.ended
@@ -202,6 +205,11 @@ class Uncounted:
         return []
 
 
+def worst(walks):
+    """The bound."""
+    return int(Latest(walks, Uncounted()).lines()[-1].removeprefix("bound "))
+
+
 def table(walks):
     """The lines of the table: when each location is come to at the latest, by the counts of the
     marks."""
@@ -224,5 +232,5 @@ def numbered(walks, counts):
     number of the others'."""
     number = 0
     for mark, count in reversed(list(zip(walks.marks, counts))):
-        number = number * (mark["most"] + 1) + count
+        number = number * (mark.most + 1) + count
     return number

@@ -7,6 +7,9 @@ import functools
 import itertools
 import sys
 import tomllib
+from math import prod
+
+from marks import is_inside, marks_of, place_on
 
 HALF = 10**10
 WANTS_ANY = {10, 11, 14, 15, 16, 17, 18, 19, 60, 61, 64, 65, 66, 67, 68, 69}
@@ -294,17 +297,26 @@ def machine_of(deck, times, inputs):
 
 
 class Walks:
-    """The walks of a deck with its notes, under the programmed switch at STOP."""
+    """The walks of a deck with its notes, of a text and a document. It knows them all under the
+    programmed switch at STOP alone."""
 
     def __init__(self, deck, times, notes):
-        self.words, self.start = deck_of(read_text(deck))
+        self.words, self.start = deck_of(deck)
         self.times = times
-        with open(notes, "rb") as file:
-            notes = tomllib.load(file)
-        assert notes["programmed"] == "stop"
+        self.programmed = notes["programmed"]
         self.has_load_cards = notes["load_cards"] == "any"
-        self.marks = notes.get("mark", [])
+        self.marks = marks_of(notes)
         self.lists = {one["location"]: one["pattern"] for one in notes.get("list", [])}
+
+    def size(self):
+        """How many instructions there may be, times the counts of the marks."""
+        patterns = [pattern for listed in self.lists.values() for pattern in listed]
+        listed = sum(pattern["d_to"] - pattern["d_from"] + 1 for pattern in patterns)
+        return (len(self.words) + listed) * prod(mark.most + 1 for mark in self.marks)
+
+    def is_set(self, machine):
+        """Whether a machine's programmed switch stands as the notes say."""
+        return self.programmed in ("any", "stop" if machine.stops_programmed else "run")
 
     def instructions(self, place):
         if place in self.words:
@@ -350,24 +362,20 @@ class Walks:
 
     def passed(self, counts, place, onto):
         """The counts after a step along an edge; None where a mark is passed too often."""
-        counts = list(counts)
-        for number, mark in enumerate(self.marks):
-            if (mark["from"], mark["to"]) == (place, onto):
-                counts[number] += 1
-                if counts[number] > mark["most"]:
-                    return None
-                for inner in range(number + 1, len(self.marks)):
-                    if self.is_inside(inner, number + 1):
-                        counts[inner] = 0
+        number, counts = place_on(self.marks, (place, onto)), list(counts)
+        if number is not None:
+            counts[number] += 1
+            if counts[number] > self.marks[number].most:
+                return None
+            for inner in range(number + 1, len(self.marks)):
+                if is_inside(self.marks, inner, number):
+                    counts[inner] = 0
         return tuple(counts)
-
-    def is_inside(self, inner, number):
-        outer = self.marks[inner].get("inside")
-        return outer is not None and (outer == number or self.is_inside(outer - 1, number))
 
     def longest(self):
         """The most word times of all walks from all start angles: through all instructions, units,
         waits and angles."""
+        assert self.programmed == "stop"
         sys.setrecursionlimit(1_000_000)
 
         @functools.lru_cache(maxsize=None)
@@ -391,29 +399,43 @@ class Walks:
         return max(behind(self.start, nothing, angle) for angle in range(50))
 
 
-def trace(machine, walks, limit):
-    """The lines of a run's trace. The last one is the verdict, which tells this limit of a run that
-    keeps to the notes."""
-    lines, counts = [], (0,) * len(walks.marks)
-    if not machine.stops_programmed:
-        return ["left switch step 0 used 0"]
+def walks_of(deck, times, notes):
+    """The walks of the files of a deck and of its notes."""
+    with open(notes, "rb") as file:
+        return Walks(read_text(deck), times, tomllib.load(file))
+
+
+def traced(machine, walks, limit):
+    """The lines of a run's trace, one by one. The last one is the verdict, which tells this limit of
+    a run that keeps to the notes."""
+    counts = (0,) * len(walks.marks)
+    if not walks.is_set(machine):
+        yield "left switch step 0 used 0"
+        return
     for step in itertools.count(1):
         place, before = machine.sought, machine.used
         word = machine.word(place)
         why = machine.step()
-        lines += machine.step_lines(step, place, word)
+        yield from machine.step_lines(step, place, word)
         if not walks.allows(place, word):
             left = "unlisted %04d %s" % (place, word_text(word))
         elif machine.has_read_load and not walks.has_load_cards:
             left = "loadcard"
         elif why:
-            return lines + ["kept used %d %s stop %s" % (machine.used, limit, why)]
+            yield "kept used %d %s stop %s" % (machine.used, limit, why)
+            return
         else:
             left = "toooften %04d %04d" % (place, machine.sought)
             counts = walks.passed(counts, place, machine.sought)
             if counts is not None:
                 continue
-        return lines + ["left %s step %d used %d" % (left, step, before)]
+        yield "left %s step %d used %d" % (left, step, before)
+        return
+
+
+def trace(machine, walks, limit):
+    """All lines of a run's trace."""
+    return list(traced(machine, walks, limit))
 
 
 def verdict(machine, walks, bound):

@@ -1,13 +1,13 @@
 """Whether a result has its form and its lines go together: a bound, a report, a walk, its waits, a
-picture, a ceiling, a verdict or a trace, of a deck, a timing table, notes and inputs that are
-accepted. Each function gives what the result tells, or None where it isn't as docs/FORMATS.md
-says."""
+picture, a ceiling or a verdict, of a deck, a timing table, notes and inputs that are accepted. Each
+function gives what the result tells, or None where it isn't as docs/FORMATS.md says."""
 
 import functools
 import re
 import xml.etree.ElementTree as xml
 
-from model import WAITS_FOR_DATA, Machine, at_parity, found, word_text
+from marks import marks_of
+from model import WAITS_FOR_DATA, at_parity, found
 from toml_text import document_of
 
 NUMBER = "(0|[1-9][0-9]*)"
@@ -101,7 +101,7 @@ def is_spent(visits, time):
 def reported_bound(text, files):
     """The bound that ends a report, to which its times add up."""
     *lines, last = text.splitlines(keepends=True) or [""]
-    marks = document_of(files["notes"]).get("mark", [])
+    marks = marks_of(document_of(files["notes"]))
     numbers = [number for number, _, _ in cards_of(files["deck"])]
     if len(lines) != len(numbers) + 1 + len(marks):
         return None
@@ -118,7 +118,7 @@ def reported_bound(text, files):
     for mark, line in zip(marks, lines[len(numbers) + 1 :]):
         matched = MARK.fullmatch(line[:-1])
         told = matched and [int(matched.group(place)) for place in (1, 2, 4)]
-        if told != [mark["from"], mark["to"], mark["most"]]:
+        if told != [*mark.first, mark.most]:
             return None
     bound = bound_of(last)
     adds_up = sum(time for _, time in spent) == bound
@@ -141,9 +141,10 @@ def report_of_walk(walk, files):
         passes[place, onto] = passes.get((place, onto), 0) + 1
     lines.append("other")
     text = ["%s visits %d time %d" % (line, *tally) for line, tally in zip(lines, spent)]
-    for mark in document_of(files["notes"]).get("mark", []):
-        edge = mark["from"], mark["to"]
-        text.append("mark %04d %04d passed %d of %d" % (*edge, passes.get(edge, 0), mark["most"]))
+    for mark in marks_of(document_of(files["notes"])):
+        passed = sum(passes.get(edge, 0) for edge in mark.edges)
+        told = *mark.first, passed, mark.most, mark.ending()
+        text.append("mark %04d %04d passed %d of %d%s" % told)
     return "\n".join(text + walk.splitlines()[-1:]) + "\n"
 
 
@@ -153,18 +154,18 @@ def report_of_walk(walk, files):
 def ceiling_of(text, files):
     """The number that ends a ceiling, to which its base and its marks' passes at their prices add
     up. A mark can be passed `most` times, and as often again for each pass of an outer one."""
-    marks = document_of(files["notes"]).get("mark", [])
+    marks = marks_of(document_of(files["notes"]))
     lines = text.splitlines(keepends=True)
     sums = SUMS.fullmatch("".join(lines[-2:]))
     if not sums or len(lines) != len(marks) + 2:
         return None
     total, begun = int(sums.group(1)), []
     for mark, line in zip(marks, lines):
-        outer = begun[mark["inside"] - 1] if "inside" in mark else 1
-        begun.append(outer * (mark["most"] + 1))
-        matched = PRICED.fullmatch(line[:-1])
+        outer = 1 if mark.inside is None else begun[mark.inside]
+        begun.append(outer * (mark.most + 1))
+        matched = PRICED.fullmatch(line.removesuffix(mark.ending() + "\n"))
         told = matched and [int(matched.group(place)) for place in (1, 2, 3)]
-        if told != [mark["from"], mark["to"], outer * mark["most"]]:
+        if told != [*mark.first, outer * mark.most]:
             return None
         total += int(matched.group(3)) * int(matched.group(4))
     return total if total == int(sums.group(2)) else None
@@ -319,35 +320,3 @@ def pictured_bound(text):
     named = [re.fullmatch("bound %s word times" % NUMBER, part.text or "") for part in root.iter()]
     bounds = [int(matched.group(1)) for matched in named if matched]
     return bounds[0] if len(bounds) == 1 else None
-
-
-# Traces.
-
-
-def traced_verdict(text, files):
-    """The line of the verdict, where it goes with the steps before it, and these are those that the
-    plain model takes: a run that is kept stops with the last one, and one that leaves the notes
-    does so with it."""
-    *lines, verdict = text.splitlines(keepends=True) or [""]
-    kept, left = kept_of(verdict), left_of(verdict)
-    if not (kept or left):
-        return None
-    deck, inputs = (files[name].decode("latin-1") for name in ("deck", "inputs"))
-    machine = Machine(deck, entries_of(files["times"]), inputs)
-    told, steps, before, place, word, why = [], 0, 0, None, None, None
-    while len(told) < len(lines) and why is None:
-        steps, before, place = steps + 1, machine.used, machine.sought
-        word = machine.word(place)
-        why = machine.step()
-        told += [line + "\n" for line in machine.step_lines(steps, place, word)]
-    if told != lines:
-        return None
-    if kept:
-        goes_with_it = machine.used == kept[0] and verdict.endswith(" stop %s\n" % why)
-        return verdict if goes_with_it else None
-    at, listed, source, target = LEFT.fullmatch(verdict).group(1, 2, 3, 4)
-    is_of_step = at is None or (int(at), listed) == (place, word_text(word))
-    is_of_edge = source is None or (int(source), int(target), None) == (place, machine.sought, why)
-    is_of_card = machine.has_read_load or not verdict.startswith("left loadcard")
-    goes_with_it = (steps, before) == left and is_of_step and is_of_edge and is_of_card
-    return verdict if goes_with_it else None

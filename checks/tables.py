@@ -2,11 +2,11 @@
 a timing table and notes that are accepted."""
 
 import re
-from math import prod
 
 from findings import Flow, writes
-from latest import table
-from model import MAY_STOP_LATE, Walks, deck_of, is_location, suits
+from latest import table, worst
+from marks import place_on
+from model import MAY_STOP_LATE, Walks, is_location, suits
 from results import NUMBER, PLACE, entries_of
 from toml_text import document_of
 
@@ -20,23 +20,12 @@ class TextWalks(Walks):
     """The walks of a deck with its notes, of texts."""
 
     def __init__(self, files):
-        notes = document_of(files["notes"])
-        self.words, self.start = deck_of(files["deck"].decode("latin-1"))
-        self.times = entries_of(files["times"])
-        self.has_load_cards = notes["load_cards"] == "any"
-        self.is_stopped = notes["programmed"] == "stop"
-        self.marks = notes.get("mark", [])
-        self.lists = {one["location"]: one["pattern"] for one in notes.get("list", [])}
+        deck, notes = files["deck"].decode("latin-1"), document_of(files["notes"])
+        super().__init__(deck, entries_of(files["times"]), notes)
 
     def is_small(self):
         """Whether the model can go through all walks, which it knows under one switch alone."""
-        listed = sum(
-            pattern["d_to"] - pattern["d_from"] + 1
-            for patterns in self.lists.values()
-            for pattern in patterns
-        )
-        counts = prod(mark["most"] + 1 for mark in self.marks)
-        return self.is_stopped and (len(self.words) + listed) * counts <= FEW
+        return self.programmed == "stop" and self.size() <= FEW
 
 
 def tabled(text, files):
@@ -50,7 +39,7 @@ def tabled(text, files):
         counts = [int(count) for count in matched.group(3).split()]
         angle, time = int(matched.group(2)), int(matched.group(5))
         are_within = len(counts) == len(walks.marks) and all(
-            count <= mark["most"] for count, mark in zip(counts, walks.marks)
+            count <= mark.most for count, mark in zip(counts, walks.marks)
         )
         if not are_within or angle != (walks.start + 1 + time) % 50:
             return None
@@ -58,6 +47,12 @@ def tabled(text, files):
     in_order = rows == sorted(rows) and all(one != next for one, next in zip(rows, rows[1:]))
     is_whole = not walks.is_small() or text.splitlines() == table(walks)
     return True if rows and in_order and is_whole else None
+
+
+def least_ceiling(files):
+    """What a ceiling can't be below: the bound by the plain model, where it can tell, else 0."""
+    walks = TextWalks(files)
+    return worst(walks) if walks.is_small() else 0
 
 
 class Drawn(Flow):
@@ -89,12 +84,12 @@ class Drawn(Flow):
 
     def arrow(self, place, onto):
         """The arrow of an edge, with the mark on it, if there is one."""
-        edges = [(mark["from"], mark["to"]) for mark in self.marks]
+        number = place_on(self.marks, (place, onto))
         text = "%04d -> %04d" % (place, onto)
-        if (place, onto) in edges:
-            number = edges.index((place, onto))
-            most = self.marks[number]["most"]
-            text += ' [label="mark %d most %d" penwidth=3]' % (number + 1, most)
+        if number is not None:
+            mark = self.marks[number]
+            told = number + 1, mark.most, mark.ending()
+            text += ' [label="mark %d most %d%s" penwidth=3]' % told
         return text
 
     def text(self):

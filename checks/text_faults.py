@@ -1,10 +1,11 @@
-"""All faults of texts, as `check` tells them: those of a deck and of inputs worked out from their
-texts, and of a timing table and notes, line by line, whether they may be told."""
+"""All faults of texts, as `check` tells them: those of a deck, of notes and of inputs worked out
+from their texts, and of a timing table, line by line, whether they may be told."""
 
 import re
 
 from damage import FILES
 from faults import LINES, REFUSED, fault_of, lines_of, names_what_is_there
+from note_faults import notes_faults
 
 # The most bytes of a line of a deck.
 LINE = 100
@@ -172,6 +173,21 @@ def told_lines(text, place, files, part, lines_by):
     return next((lines for lines in of_names if lines and text.startswith(lines, place)), of_names[0])
 
 
+def notes_lines(text, name):
+    """The lines of all faults of a document of notes, in the file of this name."""
+    return ["%s: %s" % (name, line) for line in notes_faults(text, True)]
+
+
+def notes_told(text, place, files):
+    """The faults that are told of notes at a place of a text, and where they end; None where they
+    may not be told."""
+    if notes_faults(files["notes"], True) is None:
+        return document_faults(text, place, "notes", files)
+    lines = told_lines(text, place, files, "notes", notes_lines)
+    faults = [fault_of(line + "\n", REFUSED) for line in notes_faults(files["notes"], True)]
+    return (faults, place + len(lines)) if text.startswith(lines, place) else (None, place)
+
+
 def loaded_lines(files, name):
     """The lines of what sound inputs and a sound deck both load."""
     loaded = {place for line in lines_of(files["deck"]) for place in said_by(line) or []}
@@ -193,11 +209,11 @@ def listed_faults(text, files, has_inputs):
     if not text.startswith(of_deck):
         return None
     faults, place = own_faults(of_deck), len(of_deck)
-    for part in ["times", "notes"]:
-        more, place = document_faults(text, place, part, files)
-        if more is None:
-            return None
-        faults += more
+    of_times, place = document_faults(text, place, "times", files)
+    of_notes, place = (None, place) if of_times is None else notes_told(text, place, files)
+    if of_notes is None:
+        return None
+    faults += of_times + of_notes
     of_inputs = inputs_told(text, place, files, not of_deck) if has_inputs else ""
     faults += own_faults(of_inputs)
     return faults if faults and text[place:] == of_inputs else None
