@@ -18,7 +18,7 @@ EDGES = 64
 # several, and what stands before marks that make long notes.
 RUN = " # without this line, most is of the whole run"
 SEVERAL = "# inside several ways back of one loop: most is of the whole run"
-LONG = "# long notes: check, graph, ceiling and trace read them, no other command"
+LONG = "# long notes (64 marks at most): for check, graph, ceiling and trace only"
 
 
 class Flow:

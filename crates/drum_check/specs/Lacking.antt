@@ -147,7 +147,7 @@ are_long notes findings =
 -- the line before the marks that says so
 abbrev pub long_text : Bool → List ℕ
 long_text long =
-    if long then codes "# long notes: check, graph, ceiling and trace read them, no other command\n"
+    if long then codes "# long notes (64 marks at most): for check, graph, ceiling and trace only\n"
     else []
 
 -- what a check prints: a line for each finding, and what is lacking, the marks first; `long` says

@@ -296,7 +296,7 @@ pub fn send_long<O: Output>(writer: &mut O, sent: usize, long: bool) -> Result<u
         return Ok(sent);
     }
     let pieces: [&[u8]; 1] = [
-        b"# long notes: check, graph, ceiling and trace read them, no other command\n",
+        b"# long notes (64 marks at most): for check, graph, ceiling and trace only\n",
     ];
     send(writer, sent, &pieces)
 }
