@@ -1,6 +1,10 @@
 -- What a check of texts comes to, as it is held.
 use Rattle.std.specs.Prelude.{◌≡◌, ◌≢◌, ◌≤◌, ◌^◌, [], length, Option}
 use Rattle.drum_core.specs.Loads.{loads_in, start_in}
+use Rattle.drum_core.specs.declared.deck.fault.DeckFault.TheVariants as of_deck
+use Rattle.drum_times.specs.declared.fault.NoteFault.TheVariants as of_note
+use Rattle.drum_lines.specs.declared.fault.Fault.{Fault}
+use Rattle.drum_lines.specs.declared.fault.Fault.TheVariants as fault
 use Rattle.drum_check.specs.Findings.{AreFindings}
 use Rattle.drum_check.specs.FindingsOf.{found_in, is_long_in}
 use Rattle.drum_check.specs.Lacking.{are_long, words_altered}
@@ -34,3 +38,10 @@ AreLacking (Sound findings lacking) = words_in lacking ≡ words_altered (found_
 abbrev pub IsShort : Checked → Type 0
 IsShort (Faulty lines) = length lines.items ≤ 2 ^ 61
 IsShort (Sound findings lacking) = Unit {0}
+
+-- memory ran out while a text was read
+abbrev pub IsMemoryOfText : Fault → Type 0
+IsMemoryOfText (fault.Deck of_deck.Memory) = Unit {0}
+IsMemoryOfText (fault.Times of_note.Memory) = Unit {0}
+IsMemoryOfText (fault.Notes of_note.Memory) = Unit {0}
+IsMemoryOfText _ = ⊥

@@ -1,13 +1,15 @@
 //! A check of texts: all of their faults, or all that keeps the deck that they say from a bound.
 
-ghost use Rattle.std.specs.Prelude.{◌≡◌, IfOk, IfErr, ◌≤◌, ◌^◌, length, option_map};
+ghost use Rattle.std.specs.Prelude.{◌≡◌, [], IfOk, IfErr, ◌≤◌, ◌^◌, length, option_map};
 ghost use Rattle.drum_core.specs.Loads.{loads_in, start_in};
 ghost use Rattle.drum_check.specs.Findings.{AreFindings};
 ghost use Rattle.drum_check.specs.FindingsOf.{found_in, is_long_in};
 ghost use Rattle.drum_check.specs.Lacking.{are_long, words_altered};
 ghost use Rattle.drum_check.specs.LackingOf.{words_in};
 ghost use Rattle.drum_faults.specs.NamedTexts.{named};
-ghost use Rattle.drum_answers.specs.Checked.{AreLacking, IsChecked, IsShort};
+ghost use Rattle.drum_documents.specs.Documents.{Say};
+ghost use Rattle.drum_toml.specs.declared.notes.notes_read.NotesRead.TheVariants.{Long};
+ghost use Rattle.drum_answers.specs.Checked.{AreLacking, IsChecked, IsMemoryOfText, IsShort};
 ghost use Rattle.drum_documents.specs.TextsOf.{inputs_in, texts_in};
 ghost use Rattle.drum_documents.specs.Asked.{name_in};
 ghost use Rattle.drum_answers.specs.Says.{AreLinesOfFaults};
@@ -15,11 +17,14 @@ ghost use Rattle.drum_lines.specs.FaultStatus.{IsWanting};
 
 use drum_check::{Findings, Lacking};
 use drum_command::Files;
+use drum_core::laws::not_refused;
 use drum_documents::{Documents, Texts};
+use drum_faults::laws::sound_where_none;
 use drum_faults::{NamedText, fault_lines};
 use drum_flow::Refusal;
 use drum_lines::Fault;
 use drum_toml::NotesRead;
+use drum_toml::laws::{says_long_notes, says_times};
 use std::alloc::Global;
 
 /// What a check of texts comes to.
@@ -87,6 +92,36 @@ fn findings_of(alloc: Global, documents: &Documents) -> Result<(Findings, Lackin
     Ok((findings, lacking))
 }
 
+/// That memory ran out, where a fault says so of a text.
+fn memory_of(_fault: Fault) -> Fault
+    requires { IsMemoryOfText _fault }
+    ensures { result ≡ Fault.Memory }
+{
+    Fault::Memory
+}
+
+/// The documents that texts say which have no faults: only memory can be lacking.
+fn sound_documents(
+    alloc: Global,
+    files: Files<'_>,
+    texts: &Texts,
+    inputs: Option<NamedText<'_>>,
+) -> Result<Documents, Fault>
+    requires { AreLinesOfFaults files (texts_in texts.now) (option_map named inputs) [] }
+    ensures said { IfOk result (Say Long (texts_in texts.now)) }
+    ensures wanting { IfErr result IsWanting }
+{
+    sound_where_none();
+    says_times();
+    says_long_notes();
+    not_refused();
+    let (deck, times, notes) = (&texts.deck, &texts.times, &texts.notes);
+    match Documents::of_texts(alloc, deck, times, notes, NotesRead::Long) {
+        Ok(documents) => Ok(documents),
+        Err(fault) => Err(memory_of(fault)),
+    }
+}
+
 /// All that is wrong with texts, in the files of these names, and with inputs, where there are any:
 /// each of their faults; or, where they have none, all that keeps the deck from having a bound
 /// under its notes.
@@ -110,11 +145,7 @@ pub fn check(
     if !lines.is_empty() {
         return Ok(Checked::Faulty(lines));
     }
-    let (deck, times, notes) = (&texts.deck, &texts.times, &texts.notes);
-    let Ok(documents) = Documents::of_texts(alloc, deck, times, notes, NotesRead::Long) else {
-        // No text has a fault: only memory can be lacking.
-        return Err(Fault::Memory);
-    };
+    let documents = sound_documents(alloc, files, texts, inputs)?;
     let (findings, lacking) = findings_of(alloc, &documents)?;
     Ok(Checked::Sound(findings, lacking))
 }

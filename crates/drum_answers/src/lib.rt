@@ -7,6 +7,8 @@
 //!
 //! Definitions, in the order to read them: `Says` is what is said, and why nothing is. `Checked`
 //! says what the code means by a check.
+//!
+//! Proofs. `Soundly` shows that texts without faults are refused for lack of memory alone.
 #![tactic(auto)]
 
 mod answering;
