@@ -20,7 +20,7 @@ fn marks_lacking(findings: &[Finding]) -> usize
 }
 
 /// Whether some edge shares a mark.
-fn one_is_shared(findings: &[Finding]) -> bool
+pub fn one_is_shared(findings: &[Finding]) -> bool
     ensures { result ≡ list_any asks_to_share (map seen findings.now) }
 {
     for finding in findings {

@@ -11,10 +11,11 @@ ghost use Rattle.drum_check.specs.FindingsOf.{seen, found_in};
 ghost use Rattle.drum_check.specs.Lacking.{alone_text, edges_text, further_text, long_text};
 ghost use Rattle.drum_check.specs.Lacking.{mark_for, mark_text, marks_text, pair_text};
 ghost use Rattle.drum_check.specs.Lacking.{several_text, within_text};
-ghost use Rattle.drum_check.specs.Shared.{shared_onto};
+ghost use Rattle.drum_check.specs.Shared.{asks_to_share, shared_onto};
 
 use crate::finding::Finding;
 use crate::findings::Findings;
+use crate::lengths::one_is_shared;
 use crate::within::Within;
 use drum_core::{Location, Output};
 use drum_lines::{WriteFault, send};
@@ -137,11 +138,16 @@ fn send_several<O: Output>(
     send(writer, sent, &[b"]\n"])
 }
 
-/// Whether some edge shares the mark of those that go back to this location.
-fn is_shared_at(findings: &[Finding], head: Location) -> bool
+/// Whether some edge shares the mark of those that go back to this location. `shared` says whether
+/// any edge shares a mark: where there are millions, none does, and none is looked for.
+fn is_shared_at(findings: &[Finding], shared: bool, head: Location) -> bool
+    requires { shared ≡ list_any asks_to_share (map seen findings.now) }
     ensures { result ≡ list_any (λ finding. is_some (shared_onto head.number finding))
         (map seen findings.now) }
 {
+    if !shared {
+        return false;
+    }
     for finding in findings {
         if finding.is_shared_onto(head) {
             return true;
@@ -155,17 +161,19 @@ fn send_edges<O: Output>(
     writer: &mut O,
     sent: usize,
     findings: &Findings,
+    shared: bool,
     edge: Edge,
 ) -> Result<usize, WriteFault>
     requires called { O.called writer.old ≤ 2 ^ 62 + 2 ^ 59 }
     requires few { sent ≤ 2 ^ 59 }
+    requires shared { shared ≡ list_any asks_to_share (found_in findings.now) }
     ensures sent { IsSent (O.written writer.old) (O.written writer.new) sent result
         (edges_text (found_in findings.now) (edge_of edge)) }
     ensures failures { O.failed writer.new ≡ O.failed writer.old + fails_by result }
     ensures calls { O.called writer.new ≤ O.called writer.old + 2 ^ 32 }
     ensures few { IfOk result (λ total. total ≤ sent + 2 ^ 32) }
 {
-    if is_shared_at(&findings.all, edge.onto) {
+    if is_shared_at(&findings.all, shared, edge.onto) {
         return send_several(writer, sent, findings, edge);
     }
     send_alone(writer, sent, edge)
@@ -219,11 +227,13 @@ fn send_mark<O: Output>(
     writer: &mut O,
     sent: usize,
     findings: &Findings,
+    shared: bool,
     edge: Edge,
     within: Within,
 ) -> Result<usize, WriteFault>
     requires called { O.called writer.old ≤ 2 ^ 62 + 2 ^ 58 }
     requires few { sent ≤ 2 ^ 58 }
+    requires shared { shared ≡ list_any asks_to_share (found_in findings.now) }
     ensures sent { IsSent (O.written writer.old) (O.written writer.new) sent result
         (mark_text (found_in findings.now) (edge_of edge) within) }
     ensures failures { O.failed writer.new ≡ O.failed writer.old + fails_by result }
@@ -231,7 +241,7 @@ fn send_mark<O: Output>(
     ensures few { IfOk result (λ total. total ≤ sent + 2 ^ 33) }
 {
     let sent = send(writer, sent, &[b"[[mark]]\nmost =\n"])?;
-    let sent = send_edges(writer, sent, findings, edge)?;
+    let sent = send_edges(writer, sent, findings, shared, edge)?;
     send_within(writer, sent, within)
 }
 
@@ -240,10 +250,12 @@ fn send_mark_for<O: Output>(
     writer: &mut O,
     sent: usize,
     findings: &Findings,
+    shared: bool,
     finding: &Finding,
 ) -> Result<usize, WriteFault>
     requires called { O.called writer.old ≤ 2 ^ 62 + 2 ^ 58 }
     requires few { sent ≤ 2 ^ 58 }
+    requires shared { shared ≡ list_any asks_to_share (found_in findings.now) }
     ensures sent { IsSent (O.written writer.old) (O.written writer.new) sent result
         (mark_for (found_in findings.now) (seen finding.now)) }
     ensures failures { O.failed writer.new ≡ O.failed writer.old + fails_by result }
@@ -255,7 +267,7 @@ fn send_mark_for<O: Output>(
             if within.is_shared() {
                 return Ok(sent);
             }
-            send_mark(writer, sent, findings, edge, within)
+            send_mark(writer, sent, findings, shared, edge, within)
         }
         _ => Ok(sent),
     }
@@ -275,9 +287,10 @@ pub fn send_marks<O: Output>(
     ensures calls { O.called writer.new ≤ O.called writer.old + 2 ^ 57 }
     ensures few { IfOk result (λ total. total ≤ begun + 2 ^ 57) }
 {
+    let shared = one_is_shared(&findings.all);
     let mut sent = begun;
     for finding in &findings.all {
-        sent = send_mark_for(writer, sent, findings, finding)?;
+        sent = send_mark_for(writer, sent, findings, shared, finding)?;
     }
     Ok(sent)
 }
