@@ -36,3 +36,16 @@ taken_cases xs k x y here there =
 -- the first k are all, where there are no more
 pub all_taken : {X : Type 0} (xs : List X) (k : ℕ) → length xs ≤ k → take k xs ≡ xs
 all_taken xs k past = take_all k xs past
+
+-- what stood there stays, and the one more is the last
+pub pushed_within : {X : Type 0} (xs : List X) (x : X) (k : ℕ) (y : X) → slice_get xs k ≡ Some y
+    → slice_get (xs ++ x ∷ []) k ≡ Some y
+pushed_within [] x k y at = absurd (cc)
+pushed_within (z ∷ xs) x zero y at = at
+pushed_within (z ∷ xs) x (suc k) y at = pushed_within xs x k y at
+
+pub pushed_last : {X : Type 0} (xs : List X) (x : X) (k : ℕ) → k ≡ length xs → slice_get (xs ++ x ∷ []) k ≡ Some x
+pushed_last [] x zero at = refl
+pushed_last [] x (suc k) at = absurd (omega (arith, at))
+pushed_last (z ∷ xs) x zero at = absurd (omega (arith, at))
+pushed_last (z ∷ xs) x (suc k) at = pushed_last xs x k (omega (arith, at))

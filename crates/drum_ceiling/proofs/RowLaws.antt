@@ -3,7 +3,7 @@ use Rattle.std.proofs.Common.{◌≡◌, ℕ, ◌+◌, ◌-◌, ◌*◌, ◌/◌
 use Rattle.std.proofs.Common.{ap, sym, subst, ◌∙◌, inl, inr, arith}
 use Rattle.std.specs.Prelude.{Contains, flat_map}
 use Rattle.std.proofs.lemmas.Bool.{cases_lt, le-ltb, lt-ltb}
-use Rattle.std.proofs.lemmas.List.Elements.{Contains-append_cases}
+use Rattle.std.proofs.lemmas.List.Elements.{Contains-append_cases, Contains-append_left, Contains-append_right}
 use Rattle.drum_core.specs.declared.instruction.Instruction.{Instruction}
 use Rattle.drum_core.specs.Location.{IsLocation}
 use Rattle.drum_times.specs.Allowed.{Notes, allowed}
@@ -12,7 +12,7 @@ use Rattle.drum_times.specs.Marks.{mark_on}
 use Rattle.drum_times.specs.declared.entry.Entry.{Entry}
 use Rattle.drum_core.specs.declared.op.Op.{Op}
 use Rattle.drum_machine.specs.Timing.{found}
-use Rattle.drum_machine.specs.Ways.{Way, to, ways}
+use Rattle.drum_machine.specs.Ways.{Way, ways}
 use Rattle.drum_flow.specs.Longest.{longest}
 use Rattle.drum_flow.specs.Hops.{Hop, hops_of}
 use Rattle.drum_flow.specs.Walk.{Setting}
@@ -20,7 +20,8 @@ use Rattle.drum_flow.proofs.Lists.{contains_cases, contains_here, contains_none,
 use Rattle.drum_ceiling.specs.declared.found.Found.{Found}
 use Rattle.drum_ceiling.specs.declared.raised.Raised.{Raised}
 use Rattle.drum_ceiling.specs.declared.row.Row.{Row}
-use Rattle.drum_ceiling.specs.Certificate.{arrival, mark_by, IsShut}
+use Rattle.drum_ceiling.specs.Certificate.{arrival}
+use Rattle.drum_ceiling.specs.Marked.{mark_by}
 use Rattle.drum_ceiling.specs.Raised.{latest, HasTaken, IsRaised}
 use Rattle.drum_ceiling.specs.Rows.{HasEdges, IsRow}
 use Rattle.drum_ceiling.specs.Slot.{place_of, slot_of}
@@ -61,14 +62,39 @@ of_allowed notes (ins ∷ all) hop there =
       | inr behind ↦ (let so = of_allowed notes all hop behind in (contains_there ins hop.ins all so.0, so.1))
     ]
 
+-- the hop of an instruction by a way
+abbrev pub hop_by : Instruction → Way → Hop
+hop_by ins way = record { ins = ins; way = way }
+
+-- and the other way about
+has_way : (ins : Instruction) (all : List Way) (way : Way) → Contains all way
+    → Contains (map (hop_by ins) all) (hop_by ins way)
+has_way ins [] way there = absurd (contains_none way there)
+has_way ins (one ∷ all) way there = elim (contains_cases one way all there) [
+  | inl same ↦ subst (λ (w : Way). Contains (map (hop_by ins) (one ∷ all)) (hop_by ins w)) same
+      (contains_here (hop_by ins one) (map (hop_by ins) all))
+  | inr behind ↦ contains_there (hop_by ins one) (hop_by ins way) (map (hop_by ins) all) (has_way ins all way behind)
+]
+
+pub has_hop : (notes : Notes) (all : List Instruction) (ins : Instruction) (way : Way) → Contains all ins
+    → Contains (ways notes ins) way → Contains (flat_map (hops_of notes) all) (hop_by ins way)
+has_hop notes [] ins way there by = absurd (contains_none ins there)
+has_hop notes (one ∷ all) ins way there by = elim (contains_cases one ins all there) [
+  | inl same ↦ Contains-append_left (hops_of notes one) (flat_map (hops_of notes) all) (hop_by ins way)
+      (subst (λ (i : Instruction). Contains (hops_of notes i) (hop_by ins way)) (sym same)
+      (has_way ins (ways notes ins) way by))
+  | inr behind ↦ Contains-append_right (hops_of notes one) (flat_map (hops_of notes) all) (hop_by ins way)
+      (has_hop notes all ins way behind by)
+]
+
 -- What was looked at, with its edges, is a row.
 pub row_of_raised : (g : Setting) (from : Found) (raised : Raised) (row : Row) → g.notes ≡ from.notes.now
     → g.times ≡ entry_in from.times.now
     → ((ins : Instruction) → Contains (allowed g.loads g.notes from.location.number) ins → HasTaken from raised ins)
-    → row.stop ≡ raised.stop
+    → row.stop ≡ raised.stop → row.most ≡ raised.most
     → HasEdges g.notes.marks from.location.number raised.onward.items row.edges.items
     → IsRow g from.location.number from.angle row
-row_of_raised g from raised row notes times taken stop edges hop there free =
+row_of_raised g from raised row notes times taken stop most edges hop there =
     let place = from.location.number in
     let so = of_allowed g.notes (allowed g.loads g.notes place) hop there in
     let is : IsRaised from raised hop.ins hop.way =
@@ -77,6 +103,7 @@ row_of_raised g from raised row notes times taken stop edges hop there free =
     let long : longest g.times place hop.ins hop.way from.angle ≡ ended =
     ap (λ (table : Op → Entry). longest table place hop.ins hop.way from.angle) times in
     record {
+      within = omega (arith, is.within, long, most);
       ends = λ unmarked. omega (
         arith,
         is.ends (ap (λ (n : Notes). mark_by n.marks place hop.way) (sym notes) ∙ unmarked),
@@ -88,10 +115,7 @@ row_of_raised g from raised row notes times taken stop edges hop there free =
           let arrives : arrival g place from.angle hop next ≡ found next ended = ap (found next) long in
           let slot : ℕ = slot_of next (found next ended % 50) in
           let back : place_of slot ≡ next = slot_place next (found next ended % 50) reached.0 (omega arith) in
-          let open_there : ¬ IsShut g.notes.marks place (to (place_of slot)) =
-          subst (λ (n : ℕ). ¬ IsShut g.notes.marks place (to n)) (sym back)
-          (subst (λ (w : Way). ¬ IsShut g.notes.marks place w) on free) in
-          let edge = edges.each slot reached.1.0 reached.1.1 open_there in (
+          let edge = edges.each slot reached.1.0 reached.1.1 in (
             reached.0,
             (
               edge.0,
@@ -100,6 +124,7 @@ row_of_raised g from raised row notes times taken stop edges hop there free =
                 onto = edge.2 ∙ ap (λ (clock : ℕ). slot_of next (clock % 50)) (sym arrives);
                 mark = edge.3 ∙ ap (mark_on g.notes.marks place) back;
                 time = omega (arith, arrives, reached.1.2, edge.4);
+                stop = omega (arith, long, reached.1.3, edge.5);
               },
             ),
           );

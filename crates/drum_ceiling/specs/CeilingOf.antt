@@ -10,39 +10,23 @@ use Rattle.drum_flow.specs.Acceptance.{IsAdmissionRefusal}
 use Rattle.drum_flow.specs.Accepted.{IsTooLarge}
 use Rattle.drum_flow.specs.SettingOf.{setting}
 use Rattle.drum_ceiling.specs.declared.answer.Ceiling.{Ceiling}
-use Rattle.drum_ceiling.specs.Right.{IsCeiling, IsTooDear, Numbers}
-
--- the base, in word times
-abbrev pub base_of : Ceiling → ℕ
-base_of ceiling = ceiling.base
+use Rattle.drum_ceiling.specs.Right.{IsCeiling, IsTooDear}
 
 -- what a pass of each mark costs, in word times, by its index in the notes
 abbrev pub prices_of : Ceiling → List ℕ
 prices_of ceiling = ceiling.prices.items
 
--- how often each mark can be passed at most
-abbrev pub passes_in : Ceiling → List ℕ
-passes_in ceiling = ceiling.passes.items
-
 -- what no run and no walk takes more than, in word times
 abbrev pub total_of : Ceiling → ℕ
 total_of ceiling = ceiling.total
 
--- the numbers of a ceiling that is held
-abbrev pub numbers_of : Ceiling → Numbers
-numbers_of ceiling = record {
-  base = base_of ceiling;
-  prices = prices_of ceiling;
-  passes = passes_in ceiling;
-  total = total_of ceiling;
-}
-
 -- a ceiling of a deck with its timing table and notes is right
 abbrev pub IsCeilingOf : Deck → Times → Notes → Ceiling → Type 0
-IsCeilingOf deck times notes ceiling = IsCeiling (setting deck times notes) (numbers_of ceiling)
+IsCeilingOf deck times notes ceiling =
+    IsCeiling (setting deck times notes) (prices_of ceiling) (total_of ceiling)
 
 -- The refusal is that of the deck with its notes, but for its size; or the deck is too large, with
--- this product, and what some certificate comes to (`IsTooDear`) is `least` or more; or there is no
+-- this product, and what no ceiling is above (`IsTooDear`) is `least` or more; or there is no
 -- memory.
 abbrev pub IsRefusedFrom : ℕ → Deck → Times → Notes → Refusal → Type 0
 IsRefusedFrom least deck times notes (TooLarge product) =

@@ -1,11 +1,15 @@
+pub mod Affine
 pub mod CeilingOf
 pub mod Certificate
-pub mod Passing
+pub mod Charge
+pub mod InRounds
+pub mod Marked
 pub mod Paying
-pub mod Priced
 pub mod Raised
 pub mod Right
+pub mod Rounds
 pub mod Rows
+pub mod Size
 pub mod Slot
 pub mod Slowest
 pub mod Taking

@@ -1,27 +1,58 @@
--- What potentials and prices pay for, by rows: what the code looks at to see that they are a
+-- What levels and prices pay for, by rows: what the code looks at to see that they are a
 -- certificate.
-use Rattle.std.specs.Prelude.{◌≡◌, ℕ, ◌+◌, ◌≤◌, List, Option, Some, IsSome, Contains, slice_get}
+use Rattle.std.specs.Prelude.{◌≡◌, ℕ, ◌+◌, ◌-◌, ◌≤◌, Bool, List, Option, Some, Contains}
+use Rattle.std.specs.Prelude.{slice_get, ◌⊎◌}
+use Rattle.drum_times.specs.declared.notes.mark.Mark.{Mark}
+use Rattle.drum_ceiling.specs.declared.certificate.Certificate.{Certificate}
 use Rattle.drum_ceiling.specs.declared.row.Edge.{Edge}
 use Rattle.drum_ceiling.specs.declared.row.Row.{Row}
-use Rattle.drum_ceiling.specs.Certificate.{price_of}
-use Rattle.drum_ceiling.specs.Slot.{at_slot}
+use Rattle.drum_ceiling.specs.Affine.{Affine}
+use Rattle.drum_ceiling.specs.Charge.{charge_from, paid_by}
+use Rattle.drum_ceiling.specs.Slot.{at_slot, is_in, level_in, regions_at, slot_of}
 
--- Where the edge leads there is a potential, of 49 at least behind a mark, and `owed` word times,
--- with the price of the edge's mark, pay for it and the edge's time.
-abbrev pub IsEdgePaid : List ℕ → List (Option ℕ) → ℕ → Edge → Type 0
-IsEdgePaid prices potentials owed edge = (later : ℕ)
-    × (at_slot potentials edge.onto.number ≡ Some later)
-    × (edge.time + later ≤ owed + price_of prices edge.mark)
-    × (IsSome edge.mark → 49 ≤ later)
+-- the regions at a number, by the marks' indices
+abbrev pub regions_in : Certificate → ℕ → ℕ → Bool
+regions_in by slot index = is_in (regions_at by.regions.items slot) index
 
--- `owed` word times pay for all hops of the row.
-pub record IsPaid (prices : List ℕ) (potentials : List (Option ℕ)) (owed : ℕ) (row : Row) : Type 0
+-- what the levels and the regions stand for
+abbrev pub form_of : Certificate → Affine
+form_of by = record {
+  level = level_in by.levels.items;
+  region = λ index place angle. regions_in by (slot_of place angle) index;
+  debt = by.debt;
+}
+
+-- no walk takes the edge: its mark may never be passed
+abbrev pub IsShut : List Mark → Edge → Type 0
+IsShut marks edge = (index : ℕ) × (mark : Mark) × (edge.mark ≡ Some index)
+    × (slice_get marks index ≡ Some mark) × (mark.most ≡ 0)
+
+-- what there is to pay for an edge from a number with this level
+abbrev pub pay_for : Certificate → ℕ → ℕ → Edge → ℕ
+pay_for by slot level edge = level + paid_by (regions_in by slot) by.prices.items edge.mark
+
+-- what the marks charge for it
+abbrev pub charge_for : List Mark → Certificate → ℕ → Edge → ℕ
+charge_for marks by slot edge =
+    charge_from marks (regions_in by slot) (regions_in by edge.onto.number) edge.mark 0 marks
+    by.prices.items
+
+-- From a number with this level there is enough for an edge: for its end; and for its time, the
+-- level where it leads and what the marks charge.
+pub record IsEdgePaid (marks : List Mark) (by : Certificate) (slot level : ℕ) (edge : Edge) : Type 0
   where
-    pub ends : row.stop ≤ owed
-    pub edges : (edge : Edge) → Contains row.edges.items edge
-        → IsEdgePaid prices potentials owed edge
+    pub later : ℕ
+    pub there : at_slot by.levels.items edge.onto.number ≡ Some later
+    pub ends : by.debt + edge.stop ≤ pay_for by slot level edge
+    pub goes_on : later + charge_for marks by slot edge + edge.time ≤ pay_for by slot level edge
 
--- The potential at a number, if there is one, pays for all hops from there.
-abbrev pub IsSlotPaid : List ℕ → List (Option ℕ) → List (Option Row) → ℕ → Type 0
-IsSlotPaid prices potentials rows slot = (owed : ℕ) → at_slot potentials slot ≡ Some owed
-    → (row : Row) × (slice_get rows slot ≡ Some (Some row)) × IsPaid prices potentials owed row
+-- There is enough for all hops of the row.
+pub record IsPaid (marks : List Mark) (by : Certificate) (slot level : ℕ) (row : Row) : Type 0 where
+  pub ends : row.stop ≤ level - by.debt
+  pub edges : (edge : Edge) → Contains row.edges.items edge
+      → IsShut marks edge ⊎ IsEdgePaid marks by slot level edge
+
+-- The level at a number, if there is one, pays for all hops from there.
+abbrev pub IsSlotPaid : List Mark → Certificate → List (Option Row) → ℕ → Type 0
+IsSlotPaid marks by rows slot = (level : ℕ) → at_slot by.levels.items slot ≡ Some level
+    → (row : Row) × (slice_get rows slot ≡ Some (Some row)) × IsPaid marks by slot level row

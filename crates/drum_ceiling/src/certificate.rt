@@ -1,139 +1,216 @@
-//! Prices of marks and potentials of where instructions are found, and whether they are a
-//! certificate.
+//! Prices of marks, their regions and levels of where instructions are found, and whether they are
+//! a certificate.
 
-ghost use Rattle.std.specs.Prelude.{◌≡◌, ℕ, ◌^◌, ◌<◌, ◌≤◌, IsTrue, IfSome, All, length, vec_len};
-ghost use Rattle.drum_flow.specs.Walk.{Setting};
-ghost use Rattle.drum_ceiling.specs.Certificate.{price_of};
-ghost use Rattle.drum_ceiling.specs.Priced.{ArePrices};
+ghost use Rattle.std.specs.Prelude.{◌≡◌, ℕ, ◌+◌, ◌-◌, ◌^◌, ◌<◌, ◌≤◌, ◌⊎◌, List, Some, None, IsTrue};
+ghost use Rattle.std.specs.Prelude.{length, vec_len, IfSome};
+ghost use Rattle.drum_flow.specs.Walk.{IsProper, Setting};
+ghost use Rattle.drum_ceiling.specs.Charge.{charge_from, paid_by};
+ghost use Rattle.drum_ceiling.specs.Paying.{pay_for, regions_in};
+ghost use Rattle.drum_ceiling.specs.Paying.{IsEdgePaid, IsPaid, IsShut, IsSlotPaid};
+ghost use Rattle.drum_ceiling.specs.Right.{ArePrices};
 ghost use Rattle.drum_ceiling.specs.Rows.{AreRows};
-ghost use Rattle.drum_ceiling.specs.Slot.{at_slot};
-ghost use Rattle.drum_ceiling.specs.Paying.{IsPaid, IsEdgePaid, IsSlotPaid};
+ghost use Rattle.drum_ceiling.specs.Slot.{at_slot, is_in, regions_at};
 
-use crate::found::LONGEST_SEARCH;
 use crate::prices::Prices;
 use crate::row::{Edge, Row};
-use crate::slot::Slot;
+use crate::slot::{Slot, is_in};
+use crate::step::Step;
+use drum_flow::counts::LARGEST;
+use drum_times::Mark;
 
-/// A price for each mark, and a potential for each number of where an instruction is found; `None`
-/// where no walk comes.
+/// Prices of the marks with what they stand for: what is owed where an instruction is found is the
+/// level there, and of each mark in whose region that is its price for each pass that is left; less
+/// the debt, but never below 0.
 #[derive(Debug, Drop)]
 pub struct Certificate {
-    pub prices: Vec<u64>,
-    pub potentials: Vec<Option<u64>>,
+    /// The price of a pass of each mark.
+    pub prices: Vec<u128>,
+    /// By the numbers of slots, the marks in whose regions they lie: a bit of each, by its index.
+    pub regions: Vec<u64>,
+    /// By the numbers of slots, their levels; `None` where no walk comes.
+    pub levels: Vec<Option<u128>>,
+    pub debt: u128,
+}
+
+/// Whether the mark of the edge may never be passed.
+fn is_shut(marks: &[Mark], edge: &Edge) -> bool
+    ensures { IsTrue result → IsShut marks.now edge.now }
+{
+    let Some(index) = edge.mark else {
+        return false;
+    };
+    match marks.get(usize::from(index)) {
+        Some(mark) => mark.most == 0,
+        None => false,
+    }
 }
 
 impl Certificate {
-    /// The price of a pass of this mark; of none, 0.
-    fn price_of(&self, mark: Option<u8>) -> u64
-        ensures { result ≡ price_of self.now.prices.items mark }
+    /// The level of where an instruction is found.
+    fn level(&self, slot: Slot) -> Option<u128>
+        ensures { result ≡ at_slot self.now.levels.items slot.number }
     {
-        let Some(place) = mark else {
-            return 0;
-        };
-        match self.prices.get(usize::from(place)) {
-            Some(price) => *price,
-            None => 0,
-        }
-    }
-
-    /// The potential of where an instruction is found.
-    pub fn potential(&self, slot: Slot) -> Option<u64>
-        ensures { result ≡ at_slot self.now.potentials.items slot.number }
-    {
-        match self.potentials.get(usize::from(slot.number)) {
-            Some(potential) => *potential,
+        match self.levels.get(usize::from(slot.number)) {
+            Some(level) => *level,
             None => None,
         }
     }
 
-    /// Whether `owed` word times, with the price of the edge's mark, pay for an edge: for its time
-    /// and the next potential.
-    fn pays_edge(&self, owed: u64, edge: &Edge) -> bool
-        ensures { IsTrue result
-            → IsEdgePaid self.now.prices.items self.now.potentials.items owed edge.now }
+    /// The regions in which a slot lies.
+    fn regions(&self, slot: Slot) -> u64
+        ensures { result ≡ regions_at self.now.regions.items slot.number }
     {
-        let Some(later) = self.potential(edge.onto) else {
-            return false;
-        };
-        if edge.mark.is_some() && later < LONGEST_SEARCH {
-            return false;
+        match self.regions.get(usize::from(slot.number)) {
+            Some(regions) => *regions,
+            None => 0,
         }
-        let price = self.price_of(edge.mark);
-        u128::from(edge.time) + u128::from(later) <= u128::from(owed) + u128::from(price)
     }
 
-    /// Whether `owed` word times pay for all hops of a row.
-    fn pays(&self, owed: u64, row: &Row) -> bool
-        ensures { IsTrue result
-            → IsPaid self.now.prices.items self.now.potentials.items owed row.now }
+    /// What the mark of an edge pays: its price, where its region has the slot.
+    fn paid_by(&self, slot: Slot, mark: Option<u8>) -> u128
+        requires { vec_len self.now.prices ≤ 64 }
+        ensures { result
+            ≡ paid_by (regions_in self.now slot.number) self.now.prices.items mark }
+    {
+        let Some(index) = mark else {
+            return 0;
+        };
+        let index = usize::from(index);
+        match self.prices.get(index) {
+            Some(price) if is_in(self.regions(slot), index) => *price,
+            _ => 0,
+        }
+    }
+
+    /// What there must be for an edge from a slot: for its end, and for its time, the level where
+    /// it leads, and what the marks charge. `None` where no walk comes there, or there is no room
+    /// for so much.
+    fn needed(&self, marks: &[Mark], slot: Slot, edge: &Edge) -> Option<u128>
+        requires few { length marks.now ≤ 64 }
+        requires priced { vec_len self.now.prices ≡ length marks.now }
+        ensures { IfSome result (λ needed. (level : ℕ) → needed
+            ≤ pay_for self.now slot.number level edge.now
+            → IsEdgePaid marks.now self.now slot.number level edge.now) }
+    {
+        let step = Step {
+            marks,
+            here: self.regions(slot),
+            there: self.regions(edge.onto),
+            passed: edge.mark,
+        };
+        let later = self
+            .level(edge.onto)?
+            .checked_add(step.charge(&self.prices)?)?;
+        let onward = later.checked_add(u128::from(edge.time))?;
+        let end = self.debt.checked_add(u128::from(edge.stop))?;
+        Some(onward.max(end))
+    }
+
+    /// Whether a level of a slot pays for an edge.
+    fn pays_edge(&self, marks: &[Mark], slot: Slot, level: u128, edge: &Edge) -> bool
+        requires few { length marks.now ≤ 64 }
+        requires priced { vec_len self.now.prices ≡ length marks.now }
+        ensures { IsTrue result → IsShut marks.now edge.now
+            ⊎ IsEdgePaid marks.now self.now slot.number level edge.now }
+    {
+        if is_shut(marks, edge) {
+            return true;
+        }
+        let Some(pay) = level.checked_add(self.paid_by(slot, edge.mark)) else {
+            return false;
+        };
+        match self.needed(marks, slot, edge) {
+            Some(needed) => needed <= pay,
+            None => false,
+        }
+    }
+
+    /// Whether a level of a slot pays for all hops of its row.
+    fn pays(&self, marks: &[Mark], slot: Slot, level: u128, row: &Row) -> bool
+        requires few { length marks.now ≤ 64 }
+        requires priced { vec_len self.now.prices ≡ length marks.now }
+        ensures { IsTrue result → IsPaid marks.now self.now slot.number level row.now }
     {
         for edge in &row.edges {
-            if !self.pays_edge(owed, edge) {
+            if !self.pays_edge(marks, slot, level, edge) {
                 return false;
             }
         }
-        u64::from(row.stop) <= owed
+        u128::from(row.stop) <= level.saturating_sub(self.debt)
     }
 
-    /// Whether the potential at a number, if there is one, pays for all hops from there.
-    fn pays_at(&self, rows: &[Option<Row>], number: usize) -> bool
-        requires { number < vec_len self.now.potentials }
-        ensures { IsTrue result
-            → IsSlotPaid self.now.prices.items self.now.potentials.items rows.now number }
+    /// Whether the level at a number, if there is one, pays for all hops from there.
+    fn pays_at(&self, marks: &[Mark], rows: &[Option<Row>], slot: Slot) -> bool
+        requires few { length marks.now ≤ 64 }
+        requires priced { vec_len self.now.prices ≡ length marks.now }
+        ensures { IsTrue result → IsSlotPaid marks.now self.now rows.now slot.number }
     {
-        let Some(owed) = self.potentials[number] else {
+        let Some(level) = self.level(slot) else {
             return true;
         };
-        match rows.get(number) {
-            Some(Some(row)) => self.pays(owed, row),
+        match rows.get(usize::from(slot.number)) {
+            Some(Some(row)) => self.pays(marks, slot, level, row),
             _ => false,
         }
     }
 
-    /// Whether each potential pays for all hops from there.
-    pub fn pays_all(&self, rows: &[Option<Row>]) -> bool
-        ensures { IsTrue result → (slot : ℕ)
-            → IsSlotPaid self.now.prices.items self.now.potentials.items rows.now slot }
+    /// Whether each level pays for all hops from there.
+    fn pays_all(&self, marks: &[Mark], rows: &[Option<Row>]) -> bool
+        requires few { length marks.now ≤ 64 }
+        requires priced { vec_len self.now.prices ≡ length marks.now }
+        ensures { IsTrue result
+            → (slot : ℕ) → slot < 2200 → IsSlotPaid marks.now self.now rows.now slot }
     {
-        for number in 0..self.potentials.len() {
-            if !self.pays_at(rows, number) {
+        for number in 0..Slot::COUNT {
+            let slot = Slot {
+                number: number as u16,
+            };
+            if !self.pays_at(marks, rows, slot) {
                 return false;
             }
         }
         true
     }
 
-    /// Whether no price is above this one.
-    fn is_low(&self, highest: u64) -> bool
-        ensures { IsTrue result → All (λ price. price ≤ highest) self.now.prices.items }
+    /// What is owed at the start, before any mark is passed; `None` where no walk begins there, or
+    /// from 2^127 on.
+    fn total(&self, marks: &[Mark], start: Slot) -> Option<u128>
+        requires few { length marks.now ≤ 64 }
+        requires priced { vec_len self.now.prices ≡ length marks.now }
+        ensures { IfSome result (λ total. (total < 2 ^ 127) × ((level : ℕ)
+            × (at_slot self.now.levels.items start.number ≡ Some level)
+            × (total ≡ level + charge_from marks.now (is_in 0) (regions_in self.now start.number)
+            None 0 marks.now self.now.prices.items - self.now.debt))) }
     {
-        self.prices.iter().all(|price| *price <= highest)
+        let step = Step {
+            marks,
+            here: 0,
+            there: self.regions(start),
+            passed: None,
+        };
+        let whole = self.level(start)?.checked_add(step.charge(&self.prices)?)?;
+        let total = whole.saturating_sub(self.debt);
+        if total < LARGEST { Some(total) } else { None }
     }
 
-    /// Its prices with the base, where it is a certificate: each mark has a price, none above the
-    /// highest, and each potential pays for all hops from there, that of the start among them.
-    pub fn checked(
-        self,
-        rows: &[Option<Row>],
-        start: Slot,
-        marks: usize,
-        highest: u64,
-    ) -> Option<Prices>
-        requires { highest < 2 ^ 38 }
-        ensures { IfSome result (λ found. (g : Setting) → AreRows g rows.now
-            → g.start ≡ start.number → g.start < 2000 → length g.notes.marks ≡ marks
-            → ArePrices g highest found.prices.items found.base) }
+    /// Its prices with the total, where it is a certificate: each mark has a price, and each level
+    /// pays for all hops from there, that of the start among them.
+    pub fn checked(self, marks: &[Mark], rows: &[Option<Row>], start: Slot) -> Option<Prices>
+        requires few { length marks.now ≤ 64 }
+        ensures { IfSome result (λ found. (g : Setting) (executed : List ℕ) → IsProper g
+            → g.notes.marks ≡ marks.now → AreRows g executed rows.now → g.start ≡ start.number
+            → ArePrices g found.prices.items found.total) }
     {
-        let owed = self.potential(start)?;
-        if owed > highest || self.prices.len() != marks {
+        if self.prices.len() != marks.len() || self.levels.len() > Slot::COUNT {
             return None;
         }
-        if !self.is_low(highest) || !self.pays_all(rows) {
+        let total = self.total(marks, start)?;
+        if !self.pays_all(marks, rows) {
             return None;
         }
         Some(Prices {
             prices: self.prices,
-            base: owed,
+            total,
         })
     }
 }

@@ -1,7 +1,8 @@
 //! The ceiling of a deck: prices that were found and checked, or else such as are surely high
 //! enough, and what they come to.
 
-ghost use Rattle.std.specs.Prelude.{◌≡◌, ◌*◌, ◌≤◌, length, IfOk, IfErr};
+ghost use Rattle.std.specs.Prelude.{◌≡◌, ◌⊎◌, ◌^◌, ◌≤◌, Some, None, IfOk, IfErr, IfSome, IfNone};
+ghost use Rattle.std.specs.Prelude.{MatchOption};
 ghost use Rattle.drum_core.specs.Loads.{loads_in, start_in};
 ghost use Rattle.drum_flow.specs.Accepted as said;
 ghost use Rattle.drum_flow.specs.Accepted.{told, IsAdmitted};
@@ -10,47 +11,61 @@ ghost use Rattle.drum_flow.specs.Flow.{deck_of, notes_of, executed_in};
 ghost use Rattle.drum_flow.specs.Free.{IsFreeOrder};
 ghost use Rattle.drum_flow.specs.SettingOf.{setting};
 ghost use Rattle.drum_ceiling.specs.CeilingOf.{IsCeilingOf, IsCeilingRefusal};
-ghost use Rattle.drum_ceiling.specs.Priced.{farthest, ArePrices};
+ghost use Rattle.drum_ceiling.specs.Right.{ArePrices};
+ghost use Rattle.drum_ceiling.specs.Size.{IsWithinSize};
 
 use crate::answer::Ceiling;
-use crate::passes::passes_of;
-use crate::prices::{Prices, highest_of, prices_by_order};
+use crate::longest::longest_of;
+use crate::prices::{Prices, prices_by_order};
 use crate::rows::rows_of;
 use crate::search;
 use crate::slot::Slot;
-use crate::total::total;
 use drum_core::Deck;
 use drum_flow::counts::product_of;
 use drum_flow::{AcceptedFlow, Refusal};
 use drum_times::{Mark, Notes, Times};
 use std::alloc::{AllocError, Global};
 
-/// Prices and a base of an admitted deck: those that the search finds, where they are a
-/// certificate; else those by the order of the executed locations.
+/// The prices with the lower total, where there are two.
+fn lower_of(found: Option<Prices>, by_order: Option<Prices>) -> Option<Prices>
+    ensures none { IfNone result (by_order ≡ None) }
+    ensures some { IfSome result (λ prices. (by_order ≡ Some prices) ⊎ ((found ≡ Some prices)
+        × IfSome by_order (λ other. prices.total ≤ other.total))) }
+{
+    let Some(found) = found else {
+        return by_order;
+    };
+    match by_order {
+        Some(other) if other.total < found.total => Some(other),
+        _ => Some(found),
+    }
+}
+
+/// Prices and a total of an admitted deck: those that the search finds, where they are a
+/// certificate, or those by the order of the executed locations.
 fn prices_of(
     alloc: Global,
     accepted: &AcceptedFlow<'_>,
     times: &Times,
-    passes: &[u128],
-) -> Result<Prices, AllocError>
+) -> Result<Option<Prices>, AllocError>
     requires admitted { IsAdmitted (loads_in (deck_of accepted.now.flow))
         (notes_of accepted.now.flow) (start_in (deck_of accepted.now.flow))
         (executed_in accepted.now.flow) }
     requires order { IsFreeOrder (loads_in (deck_of accepted.now.flow))
         (notes_of accepted.now.flow) (executed_in accepted.now.flow) (in_order accepted.now) }
-    ensures { IfOk result (λ found. ArePrices
-        (setting (deck_of accepted.now.flow) times.now (notes_of accepted.now.flow))
-        (length (executed_in accepted.now.flow) * farthest) found.prices.items found.base) }
+    ensures { IfOk result (λ made.
+        let g = setting (deck_of accepted.now.flow) times.now (notes_of accepted.now.flow) in
+        let executed = executed_in accepted.now.flow in
+        MatchOption made (IsWithinSize g executed (2 ^ 127)) (λ found.
+        ArePrices g found.prices.items found.total × IsWithinSize g executed found.total)) }
 {
     let flow = accepted.flow();
+    let marks = flow.notes().marks();
     let start = flow.deck().start();
     let rows = rows_of(alloc, flow, times)?;
-    let found = search::find(alloc, &rows, accepted.order(), start, passes)?;
-    let marks = flow.notes().marks().len();
-    match found.checked(&rows, Slot::of(start, 0), marks, highest_of(flow)) {
-        Some(prices) => Ok(prices),
-        None => prices_by_order(alloc, accepted),
-    }
+    let by_order = prices_by_order(alloc, accepted, longest_of(&rows))?;
+    let found = search::find(alloc, &rows, accepted.order(), start, marks)?;
+    Ok(lower_of(found.checked(marks, &rows, Slot::of(start, 0)), by_order))
 }
 
 /// Executed locations times counts; 2^127 where that is more.
@@ -61,13 +76,13 @@ fn product_of_flow(accepted: &AcceptedFlow<'_>, marks: &[Mark]) -> u128
 }
 
 /// A number of word times that no run which keeps to the notes, and no walk, ever uses more than,
-/// whatever the marks' counts are: a base, and for each mark a price times how often it can be
-/// passed.
+/// whatever the marks' counts are, with a price for each pass of a mark.
 ///
 /// # Errors
 ///
 /// Those of [`accept`](drum_flow::accept), except that [`Refusal::TooLarge`] comes last, and only
-/// where the number would be 2^127 or more; it has the product of executed words and counts, or
+/// where the executed words, times the longest step of one, times one more than all passes of marks
+/// that a walk can have, are 2^127 or more; it has the product of executed words and counts, or
 /// 2^127 where that is more.
 pub fn ceiling(alloc: Global, deck: &Deck, times: &Times, notes: &Notes) -> Result<Ceiling, Refusal>
     ensures given { IfOk result (IsCeilingOf deck.now times.now notes.now) }
@@ -75,12 +90,8 @@ pub fn ceiling(alloc: Global, deck: &Deck, times: &Times, notes: &Notes) -> Resu
 {
     let marks = notes.marks();
     let accepted = AcceptedFlow::of_any_size(alloc, deck, notes)?;
-    let Some(passes) = passes_of(alloc, marks)? else {
-        return Err(Refusal::TooLarge(product_of_flow(&accepted, marks)));
-    };
-    let prices = prices_of(alloc, &accepted, times, &passes)?;
-    match total(prices.base, &prices.prices, &passes) {
-        Some(total) => Ok(Ceiling::new(prices.base, prices.prices, passes, total)),
+    match prices_of(alloc, &accepted, times)? {
+        Some(found) => Ok(Ceiling::new(found.prices, found.total)),
         None => Err(Refusal::TooLarge(product_of_flow(&accepted, marks))),
     }
 }

@@ -6,6 +6,7 @@ use crate::slot::Slot;
 use drum_core::Location;
 use drum_flow::Flow;
 use drum_machine::Way;
+use drum_rotation::{Clockwork, Seek};
 use drum_times::{Mark, Notes, Times};
 
 /// The most word times that the search for an instruction takes.
@@ -24,8 +25,9 @@ pub struct Found<'a> {
 
 impl<'a> Found<'a> {
     ghost use Rattle.drum_flow.specs.Flow.{notes_of};
+    ghost use Rattle.drum_machine.specs.Timing.{found};
     ghost use Rattle.drum_machine.specs.WaysLeft.{seen_way};
-    ghost use Rattle.drum_ceiling.specs.Certificate.{mark_by};
+    ghost use Rattle.drum_ceiling.specs.Marked.{mark_by};
     ghost use Rattle.drum_ceiling.specs.Slot.{place_of};
 
     /// The location and the angle of this number, under the notes of a flow graph.
@@ -41,6 +43,14 @@ impl<'a> Found<'a> {
             location: slot.location(),
             angle: slot.angle(),
         }
+    }
+
+    /// Whether the instruction is found at this angle: what is beside the drum isn't had at each.
+    pub fn is_there(&self) -> bool
+        ensures { IsTrue result
+            ↔ (found self.now.location.number self.now.angle ≡ self.now.angle) }
+    {
+        Seek::of(self.location).go(self.angle) == self.angle
     }
 
     /// Whether a hop of the location that ends by this way goes on along an edge with a mark.

@@ -1,29 +1,29 @@
-//! Prices of marks with a base, and such as are surely high enough: by the order of the executed
+//! Prices of marks with a total, and such as are surely high enough: by the order of the executed
 //! locations.
 
-ghost use Rattle.std.specs.Prelude.{◌≡◌, ◌*◌, ◌^◌, ◌<◌, ◌≤◌, length, map, IfOk};
+ghost use Rattle.std.specs.Prelude.{◌≡◌, ◌*◌, ◌^◌, ◌<◌, ◌≤◌, length, map, IfOk, MatchOption};
 ghost use Rattle.drum_core.specs.Loads.{loads_in, start_in};
 ghost use Rattle.drum_times.specs.declared.times.Times as tables;
-ghost use Rattle.drum_flow.specs.Accepted.{IsAdmitted};
+ghost use Rattle.drum_flow.specs.Accepted.{told, IsAdmitted};
 ghost use Rattle.drum_flow.specs.AcceptedFlow.{in_order};
 ghost use Rattle.drum_flow.specs.Flow.{deck_of, notes_of, executed_in};
 ghost use Rattle.drum_flow.specs.Free.{IsFreeOrder};
 ghost use Rattle.drum_flow.specs.Graph.{height};
 ghost use Rattle.drum_flow.specs.SettingOf.{setting};
-ghost use Rattle.drum_ceiling.specs.Priced.{farthest, ArePrices};
+ghost use Rattle.drum_ceiling.specs.Right.{ArePrices};
+ghost use Rattle.drum_ceiling.specs.Size.{size_of, TakesAtMost};
 
+use crate::in_rounds::{passes_in_all, rounds_of, sum};
 use drum_core::Location;
-use drum_flow::{AcceptedFlow, Flow};
+use drum_flow::AcceptedFlow;
+use drum_flow::counts::{LARGEST, product};
 use std::alloc::{AllocError, Global};
 
-/// The most word times that a hop takes, with the search for the next instruction.
-const FARTHEST: u64 = 92_000_148;
-
-/// A price for each mark, and a base.
+/// A price for each mark, and the total.
 #[derive(Debug, Drop)]
 pub struct Prices {
-    pub prices: Vec<u64>,
-    pub base: u64,
+    pub prices: Vec<u128>,
+    pub total: u128,
 }
 
 /// How far before the end of the order a location stands.
@@ -39,33 +39,50 @@ fn height_of(order: &[Location], location: Location) -> usize
     0
 }
 
-/// Prices by the order of the executed locations, each as much for each of them as a hop takes at
-/// most: surely high enough, whatever the timing table.
-pub fn prices_by_order(alloc: Global, accepted: &AcceptedFlow<'_>) -> Result<Prices, AllocError>
+/// So much for each pass in a round of a mark.
+fn priced(alloc: Global, unit: u128, rounds: &[u128]) -> Result<Vec<u128>, AllocError>
+    ensures { IfOk result (λ prices. prices.items ≡ map (λ round. told (unit * round)) rounds.now) }
+{
+    let mut prices = Vec::new(alloc);
+    for round in rounds {
+        prices.push(product(unit, *round))?;
+    }
+    Ok(prices)
+}
+
+/// Prices by the order of the executed locations: for each pass in a round of a mark, as much as
+/// it takes to go through each of them once, where no step takes more than `longest` word times.
+/// `None` where what no ceiling is above is 2^127 or more.
+pub fn prices_by_order(
+    alloc: Global,
+    accepted: &AcceptedFlow<'_>,
+    longest: u32,
+) -> Result<Option<Prices>, AllocError>
     requires admitted { IsAdmitted (loads_in (deck_of accepted.now.flow))
         (notes_of accepted.now.flow) (start_in (deck_of accepted.now.flow))
         (executed_in accepted.now.flow) }
     requires order { IsFreeOrder (loads_in (deck_of accepted.now.flow))
         (notes_of accepted.now.flow) (executed_in accepted.now.flow) (in_order accepted.now) }
-    ensures { IfOk result (λ found. (times : tables.Times) → ArePrices
+    ensures { IfOk result (λ made. (times : tables.Times) → TakesAtMost
         (setting (deck_of accepted.now.flow) times (notes_of accepted.now.flow))
-        (length (executed_in accepted.now.flow) * farthest) found.prices.items found.base) }
+        (executed_in accepted.now.flow) longest
+        → let size = size_of (notes_of accepted.now.flow).marks
+        (length (executed_in accepted.now.flow)) longest in
+        MatchOption made (2 ^ 127 ≤ size) (λ found. ArePrices
+        (setting (deck_of accepted.now.flow) times (notes_of accepted.now.flow))
+        found.prices.items found.total × (found.total ≤ size))) }
 {
     let flow = accepted.flow();
-    let highest = highest_of(flow);
-    let height = height_of(accepted.order(), flow.deck().start()) as u64;
-    let mut prices = Vec::new(alloc);
-    for _ in flow.notes().marks() {
-        prices.push(highest)?;
+    let marks = flow.notes().marks();
+    let rounds = rounds_of(alloc, marks)?;
+    let passes = passes_in_all(marks, &rounds);
+    let unit = flow.executed().len() as u128 * u128::from(longest);
+    if product(unit, sum(1, passes)) >= LARGEST {
+        return Ok(None);
     }
-    let base = height * FARTHEST;
-    Ok(Prices { prices, base })
-}
-
-/// What it takes at most to go through each executed location once, in word times.
-pub fn highest_of(flow: &Flow<'_>) -> u64
-    ensures told { result ≡ length (executed_in flow.now) * farthest }
-    ensures low { result < 2 ^ 38 }
-{
-    flow.executed().len() as u64 * FARTHEST
+    let height = height_of(accepted.order(), flow.deck().start()) as u128;
+    Ok(Some(Prices {
+        prices: priced(alloc, unit, &rounds)?,
+        total: height * u128::from(longest) + product(unit, passes),
+    }))
 }

@@ -10,6 +10,8 @@ pub struct Edge {
     /// The most word times that they take, from when the one instruction is found to when the other
     /// is.
     pub time: u32,
+    /// The most until one of them ends, and 49 more.
+    pub stop: u32,
     /// The index of the mark that stands on the edge of their locations.
     pub mark: Option<u8>,
 }
@@ -19,6 +21,8 @@ pub struct Edge {
 pub struct Row {
     /// The most word times until one of them without a mark ends, and 49 more; 0 of none.
     pub stop: u32,
-    /// Where they lead, without the edges that may never be passed.
+    /// The most until any of them ends, and 49 more; 0 of none.
+    pub most: u32,
+    /// Where they lead.
     pub edges: Vec<Edge>,
 }

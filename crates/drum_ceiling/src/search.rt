@@ -1,68 +1,84 @@
 //! The search for a certificate that makes the ceiling low. Nothing is promised of what is found,
 //! but that it is found in the end: who takes it looks whether it is a certificate.
+//!
+//! `search/marks` has how the marks stand in one another, `search/reached` the rows of where walks
+//! come, and `search/regions` where rounds of each mark pass; `search/graph` puts them together.
+//! `search/prices` tells what an edge takes at prices, `search/rounds` what a mark's price has to
+//! be, once others have theirs, and `search/settling` gives the marks their prices in an order.
+//! `search/levels` sums up what walks take on from each slot. `search/tries` looks for a better
+//! order and higher prices.
 
 mod by_slot;
-mod leap;
-mod leaps;
+mod cycles;
+mod graph;
+mod levels;
+mod marks;
+mod order;
 mod prices;
-mod reach;
 mod reached;
-mod trial;
+mod regions;
+mod rounds;
+mod settling;
+mod tries;
+mod ways;
 
 use crate::certificate::Certificate;
 use crate::row::Row;
-use by_slot::BySlot;
+use by_slot::{Bits, BySlot};
 use drum_core::Location;
-use leaps::Leaps;
-use prices::{Priced, find_prices};
-use reached::Reached;
+use drum_times::Mark;
+use graph::Graph;
+use levels::Levels;
 use std::alloc::{AllocError, Global};
-use trial::price_of;
+use tries::Tries;
 
 /// A certificate with a low ceiling, by the rows, an order of the locations in which every edge
-/// without a mark goes on, and how often each mark can be passed.
+/// without a mark goes on, and the marks.
 pub fn find(
     alloc: Global,
     rows: &[Option<Row>],
     order: &[Location],
     start: Location,
-    passes: &[u128],
+    marks: &[Mark],
 ) -> Result<Certificate, AllocError> {
-    let reached = Reached::of(alloc, rows, order, start)?;
-    let leaps = Leaps::of(alloc, &reached)?;
-    let priced = find_prices(alloc, &leaps, reached.start, passes)?;
-    Ok(certificate(&reached, priced))
+    let graph = Graph::of(alloc, rows, order, start, marks)?;
+    let mut tries = Tries::new(alloc, &graph)?;
+    tries.improve()?;
+    let (prices, levels) = tries.finish();
+    certificate(alloc, graph, &prices, &levels)
 }
 
-/// The prices, with the potentials that go with them: the order is gone through backwards, and
-/// where an edge with a mark leads the potential is known.
-fn certificate(reached: &Reached<'_>, priced: Priced) -> Certificate {
-    let Priced {
-        prices,
-        values: mut potentials,
-    } = priced;
-    for slot in reached.order.iter().rev() {
-        if let Some(row) = reached.row(*slot) {
-            let least = potentials.at(*slot).unwrap_or(0);
-            let owed = owed(&potentials, row, &prices).max(least);
-            potentials.set(*slot, Some(owed));
-        }
-    }
-    let BySlot {
-        entries: potentials,
+/// The certificate of prices, with the levels that go with them.
+fn certificate(
+    alloc: Global,
+    graph: Graph<'_>,
+    prices: &[i128],
+    found: &Levels,
+) -> Result<Certificate, AllocError> {
+    let debt = found.debt(&graph.reached);
+    let Graph { regions, .. } = graph;
+    let Bits {
+        entries: regions,
         ..
-    } = potentials;
-    Certificate { prices, potentials }
+    } = regions;
+    Ok(Certificate {
+        prices: prices.iter().map(|price| natural(*price)).collect(alloc)?,
+        regions,
+        levels: raised(alloc, &found.owed, debt)?,
+        debt: natural(debt),
+    })
 }
 
-/// The most word times from a slot on, less prices, by those from where its row leads.
-fn owed(potentials: &BySlot, row: &Row, prices: &[u64]) -> u64 {
-    let mut most = u64::from(row.stop);
-    for edge in &row.edges {
-        let price = edge.mark.map_or(0, |mark| price_of(prices, mark));
-        let behind = potentials.at(edge.onto).unwrap_or(0);
-        let then = behind.saturating_add(u64::from(edge.time));
-        most = most.max(then.saturating_sub(price));
+/// What is owed at each slot, and the debt.
+fn raised(alloc: Global, owed: &BySlot, debt: i128) -> Result<Vec<Option<u128>>, AllocError> {
+    let mut levels = Vec::new(alloc);
+    for owed in &owed.entries {
+        levels.push(owed.map(|owed| natural(owed.saturating_add(debt))))?;
     }
-    most
+    Ok(levels)
+}
+
+/// A number, or 0 if it is less.
+fn natural(number: i128) -> u128 {
+    number.max(0).unsigned_abs()
 }

@@ -1,6 +1,7 @@
 //! Where an instruction is found: a location, and an angle of the drum.
 
-ghost use Rattle.std.specs.Prelude.{◌≡◌, ◌%◌, ◌<◌, ◌↔◌, IsSome, IfSome};
+ghost use Rattle.std.specs.Prelude.{◌≡◌, ◌%◌, ◌<◌};
+ghost use Rattle.drum_ceiling.specs.Slot as said;
 
 use drum_core::{Location, REVOLUTION};
 
@@ -59,4 +60,12 @@ impl Slot {
     {
         u64::from(self.number) % REVOLUTION
     }
+}
+
+/// Whether the region of the mark with this index is among these.
+pub fn is_in(regions: u64, index: usize) -> bool
+    requires { index < 64 }
+    ensures { result ≡ said.is_in regions index }
+{
+    (regions >> index) % 2 == 1
 }

@@ -8,7 +8,7 @@ ghost use Rattle.drum_core.specs.Loads.{loads_in};
 ghost use Rattle.drum_times.specs.Allowed.{allowed, matching};
 ghost use Rattle.drum_machine.specs.WaysLeft.{seen_way};
 ghost use Rattle.drum_flow.specs.Profile.{MayEnd};
-ghost use Rattle.drum_ceiling.specs.Raised.{GrowsTo, HasTaken, IsRaised};
+ghost use Rattle.drum_ceiling.specs.Raised.{latest, GrowsTo, HasTaken, IsRaised, TakesNoMore};
 ghost use Rattle.drum_ceiling.specs.Slowest.{AreOfOnePart};
 ghost use Rattle.drum_ceiling.specs.Taking.{AreAlike};
 
@@ -34,6 +34,10 @@ impl Raised {
         ensures taken { (d : ℕ) → start ≤ d → d < end
             → IsRaised from.now self.new (instruction pattern.op d pattern.i) (seen_way way) }
         ensures grown { GrowsTo self.old self.new }
+        ensures no_more { (most : ℕ) → self.old.most ≤ most
+            → ((d : ℕ) → start ≤ d → d < end
+            → latest from.now (instruction pattern.op d pattern.i) (seen_way way) + 49
+            ≤ from.now.angle + most) → self.new.most ≤ most }
     {
         if let Some(d) = from.slowest(pattern, way, start, end) {
             let instruction = instruction_of(pattern, d);
@@ -56,6 +60,10 @@ impl Raised {
         ensures taken { (d : ℕ) → start ≤ d → d < end
             → HasTaken from.now self.new (instruction pattern.op d pattern.i) }
         ensures grown { GrowsTo self.old self.new }
+        ensures no_more { (most : ℕ) → self.old.most ≤ most
+            → ((d : ℕ) → start ≤ d → d < end
+            → TakesNoMore from.now most (instruction pattern.op d pattern.i))
+            → self.new.most ≤ most }
     {
         for way in Ways::of(from.notes, instruction_of(pattern, start)) {
             self.take_way(from, pattern, way, start, end);
@@ -67,6 +75,9 @@ impl Raised {
         ensures taken { (ins : digits.Instruction) → Contains (matching pattern) ins
             → HasTaken from.now self.new ins }
         ensures grown { GrowsTo self.old self.new }
+        ensures no_more { (most : ℕ) → self.old.most ≤ most
+            → ((ins : digits.Instruction) → Contains (matching pattern) ins
+            → TakesNoMore from.now most ins) → self.new.most ≤ most }
     {
         let mut d = pattern.d_from;
         while d <= pattern.d_to {
@@ -81,6 +92,10 @@ impl Raised {
         ensures taken { (ins : digits.Instruction)
             → Contains (allowed (loads_in deck.now) from.now.notes.now from.now.location.number) ins
             → HasTaken from.now self.new ins }
+        ensures no_more { (most : ℕ) → self.old.most ≤ most
+            → ((ins : digits.Instruction) → Contains
+            (allowed (loads_in deck.now) from.now.notes.now from.now.location.number) ins
+            → TakesNoMore from.now most ins) → self.new.most ≤ most }
     {
         for pattern in Patterns::at(deck, from.notes, from.location) {
             self.take_pattern(from, pattern);

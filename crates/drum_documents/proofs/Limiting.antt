@@ -8,7 +8,7 @@ use Rattle.drum_lines.specs.declared.fault.Fault.TheVariants as faults
 use Rattle.drum_lines.specs.declared.limit.Limit as limits
 use Rattle.drum_lines.specs.declared.limit.Limit.TheVariants as limit
 use Rattle.drum_ceiling.specs.declared.answer.Ceiling.{Ceiling}
-use Rattle.drum_ceiling.specs.CeilingOf.{base_of, prices_of, total_of}
+use Rattle.drum_ceiling.specs.CeilingOf.{total_of}
 use Rattle.drum_ceiling.specs.Right.{IsTooDear}
 use Rattle.drum_documents.specs.declared.documents.Documents.{Documents}
 use Rattle.drum_documents.specs.Documents.{setting_of}
@@ -49,10 +49,7 @@ no_ceiling documents (faults.Refused (refusal.TooLarge product)) none is = (
   record {
     executed = is.1.executed;
     admitted = is.1.admitted;
-    prices = is.1.prices;
-    base = is.1.base;
-    are = is.1.are;
-    large = omega (arith, is.1.large);
+    large = λ most takes. omega (arith, is.1.large most takes);
   },
 )
 no_ceiling documents (faults.Refused refusal.Memory) none is = is
@@ -72,10 +69,7 @@ pub too_dear : (documents : Documents) (ceiling : Ceiling) (least : ℕ) → IsC
 too_dear documents ceiling least is large = record {
   executed = is.executed;
   admitted = is.admitted;
-  prices = prices_of ceiling;
-  base = base_of ceiling;
-  are = is.prices;
-  large = omega (arith, is.total, large);
+  large = λ most takes. omega (arith, is.low most takes, large);
 }
 
 -- no kept run uses more than what limits it

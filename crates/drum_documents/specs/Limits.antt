@@ -30,7 +30,7 @@ IsWorstWalk documents bound angle walk =
     IsWalkOf (setting_of documents) angle bound walk × AreLongest (setting_of documents) angle walk
 
 -- a ceiling of theirs, each number of which is right: no walk takes more than its total, and no run
--- that keeps to the notes ever uses more
+-- that keeps to the notes ever uses more; its prices pay for every round of the marks
 abbrev pub IsCeiling : Documents → Ceiling → Type 0
 IsCeiling documents = IsCeilingOf documents.deck documents.times documents.notes
 
@@ -44,8 +44,8 @@ abbrev pub IsAnalysisFault : Documents → Fault → Type 0
 IsAnalysisFault documents =
     IsRefusedFor (IsRefusal (loads_in documents.deck) documents.notes (start_in documents.deck))
 
--- why they have no ceiling: the deck with its notes is refused, but for its size; or the sum of a
--- certificate is 2 ^ 127 or more
+-- why they have no ceiling: the deck with its notes is refused, but for its size; or what no ceiling
+-- is above is 2 ^ 127 or more
 abbrev pub IsCeilingFault : Documents → Fault → Type 0
 IsCeilingFault documents =
     IsRefusedFor (IsCeilingRefusal documents.deck documents.times documents.notes)
@@ -92,7 +92,7 @@ IsProduct documents product =
     × (product ≡ told (product_of executed documents.notes.marks))
 
 -- Why there is neither: the deck with its notes is refused, but for its size; or they have no
--- bound, and what some certificate comes to is 2 ^ 50 or more. Then the product is told.
+-- bound, and what no ceiling is above is 2 ^ 50 or more. Then the product is told.
 abbrev pub IsLimitRefusal : Documents → Refusal → Type 0
 IsLimitRefusal documents (TooLarge product) =
     HaveNoBound documents × IsProduct documents product × IsTooDear (setting_of documents) (2 ^ 50)

@@ -33,8 +33,8 @@ pub fn bound_of(alloc: Global, documents: &Documents) -> Result<u64, Fault>
 ///
 /// # Errors
 ///
-/// [`Fault::Refused`] where the deck with its notes isn't accepted, but for its size; where what
-/// the ceiling comes to is too large; or there is no memory.
+/// [`Fault::Refused`] where the deck with its notes isn't accepted, but for its size; where what no
+/// ceiling is above is 2^127 word times or more; or there is no memory.
 pub fn ceiling_of(alloc: Global, documents: &Documents) -> Result<Ceiling, Fault>
     ensures ceiling { IfOk result (IsCeiling documents.now) }
     ensures fault { IfErr result (IsCeilingFault documents.now) }

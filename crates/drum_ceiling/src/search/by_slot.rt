@@ -8,7 +8,7 @@ use std::alloc::{AllocError, Global};
 /// A number for each slot; none, where nothing is known.
 #[derive(Debug, Drop)]
 pub struct BySlot {
-    pub entries: Vec<Option<u64>>,
+    pub entries: Vec<Option<i128>>,
     ghost long: { vec_len entries ≡ 2200 },
 }
 
@@ -21,21 +21,46 @@ impl BySlot {
     }
 
     /// The number of a slot.
-    pub fn at(&self, slot: Slot) -> Option<u64> {
+    pub fn at(&self, slot: Slot) -> Option<i128> {
         self.entries[usize::from(slot.number)]
     }
 
     /// Gives a slot a number, or takes it away.
-    pub fn set(&mut self, slot: Slot, entry: Option<u64>) {
+    pub fn set(&mut self, slot: Slot, entry: Option<i128>) {
         self.entries[usize::from(slot.number)] = entry;
     }
+}
 
-    /// Gives a slot a number, unless it has one as great.
-    pub fn raise(&mut self, slot: Slot, least: u64) {
-        let entry = match self.at(slot) {
-            Some(before) => before.max(least),
-            None => least,
-        };
-        self.set(slot, Some(entry));
+/// Some of the marks for each slot: bit j stands for the mark with index j.
+#[derive(Debug, Drop)]
+pub struct Bits {
+    pub entries: Vec<u64>,
+    ghost long: { vec_len entries ≡ 2200 },
+}
+
+impl Bits {
+    /// None of them for each slot.
+    pub fn none(alloc: Global) -> Result<Bits, AllocError> {
+        Ok(Bits {
+            entries: vec![in alloc; 0; Slot::COUNT]?,
+        })
+    }
+
+    /// Those of a slot.
+    pub fn at(&self, slot: Slot) -> u64 {
+        self.entries[usize::from(slot.number)]
+    }
+
+    /// Adds some to those of a slot. Whether one of them is new.
+    pub fn add(&mut self, slot: Slot, some: u64) -> bool {
+        let before = self.at(slot);
+        self.entries[usize::from(slot.number)] = before | some;
+        before | some != before
+    }
+
+    /// Of those of a slot stay only some.
+    pub fn keep(&mut self, slot: Slot, some: u64) {
+        let before = self.at(slot);
+        self.entries[usize::from(slot.number)] = before & some;
     }
 }

@@ -1,257 +1,112 @@
-//! The search for prices: all are so high that no mark is worth its price, and are then lowered in
-//! turn.
+//! Prices of the marks, and what edges take by them.
 
-use super::by_slot::BySlot;
-use super::leaps::Leaps;
-use super::trial::Trial;
-use crate::slot::Slot;
+use super::graph::Graph;
+use super::marks::Standing;
+use crate::row::Edge;
 use std::alloc::{AllocError, Global};
 
-/// How many halvings an exact search through all numbers takes at most.
-const HALVINGS: u8 = 64;
-
-/// How many leaps and prices are looked at before the last try.
-const LOOKS: u64 = 1 << 22;
-
-/// Prices of the marks, and the most word times from each head on, less prices.
+/// A price for each mark.
 #[derive(Debug, Drop)]
-pub struct Priced {
-    pub prices: Vec<u64>,
-    pub values: BySlot,
+pub struct Prices {
+    pub list: Vec<i128>,
+    /// What all passes of each mark cost, until one is passed that it stands inside of.
+    whole: Vec<i128>,
 }
 
-/// Searches for prices that make base and prices times passes low.
-pub fn find_prices(
-    alloc: Global,
-    leaps: &Leaps,
-    start: Slot,
-    passes: &[u128],
-) -> Result<Priced, AllocError> {
-    let order = dearest_first(alloc, passes)?;
-    let mut search = Pricing::new(alloc, leaps, start, passes)?;
-    search.lower_all(&order);
-    search.improve(&order)?;
-    Ok(search.finish())
-}
-
-/// A mark, and how often it can be passed.
+/// What an edge costs in prices beside its time.
 #[derive(Clone, Copy, Debug)]
-struct Passed {
-    mark: u8,
-    passes: u128,
+pub struct Cost {
+    /// What its mark's price pays, of the time and of the charge.
+    pub pay: i128,
+    /// What is owed anew where it leads.
+    pub charge: i128,
 }
 
-/// The marks, those first that can be passed most often.
-fn dearest_first(alloc: Global, passes: &[u128]) -> Result<Vec<u8>, AllocError> {
-    let mut marks = Vec::new(alloc);
-    for (mark, passes) in (0..u8::MAX).zip(passes) {
-        marks.push(Passed {
-            mark,
-            passes: *passes,
-        })?;
-    }
-    marks.sort_by_key(|one| u128::MAX - one.passes)?;
-    marks.iter().map(|one| one.mark).collect(alloc)
-}
-
-/// The best of the prices of a mark that were tried.
-#[derive(Clone, Copy, Debug)]
-struct Best {
-    price: u64,
-    total: u128,
-}
-
-impl Best {
-    /// Keeps a price, if its total is less, or the price is lower and its total no greater. A total
-    /// for which no number has room is never kept.
-    fn see(&mut self, price: u64, total: u128) {
-        let is_better = total < self.total || total == self.total && price < self.price;
-        if is_better && total < u128::MAX {
-            *self = Best { price, total };
-        }
-    }
-}
-
-/// A search, with the prices that it has come to.
-#[derive(Debug, Drop)]
-struct Pricing<'a> {
-    leaps: &'a Leaps,
-    start: Slot,
-    /// How often each mark can be passed.
-    passes: &'a [u128],
-    /// A price at which no mark is worth passing: no way without a repeat takes longer.
-    high: u64,
-    prices: Vec<u64>,
-    trial: Trial,
-}
-
-impl<'a> Pricing<'a> {
-    /// One whose prices are all high.
-    fn new(
-        alloc: Global,
-        leaps: &'a Leaps,
-        start: Slot,
-        passes: &'a [u128],
-    ) -> Result<Pricing<'a>, AllocError> {
-        let high = leaps.long();
-        let prices = vec![in alloc; high; passes.len()]?;
-        let trial = Trial::new(alloc)?;
-        Ok(Pricing {
-            leaps,
-            start,
-            passes,
-            high,
-            prices,
-            trial,
+impl Prices {
+    /// All are 0.
+    pub fn none(alloc: Global, marks: usize) -> Result<Prices, AllocError> {
+        Ok(Prices {
+            list: vec![in alloc; 0; marks]?,
+            whole: vec![in alloc; 0; marks]?,
         })
     }
 
-    /// Whether the prices have potentials.
-    fn try_prices(&mut self) -> bool {
-        self.trial.run(self.leaps, &self.prices)
+    /// The price of a mark.
+    pub fn at(&self, mark: u8) -> i128 {
+        self.list.get(usize::from(mark)).copied().unwrap_or(0)
     }
 
-    /// What the start's potential and the prices times passes come to, by the last trial; the
-    /// greatest number, where none has room for that.
-    fn sum(&self) -> u128 {
-        let mut sum = u128::from(self.trial.value(self.start));
-        for (price, passes) in self.prices.iter().zip(self.passes) {
-            sum = sum.saturating_add(passes.saturating_mul(u128::from(*price)));
+    /// Gives a mark a price.
+    pub fn set(&mut self, mark: u8, price: i128, most: i128) {
+        let place = usize::from(mark);
+        if let Some(before) = self.list.get_mut(place) {
+            *before = price;
+        }
+        if let Some(before) = self.whole.get_mut(place) {
+            *before = price.saturating_mul(most);
+        }
+    }
+
+    /// What all passes of some marks cost.
+    pub fn sum(&self, some: u64) -> i128 {
+        let mut left = some;
+        let mut sum: i128 = 0;
+        for whole in &self.whole {
+            if left == 0 {
+                break;
+            }
+            if left & 1 == 1 {
+                sum = sum.saturating_add(*whole);
+            }
+            left >>= 1;
         }
         sum
     }
 
-    /// The same, once the prices are tried; the greatest number, where they have no potentials.
-    fn total(&mut self) -> u128 {
-        if self.try_prices() {
-            self.sum()
-        } else {
-            u128::MAX
-        }
-    }
-
-    /// Sets the price of a mark.
-    fn set(&mut self, mark: u8, price: u64) {
-        if let Some(before) = self.prices.get_mut(usize::from(mark)) {
-            *before = price;
-        }
-    }
-
-    /// Tries a price of a mark, and returns whether it is too low: there are no potentials, or the
-    /// longest way passes the mark more often than can be.
-    fn is_too_low(&mut self, mark: u8, price: u64, best: &mut Best) -> bool {
-        self.set(mark, price);
-        if !self.try_prices() {
-            return true;
-        }
-        best.see(price, self.sum());
-        let passes = self.trial.passes_of(self.leaps, self.start, mark);
-        let most = self.passes.get(usize::from(mark)).copied().unwrap_or(0);
-        most < u128::from(passes)
-    }
-
-    /// Gives a mark the price with the least total, the others' as they are.
-    fn lower(&mut self, mark: u8) {
-        let mut low = 0;
-        let mut end = self.high.saturating_add(1);
-        let mut best = Best {
-            price: end,
-            total: u128::MAX,
+    /// What an edge costs from a slot in the regions of some marks.
+    pub fn cost(&self, graph: &Graph<'_>, here: u64, edge: &Edge) -> Cost {
+        let there = graph.regions.at(edge.onto);
+        let marked = match edge.mark {
+            Some(mark) => graph.marks.at(mark),
+            None => None,
         };
-        for _ in 0..HALVINGS {
-            if low >= end {
-                break;
-            }
-            let middle = low + (end - low) / 2;
-            if self.is_too_low(mark, middle, &mut best) {
-                low = middle + 1;
+        match (edge.mark, marked) {
+            (Some(mark), Some(standing)) => self.cost_of_pass(mark, standing, here, there),
+            _ => Cost {
+                pay: 0,
+                charge: self.sum(there & !here),
+            },
+        }
+    }
+
+    /// What a pass of a mark costs, from a slot in the regions of some marks to one in those of
+    /// others: those inside of it begin anew.
+    fn cost_of_pass(&self, mark: u8, standing: Standing, here: u64, there: u64) -> Cost {
+        let others = there & (!here | standing.inner) & !standing.bit;
+        let charge = self.sum(others);
+        if here & standing.bit != 0 {
+            return Cost {
+                pay: self.at(mark),
+                charge,
+            };
+        }
+        let left = standing.most.saturating_sub(1);
+        let own = self.at(mark).saturating_mul(left);
+        Cost {
+            pay: 0,
+            charge: if there & standing.bit == 0 {
+                charge
             } else {
-                end = middle;
-            }
-        }
-        let price = if best.total < u128::MAX {
-            best.price
-        } else {
-            end
-        };
-        self.set(mark, price);
-    }
-
-    /// Gives each mark in turn the price with the least total.
-    fn lower_all(&mut self, order: &[u8]) {
-        for mark in order {
-            self.lower(*mark);
+                charge.saturating_add(own)
+            },
         }
     }
+}
 
-    /// The same but for two marks.
-    fn lower_others(&mut self, order: &[u8], first: u8, second: u8) {
-        for mark in order {
-            if *mark != first && *mark != second {
-                self.lower(*mark);
-            }
-        }
-    }
-
-    /// Makes the prices of two marks high, or of one that is both, and lowers the others and then
-    /// these; stays with the prices that there were, where that brings nothing. Whether it does.
-    fn raise(&mut self, order: &[u8], first: u8, second: u8) -> Result<bool, AllocError> {
-        let before = self.prices.clone()?;
-        let total = self.total();
-        self.set(first, self.high);
-        self.set(second, self.high);
-        self.lower_others(order, first, second);
-        self.lower(first);
-        self.lower(second);
-        let is_less = self.total() < total;
-        if !is_less {
-            self.prices = before;
-        }
-        Ok(is_less)
-    }
-
-    /// Tries a mark with each of some, and returns whether the total has fallen.
-    fn raise_with(&mut self, order: &[u8], first: u8, seconds: &[u8]) -> Result<bool, AllocError> {
-        let mut has_fallen = false;
-        for second in seconds {
-            if self.trial.looks < LOOKS && self.raise(order, first, *second)? {
-                has_fallen = true;
-            }
-        }
-        Ok(has_fallen)
-    }
-
-    /// Tries each mark alone and each two, and returns whether the total has fallen.
-    fn raise_each(&mut self, order: &[u8]) -> Result<bool, AllocError> {
-        let mut has_fallen = false;
-        for (place, first) in order.iter().enumerate() {
-            if self.raise_with(order, *first, &order[place..])? {
-                has_fallen = true;
-            }
-        }
-        Ok(has_fallen)
-    }
-
-    /// Tries until nothing falls, as many times as there are marks at most.
-    fn improve(&mut self, order: &[u8]) -> Result<(), AllocError> {
-        for _ in order {
-            if !self.raise_each(order)? {
-                break;
-            }
-        }
-        Ok(())
-    }
-
-    /// The prices, with the values that go with them.
-    fn finish(self) -> Priced {
-        let Pricing {
-            leaps,
-            prices,
-            mut trial,
-            ..
-        } = self;
-        let _ = trial.run(leaps, &prices);
-        let Trial { values, .. } = trial;
-        Priced { prices, values }
+impl Cost {
+    /// What an edge takes that costs this, less what its mark's price pays.
+    pub fn along(self, edge: &Edge) -> i128 {
+        let time = i128::from(edge.time).saturating_add(self.charge);
+        time.saturating_sub(self.pay)
     }
 }

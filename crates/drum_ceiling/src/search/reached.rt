@@ -1,6 +1,7 @@
 //! Where walks come, in an order in which every edge without a mark goes on.
 
-use super::by_slot::BySlot;
+use super::by_slot::Bits;
+use super::marks::Marks;
 use crate::row::Row;
 use crate::slot::Slot;
 use drum_core::{Location, REVOLUTION};
@@ -24,6 +25,7 @@ impl<'a> Reached<'a> {
         rows: &'a [Option<Row>],
         order: &[Location],
         start: Location,
+        marks: &Marks,
     ) -> Result<Reached<'a>, AllocError> {
         let mut reached = Reached {
             rows,
@@ -31,7 +33,7 @@ impl<'a> Reached<'a> {
             order: Vec::new(alloc),
         };
         let mut visits = Visits::none(alloc)?;
-        visits.visit_all(&reached)?;
+        visits.visit_all(&reached, marks)?;
         for location in order {
             reached.add(&visits, *location)?;
         }
@@ -51,7 +53,7 @@ impl<'a> Reached<'a> {
         let mut last = None;
         for angle in 0..REVOLUTION {
             let slot = Slot::of(location, angle);
-            if last != Some(slot) && visits.seen.at(slot).is_some() {
+            if last != Some(slot) && visits.seen.at(slot) != 0 {
                 self.order.push(slot)?;
             }
             last = Some(slot);
@@ -63,8 +65,8 @@ impl<'a> Reached<'a> {
 /// Visits from slot to slot.
 #[derive(Debug, Drop)]
 struct Visits {
-    /// The slots that were met, each with a number.
-    seen: BySlot,
+    /// The slots that were met, each with some bit.
+    seen: Bits,
     /// Those of them whose edges weren't followed yet.
     ahead: Vec<Slot>,
 }
@@ -72,7 +74,7 @@ struct Visits {
 impl Visits {
     /// None yet.
     fn none(alloc: Global) -> Result<Visits, AllocError> {
-        let seen = BySlot::none(alloc)?;
+        let seen = Bits::none(alloc)?;
         Ok(Visits {
             seen,
             ahead: Vec::new(alloc),
@@ -81,30 +83,31 @@ impl Visits {
 
     /// Meets a slot.
     fn meet(&mut self, slot: Slot) -> Result<(), AllocError> {
-        if self.seen.at(slot).is_none() {
+        if self.seen.add(slot, 1) {
             self.ahead.push(slot)?;
-            self.seen.set(slot, Some(0));
         }
         Ok(())
     }
 
     /// Follows the edges of a row.
-    fn follow(&mut self, row: &Row) -> Result<(), AllocError> {
+    fn follow(&mut self, marks: &Marks, row: &Row) -> Result<(), AllocError> {
         for edge in &row.edges {
-            self.meet(edge.onto)?;
+            if marks.lets(edge) {
+                self.meet(edge.onto)?;
+            }
         }
         Ok(())
     }
 
     /// Meets the start, and follows the edges of all slots that are met. Each is met once.
-    fn visit_all(&mut self, reached: &Reached<'_>) -> Result<(), AllocError> {
+    fn visit_all(&mut self, reached: &Reached<'_>, marks: &Marks) -> Result<(), AllocError> {
         self.meet(reached.start)?;
         for _ in 0..Slot::COUNT {
             let Some(slot) = self.ahead.pop() else {
                 break;
             };
             if let Some(row) = reached.row(slot) {
-                self.follow(row)?;
+                self.follow(marks, row)?;
             }
         }
         Ok(())

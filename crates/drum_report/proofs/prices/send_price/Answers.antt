@@ -11,27 +11,18 @@ returns-clause-sent g c =
     let Sent : List ℕ → Type 0 =
     IsSent (g.O.Output.written c.args.writer.now) (g.O.Output.written c.send.new.output) c.args.sent
     c.send.result in
-    let numbers : List ℕ = decimal c.args.passes ++ codes " price " ++ decimal c.args.price
-    ++ name_text c.args.mark.now.name ++ codes "\n" in
+    let price : List ℕ =
+    codes " price " ++ decimal c.args.price ++ name_text c.args.mark.now.name ++ codes "\n" in
     let told : Sent (codes "mark "
-    ++ (c.four_digits-from.result ++ (codes " " ++ (c.four_digits-onto.result ++ (codes " passes " ++ numbers))))) =
-    subst (λ (rest : List ℕ). Sent
-    (codes "mark " ++ (c.four_digits-from.result
-    ++ (codes " " ++ (c.four_digits-onto.result ++ (codes " passes " ++ rest))))))
-    (named_texts (codes " price ") c.as_bytes.result.now (decimal c.args.passes)
-    c.as_bytes-2.result.now (decimal c.args.price)
+    ++ (c.four_digits-from.result ++ (codes " " ++ (digits_of 4 c.args.mark.now.onto.number ++ price)))) =
+    subst (λ (rest : List ℕ). Sent (codes "mark " ++ (c.four_digits-from.result ++ (codes " " ++ rest))))
+    (named_texts (codes " price ") c.four_digits-onto.result (digits_of 4 c.args.mark.now.onto.number)
+    c.as_bytes.result.now (decimal c.args.price)
     c.name_pieces.result.0.now c.name_pieces.result.1.now (name_text c.args.mark.now.name)
+    (c.four_digits-onto.ensures ∙ ap (digits_of 4) c.number-2.ensures)
     (c.as_bytes.ensures.value ∙ c.format.ensures.text)
-    (c.as_bytes-2.ensures.value ∙ c.format-2.ensures.text)
     c.name_pieces.ensures.value)
     c.send.ensures.sent in
-    let from : Sent (codes "mark "
-    ++ (digits_of 4 c.args.mark.now.from.number
-    ++ (codes " " ++ (c.four_digits-onto.result ++ (codes " passes " ++ numbers))))) =
     subst (λ (digits : List ℕ). Sent
-    (codes "mark " ++ (digits ++ (codes " " ++ (c.four_digits-onto.result ++ (codes " passes " ++ numbers))))))
-    (c.four_digits-from.ensures ∙ ap (digits_of 4) c.number.ensures) told in
-    subst (λ (digits : List ℕ). Sent
-    (codes "mark " ++ (digits_of 4 c.args.mark.now.from.number
-    ++ (codes " " ++ (digits ++ (codes " passes " ++ numbers))))))
-    (c.four_digits-onto.ensures ∙ ap (digits_of 4) c.number-2.ensures) from
+    (codes "mark " ++ (digits ++ (codes " " ++ (digits_of 4 c.args.mark.now.onto.number ++ price)))))
+    (c.four_digits-from.ensures ∙ ap (digits_of 4) c.number.ensures) told

@@ -1,5 +1,5 @@
--- Of send_prices: what went out are the lines of the marks so far, each with the passes and the
--- price at its place; where a write fails, a prefix of that text has gone out.
+-- Of send_prices: what went out are the lines of the marks so far, each with the price at its place;
+-- where a write fails, a prefix of that text has gone out.
 use Rattle.std.proofs.Common.{◌≡◌, ℕ, ◌+◌, ◌<◌, List, length, flat_map, take, get_or, Ok, Err, ap, sym, ◌∙◌, subst, arith}
 use Rattle.std.proofs.lemmas.List.{take_all}
 use Rattle.std.proofs.lemmas.List.FromFn.{get_or-enumerate_from, length-enumerate_from}
@@ -8,7 +8,7 @@ use Rattle.std.specs.Prelude.{slice_index}
 use Rattle.std.specs.List.{enumerate_from}
 use Rattle.drum_times.specs.declared.notes.mark.Mark.{Mark}
 use Rattle.drum_ceiling.specs.declared.answer.Ceiling.{Ceiling}
-use Rattle.drum_ceiling.specs.CeilingOf.{passes_in, prices_of}
+use Rattle.drum_ceiling.specs.CeilingOf.{prices_of}
 use Rattle.drum_lines.specs.Sent.{IsSent}
 use Rattle.drum_lines.proofs.Sending.{sent_more, sent_cut}
 use Rattle.drum_report.specs.CeilingText.{price_line, price_line_at}
@@ -19,14 +19,12 @@ within : (marks : List Mark) (place : ℕ) → place < length marks → place < 
 within marks place inside = omega (arith, inside, length-enumerate_from 0 marks)
 
 -- the line of a mark is what the ceiling has at its place
-line_told : (ceiling : Ceiling) (marks : List Mark) (place passes price : ℕ) (mark : Mark) → place < length marks
-    → mark ≡ get_or marks place mark → passes ≡ slice_index (passes_in ceiling) place
-    → price ≡ slice_index (prices_of ceiling) place
-    → price_line mark passes price ≡ price_line_at ceiling (get_or (enumerate_from 0 marks) place (place, mark))
-line_told ceiling marks place passes price mark inside is often cost =
+line_told : (ceiling : Ceiling) (marks : List Mark) (place price : ℕ) (mark : Mark) → place < length marks
+    → mark ≡ get_or marks place mark → price ≡ slice_index (prices_of ceiling) place
+    → price_line mark price ≡ price_line_at ceiling (get_or (enumerate_from 0 marks) place (place, mark))
+line_told ceiling marks place price mark inside is cost =
     let numbered : 0 + place ≡ place = omega arith in
-    ap (λ (n : ℕ). price_line mark n price) often
-    ∙ ap (price_line mark (slice_index (passes_in ceiling) place)) cost
+    ap (price_line mark) cost
     ∙ ap (λ (m : Mark). price_line_at ceiling (place, m)) is
     ∙ sym (ap (price_line_at ceiling) (get_or-enumerate_from 0 marks place (place, mark) inside
     ∙ ap (λ (n : ℕ). (n, get_or marks place mark)) numbered))
@@ -45,8 +43,7 @@ returns-in_err-sent-clause-sent g c =
     let here : IsSent between new c.loop-place.sent (Err fault)
     (price_line_at ceiling (get_or (enumerate_from 0 marks) place (place, mark))) =
     subst (IsSent between new c.loop-place.sent (Err fault))
-    (line_told ceiling marks place c.passes.result c.price.result mark c.loop-place-test.true c.index-marks-place.is
-    c.passes.ensures c.price.ensures)
+    (line_told ceiling marks place c.price.result mark c.loop-place-test.true c.index-marks-place.is c.price.ensures)
     c.in_err-sent.ensures.sent in
     rw (p.1, p.2) (sent_cut (price_line_at ceiling) (enumerate_from 0 marks) place (place, mark)
     (within marks place c.loop-place-test.true) old between new 0 c.loop-place.sent fault
@@ -64,8 +61,7 @@ loop-place-preserved g c =
     let here : IsSent between new c.loop-place.sent (Ok c.in_ok-sent.sent)
     (price_line_at ceiling (get_or (enumerate_from 0 marks) place (place, mark))) =
     subst (IsSent between new c.loop-place.sent (Ok c.in_ok-sent.sent))
-    (line_told ceiling marks place c.passes.result c.price.result mark c.loop-place-test.true c.index-marks-place.is
-    c.passes.ensures c.price.ensures)
+    (line_told ceiling marks place c.price.result mark c.loop-place-test.true c.index-marks-place.is c.price.ensures)
     c.in_ok-sent.ensures.sent in
     record {
       so_far = sent_more (price_line_at ceiling) (enumerate_from 0 marks) place (place, mark)

@@ -2,7 +2,6 @@ use Rattle.std.proofs.Common.{ℕ, ◌<◌}
 use Rattle.drum_ceiling.specs.Paying.{IsSlotPaid}
 use Rattle.drum_ceiling.proofs.certificate.Certificate.pays_all.Given as goal
 
--- the potentials so far pay
+-- the levels so far pay
 abbrev pub invariant-loop-number : goal.invariant-loop-number
-invariant-loop-number l = (slot : ℕ) → slot < l.number
-    → IsSlotPaid l.self.prices.items l.self.potentials.items l.rows slot
+invariant-loop-number l = (slot : ℕ) → slot < l.number → IsSlotPaid l.marks l.self l.rows slot

@@ -21,6 +21,7 @@ loop-way-init c =
       within = λ way there. subst (λ (some : List Way). Contains some way) all there;
       taken = λ way there. inr (subst (λ (some : List Way). Contains some way) (sym all) there);
       grown = grows_same c.args.self.now;
+      no_more = λ most low each. low;
     }
 
 pub take_way-requires-clause-may_end : goal.take_way-requires-clause-may_end
@@ -57,6 +58,11 @@ loop-way-preserved c =
       ];
       grown = grows_on c.args.self.now c.loop-way.self c.take_way.new.self c.loop-way.invariant.grown
           c.take_way.ensures.grown;
+      no_more = λ most low each. c.take_way.ensures.no_more most (c.loop-way.invariant.no_more most low each)
+          (λ d from_start to_end. each d from_start to_end own
+          (subst (λ (all : List Way). Contains all own) (sym (c.requires.alike.ways d from_start to_end))
+          (c.loop-way.invariant.within own
+          (subst (λ (left : List Way). Contains left own) (sym c.in-Some.ensures.steps) (contains_here own rest)))));
     }
 
 pub returns-clause-taken : goal.returns-clause-taken
@@ -67,3 +73,6 @@ returns-clause-taken c d low high way there =
       | inr left ↦ absurd (contains_none way
           (subst (λ (left : List Way). Contains left way) c.in-None.ensures.steps.0 left))
     ]
+
+pub returns-clause-no_more : goal.returns-clause-no_more
+returns-clause-no_more c most low each = c.loop-way.invariant.no_more most low each

@@ -2,7 +2,7 @@ use Rattle.std.proofs.Common.{ℕ, ◌<◌, ◌≤◌, ◌⊎◌, Contains}
 use Rattle.drum_core.specs.Instruction.{instruction}
 use Rattle.drum_machine.specs.Ways.{Way, ways}
 use Rattle.drum_machine.specs.WaysLeft.{ways_left}
-use Rattle.drum_ceiling.specs.Raised.{GrowsTo, IsRaised}
+use Rattle.drum_ceiling.specs.Raised.{GrowsTo, IsRaised, TakesNoMore}
 use Rattle.drum_ceiling.proofs.raised.Raised.take_alike.Given as goal
 
 -- by each of the ways each of the instructions was looked at, or it is left
@@ -14,4 +14,8 @@ invariant-loop-way l = record {
       → ((d : ℕ) → l.fn.start ≤ d → d < l.fn.end
       → IsRaised l.from l.self (instruction l.pattern.op d l.pattern.i) way) ⊎ Contains (ways_left l.way-iterator) way;
   grown : GrowsTo l.fn.self l.self;
+  no_more : (most : ℕ) → l.fn.self.most ≤ most
+      → ((d : ℕ) → l.fn.start ≤ d → d < l.fn.end
+      → TakesNoMore l.from most (instruction l.pattern.op d l.pattern.i))
+      → l.self.most ≤ most;
 }

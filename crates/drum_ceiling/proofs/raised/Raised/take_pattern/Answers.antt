@@ -9,7 +9,7 @@ use Rattle.drum_core.specs.Location.{is_location}
 use Rattle.drum_machine.specs.Ways.{ways}
 use Rattle.drum_flow.proofs.Matched.{each_in_pattern, matching_at, matching_d, matching_with_d}
 use Rattle.drum_ceiling.specs.Raised.{HasTaken}
-use Rattle.drum_ceiling.proofs.Raises.{grows_on, taken_more}
+use Rattle.drum_ceiling.proofs.Raises.{grows_on, has_matching, taken_more}
 use Rattle.drum_ceiling.proofs.raised.Raised.take_pattern.Goals as goal
 
 pub take_alike-requires-clause-alike : goal.take_alike-requires-clause-alike
@@ -50,9 +50,16 @@ loop-d-preserved c =
       ];
       grown = grows_on c.args.self.now c.loop-d.self c.take_alike.new.self c.loop-d.invariant.grown
           c.take_alike.ensures.grown;
+      no_more = λ most low each. c.take_alike.ensures.no_more most (c.loop-d.invariant.no_more most low each)
+          (λ d from_d to_end. each (instruction c.args.pattern.op d c.args.pattern.i)
+          (has_matching c.args.pattern d (omega (arith, c.loop-d.invariant.from, from_d))
+          (omega (arith, to_end, c.min-end.ensures))));
     }
 
 pub returns-clause-taken : goal.returns-clause-taken
 returns-clause-taken c =
     each_in_pattern (HasTaken c.args.from.now c.loop-d.self) c.args.pattern
     (λ d low high. c.loop-d.invariant.taken d low (omega (arith, high, c.loop-d-test.false)))
+
+pub returns-clause-no_more : goal.returns-clause-no_more
+returns-clause-no_more c most low each = c.loop-d.invariant.no_more most low each

@@ -9,7 +9,7 @@ use Rattle.drum_core.specs.Kind.{kind_of}
 use Rattle.drum_machine.specs.WaysLeft.{seen_way}
 use Rattle.drum_flow.specs.Profile.{MayEnd}
 use Rattle.drum_flow.proofs.DataAngles.{kind_alike}
-use Rattle.drum_ceiling.specs.Raised.{IsRaised}
+use Rattle.drum_ceiling.specs.Raised.{latest, IsRaised}
 use Rattle.drum_ceiling.proofs.Raises.{grows_on, raised_alike, raised_more, raised_sooner}
 use Rattle.drum_ceiling.proofs.raised.Raised.take_way.Goals as goal
 
@@ -27,6 +27,17 @@ returns-in-Some-clause-taken c other low high =
     (instruction pattern.op other pattern.i) way (c.in-Some.ensures.ends other low high) c.in-Some.ensures.on_drum
     (subst (λ (ins : Instruction). IsRaised from c.take.new.self ins way) c.instruction_of-instruction.ensures
     c.take.ensures.taken)
+
+pub returns-in-Some-clause-no_more : goal.returns-in-Some-clause-no_more
+returns-in-Some-clause-no_more c most low each =
+    let from = c.args.from.now in
+    let way = seen_way c.args.way in
+    c.take.ensures.no_more most low
+    (subst (λ (ins : Instruction). latest from ins way + 49 ≤ from.angle + most) (sym c.instruction_of-instruction.ensures)
+    (each c.in-Some.d c.in-Some.ensures.low c.in-Some.ensures.high))
+
+pub returns-clause-no_more : goal.returns-clause-no_more
+returns-clause-no_more c most low each = c.loop-d.invariant.no_more most low each
 
 pub take-requires-in-loop-d : goal.take-requires-in-loop-d
 take-requires-in-loop-d c =
@@ -49,6 +60,10 @@ loop-d-preserved c =
             subst (λ (ins : Instruction). IsRaised from c.take-in-loop-d.new.self ins way) made c.take-in-loop-d.ensures.taken)
       ];
       grown = grows_on c.args.self.now c.loop-d.self c.take-in-loop-d.new.self c.loop-d.invariant.grown c.take-in-loop-d.ensures.grown;
+      no_more = λ most low each. c.take-in-loop-d.ensures.no_more most (c.loop-d.invariant.no_more most low each)
+          (subst (λ (ins : Instruction). latest from ins way + 49 ≤ from.angle + most)
+          (sym c.instruction_of-instruction-in-loop-d.ensures)
+          (each c.loop-d.d (omega arith) (omega (arith, c.loop-d-test.true, c.min-last.ensures))));
     }
 
 -- a data address within a revolution of the first, at the same angle

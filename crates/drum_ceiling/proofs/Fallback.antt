@@ -1,0 +1,130 @@
+-- The prices by the order of the executed locations: that they pay, and what they come to.
+use Rattle.std.proofs.Common.{◌≡◌, ℕ, ◌+◌, ◌*◌, ◌^◌, ◌<◌, ◌≤◌, List, [], length, map, refl, ap, sym, ◌∙◌, subst, arith, mul-add}
+use Rattle.std.specs.Prelude.{slice_index, Contains}
+use Rattle.std.proofs.Math.Nat.{mul-le-mul_left, mul-le-mul_right}
+use Rattle.std.proofs.lemmas.List.{length-map}
+use Rattle.drum_flow.specs.Accepted.{told, IsAdmitted}
+use Rattle.drum_flow.specs.Free.{IsFreeOrder}
+use Rattle.drum_flow.specs.Graph.{height}
+use Rattle.drum_flow.specs.Walk.{IsProper, Setting}
+use Rattle.drum_flow.proofs.Orders.{has_executed}
+use Rattle.drum_flow.proofs.Products.{told_exact}
+use Rattle.drum_ceiling.specs.Affine.{owed_by}
+use Rattle.drum_ceiling.specs.Certificate.{IsCertificate}
+use Rattle.drum_ceiling.specs.InRounds.{passes_in_all, passes_inside, AreInRounds}
+use Rattle.drum_ceiling.specs.Right.{ArePrices}
+use Rattle.drum_ceiling.specs.Size.{passes_together, size_of, TakesAtMost}
+use Rattle.drum_ceiling.proofs.ByOrder.{certificate_by, form_by, prices_by, total_by, total_low}
+use Rattle.drum_ceiling.proofs.RoundSums.{inside_few, told_prices}
+use Rattle.drum_ceiling.proofs.Rounded.{rounds_paid}
+use Rattle.drum_ceiling.proofs.Together.{together}
+
+-- what is told of a number is no more than that
+told_few : (n m : ℕ) → m ≡ told n → m ≤ n
+told_few n m is = omega (arith, is)
+
+-- all passes, by what is told of those in rounds, are no more than those that a walk has at most
+pub passes_few : (g : Setting) (rounds : List ℕ) → IsProper g → AreInRounds told g.notes.marks rounds
+    → passes_in_all g.notes.marks rounds ≤ passes_together g.notes.marks 0 g.notes.marks
+passes_few g rounds proper are =
+    together g.notes.marks rounds proper.notes.nested are.long
+    (λ k below. told_few (1 + passes_inside g.notes.marks k 0 g.notes.marks rounds) (slice_index rounds k) (are.each k below))
+
+-- Where the product that is told is large, so is what no ceiling is above.
+pub large_size : (g : Setting) (words longest passes more product : ℕ) (rounds : List ℕ) → IsProper g
+    → AreInRounds told g.notes.marks rounds → passes ≡ told (passes_in_all g.notes.marks rounds)
+    → more ≡ told (1 + passes) → product ≡ told (words * longest * more) → 2 ^ 127 ≤ product
+    → 2 ^ 127 ≤ size_of g.notes.marks words longest
+large_size g words longest passes more product rounds proper are all one is large =
+    let few : more ≤ 1 + passes_together g.notes.marks 0 g.notes.marks =
+    omega (
+      arith,
+      passes_few g rounds proper are,
+      told_few (passes_in_all g.notes.marks rounds) passes all,
+      told_few (1 + passes) more one,
+    ) in
+    let grows : words * longest * more ≤ size_of g.notes.marks words longest = mul-le-mul_left (words * longest) few in
+    omega (arith, told_few (words * longest * more) product is, large, grows)
+
+module _ (g : Setting) (executed order : List ℕ) (proper : IsProper g)
+    (admitted : IsAdmitted g.loads g.notes g.start executed)
+    (free : IsFreeOrder g.loads g.notes executed order) (longest : ℕ) (takes : TakesAtMost g executed longest)
+    (rounds : List ℕ) (are : AreInRounds told g.notes.marks rounds) (passes more product : ℕ)
+    (all : passes ≡ told (passes_in_all g.notes.marks rounds)) (one : more ≡ told (1 + passes))
+    (is : product ≡ told (length executed * longest * more)) (small : product < 2 ^ 127) where
+  abbrev pub words : ℕ
+  words = length executed
+
+  abbrev pub unit : ℕ
+  unit = words * longest
+
+  -- some location is executed
+  some_words : 1 ≤ words
+  some_words =
+      let there : Contains executed g.start =
+      has_executed g.loads g.notes g.start admitted.order.count executed admitted.order.after admitted.order.all g.start
+      ([], refl) in
+      omega (arith, there.1)
+
+  exact : unit * more ≡ product
+  exact = sym (is ∙ told_exact (unit * more) (omega (arith, is, small)))
+
+  some : 1 ≤ unit
+  some = omega (arith, mul-le-mul_left words takes.some, some_words)
+
+  -- so nothing was cut off
+  more_small : more < 2 ^ 127
+  more_small =
+      let once : 1 * more ≤ unit * more = mul-le-mul_right more some in
+      omega (arith, once, exact, small)
+
+  passes_are : passes ≡ passes_in_all g.notes.marks rounds
+  passes_are = omega (arith, all, one, more_small)
+
+  more_is : more ≡ 1 + passes_in_all g.notes.marks rounds
+  more_is = omega (arith, all, one, more_small)
+
+  each : (k : ℕ) → k < length g.notes.marks
+      → slice_index rounds k ≡ 1 + passes_inside g.notes.marks k 0 g.notes.marks rounds
+  each k below =
+      omega (arith, are.each k below, inside_few g.notes.marks k 0 g.notes.marks rounds, more_is, more_small)
+
+  prices_are : map (λ round. told (unit * round)) rounds ≡ prices_by unit rounds
+  prices_are =
+      told_prices unit rounds
+      (λ k below.
+      let within : k < length g.notes.marks = omega (arith, below, are.long) in
+      let few : unit * slice_index rounds k ≤ unit * more =
+      mul-le-mul_left unit
+      (omega (arith, each k within, inside_few g.notes.marks k 0 g.notes.marks rounds, more_is)) in
+      omega (arith, few, exact, small))
+
+  pub by_order : (prices : List ℕ) (total sum : ℕ) → prices ≡ map (λ round. told (unit * round)) rounds
+      → sum ≡ told (unit * passes) → total ≡ height order g.start * longest + sum
+      → ArePrices g prices total × (total ≤ size_of g.notes.marks words longest)
+  by_order prices total sum priced summed is_total =
+      let made : prices ≡ prices_by unit rounds = priced ∙ prices_are in
+      let whole : unit * more ≡ unit * 1 + unit * passes_in_all g.notes.marks rounds =
+      ap (λ (n : ℕ). unit * n) more_is ∙ mul-add unit 1 (passes_in_all g.notes.marks rounds) in
+      let sum_is : sum ≡ unit * passes_in_all g.notes.marks rounds =
+      omega (arith, summed, ap (λ (n : ℕ). unit * n) passes_are, whole, exact, small) in
+      let same : total_by g executed order proper admitted free longest takes rounds are.long each ≡ total =
+      omega (arith, is_total, sum_is) in
+      let low = total_low g executed order proper admitted free longest takes rounds are.long each in
+      let fits : unit * (1 + passes_in_all g.notes.marks rounds) ≡ unit * more = ap (λ (n : ℕ). unit * n) (sym more_is) in
+      let grows : unit * (1 + passes_in_all g.notes.marks rounds) ≤ size_of g.notes.marks words longest =
+      mul-le-mul_left unit (omega (arith, passes_few g rounds proper are)) in
+      let certificate : IsCertificate g (owed_by g.notes.marks prices (form_by longest order)) total =
+      subst (IsCertificate g (owed_by g.notes.marks prices (form_by longest order))) same
+      (subst (λ (all : List ℕ). IsCertificate g (owed_by g.notes.marks all (form_by longest order))
+      (total_by g executed order proper admitted free longest takes rounds are.long each)) (sym made)
+      (certificate_by g executed order proper admitted free longest takes rounds are.long each)) in (
+        record {
+          each = ap length made ∙ length-map rounds (λ round. unit * round) ∙ are.long;
+          form = form_by longest order;
+          certificate = certificate;
+          small = omega (arith, same, low, fits, exact, small);
+          rounds = rounds_paid g prices (form_by longest order) total proper certificate;
+        },
+        omega (arith, same, low, grows),
+      )

@@ -1,0 +1,30 @@
+-- Certificates by prices of the marks: what is owed is a level of the place, and in the region of
+-- each mark its price for each pass that is left.
+use Rattle.std.specs.Prelude.{ℕ, ◌+◌, ◌-◌, ◌*◌, if◌then◌else◌, Bool, List, [], ◌∷◌, Option, Some, None}
+use Rattle.drum_times.specs.declared.notes.mark.Mark.{Mark}
+
+-- Where levels stand, by place and angle, and the regions of the marks, by index, place and angle.
+-- From each level the debt goes off: so a level is never below 0.
+pub record Affine : Type 0 where
+  pub level : ℕ → ℕ → Option ℕ
+  pub region : ℕ → ℕ → ℕ → Bool
+  pub debt : ℕ
+
+-- what the passes cost that are left of these marks, of each whose region has where one is; the
+-- first has this index
+abbrev pub cost_left : (ℕ → Bool) → ℕ → List Mark → List ℕ → List ℕ → ℕ
+cost_left within index [] prices counts = 0
+cost_left within index (mark ∷ marks) [] counts = 0
+cost_left within index (mark ∷ marks) (price ∷ prices) [] = 0
+cost_left within index (mark ∷ marks) (price ∷ prices) (count ∷ counts) =
+    (if within index then price * (mark.most - count) else 0)
+    + cost_left within (index + 1) marks prices counts
+
+-- what is owed at a place, an angle and counts: nothing is known where no level stands
+abbrev pub owed_by : List Mark → List ℕ → Affine → ℕ → ℕ → List ℕ → Option ℕ
+owed_by marks prices form place angle counts =
+    elim (form.level place angle) [
+      | None ↦ None
+      | Some level ↦ Some (level
+          + cost_left (λ index. form.region index place angle) 0 marks prices counts - form.debt)
+    ]
