@@ -1,19 +1,29 @@
 #!/usr/bin/env python3
-"""Compares the ceiling with the bound and with the linear program, and prints the figures.
+"""Compares the ceiling with the bound and with linear programs, measures how long it takes, and
+prints the figures.
 
-    bench/ceiling.py [PROGRAM [COUNT]]
+    bench/ceiling.py [PROGRAM [COUNT [EARLIER]]]
 
-PROGRAM is the newest that was built (checks/program.py) unless it is given.
+PROGRAM is the newest that was built (checks/program.py) unless it is given. EARLIER is another
+build, whose ceilings and times are compared too.
 
-Over the 22 programs of ceiling_programs.py its `ceiling` is compared with its `bound`, and over
-them and COUNT random decks (300, unless it is given) with the optimum that glpsol gives of the
-linear program: flow from the start through the graph of the hops, of each mark's edges together at
-most as often as the mark can be passed. Without glpsol that is left out. A deck where they differ
-is printed, with what was found."""
+The decks are made here, from seeds:
 
+- the 22 programs of ceiling_programs.py;
+- COUNT programs of ceiling_structured.py that have a bound (300, unless it is given), half as many
+  that are past its limit, and half as many wild ones, with a bound;
+- a third of COUNT of odd decks of ceiling_random.py: the first that have a bound. They are of mixed
+  flow, and every third of them has branches at most of its words.
+
+The ceiling is compared with `bound`, where there is one, and with the optimum that glpsol gives of
+two linear programs (linear_programs.py): that by entries, and that of the whole run, which is what
+prices alone come to. Without glpsol they are left out. A deck where a ceiling isn't what it is
+compared with is printed, with what was found. The status is 1 where a ceiling is below the bound,
+or above the optimum of the whole run or the ceiling of EARLIER."""
+
+import itertools
 import os
 import re
-import shutil
 import subprocess
 import sys
 import tempfile
@@ -22,89 +32,18 @@ import time
 TOP = os.path.dirname(os.path.dirname(os.path.abspath(__file__)))
 sys.path.insert(0, os.path.join(TOP, "checks"))
 
+import ceiling_decks
 import ceiling_programs
-import ceiling_random
+import linear_programs
 import model
+from ceiling_random import RandomDeck
+from ceiling_structured import StructuredDeck
 from program import built_program
 
 TIMES = os.path.join(TOP, "examples/times.toml")
-FIRST_WAIT = 49
 COUNT = 300
-
-
-class Flow:
-    """The graph of a deck's hops: where each location's instruction is found, the most word times
-    until a hop from there ends that passes no mark (with the longest wait for it; 0 where there is
-    none), and until the next instruction is found, by where that is."""
-
-    def __init__(self, walks):
-        self.walks = walks
-        self.start = walks.start, walks.start % 50
-        self.marks = {edge: at for at, one in enumerate(walks.marks) for edge in one.edges}
-        self.stops, self.edges = {}, {}
-        todo = [self.start]
-        while todo:
-            node = todo.pop()
-            if node not in self.stops:
-                self.take(node)
-                todo += [onto for source, onto in self.edges if source == node]
-
-    def take(self, node):
-        place, angle = node
-        self.stops[node] = 0
-        for op, d, i in self.walks.instructions(place):
-            ready = angle + self.walks.times[op]["before"]
-            for way in self.walks.ways(op, d, i):
-                end = ready if way == "early" else max(self.walks.ends(op, d, ready))
-                if self.most(place, way) is None:
-                    self.stops[node] = max(self.stops[node], FIRST_WAIT + end - angle)
-                if way not in ("early", "late") and self.most(place, way) != 0:
-                    found = model.found(way, end)
-                    edge = node, (way, found % 50)
-                    self.edges[edge] = max(self.edges.get(edge, 0), found - angle)
-
-    def most(self, place, onto):
-        mark = self.marks.get((place, onto))
-        return None if mark is None else self.walks.marks[mark].most
-
-    def owed(self, node):
-        """What a walk is worth at least that ends there: where a mark's edge leads, or at the start,
-        the wait as well."""
-        onto = [edge[1] for edge in self.edges if self.most(edge[0][0], edge[1][0]) is not None]
-        return max(self.stops[node], FIRST_WAIT if node in [self.start, *onto] else 0)
-
-    def passes(self, mark):
-        """How often a mark can be passed at all."""
-        passes, outer = mark.most, mark.inside
-        while outer is not None:
-            passes *= self.walks.marks[outer].most + 1
-            outer = self.walks.marks[outer].inside
-        return passes
-
-    def program(self):
-        """The linear program, as CPLEX writes one: a column for each edge, and one for each node
-        for a walk that ends there."""
-        nodes = {node: at for at, node in enumerate(self.stops)}
-        worth = ["%d e%d" % (self.owed(node), at) for node, at in nodes.items()]
-        rows = {node: ["- e%d" % at] for node, at in nodes.items()}
-        limits = [[] for _ in self.walks.marks]
-        for (source, onto), time in self.edges.items():
-            column = "f%d_%d" % (nodes[source], nodes[onto])
-            worth.append("%d %s" % (time, column))
-            if source != onto:
-                rows[source].append("- " + column)
-                rows[onto].append("+ " + column)
-            mark = self.marks.get((source[0], onto[0]))
-            if mark is not None:
-                limits[mark].append(column)
-        text = ["Maximize", " time: " + "\n + ".join(worth), "Subject To"]
-        for node, row in rows.items():
-            text.append(" n%d: %s = %d" % (nodes[node], "\n ".join(row), -(node == self.start)))
-        for at, columns in enumerate(limits):
-            if columns:
-                most = self.passes(self.walks.marks[at])
-                text.append(" m%d: %s <= %d" % (at, "\n + ".join(columns), most))
-        return "\n".join(text + ["End", ""])
+PRICED = re.compile(r"mark [0-9]{4} [0-9]{4} price [0-9]+( passed [0-9]+)?( name \S+)?")
+TOTAL = re.compile(r"ceiling ([0-9]+)")
 
 
 class Bench:
@@ -113,7 +52,6 @@ class Bench:
     def __init__(self, program, folder):
         self.program, self.folder = program, folder
         self.times = model.read_times(TIMES)
-        self.solver = shutil.which("glpsol")
 
     def path(self, name):
         return os.path.join(self.folder, name)
@@ -123,10 +61,14 @@ class Bench:
             with open(self.path(name), "w") as file:
                 file.write(text)
 
-    def lines(self, command):
+    def run(self, command, program=None):
+        words = [program or self.program, command]
+        words += [self.path("deck"), TIMES, self.path("notes")]
+        return subprocess.run(words, capture_output=True, text=True)
+
+    def lines(self, command, program=None):
         """What the program prints over the files."""
-        words = [self.program, command, self.path("deck"), TIMES, self.path("notes")]
-        done = subprocess.run(words, capture_output=True, text=True)
+        done = self.run(command, program)
         if done.returncode != 0:
             sys.exit("%s: %s%s" % (command, done.stderr, open(self.path("deck")).read()))
         return done.stdout.splitlines()
@@ -134,113 +76,205 @@ class Bench:
     def bound(self):
         return int(self.lines("bound")[0].split()[1])
 
+    def has_bound(self):
+        """Whether the deck is small enough for a bound."""
+        return not self.run("bound").stderr.startswith("fault 36 ")
+
     def ceiling(self):
-        """The ceiling, once its lines are seen to add up to it."""
-        *marks, base, ceiling = self.lines("ceiling")
-        total = int(base.removeprefix("base "))
-        for line in marks:
-            passes, price = re.fullmatch(r"mark \d+ \d+ passes (\d+) price (\d+).*", line).groups()
-            total += int(passes) * int(price)
-        if total != int(ceiling.removeprefix("ceiling ")):
-            sys.exit("the lines add up to %d: %s" % (total, ceiling))
-        return total
+        """The ceiling, once each mark of the notes is seen to have a line with its price."""
+        *marks, last = self.lines("ceiling")
+        total = TOTAL.fullmatch(last)
+        wrong = [line for line in marks if not PRICED.fullmatch(line)]
+        with open(self.path("notes")) as file:
+            count = file.read().count("[[mark]]")
+        if total is None or wrong or len(marks) != count:
+            sys.exit("lines of a ceiling of %d marks: %s" % (count, marks + [last]))
+        return int(total[1])
 
-    def optimum(self):
-        """The optimum of the linear program; None without glpsol."""
-        if self.solver is None:
-            return None
+    def ceiling_of(self, program):
+        """The ceiling by another build, whatever its other lines are."""
+        return int(TOTAL.fullmatch(self.lines("ceiling", program)[-1])[1])
+
+    def optima(self):
+        """The optimum of the whole run, and that by entries; None without glpsol."""
         walks = model.walks_of(self.path("deck"), self.times, self.path("notes"))
-        with open(self.path("lp"), "w") as file:
-            file.write(Flow(walks).program())
-        words = [self.solver, "--lp", self.path("lp"), "-w", self.path("solved")]
-        subprocess.run(words, check=True, capture_output=True)
-        with open(self.path("solved")) as file:
-            found = re.search(r"^s bas \d+ \d+ f f (\S+)$", file.read(), re.M)
-        return float(found[1])
+        return linear_programs.optima(walks, self.path("linear"))
 
 
-def is_optimum(ceiling, optimum):
-    """Whether no whole number is nearer to the optimum, as far as glpsol's numbers tell."""
-    slack = 1e-9 * optimum + 1e-6
-    if ceiling < optimum - slack:
-        sys.exit("the ceiling %d is below the optimum %f" % (ceiling, optimum))
-    return ceiling - optimum < 1 + slack
+def is_equal(one, other):
+    """Whether two numbers are equal; of an optimum, whether no whole number stands between, as far
+    as glpsol's numbers tell."""
+    if isinstance(one, int) and isinstance(other, int):
+        return one == other
+    return abs(one - other) < 1 + 1e-9 * other
 
 
 class Tally:
-    """How often a ceiling was equal to what it is compared with, and how far above at most."""
+    """How often a number was equal to what it is compared with, how often it was above or below,
+    and how far above at most."""
 
-    def __init__(self, name):
-        self.name, self.equal, self.all, self.worst = name, 0, 0, 0.0
+    def __init__(self, what, other):
+        self.what, self.other = what, other
+        self.equal, self.below, self.above, self.worst = 0, 0, 0, 1.0
 
-    def add(self, deck, ceiling, other, is_equal):
-        self.all += 1
-        self.equal += is_equal
-        if not is_equal:
-            self.worst = max(self.worst, ceiling / other - 1)
-            print("%s: ceiling %d, %s %s" % (deck, ceiling, self.name, other))
+    def add(self, deck, number, other, is_told=True):
+        if is_equal(number, other):
+            self.equal += 1
+        elif number < other:
+            self.below += 1
+        else:
+            self.above += 1
+            self.worst = max(self.worst, number / max(other, 1))
+            if is_told:
+                told = deck, self.what, number, self.other, other
+                print("%s: the %s %.12g, the %s %.12g" % told)
 
     def told(self):
-        above = "" if self.equal == self.all else ", at most %.3f %% above it" % (100 * self.worst)
-        return "%s on %d of %d%s" % (self.name, self.equal, self.all, above)
+        text = "the %s is the %s on %d" % (self.what, self.other, self.equal)
+        text += ", below it on %d" % self.below if self.below else ""
+        if self.above:
+            text += ", above it on %d, %.6g times at most" % (self.above, self.worst)
+        return text
+
+    def count(self):
+        return self.equal + self.below + self.above
 
 
-def compare(bench, decks, with_bound):
-    """Compares the ceilings of decks, and gives the tallies."""
-    bound, optimum = Tally("bound"), Tally("optimum")
+class Set:
+    """Some decks, each by its name, its text and that of its notes, and what is found of them."""
+
+    def __init__(self, bench, name, decks, earlier=None):
+        self.bench, self.name, self.decks, self.earlier = bench, name, decks, earlier
+        pairs = [
+            ("ceiling", "bound"),
+            ("optimum by entries", "bound"),
+            ("optimum of the whole run", "bound"),
+            ("ceiling", "optimum by entries"),
+            ("ceiling", "optimum of the whole run"),
+            ("ceiling", "earlier ceiling"),
+        ]
+        self.tallies = [Tally(*pair) for pair in pairs]
+
+    def numbers(self, with_bound):
+        """What is found of the deck that is put, by what it is called."""
+        whole, entries = self.bench.optima()
+        found = {
+            "ceiling": self.bench.ceiling(),
+            "bound": self.bench.bound() if with_bound else None,
+            "optimum by entries": entries,
+            "optimum of the whole run": whole,
+            "earlier ceiling": self.earlier and self.bench.ceiling_of(self.earlier),
+        }
+        return {name: number for name, number in found.items() if number is not None}
+
+    def compare(self, with_bound=True):
+        """Compares all decks, prints what came of it, and gives what may not be."""
+        wrong = []
+        for name, deck, notes in self.decks:
+            self.bench.put(deck, notes)
+            found = self.numbers(with_bound)
+            for tally in self.tallies:
+                if tally.what in found and tally.other in found:
+                    is_told = tally.what == "ceiling"
+                    tally.add(name, found[tally.what], found[tally.other], is_told)
+            wrong += ["%s: %s" % (name, one) for one in wrongs(found)]
+        count = max(tally.count() for tally in self.tallies)
+        told = [tally.told() for tally in self.tallies if tally.count()]
+        print("\n    ".join(["%s, %d decks:" % (self.name, count), *told]), flush=True)
+        return wrong
+
+
+def wrongs(found):
+    """What may not be of the numbers that were found of a deck."""
+    ceiling = found["ceiling"]
+    if ceiling < found.get("bound", 0):
+        yield "the ceiling %d is below the bound %d" % (ceiling, found["bound"])
+    for name in ("optimum of the whole run", "earlier ceiling"):
+        if name in found and ceiling > found[name] and not is_equal(ceiling, found[name]):
+            yield "the ceiling %d is above the %s %.12g" % (ceiling, name, found[name])
+
+
+# Decks.
+
+
+def structured_decks(count, name, **kind):
+    for seed in range(count):
+        yield "%s deck %d" % (name, seed), *StructuredDeck(seed, **kind).written()
+
+
+def random_decks():
+    """Decks of mixed flow, and half as many where most words branch, without end."""
+    for seed in itertools.count():
+        yield "mixed deck %d" % seed, *RandomDeck(seed).written()
+        if seed % 2 == 0:
+            deck = RandomDeck(seed // 2, branches=0.6, onward=0.6, least_marks=4)
+            yield "branching deck %d" % (seed // 2), *deck.written()
+
+
+def bounded_decks(bench, decks, count):
+    """The first of some decks that have a bound."""
     for name, deck, notes in decks:
         bench.put(deck, notes)
-        ceiling = bench.ceiling()
-        if with_bound:
-            exact = bench.bound()
-            if ceiling < exact:
-                sys.exit("%s: the ceiling %d is below the bound %d" % (name, ceiling, exact))
-            bound.add(name, ceiling, exact, ceiling == exact)
-        best = bench.optimum()
-        if best is not None:
-            optimum.add(name, ceiling, best, is_optimum(ceiling, best))
-    return ", ".join(tally.told() for tally in (bound, optimum) if tally.all)
+        if count > 0 and bench.has_bound():
+            count -= 1
+            yield name, deck, notes
+        if count == 0:
+            print("the last odd deck is the %s" % name)
+            return
 
 
-def random_decks(count):
-    """Decks of mixed flow, and half as many more where most words branch."""
-    for seed in range(count):
-        yield "random deck %d" % seed, *ceiling_random.RandomDeck(seed).written()
-    for seed in range(count // 2):
-        deck = ceiling_random.RandomDeck(seed, branches=0.6, onward=0.6, least_marks=4)
-        yield "branching deck %d" % seed, *deck.written()
+# Times.
 
 
-def seconds(bench, deck, notes):
+def seconds(bench, program, deck, notes):
     """The seconds that a ceiling takes, the best of five."""
     bench.put(deck, notes)
     taken = []
     for _ in range(5):
         begun = time.monotonic()
-        bench.lines("ceiling")
+        bench.lines("ceiling", program)
         taken.append(time.monotonic() - begun)
     return min(taken)
 
 
-def measure_speed(bench):
-    start = seconds(bench, "0100 +0100000100\nSTART 0100\n", ceiling_programs.notes_text([], {}))
-    nested = seconds(bench, *ceiling_random.nested_loops())
-    told = "eight nested marks of 9999 over 2000 words: %d microseconds"
-    print(told % (1e6 * max(nested - start, 0)))
+def measure_speed(bench, programs):
+    """Prints how long a ceiling takes by each of these builds, less what it takes of one word."""
+    decks = [
+        ("eight nested marks of 9999 over 2000 words", ceiling_decks.nested_loops()),
+        ("2000 words with sixty loops, each behind a branch", ceiling_decks.branched_loops()),
+        ("2004 words with lists of 10,000 instructions", ceiling_decks.listed_places()),
+    ]
+    for name, texts in decks:
+        told = []
+        for program in programs:
+            least = seconds(bench, program, "0100 +0100000100\nSTART 0100\n", ceiling_decks.NOTES)
+            taken = 1000 * (seconds(bench, program, *texts) - least)
+            told.append("%.1f ms" % max(taken, 0))
+        print("%s: %s" % (name, ", earlier ".join(told)), flush=True)
 
 
 def main():
-    if len(sys.argv) > 3:
+    if len(sys.argv) > 4:
         sys.exit(__doc__)
     program = built_program(*sys.argv[1:2])
-    count = int(sys.argv[2]) if len(sys.argv) == 3 else COUNT
+    count = int(sys.argv[2]) if len(sys.argv) > 2 else COUNT
+    earlier = sys.argv[3] if len(sys.argv) > 3 else None
+    wrong = []
     with tempfile.TemporaryDirectory() as folder:
         bench = Bench(program, folder)
-        measure_speed(bench)
-        programs = ceiling_programs.programs(bench.times)
-        print("programs: equal to the", compare(bench, programs, with_bound=True))
-        if bench.solver is not None:
-            print("random decks: equal to the", compare(bench, random_decks(count), False))
+        measure_speed(bench, [program] + [earlier] * (earlier is not None))
+        odd = bounded_decks(bench, random_decks(), count // 3)
+        half = count // 2
+        for name, decks, with_bound in [
+            ("programs", ceiling_programs.programs(bench.times), True),
+            ("structured programs", structured_decks(count, "structured"), True),
+            ("odd decks", odd, True),
+            ("wild programs", structured_decks(half, "wild", is_wild=True), True),
+            ("past the limit", structured_decks(half, "large", is_large=True), False),
+        ]:
+            wrong += Set(bench, name, decks, earlier).compare(with_bound)
+    print("\n".join(wrong) or "no ceiling is below a bound, or dearer than prices alone")
+    sys.exit(1 if wrong else 0)
 
 
 if __name__ == "__main__":

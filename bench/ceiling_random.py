@@ -1,4 +1,4 @@
-"""Random decks that the ceiling is measured with, and a deck of eight nested loops."""
+"""Random decks with odd edges that the ceiling is measured with."""
 
 import random
 
@@ -106,16 +106,3 @@ class RandomDeck:
         cards = ["%04d +%02d%04d%04d" % (place, *word) for place, word in self.words.items()]
         first = next(place for place in self.places if place < 2000)
         return "\n".join(cards) + "\nSTART %04d\n" % first, notes_text(self.marks, self.lists)
-
-
-def nested_loops():
-    """Two thousand words in eight loops, each inside of the one before, with marks of most 9999:
-    the words go on at the next, and the last eight also go back."""
-    cards = ["%04d +000000%04d" % (here, here + 1) for here in range(1992)]
-    marks = []
-    for loop in range(8):
-        here, back = 1999 - loop, 100 * loop
-        cards.append("%04d +44%04d%04d" % (here, back, min(here + 1, 1999)))
-        marks.append((here, back, 9999, loop or None))
-    cards[-8] = "1999 +4400002000"
-    return "\n".join(cards) + "\nSTART 0000\n", notes_text(marks, {})

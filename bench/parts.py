@@ -1,6 +1,6 @@
 #!/usr/bin/env python3
 """Compares the ways to a safe number for decks past the limit: the sum of their parts' bounds, as
-docs/FAULTS.md tells at fault 36, the ceiling, and the optimum of the linear program.
+docs/FAULTS.md tells at fault 36, the ceiling, and the optimum of two linear programs.
 
     bench/parts.py [PROGRAM]
 
@@ -77,8 +77,9 @@ def main():
             loops = Loops(stride)
             bounds = list(parts(bench, loops))
             bench.put(loops.deck(), loops.notes(range(LOOPS)))
-            told = "words %d apart: parts %s, their sum %d, ceiling %d, optimum %s"
-            found = sum(bounds), bench.ceiling(), bench.optimum()
+            told = "words %d apart: parts %s, their sum %d, ceiling %d,"
+            told += " optimum of the whole run %s, by entries %s"
+            found = sum(bounds), bench.ceiling(), *bench.optima()
             print(told % (stride, " ".join(map(str, bounds)), *found))
 
 
