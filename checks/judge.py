@@ -3,6 +3,7 @@ checks/damaged-inputs holds to it the cases of checks/damage.py."""
 
 from collections import namedtuple
 
+from ceilings import ceiling_of, least_ceiling, may_be_too_large
 from damage import CHECKS, FILES, LEAST, files_of_joined, joined
 from faults import Fault, fault_of, has_its_form, is_accepted, names_what_is_there
 from findings import Flow, is_check, is_first_of, is_loose_end
@@ -10,7 +11,6 @@ from marks import are_short, marks_of, short_text
 from note_faults import notes_faults
 from results import (
     bound_of,
-    ceiling_of,
     kept_of,
     left_of,
     pictured_bound,
@@ -20,7 +20,7 @@ from results import (
     waits_of_walk,
     walked_bound,
 )
-from tables import graphed, least_ceiling, tabled
+from tables import graphed, tabled
 from text_faults import listed_faults
 from toml_text import document_of
 from traces import traced_verdict
@@ -178,13 +178,14 @@ def words_of(command):
 
 def is_no_lower(told, bound, files):
     """Whether a ceiling goes with what `bound` gives: it isn't below the bound, and has the same
-    fault; where a bound has too many counts there may be a ceiling, or a round without a mark."""
+    fault; where a bound has too many counts there is a ceiling, or a round without a mark, or the
+    deck is large enough for none."""
     other = told_of(("bound", files), bound)
     if other is None:
         return False
     if other.fault and other.fault.ending == "product":
         is_free = told.fault is None or told.fault.ending == "cycle"
-        return is_free or told.fault == other.fault
+        return is_free or told.fault == other.fault and may_be_too_large(files)
     return told.fault == other.fault and (told.fault is not None or other.bound <= told.bound)
 
 
@@ -243,8 +244,11 @@ def agrees_of_long(asked, ran, told, run):
     ceiling = ran if command == "ceiling" else run(words_of("ceiling"), files, b"")
     limit = told_of(("ceiling", files), ceiling)
     past = Fault("analysis", "product", str(Flow(files).product()))
-    if limit is None or limit.fault and limit.fault.ending == "product" and limit.fault != past:
+    if limit is None:
         return False
+    if limit.fault and limit.fault.ending == "product":
+        if limit.fault != past or not may_be_too_large(files):
+            return False
     if command == "graph":
         return told.fault is None
     if command in BY_BOUND:

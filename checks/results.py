@@ -1,6 +1,6 @@
 """Whether a result has its form and its lines go together: a bound, a report, a walk, its waits, a
-picture, a ceiling or a verdict, of a deck, a timing table, notes and inputs that are accepted. Each
-function gives what the result tells, or None where it isn't as docs/FORMATS.md says."""
+picture or a verdict, of a deck, a timing table, notes and inputs that are accepted. Each function
+gives what the result tells, or None where it isn't as docs/FORMATS.md says."""
 
 import functools
 import re
@@ -26,8 +26,6 @@ SPENT = "visits {0} time {0}".format(NUMBER)
 CARD = re.compile("card ([0-9]{4}) " + SPENT)
 OTHER = re.compile("other " + SPENT)
 MARK = re.compile("mark {0} {0} passed {1} of {1}".format(PLACE, NUMBER))
-PRICED = re.compile("mark {0} {0} passes {1} price {1}".format(PLACE, NUMBER))
-SUMS = re.compile("base {0}\nceiling {0}\n".format(NUMBER))
 HOP = "%s ([0-9][0-9]) ([0-9]{4}) ([0-9]{4}) (?:to %s|(late)|(early))" % (PLACE, PLACE)
 VISIT = re.compile(
     HOP + " begun {0} found {0} ready {0}(?: data {0})? ended {0}".format(NUMBER)
@@ -146,29 +144,6 @@ def report_of_walk(walk, files):
         told = *mark.first, passed, mark.most, mark.ending()
         text.append("mark %04d %04d passed %d of %d%s" % told)
     return "\n".join(text + walk.splitlines()[-1:]) + "\n"
-
-
-# Ceilings.
-
-
-def ceiling_of(text, files):
-    """The number that ends a ceiling, to which its base and its marks' passes at their prices add
-    up. A mark can be passed `most` times, and as often again for each pass of an outer one."""
-    marks = marks_of(document_of(files["notes"]))
-    lines = text.splitlines(keepends=True)
-    sums = SUMS.fullmatch("".join(lines[-2:]))
-    if not sums or len(lines) != len(marks) + 2:
-        return None
-    total, begun = int(sums.group(1)), []
-    for mark, line in zip(marks, lines):
-        outer = 1 if mark.inside is None else begun[mark.inside]
-        begun.append(outer * (mark.most + 1))
-        matched = PRICED.fullmatch(line.removesuffix(mark.ending() + "\n"))
-        told = matched and [int(matched.group(place)) for place in (1, 2, 3)]
-        if told != [*mark.first, outer * mark.most]:
-            return None
-        total += int(matched.group(3)) * int(matched.group(4))
-    return total if total == int(sums.group(2)) else None
 
 
 # Walks.

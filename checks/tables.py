@@ -4,7 +4,7 @@ a timing table and notes that are accepted."""
 import re
 
 from findings import Flow, writes
-from latest import table, worst
+from latest import table
 from marks import place_on
 from model import MAY_STOP_LATE, Walks, is_location, suits
 from results import NUMBER, PLACE, entries_of
@@ -47,12 +47,6 @@ def tabled(text, files):
     in_order = rows == sorted(rows) and all(one != next for one, next in zip(rows, rows[1:]))
     is_whole = not walks.is_small() or text.splitlines() == table(walks)
     return True if rows and in_order and is_whole else None
-
-
-def least_ceiling(files):
-    """What a ceiling can't be below: the bound by the plain model, where it can tell, else 0."""
-    walks = TextWalks(files)
-    return worst(walks) if walks.is_small() else 0
 
 
 class Drawn(Flow):

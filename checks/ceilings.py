@@ -1,0 +1,145 @@
+"""Whether the lines of a ceiling are what docs/FORMATS.md says, of a deck, a timing table and notes
+that are admitted; and, by the plain model, whether its numbers may be those."""
+
+import re
+
+from findings import Flow
+from latest import worst
+from marks import is_inside, marks_of, place_on
+from model import found
+from results import NUMBER, PLACE
+from tables import TextWalks
+from toml_text import document_of
+
+PRICED = re.compile("mark {0} {0} price {1}".format(PLACE, NUMBER))
+TOTAL = re.compile("ceiling %s\n" % NUMBER)
+
+# The model goes through all rounds where there are no more instructions times counts than this, and
+# through all steps where there are no more instructions.
+FEW_ROUNDS, FEW_STEPS = 300, 3000
+
+# From so many word times on there may be no ceiling.
+LARGEST = 2**127
+
+
+def ceiling_of(text, files):
+    """The number that ends a ceiling, with a line before it for each mark of the notes; None where
+    it can't be one, as far as the model tells."""
+    marks, lines = marks_of(document_of(files["notes"])), text.splitlines(keepends=True)
+    total = TOTAL.fullmatch(lines[-1]) if lines else None
+    if not total or len(lines) != len(marks) + 1:
+        return None
+    prices = []
+    for mark, line in zip(marks, lines):
+        matched = PRICED.fullmatch(line.removesuffix(mark.ending() + "\n"))
+        if not matched or tuple(map(int, matched.group(1, 2))) != mark.first:
+            return None
+        prices.append(int(matched.group(3)))
+    total = int(total.group(1))
+    limit = most_ceiling(files)
+    is_low = total < LARGEST and (limit is None or total <= limit)
+    return total if is_low and pay_for_rounds(prices, files) else None
+
+
+def least_ceiling(files):
+    """What a ceiling can't be below: the bound by the plain model, where it can tell, else 0."""
+    walks = TextWalks(files)
+    return worst(walks) if walks.is_small() else 0
+
+
+def passes_of(marks):
+    """How often each mark can be passed at all."""
+    passes = []
+    for mark in marks:
+        outer, times = mark.inside, mark.most
+        while outer is not None:
+            times *= marks[outer].most + 1
+            outer = marks[outer].inside
+        passes.append(times)
+    return passes
+
+
+def most_ceiling(files):
+    """What a ceiling can't be above: executed words, times the longest step of one with a search of
+    49 behind it, times one more than all passes of marks; None where there is too much to go
+    through."""
+    walks, executed = TextWalks(files), Flow(files).order
+    steps = [(place, *one) for place in executed for one in walks.instructions(place)]
+    if len(steps) > FEW_STEPS:
+        return None
+    longest = max(
+        step_of(walks, angle, *one)
+        for place, *one in steps
+        for angle in range(50)
+        if found(place, angle) == angle
+    )
+    return len(executed) * longest * (1 + sum(passes_of(walks.marks)))
+
+
+def may_be_too_large(files):
+    """Whether there may be no ceiling for a deck's size, as far as the model tells."""
+    limit = most_ceiling(files)
+    return limit is None or limit >= LARGEST
+
+
+def step_of(walks, angle, op, d, i):
+    """The most word times of an instruction that is found at an angle, with a search of 49."""
+    ready = angle + walks.times[op]["before"]
+    is_early = walks.ways(op, d, i) == {"early"}
+    return (ready if is_early else max(walks.ends(op, d, ready))) - angle + 49
+
+
+class Rounds:
+    """The walks of a deck, from when an instruction is found until another one is: a node is a
+    location, the angle at which its instruction is found, and the counts of the marks."""
+
+    def __init__(self, walks):
+        self.walks, self.hops, self.order = walks, {}, []
+        self.visit((walks.start, walks.start % 50, (0,) * len(walks.marks)))
+        self.order.reverse()
+
+    def visit(self, node):
+        """Goes through all nodes that are come to from one, each before those that lead to it."""
+        place, angle, counts = node
+        self.hops[node] = []
+        for op, d, i in self.walks.instructions(place):
+            ready = angle + self.walks.times[op]["before"]
+            for way in self.walks.ways(op, d, i) - {"early", "late"}:
+                after = self.walks.passed(counts, place, way)
+                if after is not None:
+                    then = found(way, max(self.walks.ends(op, d, ready)))
+                    onto = way, then % 50, after
+                    mark = place_on(self.walks.marks, (place, way))
+                    self.hops[node].append((onto, then - angle, mark))
+                    if onto not in self.hops:
+                        self.visit(onto)
+        self.order.append(node)
+
+    def heads(self, mark):
+        """Where passes of a mark lead, on the drum."""
+        hops = (hop for hops in self.hops.values() for hop in hops)
+        return {onto for onto, _, on in hops if on == mark and onto[0] < 2000}
+
+    def are_paid(self, mark, prices):
+        """Whether prices pay for each round of a mark: from where a pass leads until a pass leads
+        there again, the mark's price for each of its passes, and that of each other mark that
+        doesn't stand inside of it."""
+        free = [is_inside(self.walks.marks, other, mark) for other in range(len(prices))]
+        for head in self.heads(mark):
+            owed = {head: 0}
+            for node in self.order[self.order.index(head) :]:
+                for onto, time, on in self.hops[node] if node in owed else []:
+                    paid = 0 if on is None or free[on] else prices[on]
+                    owed[onto] = max(owed[node] + time - paid, owed.get(onto, -(10**60)))
+                    if on == mark and onto[0] == head[0] and owed[node] + time > paid:
+                        return False
+        return True
+
+
+def pay_for_rounds(prices, files):
+    """Whether prices pay for all rounds of all marks, where the model can go through them."""
+    walks = TextWalks(files)
+    if walks.programmed != "stop" or walks.size() > FEW_ROUNDS:
+        return True
+    rounds = Rounds(walks)
+    return all(rounds.are_paid(mark, prices) for mark in range(len(prices)))
