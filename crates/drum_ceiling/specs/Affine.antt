@@ -1,10 +1,11 @@
 -- Certificates by prices of the marks: what is owed is a level of the place, and in the region of
 -- each mark its price for each pass that is left.
-use Rattle.std.specs.Prelude.{ℕ, ◌+◌, ◌-◌, ◌*◌, if◌then◌else◌, Bool, List, [], ◌∷◌, Option, Some, None}
+use Rattle.std.specs.Prelude.{ℕ, ◌+◌, ◌-◌, ◌*◌, if◌then◌else◌, Bool, List, [], ◌∷◌, Option, Some}
+use Rattle.std.specs.Prelude.{None}
 use Rattle.drum_times.specs.declared.notes.mark.Mark.{Mark}
 
 -- Where levels stand, by place and angle, and the regions of the marks, by index, place and angle.
--- From each level the debt goes off: so a level is never below 0.
+-- A level less the debt may be below 0, but neither level nor debt is; and what is owed never is.
 pub record Affine : Type 0 where
   pub level : ℕ → ℕ → Option ℕ
   pub region : ℕ → ℕ → ℕ → Bool

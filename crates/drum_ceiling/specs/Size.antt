@@ -26,7 +26,7 @@ passes_together all index (mark ∷ marks) =
 abbrev pub size_of : List Mark → ℕ → ℕ → ℕ
 size_of marks words most = words * most * (1 + passes_together marks 0 marks)
 
--- the number is no more than that, whatever no step takes more than
+-- the number is no more than that, by every number that no step takes more than
 abbrev pub IsWithinSize : Setting → List ℕ → ℕ → Type 0
 IsWithinSize g executed number = (most : ℕ) → TakesAtMost g executed most
     → number ≤ size_of g.notes.marks (length executed) most

@@ -28,7 +28,8 @@ impl Ceiling {
     }
 
     /// The price of the mark with this index in the notes, from 0, in word times: a time round its
-    /// loop, with the loops inside of it, takes this at most, where it passes no other mark.
+    /// loop, back to a location of the drum, takes this at most, with the loops inside of it, where
+    /// it passes no other mark.
     pub fn price(&self, mark: usize) -> u128
         requires { mark < length (prices_of self.now) }
         ensures { result ≡ slice_index (prices_of self.now) mark }

@@ -81,9 +81,9 @@ fn product_of_flow(accepted: &AcceptedFlow<'_>, marks: &[Mark]) -> u128
 /// # Errors
 ///
 /// Those of [`accept`](drum_flow::accept), except that [`Refusal::TooLarge`] comes last, and only
-/// where the executed words, times the longest step of one, times one more than all passes of marks
-/// that a walk can have, are 2^127 or more; it has the product of executed words and counts, or
-/// 2^127 where that is more.
+/// where the executed words, times the longest step of one with the next search, times one more
+/// than all passes of marks that a walk can have, are 2^127 or more; it has the product of executed
+/// words and counts, or 2^127 where that is more.
 pub fn ceiling(alloc: Global, deck: &Deck, times: &Times, notes: &Notes) -> Result<Ceiling, Refusal>
     ensures given { IfOk result (IsCeilingOf deck.now times.now notes.now) }
     ensures refused { IfErr result (IsCeilingRefusal deck.now times.now notes.now) }

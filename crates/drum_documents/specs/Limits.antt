@@ -44,8 +44,8 @@ abbrev pub IsAnalysisFault : Documents → Fault → Type 0
 IsAnalysisFault documents =
     IsRefusedFor (IsRefusal (loads_in documents.deck) documents.notes (start_in documents.deck))
 
--- why they have no ceiling: the deck with its notes is refused, but for its size; or what no ceiling
--- is above is 2 ^ 127 or more
+-- why they have no ceiling: the deck with its notes is refused, but for its size; or what no
+-- ceiling is above is 2 ^ 127 or more
 abbrev pub IsCeilingFault : Documents → Fault → Type 0
 IsCeilingFault documents =
     IsRefusedFor (IsCeilingRefusal documents.deck documents.times documents.notes)

@@ -49,8 +49,8 @@ impl Levels {
         has_more
     }
 
-    /// Looks along the edges of a slot. Whether more is owed than before at a slot that an edge with
-    /// a mark leads to.
+    /// Looks along the edges of a slot. Whether more is owed than before at a slot that an edge
+    /// with a mark leads to.
     fn look(&mut self, graph: &Graph<'_>, prices: &Prices, slot: Slot, row: &Row) -> bool {
         self.looks = self.looks.saturating_add(row.edges.len() as u64);
         let here = graph.regions.at(slot);

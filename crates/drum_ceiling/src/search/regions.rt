@@ -98,8 +98,8 @@ fn before_passes(
     Ok(before)
 }
 
-/// Gathers marks at all slots from where their edges lead. Whether there are new ones at a slot that
-/// an edge with a mark leads to, so that more may follow.
+/// Gathers marks at all slots from where their edges lead. Whether there are new ones at a slot
+/// that an edge with a mark leads to, so that more may follow.
 fn gather_all(before: &mut Bits, reached: &Reached<'_>, marks: &Marks, leads: &Bits) -> bool {
     let mut has_more = false;
     for slot in reached.order.iter().rev() {

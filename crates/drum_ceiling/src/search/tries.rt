@@ -96,8 +96,8 @@ impl<'a> Tries<'a> {
         Ok(true)
     }
 
-    /// Tries a mark as the first of all but those inside of it, which pays least, and as the last of
-    /// all but those around it.
+    /// Tries a mark as the first of all but those inside of it, which pays least, and as the last
+    /// of all but those around it.
     fn move_mark(&mut self, mark: Standing) -> Result<bool, AllocError> {
         let first = with_first(self.alloc, &self.best.order, mark.bit | mark.inner)?;
         let least = self.best.least.clone()?;
