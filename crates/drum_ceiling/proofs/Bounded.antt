@@ -15,7 +15,8 @@ use Rattle.drum_flow.specs.Longest.{longest}
 use Rattle.drum_flow.specs.Walk.{FollowHop, IsTimed, IsWalk, IsWalkFrom, Setting, Taken, time_from, time_of}
 use Rattle.drum_flow.proofs.FromAngles.{found_angle, leap_time}
 use Rattle.drum_flow.proofs.LongestLaws.{longest_from_found, longest_later, longest_monotone, no_later}
-use Rattle.drum_ceiling.specs.Certificate.{arrival, IsCertificate, IsOpen, Pays}
+use Rattle.drum_rows.specs.Steps.{arrival}
+use Rattle.drum_ceiling.specs.Certificate.{IsCertificate, IsOpen, Pays}
 
 -- the search ends some revolutions later where it begins as many later
 pub found_later : (place k t : ℕ) → found place (t + 50 * k) ≡ found place t + 50 * k

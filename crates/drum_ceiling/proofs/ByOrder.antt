@@ -26,11 +26,11 @@ use Rattle.drum_flow.proofs.Heights.{height_low, lower}
 use Rattle.drum_flow.proofs.Lists.{contains_cases, contains_here, contains_none, contains_there}
 use Rattle.drum_flow.proofs.Members.{no_more}
 use Rattle.drum_flow.proofs.Orders.{has_executed, has_only, lead_push}
+use Rattle.drum_rows.specs.Steps.{TakesAtMost}
 use Rattle.drum_ceiling.specs.Affine.{cost_left, owed_by, Affine}
 use Rattle.drum_ceiling.specs.Certificate.{IsCertificate, IsOpen, Pays}
 use Rattle.drum_ceiling.specs.Charge.{charge_from}
 use Rattle.drum_ceiling.specs.InRounds.{passes_in_all, passes_inside}
-use Rattle.drum_ceiling.specs.Size.{TakesAtMost}
 use Rattle.drum_ceiling.proofs.Bounded.{found_later}
 use Rattle.drum_ceiling.proofs.Left.{marked_step}
 use Rattle.drum_ceiling.proofs.Owing.{owed_at, owed_there}

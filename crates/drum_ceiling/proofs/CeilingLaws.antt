@@ -21,9 +21,10 @@ use Rattle.drum_flow.proofs.LongestLaws.{longest_near}
 use Rattle.drum_flow.proofs.PassLaws.{no_counts_within}
 use Rattle.drum_flow.proofs.Products.{counts_positive}
 use Rattle.drum_flow.proofs.Proper.{is_proper}
+use Rattle.drum_rows.specs.Steps.{TakesAtMost}
 use Rattle.drum_ceiling.specs.Affine.{owed_by}
 use Rattle.drum_ceiling.specs.Right.{ArePrices, IsCeiling}
-use Rattle.drum_ceiling.specs.Size.{passes_together, IsWithinSize, TakesAtMost}
+use Rattle.drum_ceiling.specs.Size.{passes_together, IsWithinSize}
 use Rattle.drum_ceiling.proofs.Bounded.{walk_total}
 
 -- A mark can be passed no more often than there are counts.

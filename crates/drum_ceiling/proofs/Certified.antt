@@ -13,16 +13,18 @@ use Rattle.drum_flow.specs.Hops.{Hop, hops}
 use Rattle.drum_flow.specs.Longest.{longest}
 use Rattle.drum_flow.specs.Walk.{Setting}
 use Rattle.drum_flow.proofs.FromAngles.{found_angle}
+use Rattle.drum_rows.specs.declared.row.Edge.{Edge}
+use Rattle.drum_rows.specs.declared.row.Row.{Row}
+use Rattle.drum_rows.specs.Steps.{arrival}
+use Rattle.drum_rows.specs.Marked.{mark_by}
+use Rattle.drum_rows.specs.Rows.{AreRows, IsEdgeOf, Takes}
+use Rattle.drum_rows.specs.Slot.{place_of, slot_of}
 use Rattle.drum_ceiling.specs.declared.certificate.Certificate.{Certificate}
-use Rattle.drum_ceiling.specs.declared.row.Edge.{Edge}
-use Rattle.drum_ceiling.specs.declared.row.Row.{Row}
 use Rattle.drum_ceiling.specs.Affine.{cost_left, owed_by}
-use Rattle.drum_ceiling.specs.Certificate.{arrival, IsCertificate, IsOpen, Pays}
+use Rattle.drum_ceiling.specs.Certificate.{IsCertificate, IsOpen, Pays}
 use Rattle.drum_ceiling.specs.Charge.{charge_from, paid_by}
-use Rattle.drum_ceiling.specs.Marked.{mark_by}
 use Rattle.drum_ceiling.specs.Paying.{charge_for, form_of, regions_in, IsEdgePaid, IsPaid, IsShut, IsSlotPaid}
-use Rattle.drum_ceiling.specs.Rows.{AreRows, IsEdgeOf, Takes}
-use Rattle.drum_ceiling.specs.Slot.{at_slot, place_of, slot_of}
+use Rattle.drum_ceiling.specs.AtSlot.{at_slot}
 use Rattle.drum_ceiling.proofs.Left.{marked_step, paid_left, unmarked_step}
 use Rattle.drum_ceiling.proofs.Levels.{found_own, own}
 use Rattle.drum_ceiling.proofs.Owing.{owed_at, owed_there}

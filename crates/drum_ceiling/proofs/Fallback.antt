@@ -9,11 +9,12 @@ use Rattle.drum_flow.specs.Graph.{height}
 use Rattle.drum_flow.specs.Walk.{IsProper, Setting}
 use Rattle.drum_flow.proofs.Orders.{has_executed}
 use Rattle.drum_flow.proofs.Products.{told_exact}
+use Rattle.drum_rows.specs.Steps.{TakesAtMost}
 use Rattle.drum_ceiling.specs.Affine.{owed_by}
 use Rattle.drum_ceiling.specs.Certificate.{IsCertificate}
 use Rattle.drum_ceiling.specs.InRounds.{passes_in_all, passes_inside, AreInRounds}
 use Rattle.drum_ceiling.specs.Right.{ArePrices}
-use Rattle.drum_ceiling.specs.Size.{passes_together, size_of, TakesAtMost}
+use Rattle.drum_ceiling.specs.Size.{passes_together, size_of}
 use Rattle.drum_ceiling.proofs.ByOrder.{certificate_by, form_by, prices_by, total_by, total_low}
 use Rattle.drum_ceiling.proofs.RoundSums.{inside_few, told_prices}
 use Rattle.drum_ceiling.proofs.Rounded.{rounds_paid}

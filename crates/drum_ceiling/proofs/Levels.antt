@@ -4,8 +4,9 @@ use Rattle.std.proofs.Common.{inl, inr, arith}
 use Rattle.std.specs.Prelude.{◌==◌, ◌&&◌, if◌then◌else◌}
 use Rattle.std.proofs.lemmas.Bool.{cases_lt, eq-eqb, eqb-true, lt-ltb, le-ltb}
 use Rattle.drum_core.specs.Location.{IsLocation}
-use Rattle.drum_ceiling.specs.Slot.{at_slot, level_in, place_of, slot_of}
-use Rattle.drum_ceiling.proofs.RowLaws.{slot_place}
+use Rattle.drum_rows.specs.Slot.{place_of, slot_of}
+use Rattle.drum_rows.proofs.RowLaws.{slot_place}
+use Rattle.drum_ceiling.specs.AtSlot.{at_slot, level_in}
 
 -- Where a place and an angle have a level, it stands at their number, which is no other's.
 pub own : (levels : List (Option ℕ)) (place angle level : ℕ) → level_in levels place angle ≡ Some level

@@ -4,15 +4,11 @@ pub mod CeilingLaws
 pub mod Certified
 pub mod Charged
 pub mod Fallback
-pub mod LastEnds
 pub mod Left
 pub mod Levels
 pub mod LongestRows
 pub mod Owing
-pub mod Pushed
-pub mod Raises
 pub mod RoundLeft
 pub mod RoundSums
 pub mod Rounded
-pub mod RowLaws
 pub mod Together

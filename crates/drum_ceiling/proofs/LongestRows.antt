@@ -13,13 +13,13 @@ use Rattle.drum_flow.specs.Walk.{Setting}
 use Rattle.drum_flow.proofs.FromAngles.{found_angle, leap_time}
 use Rattle.drum_flow.proofs.Lists.{contains_cases, contains_none}
 use Rattle.drum_flow.proofs.LongestLaws.{longest_later}
-use Rattle.drum_ceiling.specs.declared.row.Row.{Row}
-use Rattle.drum_ceiling.specs.Rows.{AreRows}
-use Rattle.drum_ceiling.specs.Size.{TakesAtMost}
-use Rattle.drum_ceiling.specs.Slot.{place_of, slot_of}
+use Rattle.drum_rows.specs.declared.row.Row.{Row}
+use Rattle.drum_rows.specs.Rows.{AreRows}
+use Rattle.drum_rows.specs.Steps.{TakesAtMost}
+use Rattle.drum_rows.specs.Slot.{place_of, slot_of}
+use Rattle.drum_rows.proofs.RowLaws.{slot_place}
 use Rattle.drum_ceiling.proofs.ByOrder.{found_again}
 use Rattle.drum_ceiling.proofs.Levels.{slot_angle}
-use Rattle.drum_ceiling.proofs.RowLaws.{slot_place}
 
 -- what stands in the order of discovery is a location
 of_locations : (locations : List Location) (place : ℕ) → Contains (map (λ one. one.number) locations) place → IsLocation place

@@ -3,11 +3,11 @@
 use Rattle.std.specs.Prelude.{◌≡◌, ℕ, ◌+◌, ◌%◌, ◌<◌, ◌≤◌, List, Option, Some, Contains}
 use Rattle.drum_times.specs.declared.notes.mark.Mark.{Mark}
 use Rattle.drum_machine.specs.Counts.{after_pass, no_counts, AreWithin}
-use Rattle.drum_machine.specs.Timing.{found}
 use Rattle.drum_machine.specs.Ways.{Way, early, to, late}
 use Rattle.drum_flow.specs.Hops.{Hop, hops}
 use Rattle.drum_flow.specs.Longest.{longest}
 use Rattle.drum_flow.specs.Walk.{Setting}
+use Rattle.drum_rows.specs.Steps.{arrival}
 
 -- where these counts allow a hop of the place by this way: it stops, or passes no mark more often
 -- than it may be passed
@@ -15,10 +15,6 @@ abbrev pub IsOpen : List Mark → ℕ → List ℕ → Way → Type 0
 IsOpen marks place counts early = Unit {0}
 IsOpen marks place counts (to next) = AreWithin marks (after_pass marks place next counts)
 IsOpen marks place counts late = Unit {0}
-
--- when the next instruction is found, where a hop that is found at this clock takes longest
-abbrev pub arrival : Setting → ℕ → ℕ → Hop → ℕ → ℕ
-arrival g place clock hop next = found next (longest g.times place hop.ins hop.way clock)
 
 -- From the clock at which the place's instruction is found, what is due pays for the hop: until it
 -- ends, with 49 word times left over; and where it goes on, until the next instruction is found,

@@ -1,15 +1,10 @@
 pub mod Affine
+pub mod AtSlot
 pub mod CeilingOf
 pub mod Certificate
 pub mod Charge
 pub mod InRounds
-pub mod Marked
 pub mod Paying
-pub mod Raised
 pub mod Right
 pub mod Rounds
-pub mod Rows
 pub mod Size
-pub mod Slot
-pub mod Slowest
-pub mod Taking

@@ -3,12 +3,13 @@
 use Rattle.std.specs.Prelude.{◌≡◌, ℕ, ◌+◌, ◌-◌, ◌≤◌, Bool, List, Option, Some, Contains}
 use Rattle.std.specs.Prelude.{slice_get, ◌⊎◌}
 use Rattle.drum_times.specs.declared.notes.mark.Mark.{Mark}
+use Rattle.drum_rows.specs.declared.row.Edge.{Edge}
+use Rattle.drum_rows.specs.declared.row.Row.{Row}
+use Rattle.drum_rows.specs.Slot.{slot_of}
 use Rattle.drum_ceiling.specs.declared.certificate.Certificate.{Certificate}
-use Rattle.drum_ceiling.specs.declared.row.Edge.{Edge}
-use Rattle.drum_ceiling.specs.declared.row.Row.{Row}
 use Rattle.drum_ceiling.specs.Affine.{Affine}
 use Rattle.drum_ceiling.specs.Charge.{charge_from, paid_by}
-use Rattle.drum_ceiling.specs.Slot.{at_slot, is_in, level_in, regions_at, slot_of}
+use Rattle.drum_ceiling.specs.AtSlot.{at_slot, is_in, level_in, regions_at}
 
 -- the regions at a number, by the marks' indices
 abbrev pub regions_in : Certificate → ℕ → ℕ → Bool

@@ -1,20 +1,10 @@
 -- What no ceiling is above: the executed words, times the longest step of one, times one more than
 -- the passes that a walk has at most of all marks together.
-use Rattle.std.specs.Prelude.{◌≡◌, ℕ, ◌+◌, ◌*◌, ◌≤◌, List, [], ◌∷◌, length, Contains}
+use Rattle.std.specs.Prelude.{ℕ, ◌+◌, ◌*◌, ◌≤◌, List, [], ◌∷◌, length}
 use Rattle.drum_times.specs.declared.notes.mark.Mark.{Mark}
-use Rattle.drum_machine.specs.Timing.{found}
-use Rattle.drum_flow.specs.Hops.{Hop, hops}
-use Rattle.drum_flow.specs.Longest.{longest}
 use Rattle.drum_flow.specs.MostPasses.{most_passes}
 use Rattle.drum_flow.specs.Walk.{Setting}
-
--- No step of an executed location takes more than so many word times, from when its instruction is
--- found, with 49 for the next search.
-pub record TakesAtMost (g : Setting) (executed : List ℕ) (most : ℕ) : Type 0 where
-  pub some : 1 ≤ most
-  pub each : (place clock : ℕ) (hop : Hop) → Contains executed place
-      → Contains (hops g.loads g.notes place) hop → found place clock ≡ clock
-      → longest g.times place hop.ins hop.way clock + 49 ≤ clock + most
+use Rattle.drum_rows.specs.Steps.{TakesAtMost}
 
 -- how often a walk can pass these of all marks at most, together; the first has this index
 abbrev pub passes_together : List Mark → ℕ → List Mark → ℕ

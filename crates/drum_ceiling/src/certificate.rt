@@ -4,18 +4,18 @@
 ghost use Rattle.std.specs.Prelude.{◌≡◌, ℕ, ◌+◌, ◌-◌, ◌^◌, ◌<◌, ◌≤◌, ◌⊎◌, List, Some, None, IsTrue};
 ghost use Rattle.std.specs.Prelude.{length, vec_len, IfSome};
 ghost use Rattle.drum_flow.specs.Walk.{IsProper, Setting};
+ghost use Rattle.drum_rows.specs.Rows.{AreRows};
 ghost use Rattle.drum_ceiling.specs.Charge.{charge_from, paid_by};
 ghost use Rattle.drum_ceiling.specs.Paying.{pay_for, regions_in};
 ghost use Rattle.drum_ceiling.specs.Paying.{IsEdgePaid, IsPaid, IsShut, IsSlotPaid};
 ghost use Rattle.drum_ceiling.specs.Right.{ArePrices};
-ghost use Rattle.drum_ceiling.specs.Rows.{AreRows};
-ghost use Rattle.drum_ceiling.specs.Slot.{at_slot, is_in, regions_at};
+ghost use Rattle.drum_ceiling.specs.AtSlot.{at_slot, is_in, regions_at};
 
 use crate::prices::Prices;
-use crate::row::{Edge, Row};
-use crate::slot::{Slot, is_in};
+use crate::region::is_in;
 use crate::step::Step;
 use drum_flow::counts::LARGEST;
+use drum_rows::{Edge, Row, Slot};
 use drum_times::Mark;
 
 /// Prices of the marks with what they stand for: what is owed where an instruction is found is the

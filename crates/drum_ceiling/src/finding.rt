@@ -17,12 +17,11 @@ ghost use Rattle.drum_ceiling.specs.Size.{IsWithinSize};
 use crate::answer::Ceiling;
 use crate::longest::longest_of;
 use crate::prices::{Prices, prices_by_order};
-use crate::rows::rows_of;
 use crate::search;
-use crate::slot::Slot;
 use drum_core::Deck;
 use drum_flow::counts::product_of;
 use drum_flow::{AcceptedFlow, Refusal};
+use drum_rows::{Slot, rows_of};
 use drum_times::{Mark, Notes, Times};
 use std::alloc::{AllocError, Global};
 

@@ -1,50 +1,39 @@
 //! A number of word times that no run which keeps to the notes ever exceeds, whatever the marks'
-//! counts are, and a price for each time round a mark's loop. It stands on the flow graph alone,
-//! and not on the analysis.
+//! counts are, and a price for each time round a mark's loop. It stands on the flow graph and its
+//! rows alone, and not on the analysis.
 //!
-//! Code, from the bottom up. `slot` is where an instruction is found, a location at an angle;
-//! `found` is the same with the notes and the timing table. `raised` has the latest ends of the
-//! hops from there that were looked at. `taking` looks at all of them; where many are alike, at the
-//! one that `slowest` tells. `rows` makes of them a `row` for each slot: what its hops take at
-//! most, by where they lead; `longest` is the longest step of all. `search` finds prices of the
-//! marks, their regions and levels of the slots, and owes only that it ends. `certificate` looks
-//! whether they pay for every hop, where `step` tells what the marks charge for it. `prices` has
-//! such as are surely high enough, by the passes `in_rounds` of the marks. `finding` takes the
-//! lower ones, and `answer` is what is handed out. `laws` has laws of the definitions.
+//! Code, from the bottom up. The rows of `drum_rows` say what the hops from each slot take at most,
+//! and where they lead; `longest` is the longest step of all. `search` finds prices of the marks,
+//! their regions and levels of the slots, and owes only that it ends. `certificate` looks whether
+//! they pay for every hop, where `step` tells what the marks charge for it, by each `region`.
+//! `prices` has such as are surely high enough, by the passes `in_rounds` of the marks. `finding`
+//! takes the lower ones, and `answer` is what is handed out. `laws` has laws of the definitions.
 //!
 //! Definitions, in the order to read them: `Certificate` (what is owed for a place, an angle and
 //! counts, so that it pays for every hop), `Affine` (the form of it that is looked for), `Rounds`
 //! (what a time round a mark's loop takes), `Size` (what no ceiling is above), `Right` (when a
 //! ceiling is right), `CeilingOf` (the same of what is handed out, and why there is none). The
-//! others say what the code's types mean by these: `Slot` (the numbers of where instructions are
-//! found), `Marked`, `Raised`, `Slowest`, `Taking`, `Rows`, `Charge`, `Paying` and `InRounds`.
+//! others say what the code's types mean by these: `AtSlot` (levels and regions at the numbers of
+//! slots), `Charge`, `Paying` and `InRounds`.
 //!
 //! Proofs. `Bounded` goes along a walk with what is owed, and `Rounded` round a mark's loop, where
 //! `RoundLeft` has what goes off what is left. `Left` shows that a hop is paid for whatever the
 //! counts are, `Charged` what it is charged, and `Certified` that what was looked at is a
-//! certificate, with `Levels` and `Owing`. `LastEnds` shows which of many data addresses makes a
-//! hop end last, `Raises`, `Pushed` and `RowLaws` that a row has all hops, and `LongestRows` that
-//! no step is longer than the rows' longest. `ByOrder` has a certificate of each admitted deck,
-//! `RoundSums` and `Together` what its passes come to, `Fallback` both; and `CeilingLaws` what is
-//! right of a ceiling.
+//! certificate, with `Levels` and `Owing`. `LongestRows` shows that no step is longer than the
+//! rows' longest. `ByOrder` has a certificate of each admitted deck, `RoundSums` and `Together`
+//! what its passes come to, `Fallback` both; and `CeilingLaws` what is right of a ceiling.
 #![tactic(auto)]
 
 mod answer;
 mod certificate;
 mod finding;
-mod found;
 mod in_rounds;
 pub mod laws;
 mod longest;
 mod prices;
-mod raised;
-mod row;
-mod rows;
+mod region;
 mod search;
-mod slot;
-mod slowest;
 mod step;
-mod taking;
 
 pub use answer::Ceiling;
 pub use finding::ceiling;

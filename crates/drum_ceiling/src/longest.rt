@@ -1,9 +1,9 @@
 //! The longest step of the executed locations.
 
 ghost use Rattle.std.specs.Prelude.{◌≡◌, ℕ, ◌≤◌, Some, IfSome, IfNone, slice_get};
-ghost use Rattle.drum_ceiling.specs.declared.row.Row as held;
+ghost use Rattle.drum_rows.specs.declared.row.Row as held;
 
-use crate::row::Row;
+use drum_rows::Row;
 
 /// What the hops of a row take at most; 0, where there is none.
 fn most_of(row: &Option<Row>) -> u32

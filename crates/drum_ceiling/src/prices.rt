@@ -10,8 +10,9 @@ ghost use Rattle.drum_flow.specs.Flow.{deck_of, notes_of, executed_in};
 ghost use Rattle.drum_flow.specs.Free.{IsFreeOrder};
 ghost use Rattle.drum_flow.specs.Graph.{height};
 ghost use Rattle.drum_flow.specs.SettingOf.{setting};
+ghost use Rattle.drum_rows.specs.Steps.{TakesAtMost};
 ghost use Rattle.drum_ceiling.specs.Right.{ArePrices};
-ghost use Rattle.drum_ceiling.specs.Size.{size_of, TakesAtMost};
+ghost use Rattle.drum_ceiling.specs.Size.{size_of};
 
 use crate::in_rounds::{passes_in_all, rounds_of, sum};
 use drum_core::Location;

@@ -23,9 +23,9 @@ mod tries;
 mod ways;
 
 use crate::certificate::Certificate;
-use crate::row::Row;
 use by_slot::{Bits, BySlot};
 use drum_core::Location;
+use drum_rows::Row;
 use drum_times::Mark;
 use graph::Graph;
 use levels::Levels;

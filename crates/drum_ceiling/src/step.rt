@@ -3,7 +3,7 @@
 ghost use Rattle.std.specs.Prelude.{◌≡◌, ◌≤◌, ◌<◌, if◌then◌else◌, length, IfSome};
 ghost use Rattle.drum_ceiling.specs.Charge.{charge_from, owed_anew};
 
-use crate::slot::is_in;
+use crate::region::is_in;
 use drum_machine::is_inside;
 use drum_times::Mark;
 
@@ -21,7 +21,7 @@ pub struct Step<'a> {
 }
 
 impl Step<'_> {
-    ghost use Rattle.drum_ceiling.specs.Slot.{is_in};
+    ghost use Rattle.drum_ceiling.specs.AtSlot.{is_in};
 
     /// How many passes of the mark with this index, and this most, it may owe anew where it ends.
     fn owed(&self, index: usize, most: u16) -> u16

@@ -2,7 +2,7 @@
 
 ghost use Rattle.std.specs.Prelude.{◌≡◌, vec_len};
 
-use crate::slot::Slot;
+use drum_rows::Slot;
 use std::alloc::{AllocError, Global};
 
 /// A number for each slot; none, where nothing is known.

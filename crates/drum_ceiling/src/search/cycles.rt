@@ -2,7 +2,7 @@
 
 use super::by_slot::BySlot;
 use super::ways::Ways;
-use crate::slot::Slot;
+use drum_rows::Slot;
 use std::alloc::{AllocError, Global};
 
 /// The cycles of the longest ways from heads.

@@ -4,9 +4,8 @@ use super::by_slot::Bits;
 use super::marks::{Marks, Standing, bit_of};
 use super::reached::Reached;
 use super::regions::{leads_of, regions_of};
-use crate::row::Row;
-use crate::slot::Slot;
 use drum_core::Location;
+use drum_rows::{Row, Slot};
 use drum_times::Mark;
 use std::alloc::{AllocError, Global};
 

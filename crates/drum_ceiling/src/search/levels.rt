@@ -4,8 +4,7 @@ use super::by_slot::BySlot;
 use super::graph::Graph;
 use super::prices::Prices;
 use super::reached::Reached;
-use crate::row::{Edge, Row};
-use crate::slot::Slot;
+use drum_rows::{Edge, Row, Slot};
 use std::alloc::{AllocError, Global};
 
 /// The most word times from each slot on, less prices: below 0 where prices pay for all.

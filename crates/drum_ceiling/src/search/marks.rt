@@ -1,6 +1,6 @@
 //! The marks, and how they stand in one another.
 
-use crate::row::Edge;
+use drum_rows::Edge;
 use drum_times::Mark;
 use std::alloc::{AllocError, Global};
 

@@ -2,7 +2,7 @@
 
 use super::graph::Graph;
 use super::marks::Standing;
-use crate::row::Edge;
+use drum_rows::Edge;
 use std::alloc::{AllocError, Global};
 
 /// A price for each mark.

@@ -2,9 +2,8 @@
 
 use super::by_slot::Bits;
 use super::marks::Marks;
-use crate::row::Row;
-use crate::slot::Slot;
 use drum_core::{Location, REVOLUTION};
+use drum_rows::{Row, Slot};
 use std::alloc::{AllocError, Global};
 
 /// The rows of where walks come.

@@ -5,8 +5,7 @@
 use super::by_slot::Bits;
 use super::marks::{Marks, bit_of};
 use super::reached::Reached;
-use crate::row::{Edge, Row};
-use crate::slot::Slot;
+use drum_rows::{Edge, Row, Slot};
 use std::alloc::{AllocError, Global};
 
 /// By slot, the marks in whose region it is.

@@ -6,8 +6,7 @@ use super::cycles::Cycles;
 use super::graph::Graph;
 use super::marks::bit_of;
 use super::ways::{Sought, Ways};
-use crate::row::Row;
-use crate::slot::Slot;
+use drum_rows::{Row, Slot};
 use std::alloc::{AllocError, Global};
 
 /// How many times it is looked for cycles at most, for each head and beside.

@@ -6,7 +6,7 @@ use super::marks::bit_of;
 use super::prices::Prices;
 use super::rounds::Rounds;
 use super::ways::Sought;
-use crate::slot::Slot;
+use drum_rows::Slot;
 use std::alloc::{AllocError, Global};
 
 /// The regions of the marks, and the tables that prices are looked for with.

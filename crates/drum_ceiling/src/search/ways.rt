@@ -6,8 +6,7 @@ use super::by_slot::BySlot;
 use super::graph::Graph;
 use super::marks::bit_of;
 use super::prices::Prices;
-use crate::row::{Edge, Row};
-use crate::slot::Slot;
+use drum_rows::{Edge, Row, Slot};
 use std::alloc::{AllocError, Global};
 
 /// A way that passes a mark with its last edge, and no other edge of it.

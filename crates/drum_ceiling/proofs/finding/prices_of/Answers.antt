@@ -11,11 +11,12 @@ use Rattle.drum_flow.specs.Flow.{deck_of, notes_of, executed_in}
 use Rattle.drum_flow.specs.SettingOf.{setting}
 use Rattle.drum_flow.specs.Walk.{Setting}
 use Rattle.drum_flow.proofs.Proper.{is_proper}
+use Rattle.drum_rows.specs.declared.row.Row.{Row}
+use Rattle.drum_rows.specs.Rows.{AreRows}
+use Rattle.drum_rows.specs.Steps.{TakesAtMost}
 use Rattle.drum_ceiling.specs.declared.prices.Prices.{Prices}
-use Rattle.drum_ceiling.specs.declared.row.Row.{Row}
 use Rattle.drum_ceiling.specs.Right.{ArePrices}
-use Rattle.drum_ceiling.specs.Rows.{AreRows}
-use Rattle.drum_ceiling.specs.Size.{size_of, IsWithinSize, TakesAtMost}
+use Rattle.drum_ceiling.specs.Size.{size_of, IsWithinSize}
 use Rattle.drum_ceiling.proofs.LongestRows.{executed_location, takes_at_most}
 use Rattle.drum_ceiling.proofs.finding.prices_of.Goals as goal
 

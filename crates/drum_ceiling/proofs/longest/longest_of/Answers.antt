@@ -3,7 +3,7 @@ use Rattle.std.proofs.Common.{◌≡◌, ℕ, ◌≤◌, List, Option, Some, Non
 use Rattle.std.specs.Prelude.{slice_get, IfNone, IfSome}
 use Rattle.std.proofs.lemmas.Bool.{cases_lt}
 use Rattle.std.proofs.lemmas.Option.{slice_get-get_or, slice_get_within}
-use Rattle.drum_ceiling.specs.declared.row.Row as held
+use Rattle.drum_rows.specs.declared.row.Row as held
 use Rattle.drum_ceiling.proofs.longest.longest_of.Goals as goal
 
 -- what a row says is no more than what none of them passes

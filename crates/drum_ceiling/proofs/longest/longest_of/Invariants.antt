@@ -1,6 +1,6 @@
 use Rattle.std.proofs.Common.{◌≡◌, ℕ, ◌≤◌, ◌<◌, Some}
 use Rattle.std.specs.Prelude.{slice_get}
-use Rattle.drum_ceiling.specs.declared.row.Row.{Row}
+use Rattle.drum_rows.specs.declared.row.Row.{Row}
 use Rattle.drum_ceiling.proofs.longest.longest_of.Given as goal
 
 -- the longest of the rows so far

@@ -3,11 +3,12 @@ use Rattle.std.proofs.lemmas.Bool.{lt-ltb}
 use Rattle.drum_core.specs.Location.{IsLocation}
 use Rattle.drum_times.specs.declared.notes.mark.Mark.{Mark}
 use Rattle.drum_machine.specs.Counts.{no_counts}
+use Rattle.drum_rows.specs.Slot.{slot_of}
 use Rattle.drum_ceiling.specs.Affine.{cost_left, owed_by}
 use Rattle.drum_ceiling.specs.Certificate.{IsCertificate}
 use Rattle.drum_ceiling.specs.Charge.{charge_from}
 use Rattle.drum_ceiling.specs.Paying.{form_of, regions_in, IsSlotPaid}
-use Rattle.drum_ceiling.specs.Slot.{at_slot, is_in, level_in, slot_of}
+use Rattle.drum_ceiling.specs.AtSlot.{at_slot, is_in, level_in}
 use Rattle.drum_ceiling.proofs.Certified.{certified}
 use Rattle.drum_ceiling.proofs.Charged.{charged_first, none_in}
 use Rattle.drum_ceiling.proofs.Levels.{found_own}

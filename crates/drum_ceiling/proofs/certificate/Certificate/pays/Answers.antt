@@ -1,9 +1,9 @@
 use Rattle.std.proofs.Common.{◌≡◌, ◌⊎◌, List, Some, sym, ap, subst, ◌∙◌, inl, inr, arith}
 use Rattle.std.specs.Prelude.{Contains, slice_get}
 use Rattle.std.proofs.lemmas.Option.{slice_get-get_or}
-use Rattle.drum_ceiling.specs.declared.row.Edge.{Edge}
+use Rattle.drum_rows.specs.declared.row.Edge.{Edge}
+use Rattle.drum_rows.proofs.Pushed.{all_taken, taken_cases}
 use Rattle.drum_ceiling.specs.Paying.{IsEdgePaid, IsShut}
-use Rattle.drum_ceiling.proofs.Pushed.{all_taken, taken_cases}
 use Rattle.drum_ceiling.proofs.certificate.Certificate.pays.Goals as goal
 
 pub loop-edge-preserved : goal.loop-edge-preserved

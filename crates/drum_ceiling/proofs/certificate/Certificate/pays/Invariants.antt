@@ -1,6 +1,6 @@
 use Rattle.std.proofs.Common.{take, ◌⊎◌}
 use Rattle.std.specs.Prelude.{Contains}
-use Rattle.drum_ceiling.specs.declared.row.Edge.{Edge}
+use Rattle.drum_rows.specs.declared.row.Edge.{Edge}
 use Rattle.drum_ceiling.specs.Paying.{IsEdgePaid, IsShut}
 use Rattle.drum_ceiling.proofs.certificate.Certificate.pays.Given as goal
 

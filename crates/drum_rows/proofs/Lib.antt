@@ -1,0 +1,4 @@
+pub mod LastEnds
+pub mod Pushed
+pub mod Raises
+pub mod RowLaws

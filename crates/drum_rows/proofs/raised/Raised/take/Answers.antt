@@ -1,0 +1,54 @@
+-- Of Raised::take: where the hop goes nowhere, its end alone is looked at.
+use Rattle.std.proofs.Common.{◌≡◌, ℕ, Bool, true, false, List, Option, None, refl, ap, sym, ◌∙◌, subst, arith}
+use Rattle.std.specs.Prelude.{slice_get, IsSome, IsTrue}
+use Rattle.drum_core.specs.declared.location.Location.{Location}
+use Rattle.drum_machine.specs.declared.ways.Way as coded
+use Rattle.drum_machine.specs.declared.ways.Way.TheVariants as way
+use Rattle.drum_machine.specs.Ways.{to}
+use Rattle.drum_machine.specs.WaysLeft.{seen_way}
+use Rattle.drum_rows.specs.declared.raised.Onward.{Onward}
+use Rattle.drum_rows.specs.Marked.{mark_by}
+use Rattle.drum_rows.specs.Raised.{latest}
+use Rattle.drum_rows.proofs.raised.Raised.take.Goals as goal
+
+no_next : (by : coded.Way) (next : ℕ) → ((x : Location) → by ≡ way.To x → ⊥) → seen_way by ≡ to next → ⊥
+no_next (way.To x) next none is = none x refl
+no_next way.Early next none is = cc
+no_next way.Late next none is = cc
+
+-- where there is no mark, none was told
+unmarked : (told : Bool) (mark : Option ℕ) → (IsTrue told → IsSome mark) → mark ≡ None → told ≡ false
+unmarked false mark some none = refl
+unmarked true mark some none = sym (subst (λ (one : Option ℕ). IsSome one) none (some refl))
+
+pub returns-in_default : goal.returns-in_default
+returns-in_default c =
+    let from = c.args.from.now in
+    let own = seen_way c.args.hop.way in
+    let ended : c.longest-ended.result ≡ latest from c.args.hop.instruction own = c.longest-ended.ensures.value in
+    let later = c.longest-ended.ensures.later in
+    record {
+      taken = record {
+        within = omega (arith, ended, later, c.end.ensures.most);
+        ends = λ none. omega (
+          arith,
+          ended,
+          later,
+          c.end.ensures.unmarked
+              (unmarked c.is_marked.result (mark_by from.notes.now.marks from.location.number own) c.is_marked.ensures.0
+              none),
+        );
+        goes_on = λ next on. absurd (no_next c.args.hop.way next c.in_default.not-To on);
+      };
+      grown = record {
+        stop = c.end.ensures.no_less;
+        most = omega (arith, c.end.ensures.most);
+        onward = λ slot hop there. (
+          hop,
+          ap (λ (all : List (Option Onward)). slice_get all slot) c.end.ensures.onward ∙ there,
+          omega arith,
+          omega arith,
+        );
+      };
+      no_more = λ most low each. omega (arith, c.end.ensures.most, low, each, ended, later);
+    }

@@ -1,0 +1,7 @@
+pub mod Marked
+pub mod Raised
+pub mod Rows
+pub mod Slot
+pub mod Slowest
+pub mod Steps
+pub mod Taking

@@ -1,0 +1,30 @@
+//! What the hops of each executed location take at most, from when its instruction is found at one
+//! angle, and where they lead: the flow graph with word times on its edges, a row for each place
+//! and angle. It stands on the flow graph alone, and knows of no price, level or certificate.
+//!
+//! Code, from the bottom up. `slot` is where an instruction is found, a location at an angle;
+//! `found` is the same with the notes and the timing table. `raised` has the latest ends of the
+//! hops from there that were looked at. `taking` looks at all of them; where many are alike, at the
+//! one that `slowest` tells. `rows` makes of them a `row` for each slot: what its hops take at
+//! most, by where they lead.
+//!
+//! Definitions, in the order to read them: `Steps` (how long a step can take, and what none takes
+//! more than), `Slot` (the numbers of where instructions are found), `Marked` (the mark that a hop
+//! passes) and `Rows` (when rows have all hops, and none is said to take longer than it can). The
+//! others say what the code's types mean by these: `Raised`, `Slowest` and `Taking`.
+//!
+//! Proofs. `LastEnds` shows which of many data addresses makes a hop end last, and `Raises` and
+//! `RowLaws` that a row has all hops. `Pushed` has lemmas on lists with one more at their end.
+#![tactic(auto)]
+
+mod found;
+mod raised;
+mod row;
+mod rows;
+mod slot;
+mod slowest;
+mod taking;
+
+pub use row::{Edge, Row};
+pub use rows::rows_of;
+pub use slot::Slot;
