@@ -1,3 +1,4 @@
+pub mod Bands
 pub mod LastEnds
 pub mod Pushed
 pub mod Raises

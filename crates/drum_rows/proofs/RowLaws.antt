@@ -10,6 +10,7 @@ use Rattle.drum_times.specs.Allowed.{Notes, allowed}
 use Rattle.drum_times.specs.Entries.{entry_in}
 use Rattle.drum_times.specs.Marks.{mark_on}
 use Rattle.drum_times.specs.declared.entry.Entry.{Entry}
+use Rattle.drum_times.specs.declared.notes.mark.Mark.{Mark}
 use Rattle.drum_core.specs.declared.op.Op.{Op}
 use Rattle.drum_machine.specs.Timing.{found}
 use Rattle.drum_machine.specs.Ways.{Way, ways}
@@ -18,12 +19,14 @@ use Rattle.drum_flow.specs.Hops.{Hop, hops_of}
 use Rattle.drum_flow.specs.Walk.{Setting}
 use Rattle.drum_flow.proofs.Lists.{contains_cases, contains_here, contains_none, contains_there}
 use Rattle.drum_rows.specs.declared.found.Found.{Found}
+use Rattle.drum_rows.specs.declared.raised.Onward.{Onward}
 use Rattle.drum_rows.specs.declared.raised.Raised.{Raised}
+use Rattle.drum_rows.specs.declared.row.Edge.{Edge}
 use Rattle.drum_rows.specs.declared.row.Row.{Row}
 use Rattle.drum_rows.specs.Steps.{arrival}
 use Rattle.drum_rows.specs.Marked.{mark_by}
 use Rattle.drum_rows.specs.Raised.{latest, HasTaken, IsRaised}
-use Rattle.drum_rows.specs.Rows.{HasEdges, IsRow}
+use Rattle.drum_rows.specs.Rows.{HasEdge, HasEdges, IsRow}
 use Rattle.drum_rows.specs.Slot.{place_of, slot_of}
 
 -- a location's number determines the location,
@@ -86,6 +89,13 @@ has_hop notes (one ∷ all) ins way there by = elim (contains_cases one ins all 
   | inr behind ↦ Contains-append_right (hops_of notes one) (flat_map (hops_of notes) all) (hop_by ins way)
       (has_hop notes all ins way behind by)
 ]
+
+-- An edge stays, where all stay.
+pub edge_stays : (marks : List Mark) (from : ℕ) (edges more : List Edge) (slot : ℕ) (hop : Onward)
+    → ((edge : Edge) → Contains edges edge → Contains more edge) → HasEdge marks from edges slot hop
+    → HasEdge marks from more slot hop
+edge_stays marks from edges more slot hop stay has =
+    (has.0, stay has.0 has.1, has.2, has.3, has.4, has.5)
 
 -- What was looked at, with its edges, is a row.
 pub row_of_raised : (g : Setting) (from : Found) (raised : Raised) (row : Row) → g.notes ≡ from.notes.now

@@ -1,3 +1,4 @@
+pub mod Bands
 pub mod Marked
 pub mod Raised
 pub mod Rows

@@ -11,6 +11,7 @@ use Rattle.drum_flow.specs.Longest.{longest}
 use Rattle.drum_rows.specs.declared.found.Found.{Found}
 use Rattle.drum_rows.specs.declared.raised.Onward.{Onward}
 use Rattle.drum_rows.specs.declared.raised.Raised.{Raised}
+use Rattle.drum_rows.specs.declared.row.Edge.{Edge}
 use Rattle.drum_rows.specs.Marked.{mark_by}
 use Rattle.drum_rows.specs.Slot.{slot_of}
 
@@ -51,6 +52,11 @@ pub record HasNone (raised : Raised) : Type 0 where
   pub stop : raised.stop ≡ 0
   pub most : raised.most ≡ 0
   pub onward : All (λ most. most ≡ None) raised.onward.items
+
+-- Where anything stands at a number, one of the edges leads there.
+abbrev pub AreLedTo : List (Option Onward) → List Edge → Type 0
+AreLedTo onward edges = (slot : ℕ) (hop : Onward) → slice_get onward slot ≡ Some (Some hop)
+    → (edge : Edge) × Contains edges edge × (edge.onto.number ≡ slot)
 
 -- What is kept never falls.
 pub record GrowsTo (before after : Raised) : Type 0 where

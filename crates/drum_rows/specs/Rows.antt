@@ -57,10 +57,21 @@ pub record AreRows (g : Setting) (executed : List ℕ) (rows : List (Option Row)
   pub all : (slot : ℕ) → slot < 2200 → IsRowNumber executed slot
       → (row : Row) × (slice_get rows slot ≡ Some (Some row))
 
+-- One of the edges is that of what stands at a number.
+abbrev pub HasEdge : List Mark → ℕ → List Edge → ℕ → Onward → Type 0
+HasEdge marks from edges slot hop =
+    (edge : Edge) × Contains edges edge × (edge.onto.number ≡ slot)
+    × (edge.mark ≡ mark_on marks from (place_of slot)) × (edge.time ≡ hop.time)
+    × (edge.stop ≡ hop.stop)
+
+-- The edges of what stands at the numbers from `start` to `end`.
+abbrev pub HasEdgesOf : List Mark → ℕ → List (Option Onward) → ℕ → ℕ → List Edge → Type 0
+HasEdgesOf marks from onward start end edges =
+    (slot : ℕ) (hop : Onward) → start ≤ slot → slot < end → slice_get onward slot ≡ Some (Some hop)
+    → HasEdge marks from edges slot hop
+
 -- The edges of what stands at the numbers.
 pub record HasEdges (marks : List Mark) (from : ℕ) (onward : List (Option Onward))
     (edges : List Edge) : Type 0 where
   pub each : (slot : ℕ) (hop : Onward) → slice_get onward slot ≡ Some (Some hop)
-      → (edge : Edge) × Contains edges edge × (edge.onto.number ≡ slot)
-      × (edge.mark ≡ mark_on marks from (place_of slot)) × (edge.time ≡ hop.time)
-      × (edge.stop ≡ hop.stop)
+      → HasEdge marks from edges slot hop

@@ -5,18 +5,20 @@
 //! Code, from the bottom up. `slot` is where an instruction is found, a location at an angle;
 //! `found` is the same with the notes and the timing table. `raised` has the latest ends of the
 //! hops from there that were looked at. `taking` looks at all of them; where many are alike, at the
-//! one that `slowest` tells. `rows` makes of them a `row` for each slot: what its hops take at
-//! most, by where they lead.
+//! one that `slowest` tells. `edges` are those of where hops lead, and `rows` makes with them a
+//! `row` for each slot: what its hops take at most, by where they lead.
 //!
 //! Definitions, in the order to read them: `Steps` (how long a step can take, and what none takes
 //! more than), `Slot` (the numbers of where instructions are found), `Marked` (the mark that a hop
-//! passes) and `Rows` (when rows have all hops, and none is said to take longer than it can). The
-//! others say what the code's types mean by these: `Raised`, `Slowest` and `Taking`.
+//! passes) and `Rows` (when rows have all hops, each with as much time as it can take). The others
+//! say what the code's types mean by these: `Bands`, `Raised`, `Slowest` and `Taking`.
 //!
 //! Proofs. `LastEnds` shows which of many data addresses makes a hop end last, and `Raises` and
-//! `RowLaws` that a row has all hops. `Pushed` has lemmas on lists with one more at their end.
+//! `RowLaws` that a row has all hops. `Bands` has lemmas on what stands at the numbers, and
+//! `Pushed` on lists with one more at their end.
 #![tactic(auto)]
 
+mod edges;
 mod found;
 mod raised;
 mod row;

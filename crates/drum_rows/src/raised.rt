@@ -4,14 +4,22 @@ ghost use Rattle.std.specs.Prelude.{◌≡◌, ℕ, ◌+◌, ◌≤◌, max, fal
 ghost use Rattle.std.specs.Prelude.{slice_get, vec_len};
 ghost use Rattle.drum_machine.specs.WaysLeft.{seen_way};
 ghost use Rattle.drum_flow.specs.Profile.{MayEnd};
+ghost use Rattle.drum_rows.specs.Bands.{AreInBands};
 
 use crate::found::{Found, LONGEST_SEARCH};
+use crate::row::Edge;
 use crate::slot::Slot;
 use drum_flow::Hop;
 use drum_flow::longest::longest;
 use drum_machine::Way;
 use drum_rotation::{Clockwork, Seek};
 use std::alloc::{AllocError, Global};
+
+/// The numbers of slots go in bands of so many: a band of the drum, or the angles of one location.
+pub const BAND: usize = 50;
+
+/// How many bands there are.
+pub const BANDS: usize = 44;
 
 /// What hops take at most that lead to one slot.
 #[derive(Clone, Copy, Debug)]
@@ -41,7 +49,8 @@ impl Onward {
 }
 
 /// What the hops take at most that were looked at, of a location whose instruction is found at an
-/// angle.
+/// angle. One serves for all locations, one after the other, and is emptied where it was written:
+/// a location has few hops, and there are many slots.
 #[derive(Debug, Drop)]
 pub struct Raised {
     /// The most word times until one of them without a mark ends, and 49 more; 0 of none.
@@ -50,11 +59,14 @@ pub struct Raised {
     pub most: u32,
     /// What they take by the numbers of where they lead.
     pub onward: Vec<Option<Onward>>,
+    /// In which bands of the numbers any may stand; in the others none does.
+    pub bands: [bool; BANDS],
     ghost long: { vec_len onward ≡ 2200 },
+    pub ghost within: { AreInBands onward.items bands },
 }
 
 impl Raised {
-    ghost use Rattle.drum_rows.specs.Raised.{latest, GrowsTo, HasNone, IsRaised};
+    ghost use Rattle.drum_rows.specs.Raised.{latest, AreLedTo, GrowsTo, HasNone, IsRaised};
 
     /// None was looked at.
     pub fn none(alloc: Global) -> Result<Raised, AllocError>
@@ -64,6 +76,7 @@ impl Raised {
             stop: 0,
             most: 0,
             onward: vec![in alloc; None; Slot::COUNT]?,
+            bands: [false; BANDS],
         })
     }
 
@@ -109,6 +122,20 @@ impl Raised {
         ensures grown { GrowsTo self.old self.new }
     {
         let at = usize::from(slot.number);
+        self.bands[at / BAND] = true;
         self.onward[at] = Some(hop.or_longer(self.onward[at]));
+    }
+
+    /// Forgets all hops that were looked at. Wherever any of them leads, one of these edges does.
+    pub fn forget(&mut self, edges: &[Edge])
+        requires { AreLedTo self.old.onward.items edges.now }
+        ensures { HasNone self.new }
+    {
+        for edge in edges {
+            self.onward[usize::from(edge.onto.number)] = None;
+        }
+        self.bands = [false; BANDS];
+        self.stop = 0;
+        self.most = 0;
     }
 }

@@ -15,7 +15,7 @@ use Rattle.drum_machine.specs.Ways.{ways}
 use Rattle.drum_flow.specs.Flow.{deck_of, executed_in, notes_of}
 use Rattle.drum_flow.specs.Longest.{longest}
 use Rattle.drum_flow.specs.SettingOf.{setting}
-use Rattle.drum_rows.specs.declared.raised.Onward.{Onward}
+use Rattle.drum_rows.specs.declared.row.Edge.{Edge}
 use Rattle.drum_rows.specs.declared.row.Row.{Row}
 use Rattle.drum_rows.specs.Rows.{HasEdges, IsRow}
 use Rattle.drum_rows.specs.Slot.{place_of}
@@ -38,7 +38,7 @@ returns-clause-row c =
     let from = c.at-from.result in
     let place = from.location.number in
     let raised = c.take_all.new.self in
-    let row : Row = record { stop = raised.stop; most = raised.most; edges = c.in_ok-edges.edges } in
+    let row : Row = record { stop = raised.stop; most = raised.most; edges = c.in_ok-edges_of.field-0 } in
     let notes : notes_of flow ≡ from.notes.now = sym c.at-from.ensures.notes in
     let times : entry_in c.args.times.now ≡ entry_in from.times.now = ap entry_in (sym c.at-from.ensures.times) in
     let all : allowed (loads_in (deck_of flow)) (notes_of flow) place
@@ -47,10 +47,9 @@ returns-clause-row c =
     ∙ ap (λ (n : Notes). allowed (loads_in c.deck.result.now) n place) notes in
     let marks : c.marks.result.now ≡ (notes_of flow).marks =
     c.marks.ensures.all ∙ ap (λ (n : Notes). n.marks) (sym notes) in
-    let edges : HasEdges (notes_of flow).marks place raised.onward.items c.in_ok-edges.edges.items =
-    subst (λ (ms : List Mark). HasEdges ms place raised.onward.items c.in_ok-edges.edges.items) marks
-    (subst (λ (onward : List (Option Onward)). HasEdges c.marks.result.now place onward c.in_ok-edges.edges.items)
-    c.deref.ensures.value c.in_ok-edges.ensures) in
+    let edges : HasEdges (notes_of flow).marks place raised.onward.items c.in_ok-edges_of.field-0.items =
+    subst (λ (ms : List Mark). HasEdges ms place raised.onward.items c.in_ok-edges_of.field-0.items) marks
+    c.in_ok-edges_of.ensures in
     let here : Contains executed place =
     is_member executed place c.index_of.result c.index_of.ensures.found c.is_none.result c.is_none.ensures c.if-is_none.false in
     let is : IsRow g place from.angle row =
@@ -60,7 +59,7 @@ returns-clause-row c =
     record {
       is = subst (λ (angle : ℕ). IsRow g (place_of c.args.slot.number) angle row) c.at-from.ensures.angle
           (subst (λ (n : ℕ). IsRow g n from.angle row) c.at-from.ensures.place is);
-      low = λ most takes. c.take_all.ensures.no_more most (omega (arith, c.in_ok-raised.ensures.most))
+      low = λ most takes. c.take_all.ensures.no_more most (omega (arith, c.requires.most))
           (λ ins there way by.
           subst (λ (table : Op → Entry). longest table place ins way from.angle + 49 ≤ from.angle + most) times
           (takes.each place from.angle (hop_by ins way) here
@@ -68,3 +67,8 @@ returns-clause-row c =
           (subst (λ (some : List Instruction). Contains some ins) (sym all) there)
           (subst (λ (n : Notes). Contains (ways n ins) way) (sym notes) by)) (c.is_there.ensures.0 c.if-not-is_there.false)));
     }
+
+pub forget-requires : goal.forget-requires
+forget-requires c slot hop at =
+    let so = c.in_ok-edges_of.ensures.each slot hop at in
+    (so.0, subst (λ (all : List Edge). Contains all so.0) (sym c.deref.ensures.value) so.1, so.2)

@@ -49,6 +49,7 @@ loop-number-preserved c =
                   (omega (arith, here, c.loop-number.invariant.long, c.loop-number.rows.ok.0)) ∙ ap Some one.1,
             ))
       ];
+      forgotten = c.in_ok-row_at.ensures.forgotten;
     }
 
 pub returns : goal.returns

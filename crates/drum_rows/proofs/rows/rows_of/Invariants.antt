@@ -3,10 +3,11 @@ use Rattle.std.specs.Prelude.{slice_get}
 use Rattle.drum_flow.specs.Flow.{deck_of, executed_in, notes_of}
 use Rattle.drum_flow.specs.SettingOf.{setting}
 use Rattle.drum_rows.specs.declared.row.Row.{Row}
+use Rattle.drum_rows.specs.Raised.{HasNone}
 use Rattle.drum_rows.specs.Rows.{IsRowNumber, IsRowOf}
 use Rattle.drum_rows.proofs.rows.rows_of.Given as goal
 
--- the rows at the numbers so far
+-- the rows at the numbers so far, and nothing is kept of their hops
 abbrev pub invariant-loop-number : goal.invariant-loop-number
 invariant-loop-number l = record {
   long : vec_len l.rows ≡ l.number;
@@ -14,4 +15,5 @@ invariant-loop-number l = record {
       → IsRowOf (setting (deck_of l.flow) l.times (notes_of l.flow)) (executed_in l.flow) slot row;
   all : (slot : ℕ) → slot < l.number → IsRowNumber (executed_in l.flow) slot
       → (row : Row) × (slice_get l.rows.items slot ≡ Some (Some row));
+  forgotten : HasNone l.raised;
 }

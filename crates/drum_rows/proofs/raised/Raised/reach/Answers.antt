@@ -58,3 +58,16 @@ returns-clause-grown c =
           cc)
           c.or_longer.ensures.other;
     }
+
+pub returns-clause-there : goal.returns-clause-there
+returns-clause-there c =
+    let onward = c.args.self.now.onward.items in
+    let at = c.from-at.result in
+    let most = Some c.or_longer.result in (
+      c.or_longer.result,
+      ap (slice_get (set onward at most)) (sym c.from-at.ensures)
+          ∙ slice_get-set_same onward at most
+          (omega (arith, c.from-at.ensures, c.args.slot.within, c.args.self.now.long, c.args.self.now.onward.ok.0)),
+      c.or_longer.ensures.time,
+      c.or_longer.ensures.stop,
+    )

@@ -9,7 +9,7 @@ use Rattle.drum_core.specs.Location.{is_location}
 use Rattle.drum_machine.specs.Ways.{ways}
 use Rattle.drum_flow.proofs.Matched.{each_in_pattern, matching_at, matching_d, matching_with_d}
 use Rattle.drum_rows.specs.Raised.{HasTaken}
-use Rattle.drum_rows.proofs.Raises.{grows_on, has_matching, taken_more}
+use Rattle.drum_rows.proofs.Raises.{grows_on, grows_same, has_matching, taken_more}
 use Rattle.drum_rows.proofs.raised.Raised.take_pattern.Goals as goal
 
 pub take_alike-requires-clause-alike : goal.take_alike-requires-clause-alike
@@ -33,6 +33,14 @@ take_alike-requires-clause-alike c =
         locations = λ d low high. c.same_ways_end.ensures.locations d (own d low) (within d high) ∙ ap is_location at;
       };
     }
+
+pub loop-d-init : goal.loop-d-init
+loop-d-init c = record {
+  from = omega arith;
+  taken = λ d low high. absurd (omega (arith, low, high));
+  grown = grows_same c.args.self.now;
+  no_more = λ most low each. low;
+}
 
 pub loop-d-preserved : goal.loop-d-preserved
 loop-d-preserved c =

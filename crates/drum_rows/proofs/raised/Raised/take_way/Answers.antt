@@ -10,8 +10,15 @@ use Rattle.drum_machine.specs.WaysLeft.{seen_way}
 use Rattle.drum_flow.specs.Profile.{MayEnd}
 use Rattle.drum_flow.proofs.DataAngles.{kind_alike}
 use Rattle.drum_rows.specs.Raised.{latest, IsRaised}
-use Rattle.drum_rows.proofs.Raises.{grows_on, raised_alike, raised_more, raised_sooner}
+use Rattle.drum_rows.proofs.Raises.{grows_on, grows_same, raised_alike, raised_more, raised_sooner}
 use Rattle.drum_rows.proofs.raised.Raised.take_way.Goals as goal
+
+pub loop-d-init : goal.loop-d-init
+loop-d-init c = record {
+  taken = λ d low high. absurd (omega (arith, low, high));
+  grown = grows_same c.args.self.now;
+  no_more = λ most low each. low;
+}
 
 pub take-requires : goal.take-requires
 take-requires c =
