@@ -52,6 +52,7 @@ fn add_band(
             time: hop.time,
             stop: hop.stop,
             mark: mark_between(marks, from, onto.location()),
+            hop: hop.hop,
         })?;
     }
     Ok(())

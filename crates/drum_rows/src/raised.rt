@@ -28,10 +28,12 @@ pub struct Onward {
     pub time: u32,
     /// The most until one of them ends, and 49 more.
     pub stop: u32,
+    /// One of them that takes the most word times until the next instruction is found.
+    pub hop: Hop,
 }
 
 impl Onward {
-    /// The most of this and another, if there is one.
+    /// The most of this and another, if there is one; where both take as long, the other's hop.
     fn or_longer(self, other: Option<Onward>) -> Onward
         ensures time { self.time ≤ result.time }
         ensures stop { self.stop ≤ result.stop }
@@ -41,9 +43,11 @@ impl Onward {
         let Some(other) = other else {
             return self;
         };
+        let longer = if self.time > other.time { self } else { other };
         Onward {
-            time: self.time.max(other.time),
+            time: longer.time,
             stop: self.stop.max(other.stop),
+            hop: longer.hop,
         }
     }
 }
@@ -96,7 +100,7 @@ impl Raised {
         if let Way::To(next) = hop.way {
             let found = Seek::of(next).go(ended);
             let time = (found - angle) as u32;
-            self.reach(Slot::of(next, found), Onward { time, stop });
+            self.reach(Slot::of(next, found), Onward { time, stop, hop });
         }
     }
 

@@ -1,6 +1,7 @@
 //! What the hops of a location take at most, by where they lead.
 
 use crate::slot::Slot;
+use drum_flow::Hop;
 
 /// The hops that lead from where one instruction is found to where another is.
 #[derive(Clone, Copy, Debug, PartialEq, Eq)]
@@ -14,6 +15,8 @@ pub struct Edge {
     pub stop: u32,
     /// The index of the mark that stands on the edge of their locations.
     pub mark: Option<u8>,
+    /// One of them that takes the most word times.
+    pub hop: Hop,
 }
 
 /// What the hops of a location take at most, from when its instruction is found at one angle.
