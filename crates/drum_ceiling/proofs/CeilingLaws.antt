@@ -1,7 +1,7 @@
 -- What is right of a ceiling, and of a size that is too large for one.
 use Rattle.std.proofs.Common.{ℕ, ◌+◌, ◌*◌, ◌^◌, ◌<◌, ◌≤◌, Bool, true, false, List, [], ◌∷◌, length, arith}
 use Rattle.std.proofs.Common.{inl, inr}
-use Rattle.std.specs.Prelude.{◌==◌, if◌then◌else◌}
+use Rattle.std.specs.Prelude.{◌==◌, if◌then◌else◌, All}
 use Rattle.std.proofs.Math.Nat.{mul-le-mul_left, mul-le-mul_right}
 use Rattle.std.proofs.lemmas.Bool.{cases_lt}
 use Rattle.drum_core.specs.declared.deck.Deck.{Deck}
@@ -87,9 +87,10 @@ admitted_sound deck notes executed admitted = record {
 -- Prices of a certificate with their total are a ceiling.
 pub is_ceiling : (deck : Deck) (times : Times) (notes : Notes) (executed prices : List ℕ) (total : ℕ) → AreSound notes
     → IsAdmitted (loads_in deck) notes (start_in deck) executed
-    → IsWithinSize (setting deck times notes) executed total → ArePrices (setting deck times notes) prices total
+    → IsWithinSize (setting deck times notes) executed total
+    → All (IsWithinSize (setting deck times notes) executed) prices → ArePrices (setting deck times notes) prices total
     → IsCeiling (setting deck times notes) prices total
-is_ceiling deck times notes executed prices total sound admitted low are =
+is_ceiling deck times notes executed prices total sound admitted low prices_low are =
     let g = setting deck times notes in
     let proper = is_proper deck times notes sound in
     let below : (angle : ℕ) (hops : List Taken) → IsWalk g angle hops → time_of hops ≤ total =
@@ -99,6 +100,7 @@ is_ceiling deck times notes executed prices total sound admitted low are =
       executed = executed;
       admitted = admitted;
       low = low;
+      prices_low = prices_low;
       are = are;
       walks = below;
       kept = λ s steps first is_run kept.

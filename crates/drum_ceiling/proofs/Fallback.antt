@@ -1,8 +1,9 @@
 -- The prices by the order of the executed locations: that they pay, and what they come to.
 use Rattle.std.proofs.Common.{◌≡◌, ℕ, ◌+◌, ◌*◌, ◌^◌, ◌<◌, ◌≤◌, List, [], length, map, refl, ap, sym, ◌∙◌, subst, arith, mul-add}
-use Rattle.std.specs.Prelude.{slice_index, Contains}
+use Rattle.std.specs.Prelude.{slice_index, All, Contains}
 use Rattle.std.proofs.Math.Nat.{mul-le-mul_left, mul-le-mul_right}
-use Rattle.std.proofs.lemmas.List.{length-map}
+use Rattle.drum_times.specs.declared.notes.mark.Mark.{Mark}
+use Rattle.drum_times.specs.Allowed.{StandInEarlier}
 use Rattle.drum_flow.specs.Accepted.{told, IsAdmitted}
 use Rattle.drum_flow.specs.Free.{IsFreeOrder}
 use Rattle.drum_flow.specs.Graph.{height}
@@ -12,12 +13,13 @@ use Rattle.drum_flow.proofs.Products.{told_exact}
 use Rattle.drum_rows.specs.Steps.{TakesAtMost}
 use Rattle.drum_ceiling.specs.Affine.{owed_by}
 use Rattle.drum_ceiling.specs.Certificate.{IsCertificate}
-use Rattle.drum_ceiling.specs.InRounds.{passes_in_all, passes_inside, AreInRounds}
+use Rattle.drum_ceiling.specs.InRounds.{passes_in_all, passes_inside, priced, AreInRounds}
 use Rattle.drum_ceiling.specs.Right.{ArePrices}
 use Rattle.drum_ceiling.specs.Size.{passes_together, size_of}
 use Rattle.drum_ceiling.proofs.ByOrder.{certificate_by, form_by, prices_by, total_by, total_low}
 use Rattle.drum_ceiling.proofs.RoundSums.{inside_few, told_prices}
 use Rattle.drum_ceiling.proofs.Rounded.{rounds_paid}
+use Rattle.drum_ceiling.proofs.Shut.{owed_same, priced_long, prices_few, same_certificate}
 use Rattle.drum_ceiling.proofs.Together.{together}
 
 -- what is told of a number is no more than that
@@ -25,27 +27,26 @@ told_few : (n m : ℕ) → m ≡ told n → m ≤ n
 told_few n m is = omega (arith, is)
 
 -- all passes, by what is told of those in rounds, are no more than those that a walk has at most
-pub passes_few : (g : Setting) (rounds : List ℕ) → IsProper g → AreInRounds told g.notes.marks rounds
-    → passes_in_all g.notes.marks rounds ≤ passes_together g.notes.marks 0 g.notes.marks
-passes_few g rounds proper are =
-    together g.notes.marks rounds proper.notes.nested are.long
-    (λ k below. told_few (1 + passes_inside g.notes.marks k 0 g.notes.marks rounds) (slice_index rounds k) (are.each k below))
+pub passes_few : (marks : List Mark) (rounds : List ℕ) → StandInEarlier 0 marks → AreInRounds told marks rounds
+    → passes_in_all marks rounds ≤ passes_together marks 0 marks
+passes_few marks rounds nested are =
+    together marks rounds nested are.long
+    (λ k below. told_few (1 + passes_inside marks k 0 marks rounds) (slice_index rounds k) (are.each k below))
 
--- Where the product that is told is large, so is what no ceiling is above.
-pub large_size : (g : Setting) (words longest passes more product : ℕ) (rounds : List ℕ) → IsProper g
-    → AreInRounds told g.notes.marks rounds → passes ≡ told (passes_in_all g.notes.marks rounds)
-    → more ≡ told (1 + passes) → product ≡ told (words * longest * more) → 2 ^ 127 ≤ product
-    → 2 ^ 127 ≤ size_of g.notes.marks words longest
-large_size g words longest passes more product rounds proper are all one is large =
-    let few : more ≤ 1 + passes_together g.notes.marks 0 g.notes.marks =
+-- The product that is told is no more than what no ceiling is above.
+pub size_low : (marks : List Mark) (words longest passes more product : ℕ) (rounds : List ℕ) → StandInEarlier 0 marks
+    → AreInRounds told marks rounds → passes ≡ told (passes_in_all marks rounds) → more ≡ told (1 + passes)
+    → product ≡ told (words * longest * more) → product ≤ size_of marks words longest
+size_low marks words longest passes more product rounds nested are all one is =
+    let few : more ≤ 1 + passes_together marks 0 marks =
     omega (
       arith,
-      passes_few g rounds proper are,
-      told_few (passes_in_all g.notes.marks rounds) passes all,
+      passes_few marks rounds nested are,
+      told_few (passes_in_all marks rounds) passes all,
       told_few (1 + passes) more one,
     ) in
-    let grows : words * longest * more ≤ size_of g.notes.marks words longest = mul-le-mul_left (words * longest) few in
-    omega (arith, told_few (words * longest * more) product is, large, grows)
+    let grows : words * longest * more ≤ size_of marks words longest = mul-le-mul_left (words * longest) few in
+    omega (arith, told_few (words * longest * more) product is, grows)
 
 module _ (g : Setting) (executed order : List ℕ) (proper : IsProper g)
     (admitted : IsAdmitted g.loads g.notes g.start executed)
@@ -100,11 +101,11 @@ module _ (g : Setting) (executed order : List ℕ) (proper : IsProper g)
       (omega (arith, each k within, inside_few g.notes.marks k 0 g.notes.marks rounds, more_is)) in
       omega (arith, few, exact, small))
 
-  pub by_order : (prices : List ℕ) (total sum : ℕ) → prices ≡ map (λ round. told (unit * round)) rounds
+  pub by_order : (prices : List ℕ) (total sum : ℕ) → prices ≡ priced told unit g.notes.marks rounds
       → sum ≡ told (unit * passes) → total ≡ height order g.start * longest + sum
       → ArePrices g prices total × (total ≤ size_of g.notes.marks words longest)
-  by_order prices total sum priced summed is_total =
-      let made : prices ≡ prices_by unit rounds = priced ∙ prices_are in
+      × All (λ price. price ≤ size_of g.notes.marks words longest) prices
+  by_order prices total sum made summed is_total =
       let whole : unit * more ≡ unit * 1 + unit * passes_in_all g.notes.marks rounds =
       ap (λ (n : ℕ). unit * n) more_is ∙ mul-add unit 1 (passes_in_all g.notes.marks rounds) in
       let sum_is : sum ≡ unit * passes_in_all g.notes.marks rounds =
@@ -114,18 +115,25 @@ module _ (g : Setting) (executed order : List ℕ) (proper : IsProper g)
       let low = total_low g executed order proper admitted free longest takes rounds are.long each in
       let fits : unit * (1 + passes_in_all g.notes.marks rounds) ≡ unit * more = ap (λ (n : ℕ). unit * n) (sym more_is) in
       let grows : unit * (1 + passes_in_all g.notes.marks rounds) ≤ size_of g.notes.marks words longest =
-      mul-le-mul_left unit (omega (arith, passes_few g rounds proper are)) in
+      mul-le-mul_left unit (omega (arith, passes_few g.notes.marks rounds proper.notes.nested are)) in
       let certificate : IsCertificate g (owed_by g.notes.marks prices (form_by longest order)) total =
-      subst (IsCertificate g (owed_by g.notes.marks prices (form_by longest order))) same
-      (subst (λ (all : List ℕ). IsCertificate g (owed_by g.notes.marks all (form_by longest order))
-      (total_by g executed order proper admitted free longest takes rounds are.long each)) (sym made)
+      same_certificate g (owed_by g.notes.marks (prices_by unit rounds) (form_by longest order))
+      (owed_by g.notes.marks prices (form_by longest order)) total
+      (λ place angle counts.
+      ap (λ (all : List ℕ). owed_by g.notes.marks all (form_by longest order) place angle counts) made
+      ∙ owed_same unit g.notes.marks rounds (form_by longest order) place angle counts
+      ∙ ap (λ (all : List ℕ). owed_by g.notes.marks all (form_by longest order) place angle counts) prices_are)
+      (subst (IsCertificate g (owed_by g.notes.marks (prices_by unit rounds) (form_by longest order))) same
       (certificate_by g executed order proper admitted free longest takes rounds are.long each)) in (
         record {
-          each = ap length made ∙ length-map rounds (λ round. unit * round) ∙ are.long;
+          each = ap length made ∙ priced_long unit g.notes.marks rounds are.long;
           form = form_by longest order;
           certificate = certificate;
           small = omega (arith, same, low, fits, exact, small);
           rounds = rounds_paid g prices (form_by longest order) total proper certificate;
         },
         omega (arith, same, low, grows),
+        subst (All (λ price. price ≤ size_of g.notes.marks words longest)) (sym made)
+            (prices_few unit (size_of g.notes.marks words longest) g.notes.marks rounds
+            (omega (arith, whole, fits, grows))),
       )

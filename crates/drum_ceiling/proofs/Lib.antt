@@ -11,4 +11,5 @@ pub mod Owing
 pub mod RoundLeft
 pub mod RoundSums
 pub mod Rounded
+pub mod Shut
 pub mod Together

@@ -8,3 +8,4 @@ pub mod Paying
 pub mod Right
 pub mod Rounds
 pub mod Size
+pub mod Sized

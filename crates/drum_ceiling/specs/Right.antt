@@ -1,5 +1,5 @@
 -- When a ceiling is right.
-use Rattle.std.specs.Prelude.{◌≡◌, ℕ, ◌^◌, ◌<◌, ◌≤◌, List, length}
+use Rattle.std.specs.Prelude.{◌≡◌, ℕ, ◌^◌, ◌<◌, ◌≤◌, List, length, All}
 use Rattle.drum_flow.specs.Accepted.{IsAdmitted}
 use Rattle.drum_flow.specs.Bounded.{IsBounded}
 use Rattle.drum_flow.specs.Walk.{Setting, Taken, IsWalk, time_of}
@@ -23,6 +23,8 @@ pub record IsCeiling (g : Setting) (prices : List ℕ) (total : ℕ) : Type 0 wh
   pub executed : List ℕ
   pub admitted : IsAdmitted g.loads g.notes g.start executed
   pub low : IsWithinSize g executed total
+  -- and neither is any price
+  pub prices_low : All (IsWithinSize g executed) prices
   pub are : ArePrices g prices total
   -- no walk of the flow graph takes more
   pub walks : (angle : ℕ) (hops : List Taken) → IsWalk g angle hops → time_of hops ≤ total

@@ -1,5 +1,5 @@
--- What no ceiling is above: the executed words, times the longest step of one, times one more than
--- the passes that a walk has at most of all marks together.
+-- What no ceiling is above, neither its total nor a price: the executed words, times the longest
+-- step of one, times one more than the passes that a walk has at most of all marks together.
 use Rattle.std.specs.Prelude.{ℕ, ◌+◌, ◌*◌, ◌≤◌, List, [], ◌∷◌, length}
 use Rattle.drum_times.specs.declared.notes.mark.Mark.{Mark}
 use Rattle.drum_flow.specs.MostPasses.{most_passes}

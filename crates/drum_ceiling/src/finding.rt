@@ -2,7 +2,7 @@
 //! enough, and what they come to.
 
 ghost use Rattle.std.specs.Prelude.{◌≡◌, ◌⊎◌, ◌^◌, ◌≤◌, Some, None, IfOk, IfErr, IfSome, IfNone};
-ghost use Rattle.std.specs.Prelude.{MatchOption};
+ghost use Rattle.std.specs.Prelude.{All, MatchOption};
 ghost use Rattle.drum_core.specs.Loads.{loads_in, start_in};
 ghost use Rattle.drum_flow.specs.Accepted as said;
 ghost use Rattle.drum_flow.specs.Accepted.{told, IsAdmitted};
@@ -18,6 +18,7 @@ use crate::answer::Ceiling;
 use crate::longest::longest_of;
 use crate::prices::{Prices, prices_by_order};
 use crate::search;
+use crate::size::Size;
 use drum_core::Deck;
 use drum_flow::counts::product_of;
 use drum_flow::{AcceptedFlow, Refusal};
@@ -27,7 +28,7 @@ use std::alloc::{AllocError, Global};
 
 /// The prices with the lower total, where there are two.
 fn lower_of(found: Option<Prices>, by_order: Option<Prices>) -> Option<Prices>
-    ensures none { IfNone result (by_order ≡ None) }
+    ensures none { IfNone result ((found ≡ None) × (by_order ≡ None)) }
     ensures some { IfSome result (λ prices. (by_order ≡ Some prices) ⊎ ((found ≡ Some prices)
         × IfSome by_order (λ other. prices.total ≤ other.total))) }
 {
@@ -40,8 +41,21 @@ fn lower_of(found: Option<Prices>, by_order: Option<Prices>) -> Option<Prices>
     }
 }
 
+/// Prices that were found, where none of them is above the size.
+fn within(found: Option<Prices>, size: &Size) -> Option<Prices>
+    ensures none { IfNone result (IfSome found (λ prices.
+        ¬ All (λ price. price ≤ size.now.whole) prices.prices.items)) }
+    ensures some { IfSome result (λ prices. (found ≡ Some prices)
+        × All (λ price. price ≤ size.now.whole) prices.prices.items) }
+{
+    match found {
+        Some(found) if size.has(&found.prices) => Some(found),
+        _ => None,
+    }
+}
+
 /// Prices and a total of an admitted deck: those that the search finds, where they are a
-/// certificate, or those by the order of the executed locations.
+/// certificate and none is above the size, or those by the order of the executed locations.
 fn prices_of(
     alloc: Global,
     accepted: &AcceptedFlow<'_>,
@@ -56,15 +70,19 @@ fn prices_of(
         let g = setting (deck_of accepted.now.flow) times.now (notes_of accepted.now.flow) in
         let executed = executed_in accepted.now.flow in
         MatchOption made (IsWithinSize g executed (2 ^ 127)) (λ found.
-        ArePrices g found.prices.items found.total × IsWithinSize g executed found.total)) }
+        ArePrices g found.prices.items found.total × IsWithinSize g executed found.total
+        × All (IsWithinSize g executed) found.prices.items)) }
 {
     let flow = accepted.flow();
     let marks = flow.notes().marks();
     let start = flow.deck().start();
     let rows = rows_of(alloc, flow, times)?;
-    let by_order = prices_by_order(alloc, accepted, longest_of(&rows))?;
+    let longest = longest_of(&rows);
+    let size = Size::of(alloc, flow, longest)?;
+    let by_order = prices_by_order(alloc, accepted, longest, &size)?;
     let found = search::find(alloc, &rows, accepted.order(), start, marks)?;
-    Ok(lower_of(found.checked(marks, &rows, Slot::of(start, 0)), by_order))
+    let found = within(found.checked(marks, &rows, Slot::of(start, 0)), &size);
+    Ok(lower_of(found, by_order))
 }
 
 /// Executed locations times counts; 2^127 where that is more.

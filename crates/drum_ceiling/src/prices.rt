@@ -1,7 +1,8 @@
 //! Prices of marks with a total, and such as are surely high enough: by the order of the executed
 //! locations.
 
-ghost use Rattle.std.specs.Prelude.{◌≡◌, ◌*◌, ◌^◌, ◌<◌, ◌≤◌, length, map, IfOk, MatchOption};
+ghost use Rattle.std.specs.Prelude.{◌≡◌, ◌*◌, ◌^◌, ◌<◌, ◌≤◌, ◌==◌, if◌then◌else◌, length, map, All};
+ghost use Rattle.std.specs.Prelude.{IfOk, MatchOption};
 ghost use Rattle.drum_core.specs.Loads.{loads_in, start_in};
 ghost use Rattle.drum_times.specs.declared.times.Times as tables;
 ghost use Rattle.drum_flow.specs.Accepted.{told, IsAdmitted};
@@ -11,13 +12,16 @@ ghost use Rattle.drum_flow.specs.Free.{IsFreeOrder};
 ghost use Rattle.drum_flow.specs.Graph.{height};
 ghost use Rattle.drum_flow.specs.SettingOf.{setting};
 ghost use Rattle.drum_rows.specs.Steps.{TakesAtMost};
+ghost use Rattle.drum_ceiling.specs.InRounds as said;
 ghost use Rattle.drum_ceiling.specs.Right.{ArePrices};
 ghost use Rattle.drum_ceiling.specs.Size.{size_of};
+ghost use Rattle.drum_ceiling.specs.Sized.{IsSizeBy};
 
-use crate::in_rounds::{passes_in_all, rounds_of, sum};
+use crate::size::Size;
 use drum_core::Location;
 use drum_flow::AcceptedFlow;
 use drum_flow::counts::{LARGEST, product};
+use drum_times::Mark;
 use std::alloc::{AllocError, Global};
 
 /// A price for each mark, and the total.
@@ -40,30 +44,51 @@ fn height_of(order: &[Location], location: Location) -> usize
     0
 }
 
-/// So much for each pass in a round of a mark.
-fn priced(alloc: Global, unit: u128, rounds: &[u128]) -> Result<Vec<u128>, AllocError>
-    ensures { IfOk result (λ prices. prices.items ≡ map (λ round. told (unit * round)) rounds.now) }
+/// What a pass of a mark costs, so much for each pass in a round of it: nothing where it may never
+/// be passed.
+fn price_of(unit: u128, mark: &Mark, round: u128) -> u128
+    ensures { result ≡ (if mark.now.most == 0 then 0 else told (unit * round)) }
+{
+    if mark.most == 0 {
+        return 0;
+    }
+    product(unit, round)
+}
+
+/// What a pass of each mark costs, so much for each pass in a round of it.
+fn priced(
+    alloc: Global,
+    unit: u128,
+    marks: &[Mark],
+    rounds: &[u128],
+) -> Result<Vec<u128>, AllocError>
+    requires { length rounds.now ≡ length marks.now }
+    ensures { IfOk result (λ prices.
+        prices.items ≡ said.priced told unit marks.now rounds.now) }
 {
     let mut prices = Vec::new(alloc);
-    for round in rounds {
-        prices.push(product(unit, *round))?;
+    for (index, mark) in marks.iter().enumerate() {
+        prices.push(price_of(unit, mark, rounds[index]))?;
     }
     Ok(prices)
 }
 
 /// Prices by the order of the executed locations: for each pass in a round of a mark, as much as
 /// it takes to go through each of them once, where no step takes more than `longest` word times.
-/// `None` where what no ceiling is above is 2^127 or more.
+/// A mark that may never be passed costs nothing. `None` where the size is 2^127 or more.
 pub fn prices_by_order(
     alloc: Global,
     accepted: &AcceptedFlow<'_>,
     longest: u32,
+    size: &Size,
 ) -> Result<Option<Prices>, AllocError>
     requires admitted { IsAdmitted (loads_in (deck_of accepted.now.flow))
         (notes_of accepted.now.flow) (start_in (deck_of accepted.now.flow))
         (executed_in accepted.now.flow) }
     requires order { IsFreeOrder (loads_in (deck_of accepted.now.flow))
         (notes_of accepted.now.flow) (executed_in accepted.now.flow) (in_order accepted.now) }
+    requires sized { IsSizeBy (notes_of accepted.now.flow).marks
+        (length (executed_in accepted.now.flow)) longest size.now }
     ensures { IfOk result (λ made. (times : tables.Times) → TakesAtMost
         (setting (deck_of accepted.now.flow) times (notes_of accepted.now.flow))
         (executed_in accepted.now.flow) longest
@@ -71,19 +96,17 @@ pub fn prices_by_order(
         (length (executed_in accepted.now.flow)) longest in
         MatchOption made (2 ^ 127 ≤ size) (λ found. ArePrices
         (setting (deck_of accepted.now.flow) times (notes_of accepted.now.flow))
-        found.prices.items found.total × (found.total ≤ size))) }
+        found.prices.items found.total × (found.total ≤ size)
+        × All (λ price. price ≤ size) found.prices.items)) }
 {
-    let flow = accepted.flow();
-    let marks = flow.notes().marks();
-    let rounds = rounds_of(alloc, marks)?;
-    let passes = passes_in_all(marks, &rounds);
-    let unit = flow.executed().len() as u128 * u128::from(longest);
-    if product(unit, sum(1, passes)) >= LARGEST {
+    if size.whole >= LARGEST {
         return Ok(None);
     }
+    let flow = accepted.flow();
+    let marks = flow.notes().marks();
     let height = height_of(accepted.order(), flow.deck().start()) as u128;
     Ok(Some(Prices {
-        prices: priced(alloc, unit, &rounds)?,
-        total: height * u128::from(longest) + product(unit, passes),
+        prices: priced(alloc, size.unit, marks, &size.rounds)?,
+        total: height * u128::from(longest) + product(size.unit, size.passes),
     }))
 }

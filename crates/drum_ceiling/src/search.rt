@@ -29,6 +29,7 @@ use drum_rows::Row;
 use drum_times::Mark;
 use graph::Graph;
 use levels::Levels;
+use marks::Standing;
 use std::alloc::{AllocError, Global};
 use tries::Tries;
 
@@ -56,17 +57,27 @@ fn certificate(
     found: &Levels,
 ) -> Result<Certificate, AllocError> {
     let debt = found.debt(&graph.reached);
-    let Graph { regions, .. } = graph;
+    let Graph { marks, regions, .. } = graph;
     let Bits {
         entries: regions,
         ..
     } = regions;
     Ok(Certificate {
-        prices: prices.iter().map(|price| natural(*price)).collect(alloc)?,
+        prices: marks
+            .list
+            .iter()
+            .zip(prices)
+            .map(|(mark, price)| price_of(*mark, *price))
+            .collect(alloc)?,
         regions,
         levels: raised(alloc, &found.owed, debt)?,
         debt: natural(debt),
     })
+}
+
+/// The price of a mark; 0 where it may never be passed, so that no such price is too high.
+fn price_of(mark: Standing, price: i128) -> u128 {
+    if mark.most == 0 { 0 } else { natural(price) }
 }
 
 /// What is owed at each slot, and the debt.

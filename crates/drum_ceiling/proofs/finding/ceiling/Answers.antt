@@ -1,7 +1,7 @@
 -- Of ceiling: prices and total are those of a certificate, so its law bounds every run and walk by it; where there are none
 -- the size is 2^127 or more, and the refusal has the product.
 use Rattle.std.proofs.Common.{◌≡◌, ℕ, ◌^◌, List, Option, Some, None, ap, sym, subst, ◌∙◌, arith}
-use Rattle.std.specs.Prelude.{MatchOption}
+use Rattle.std.specs.Prelude.{All, MatchOption}
 use Rattle.drum_core.specs.declared.deck.Deck.{Deck}
 use Rattle.drum_times.specs.Allowed.{Notes}
 use Rattle.drum_times.specs.declared.notes.mark.Mark.{Mark}
@@ -23,7 +23,8 @@ abbrev Made : Deck → Times → Notes → List ℕ → Option Prices → Type 0
 Made deck times notes executed made =
     let g = setting deck times notes in
     MatchOption made (IsWithinSize g executed (2 ^ 127))
-    (λ one. ArePrices g one.prices.items one.total × IsWithinSize g executed one.total)
+    (λ one. ArePrices g one.prices.items one.total × IsWithinSize g executed one.total
+    × All (IsWithinSize g executed) one.prices.items)
 
 pub returns-in-Some-clause-given : goal.returns-in-Some-clause-given
 returns-in-Some-clause-given c =
@@ -40,7 +41,7 @@ returns-in-Some-clause-given c =
     let right : Made deck times notes executed (Some found) = subst (Made deck times notes executed) c.in-Some.is made in
     let is : IsCeiling g found.prices.items found.total =
     is_ceiling deck times notes executed found.prices.items found.total c.marks-marks.ensures.sound
-    c.in_ok-accepted.ensures.admitted right.1 right.0 in
+    c.in_ok-accepted.ensures.admitted right.1 right.2 right.0 in
     subst (λ (prices : List ℕ). IsCeiling g prices (total_of c.new.result)) (sym c.new.ensures.prices)
     (subst (λ (total : ℕ). IsCeiling g found.prices.items total) (sym c.new.ensures.total) is)
 

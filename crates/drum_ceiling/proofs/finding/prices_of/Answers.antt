@@ -1,9 +1,10 @@
--- Of prices_of: what the search found was checked over rows that are right, and the others are by the order; the lower
--- total is no more than what no ceiling is above, whatever no step takes more than.
+-- Of prices_of: what the search found was checked over rows that are right, and the others are by the order; no price and
+-- not the lower total is more than what no ceiling is above, whatever no step takes more than.
 use Rattle.std.proofs.Common.{◌≡◌, ◌⊎◌, ℕ, ◌+◌, ◌-◌, ◌*◌, ◌%◌, ◌^◌, ◌<◌, ◌≤◌, List, Option, Some, None, length, ap, sym, subst, ◌∙◌, refl, inl, inr, arith}
-use Rattle.std.specs.Prelude.{if◌then◌else◌, nat_lt, slice_get, IfNone, IfSome, MatchOption}
+use Rattle.std.specs.Prelude.{if◌then◌else◌, nat_lt, slice_get, All, IfNone, IfSome, MatchOption}
 use Rattle.std.proofs.Math.Nat.{mul-le-mul_left, mul-le-mul_right}
 use Rattle.std.proofs.lemmas.Bool.{lt-ltb}
+use Rattle.std.proofs.lemmas.List.Elements.{All-weaker}
 use Rattle.drum_core.specs.Loads.{start_in}
 use Rattle.drum_times.specs.Allowed.{Notes, AreSound}
 use Rattle.drum_flow.specs.declared.flow_graph.Flow.{Flow}
@@ -44,50 +45,67 @@ module _ (g : Setting) (executed : List ℕ) (longest : ℕ)
       let grows : size longest ≤ size most = mul-le-mul_right _ words in
       omega (arith, low, grows)
 
+  -- and of prices likewise
+  all_within : (prices : List ℕ) → All (λ price. price ≤ size longest) prices → All (IsWithinSize g executed) prices
+  all_within prices low = All-weaker (λ price. price ≤ size longest) (IsWithinSize g executed) within_size prices low
+
+  -- prices of a certificate, none above the size
+  abbrev pub Right : Prices → Type 0
+  Right one = ArePrices g one.prices.items one.total × All (λ price. price ≤ size longest) one.prices.items
+
+  -- and by the order, with a total that isn't above it
+  abbrev pub ByOrder : Option Prices → Type 0
+  ByOrder by_order = MatchOption by_order (2 ^ 127 ≤ size longest)
+      (λ one. ArePrices g one.prices.items one.total × (one.total ≤ size longest)
+      × All (λ price. price ≤ size longest) one.prices.items)
+
+  -- those that were found, where they are within what the code has for the size
+  pub kept : (whole : ℕ) → whole ≤ size longest → (found : Option Prices)
+      → IfSome found (λ one. ArePrices g one.prices.items one.total) → (within : Option Prices)
+      → IfSome within (λ one. (found ≡ Some one) × All (λ price. price ≤ whole) one.prices.items) → IfSome within Right
+  kept whole low found right None is = is
+  kept whole low found right (Some one) is = (
+    subst (λ (given : Option Prices). IfSome given (λ one. ArePrices g one.prices.items one.total)) is.0 right,
+    All-weaker (λ price. price ≤ whole) (λ price. price ≤ size longest) (λ price few. omega (arith, few, low))
+        one.prices.items is.1,
+  )
+
   -- the lower of two
-  pub lower : (found by_order : Option Prices) → IfSome found (λ one. ArePrices g one.prices.items one.total)
-      → MatchOption by_order (2 ^ 127 ≤ size longest)
-      (λ one. ArePrices g one.prices.items one.total × (one.total ≤ size longest))
-      → (made : Option Prices) → IfNone made (by_order ≡ None)
+  pub lower : (found by_order : Option Prices) → IfSome found Right → ByOrder by_order
+      → (made : Option Prices) → IfNone made ((found ≡ None) × (by_order ≡ None))
       → IfSome made (λ one. (by_order ≡ Some one) ⊎ ((found ≡ Some one) × IfSome by_order (λ other. one.total ≤ other.total)))
       → MatchOption made (IsWithinSize g executed (2 ^ 127))
-      (λ one. ArePrices g one.prices.items one.total × IsWithinSize g executed one.total)
-  lower found by_order right other None none some =
-      within_size (2 ^ 127)
-      (subst (λ (one : Option Prices). MatchOption one (2 ^ 127 ≤ size longest)
-      (λ one. ArePrices g one.prices.items one.total × (one.total ≤ size longest))) none other)
+      (λ one. ArePrices g one.prices.items one.total × IsWithinSize g executed one.total
+      × All (IsWithinSize g executed) one.prices.items)
+  lower found by_order right other None none some = within_size (2 ^ 127) (subst ByOrder none.1 other)
   lower found by_order right other (Some one) none (inl is) =
-      let so = subst (λ (given : Option Prices). MatchOption given (2 ^ 127 ≤ size longest)
-      (λ one. ArePrices g one.prices.items one.total × (one.total ≤ size longest))) is other in
-      (so.0, within_size one.total so.1)
+      let so = subst ByOrder is other in (so.0, within_size one.total so.1, all_within one.prices.items so.2)
   lower found by_order right other (Some one) none (inr is) =
-      let so : ArePrices g one.prices.items one.total =
-      subst (λ (given : Option Prices). IfSome given (λ one. ArePrices g one.prices.items one.total)) is.0 right in
-      (so, within_size one.total (low by_order other is.1))
+      let so : Right one = subst (λ (given : Option Prices). IfSome given Right) is.0 right in
+      (so.0, within_size one.total (low so.0 by_order other is.1), all_within one.prices.items so.1)
     where
-      low : (given : Option Prices) → MatchOption given (2 ^ 127 ≤ size longest)
-          (λ one. ArePrices g one.prices.items one.total × (one.total ≤ size longest))
+      low : ArePrices g one.prices.items one.total → (given : Option Prices) → ByOrder given
           → IfSome given (λ other. one.total ≤ other.total) → one.total ≤ size longest
-      low None large no_more = omega (arith, large, (subst (λ (given : Option Prices). IfSome given (λ one. ArePrices g one.prices.items one.total)) is.0 right).small)
-      low (Some given) large no_more = omega (arith, large.1, no_more)
+      low are None large no_more = omega (arith, large, are.small)
+      low are (Some given) large no_more = omega (arith, large.1, no_more)
 
 pub returns : goal.returns
 returns c =
     let flow = c.args.accepted.now.flow in
     let g = setting (deck_of flow) c.args.times.now (notes_of flow) in
     let executed = executed_in flow in
-    let longest = c.longest_of.result in
+    let longest = c.longest_of-longest.result in
     let rows = c.in_ok-rows.rows.items in
     let are : AreRows g executed rows =
     subst (λ (one : Flow). AreRows (setting (deck_of one) c.args.times.now (notes_of one)) (executed_in one) rows)
     c.flow-flow.ensures c.in_ok-rows.ensures in
     let each : (slot : ℕ) (row : Row) → slice_get rows slot ≡ Some (Some row) → row.most ≤ longest =
     subst (λ (all : List (Option Row)). (slot : ℕ) (row : Row) → slice_get all slot ≡ Some (Some row) → row.most ≤ longest)
-    c.deref.ensures.value c.longest_of.ensures.each in
+    c.deref.ensures.value c.longest_of-longest.ensures.each in
     let takes : TakesAtMost g executed longest =
-    takes_at_most g executed rows longest (executed_location flow) are c.longest_of.ensures.some each in
+    takes_at_most g executed rows longest (executed_location flow) are c.longest_of-longest.ensures.some each in
     let least : (most : ℕ) → TakesAtMost g executed most → longest ≤ most =
-    λ most other. c.longest_of.ensures.least most other.some
+    λ most other. c.longest_of-longest.ensures.least most other.some
     (λ slot row at. (are.each slot row
     (ap (λ (all : List (Option Row)). slice_get all slot) (sym c.deref.ensures.value) ∙ at)).low most other) in
     let same_notes : c.notes.result.now ≡ notes_of flow = c.notes.ensures ∙ ap notes_of c.flow-flow.ensures in
@@ -99,9 +117,15 @@ returns c =
     sym (c.start-start.ensures.held ∙ ap start_in (c.deck.ensures ∙ ap deck_of c.flow-flow.ensures)) in
     let same_rows : AreRows g executed c.deref-3.result.now =
     subst (AreRows g executed) (sym c.deref-3.ensures.value) are in
-    let from_start : start_in (deck_of flow) ≡ c.of.result.number =
-    start ∙ start_number c.start-start.result.number c.of.result.number c.start-start.ensures.on_drum c.of.ensures in
+    let from_start : start_in (deck_of flow) ≡ c.of-2.result.number =
+    start ∙ start_number c.start-start.result.number c.of-2.result.number c.start-start.ensures.on_drum c.of-2.ensures in
     let checked : IfSome c.checked.result (λ one. ArePrices g one.prices.items one.total) =
     mapped c.checked.result (λ one right. right g executed proper (sym marks) same_rows from_start) c.checked.ensures in
-    lower g executed longest least c.checked.result c.in_ok-by_order.by_order checked
+    let size = c.in_ok-size.size in
+    let low : size.whole ≤ size_of (notes_of flow).marks (length executed) longest =
+    subst (λ (one : Flow). size.whole ≤ size_of (notes_of one).marks (length (executed_in one)) longest)
+    c.flow-flow.ensures c.in_ok-size.ensures.low in
+    let within : IfSome c.within-found.result (Right g executed longest least) =
+    kept g executed longest least size.whole low c.checked.result checked c.within-found.result c.within-found.ensures.some in
+    lower g executed longest least c.within-found.result c.in_ok-by_order.by_order within
     (c.in_ok-by_order.ensures c.args.times.now takes) c.lower_of.result c.lower_of.ensures.none c.lower_of.ensures.some

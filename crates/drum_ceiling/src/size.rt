@@ -1,0 +1,50 @@
+//! What no ceiling is above: neither its total nor a price.
+
+ghost use Rattle.std.specs.Prelude.{◌≡◌, ◌≤◌, ◌↔◌, length, All, IfOk, IsTrue};
+ghost use Rattle.drum_flow.specs.Flow.{notes_of, executed_in};
+ghost use Rattle.drum_ceiling.specs.Sized.{IsSizeBy};
+
+use crate::in_rounds::{passes_in_all, rounds_of, sum};
+use drum_flow::Flow;
+use drum_flow::counts::product;
+use std::alloc::{AllocError, Global};
+
+/// A number that no ceiling need be above, with what it is made of.
+#[derive(Debug, Drop)]
+pub struct Size {
+    /// How many passes there are in one round of each mark at most; 2^127 where that is more.
+    pub rounds: Vec<u128>,
+    /// How many passes of all marks there are at most; 2^127 where that is more.
+    pub passes: u128,
+    /// What it takes to go through each executed location once, at most.
+    pub unit: u128,
+    /// As much for each pass, and once more; 2^127 where that is more.
+    pub whole: u128,
+}
+
+impl Size {
+    /// That of a flow none of whose steps takes more than `longest` word times.
+    pub fn of(alloc: Global, flow: &Flow<'_>, longest: u32) -> Result<Size, AllocError>
+        ensures { IfOk result (IsSizeBy (notes_of flow.now).marks
+            (length (executed_in flow.now)) longest) }
+    {
+        let marks = flow.notes().marks();
+        let rounds = rounds_of(alloc, marks)?;
+        let passes = passes_in_all(marks, &rounds);
+        let unit = flow.executed().len() as u128 * u128::from(longest);
+        let whole = product(unit, sum(1, passes));
+        Ok(Size {
+            rounds,
+            passes,
+            unit,
+            whole,
+        })
+    }
+
+    /// Whether none of these prices is above it.
+    pub fn has(&self, prices: &[u128]) -> bool
+        ensures { IsTrue result ↔ All (λ price. price ≤ self.now.whole) prices.now }
+    {
+        prices.iter().all(|price| *price <= self.whole)
+    }
+}
