@@ -59,6 +59,8 @@ impl Onward {
 pub struct Raised {
     /// The most word times until one of them without a mark ends, and 49 more; 0 of none.
     pub stop: u32,
+    /// One of them without a mark that ends last.
+    pub last: Option<Hop>,
     /// The most until any of them ends, and 49 more; 0 of none.
     pub most: u32,
     /// What they take by the numbers of where they lead.
@@ -78,6 +80,7 @@ impl Raised {
     {
         Ok(Raised {
             stop: 0,
+            last: None,
             most: 0,
             onward: vec![in alloc; None; Slot::COUNT]?,
             bands: [false; BANDS],
@@ -96,7 +99,7 @@ impl Raised {
         let angle = from.angle;
         let ended = longest(from.times, from.location, hop, angle);
         let stop = (ended + LONGEST_SEARCH - angle) as u32;
-        self.end(stop, from.is_marked(hop.way));
+        self.end(stop, hop, from.is_marked(hop.way));
         if let Way::To(next) = hop.way {
             let found = Seek::of(next).go(ended);
             let time = (found - angle) as u32;
@@ -105,15 +108,16 @@ impl Raised {
     }
 
     /// A hop, with a mark or without, ends so late with 49 word times more.
-    fn end(&mut self, stop: u32, is_marked: bool)
+    fn end(&mut self, stop: u32, hop: Hop, is_marked: bool)
         ensures most { self.new.most ≡ max self.old.most stop }
         ensures no_less { self.old.stop ≤ self.new.stop }
         ensures unmarked { is_marked ≡ false → stop ≤ self.new.stop }
         ensures onward { self.new.onward.items ≡ self.old.onward.items }
     {
         self.most = self.most.max(stop);
-        if !is_marked {
-            self.stop = self.stop.max(stop);
+        if !is_marked && self.stop < stop {
+            self.stop = stop;
+            self.last = Some(hop);
         }
     }
 
@@ -140,6 +144,7 @@ impl Raised {
         }
         self.bands = [false; BANDS];
         self.stop = 0;
+        self.last = None;
         self.most = 0;
     }
 }

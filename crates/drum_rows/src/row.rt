@@ -24,6 +24,8 @@ pub struct Edge {
 pub struct Row {
     /// The most word times until one of them without a mark ends, and 49 more; 0 of none.
     pub stop: u32,
+    /// One of them without a mark that ends last.
+    pub last: Option<Hop>,
     /// The most until any of them ends, and 49 more; 0 of none.
     pub most: u32,
     /// Where they lead.

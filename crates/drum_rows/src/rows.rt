@@ -39,6 +39,7 @@ fn row_at(
     raised.take_all(flow.deck(), &from);
     let row = Row {
         stop: raised.stop,
+        last: raised.last,
         most: raised.most,
         edges: edges_of(alloc, from.notes.marks(), from.location, raised)?,
     };

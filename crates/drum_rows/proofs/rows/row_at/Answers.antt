@@ -38,7 +38,7 @@ returns-clause-row c =
     let from = c.at-from.result in
     let place = from.location.number in
     let raised = c.take_all.new.self in
-    let row : Row = record { stop = raised.stop; most = raised.most; edges = c.in_ok-edges_of.field-0 } in
+    let row : Row = record { stop = raised.stop; last = raised.last; most = raised.most; edges = c.in_ok-edges_of.field-0 } in
     let notes : notes_of flow ≡ from.notes.now = sym c.at-from.ensures.notes in
     let times : entry_in c.args.times.now ≡ entry_in from.times.now = ap entry_in (sym c.at-from.ensures.times) in
     let all : allowed (loads_in (deck_of flow)) (notes_of flow) place
