@@ -1,0 +1,37 @@
+-- Hops that are laid one after the other, each as long as it can be.
+use Rattle.std.proofs.Common.{◌≡◌, ℕ, zero, suc, ◌+◌, ◌-◌, ◌*◌, ◌≤◌, List, [], ◌∷◌, ◌++◌, map, refl, ap, sym, ◌∙◌, arith}
+use Rattle.std.specs.Prelude.{flat_map}
+use Rattle.drum_machine.specs.Since.{Edge}
+use Rattle.drum_flow.specs.Longest.{longest}
+use Rattle.drum_flow.specs.MostPasses.{edge_taken, edges_taken}
+use Rattle.drum_flow.specs.Walk.{Setting, Taken, time_from}
+use Rattle.drum_flow.proofs.LongestLaws.{longest_later}
+use Rattle.drum_bound.specs.Visited.{visited, AreLongest}
+use Rattle.drum_rounds.specs.Pieces.{placed, PlacedHop}
+use Rattle.drum_rounds.specs.Stretch.{edges_placed, laid, laid_one}
+
+pub time_append : (time : ℕ) (xs ys : List Taken) → time_from time (xs ++ ys) ≡ time_from (time_from time xs) ys
+time_append time [] ys = refl
+time_append time (x ∷ xs) ys = time_append x.ended xs ys
+
+module _ (g : Setting) (angle : ℕ) where
+  pub laid_append : (time : ℕ) (xs ys : List PlacedHop)
+      → laid g angle time (xs ++ ys) ≡ laid g angle time xs ++ laid g angle (time_from time (laid g angle time xs)) ys
+  laid_append time [] ys = refl
+  laid_append time (x ∷ xs) ys =
+      ap (λ (rest : List Taken). laid_one g angle time x ∷ rest) (laid_append (laid_one g angle time x).ended xs ys)
+
+  pub placed_laid : (time : ℕ) (hops : List PlacedHop) → map placed (laid g angle time hops) ≡ hops
+  placed_laid time [] = refl
+  placed_laid time (x ∷ xs) = ap (λ (rest : List PlacedHop). x ∷ rest) (placed_laid (laid_one g angle time x).ended xs)
+
+  pub longest_laid : (time : ℕ) (hops : List PlacedHop) → AreLongest g angle (map visited (laid g angle time hops))
+  longest_laid time [] = tt
+  longest_laid time (x ∷ xs) =
+      (omega (arith, longest_later g.times x.place x.hop.ins x.hop.way (angle + time)),
+      longest_laid (laid_one g angle time x).ended xs)
+
+  pub edges_laid : (time : ℕ) (hops : List PlacedHop) → edges_taken (laid g angle time hops) ≡ edges_placed hops
+  edges_laid time [] = refl
+  edges_laid time (x ∷ xs) =
+      ap (λ (rest : List Edge). edge_taken x.place x.hop.way ++ rest) (edges_laid (laid_one g angle time x).ended xs)

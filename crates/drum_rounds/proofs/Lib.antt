@@ -1,0 +1,5 @@
+pub mod Comings
+pub mod CountLaws
+pub mod HopLaws
+pub mod LaidLaws
+pub mod Wholes

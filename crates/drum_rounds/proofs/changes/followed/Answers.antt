@@ -1,0 +1,25 @@
+use Rattle.std.proofs.Common.{◌≡◌, ℕ, ◌++◌, [], ◌∷◌, List, Some, take, ap, sym, ◌∙◌, arith}
+use Rattle.std.proofs.lemmas.List.{take_all}
+use Rattle.drum_rounds.specs.declared.change.Change.{Change}
+use Rattle.drum_rounds.specs.Change.{all_followed, followed}
+use Rattle.drum_rounds.proofs.CountLaws.{followed_more}
+use Rattle.drum_rounds.proofs.changes.followed.Goals as goal
+
+pub loop-index-preserved : goal.loop-index-preserved
+loop-index-preserved c =
+    let changes = c.args.changes.now in
+    let others = c.args.others.now in
+    let k = c.loop-index.index in
+    let so = c.in-Some.ensures in
+    c.in_ok-push.ensures.items ∙ ap (λ (cs : List Change). cs ++ c.in-Some.both ∷ []) c.loop-index.invariant
+    ∙ ap (λ (one : Change). all_followed (take k changes) (take k others) ++ one ∷ []) so.2.2
+    ∙ sym (followed_more changes others k so.0 so.2.0 so.1 so.2.1)
+
+pub returns : goal.returns
+returns c =
+    let k = c.loop-index.index in
+    c.loop-index.invariant
+    ∙ ap (λ (cs : List Change). all_followed cs (take k c.args.others.now))
+    (take_all k c.args.changes.now c.loop-index-test.false)
+    ∙ ap (λ (cs : List Change). all_followed c.args.changes.now cs)
+    (take_all k c.args.others.now (omega (arith, c.loop-index-test.false, c.requires)))

@@ -1,0 +1,33 @@
+use Rattle.std.proofs.Common.{◌≡◌, List, ◌∷◌, ap, sym, ◌∙◌, subst, refl}
+use Rattle.std.specs.Prelude.{flat_map, Contains, IsTrue}
+use Rattle.std.proofs.lemmas.List.Elements.{Contains-append_left, Contains-append_right}
+use Rattle.drum_core.specs.declared.instruction.Instruction.{Instruction}
+use Rattle.drum_core.specs.Loads.{loads_in}
+use Rattle.drum_times.specs.Allowed.{allowed, matching}
+use Rattle.drum_times.specs.declared.notes.pattern.Pattern.{Pattern}
+use Rattle.drum_times.proofs.Matching.{matching_has}
+use Rattle.drum_flow.specs.Patterns.{patterns_left}
+use Rattle.drum_rounds.proofs.setting.Setting.allows.Goals as goal
+
+pub loop-pattern-init : goal.loop-pattern-init
+loop-pattern-init c =
+    let own = c.args.self.now in
+    let all : flat_map matching (patterns_left c.into_iter-pattern-iterator.result)
+    ≡ allowed (loads_in own.deck.now) own.notes.now c.args.location.number =
+    ap (λ (it : List Pattern). flat_map matching it)
+    (ap patterns_left c.into_iter-pattern-iterator.ensures.into_iter_gives) ∙ c.at-pattern-items.ensures in
+    λ ins there. subst (λ (some : List Instruction). Contains some ins) all there
+
+pub loop-pattern-preserved : goal.loop-pattern-preserved
+loop-pattern-preserved c = λ ins there.
+    c.loop-pattern.invariant ins
+    (subst (λ (some : List Pattern). Contains (flat_map matching some) ins) (sym c.in-Some.ensures.steps)
+    (Contains-append_right (matching c.in-Some.pattern) (flat_map matching (patterns_left c.next.new.self)) ins there))
+
+pub returns-then-matches : goal.returns-then-matches
+returns-then-matches c = λ yes.
+    let ins = c.args.instruction in
+    c.loop-pattern.invariant ins
+    (subst (λ (some : List Pattern). Contains (flat_map matching some) ins) (sym c.in-Some.ensures.steps)
+    (Contains-append_left (matching c.in-Some.pattern) (flat_map matching (patterns_left c.next.new.self)) ins
+    (matching_has c.in-Some.pattern ins (c.matches.ensures.0 c.if-matches.true))))

@@ -1,0 +1,28 @@
+use Rattle.std.proofs.Common.{◌≡◌, ℕ, ◌-◌, List, [], Some, length, sym, ap, ◌∙◌, subst, map}
+use Rattle.std.specs.Prelude.{slice_get}
+use Rattle.drum_flow.specs.SettingOf.{setting}
+use Rattle.drum_rounds.specs.declared.piece.Piece.{Piece}
+use Rattle.drum_rounds.specs.declared.stretch.Stretch.{Stretch}
+use Rattle.drum_rounds.specs.Change.{passes_by}
+use Rattle.drum_rounds.specs.Pieces.{spelled_behind}
+use Rattle.drum_rounds.specs.Stretch.{AreStretches}
+use Rattle.drum_rounds.proofs.Wholes.{whole_walk}
+use Rattle.drum_rounds.proofs.setting.Setting.weigh.Goals as goal
+
+pub returns : goal.returns
+returns c =
+    let own = c.args.self.now in
+    let g = setting own.deck.now own.times.now own.notes.now in
+    let pieces = c.args.pieces.items in
+    let stretches = c.in-Some.stretches.items in
+    let whole = c.in-Some-last.whole.now in
+    let made = rw c.in-Some.is at c.in_ok-stretches.ensures in
+    let are : AreStretches g (spelled_behind [] pieces) stretches =
+    subst (λ (ps : List Piece). AreStretches g (spelled_behind [] ps) stretches) c.deref.ensures.value made in
+    let last : slice_get stretches (length stretches - 1) ≡ Some whole =
+    subst (λ (ss : List Stretch). slice_get ss (length ss - 1) ≡ Some whole) c.deref-2.ensures.value
+    (sym c.in-Some-last.ensures.value) in
+    let all : c.in_ok-passes_of.field-0.items ≡ map passes_by whole.changes.items =
+    c.in_ok-passes_of.ensures ∙ ap (map passes_by) c.deref-3.ensures.value in
+    whole_walk g pieces stretches whole c.in_ok-passes_of.field-0.items are last
+    (c.is_from_start.ensures c.if-not-is_from_start.false) all

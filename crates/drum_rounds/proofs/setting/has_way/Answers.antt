@@ -1,0 +1,28 @@
+use Rattle.std.proofs.Common.{◌≡◌, List, ◌∷◌, ap, sym, ◌∙◌, subst, refl}
+use Rattle.std.specs.Prelude.{Contains, IsTrue}
+use Rattle.drum_machine.specs.Ways.{Way, ways}
+use Rattle.drum_machine.specs.WaysLeft.{seen_way, ways_left}
+use Rattle.drum_flow.proofs.Lists.{contains_here, contains_there}
+use Rattle.drum_rounds.proofs.setting.has_way.Goals as goal
+
+pub loop-one-init : goal.loop-one-init
+loop-one-init c =
+    let all : ways_left c.into_iter-one-iterator.result ≡ ways c.args.notes.now c.args.instruction =
+    ap ways_left c.into_iter-one-iterator.ensures.into_iter_gives ∙ c.of-one-items.ensures in
+    λ way there. subst (λ (some : List Way). Contains some way) all there
+
+pub loop-one-preserved : goal.loop-one-preserved
+loop-one-preserved c = λ way there.
+    c.loop-one.invariant way
+    (subst (λ (some : List Way). Contains some way) (sym c.in-Some.ensures.steps)
+    (contains_there (seen_way c.in-Some.one) way (ways_left c.next.new.self) there))
+
+pub returns-then-is_way : goal.returns-then-is_way
+returns-then-is_way c = λ yes.
+    let one = seen_way c.in-Some.one in
+    let here =
+    c.loop-one.invariant one
+    (subst (λ (some : List Way). Contains some one) (sym c.in-Some.ensures.steps)
+    (contains_here one (ways_left c.next.new.self))) in
+    subst (λ (w : Way). Contains (ways c.args.notes.now c.args.instruction) w)
+    (c.is_way.ensures c.if-is_way.true) here

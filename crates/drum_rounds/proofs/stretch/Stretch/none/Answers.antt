@@ -1,0 +1,18 @@
+use Rattle.std.proofs.Common.{◌≡◌, List, [], Some, None, sym, ap, ◌∙◌, subst}
+use Rattle.drum_times.specs.declared.notes.mark.Mark.{Mark}
+use Rattle.drum_rounds.specs.declared.change.Change.{Change}
+use Rattle.drum_rounds.specs.Stretch.{changes_by, ComeTo}
+use Rattle.drum_rounds.proofs.Comings.{none_comes}
+use Rattle.drum_rounds.proofs.stretch.Stretch.none.Goals as goal
+
+pub returns : goal.returns
+returns c g same =
+    let all : changes_by g.notes.marks None 0 g.notes.marks ≡ c.in_ok-changes_by.field-0.items =
+    ap (λ (ms : List Mark). changes_by ms None 0 ms) same ∙ sym c.in_ok-changes_by.ensures in
+    subst (λ (changes : List Change). ComeTo g [] (record {
+      from = c.args.from.number;
+      angle = c.args.angle;
+      onto = Some c.args.from.number;
+      time = 0;
+      changes = changes;
+    })) all (none_comes g c.args.from.number c.args.angle)

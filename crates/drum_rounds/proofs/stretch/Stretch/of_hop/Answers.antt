@@ -1,0 +1,56 @@
+use Rattle.std.proofs.Common.{◌≡◌, ℕ, ◌+◌, List, [], ◌∷◌, Some, None, Option, sym, ap, ◌∙◌, subst, arith}
+use Rattle.drum_core.specs.Loads.{loads_in}
+use Rattle.drum_times.specs.declared.notes.mark.Mark.{Mark}
+use Rattle.drum_times.specs.Entries.{entry_in}
+use Rattle.drum_machine.specs.WaysLeft.{seen_way}
+use Rattle.drum_flow.specs.Longest.{longest}
+use Rattle.drum_flow.specs.Seen.{seen_hop}
+use Rattle.drum_flow.specs.SettingOf.{setting}
+use Rattle.drum_flow.proofs.Profiles.{hop_may_end}
+use Rattle.drum_rounds.specs.declared.change.Change.{Change}
+use Rattle.drum_rows.specs.Marked.{mark_by}
+use Rattle.drum_rounds.specs.Stretch.{changes_by, next_by, number_of, ComeTo}
+use Rattle.drum_rounds.proofs.Comings.{hop_comes}
+use Rattle.drum_rounds.proofs.stretch.Stretch.of_hop.Goals as goal
+
+pub longest-end-requires-clause-may_end : goal.longest-end-requires-clause-may_end
+longest-end-requires-clause-may_end c =
+    let by = c.args.by.now in
+    let one = c.args.one in
+    hop_may_end (loads_in by.deck.now) by.notes.now one.location.number one.hop.instruction (seen_way one.hop.way)
+    (c.has_hop.ensures c.if-not-has_hop.false)
+
+pub returns : goal.returns
+returns c =
+    let by = c.args.by.now in
+    let one = c.args.one in
+    let g = setting by.deck.now by.times.now by.notes.now in
+    let place = one.location.number in
+    let way = seen_way one.hop.way in
+    let took = c.from.result in
+    let marks : c.marks-marks.result.now ≡ by.notes.now.marks = c.marks-marks.ensures.all in
+    let changes : changes_by by.notes.now.marks (mark_by by.notes.now.marks place way) 0 by.notes.now.marks
+    ≡ c.in_ok-changes_by.field-0.items =
+    sym (
+      c.in_ok-changes_by.ensures
+          ∙ ap (λ (k : Option ℕ). changes_by c.marks-marks.result.now k 0 c.marks-marks.result.now) c.mark_by-passed.ensures
+          ∙ ap (λ (ms : List Mark). changes_by ms (mark_by ms place way) 0 ms) marks
+    ) in
+    let ends : longest (entry_in by.times.now) place one.hop.instruction way one.angle ≡ one.angle + took =
+    omega (arith, c.longest-end.ensures.value, c.longest-end.ensures.later, c.from.ensures) in
+    let is =
+    hop_comes g place one.angle one.hop.instruction one.on_drum took way (c.has_hop.ensures c.if-not-has_hop.false) ends in
+    subst (λ (onto : Option ℕ). ComeTo g (record { place = place; hop = seen_hop one.hop } ∷ []) (record {
+      from = place;
+      angle = one.angle;
+      onto = onto;
+      time = took;
+      changes = c.in_ok-changes_by.field-0.items;
+    })) (sym c.next_by.ensures)
+    (subst (λ (cs : List Change). ComeTo g (record { place = place; hop = seen_hop one.hop } ∷ []) (record {
+      from = place;
+      angle = one.angle;
+      onto = next_by way;
+      time = took;
+      changes = cs;
+    })) changes is)

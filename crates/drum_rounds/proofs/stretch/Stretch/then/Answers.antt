@@ -1,0 +1,32 @@
+use Rattle.std.proofs.Common.{◌≡◌, ℕ, ◌+◌, List, ◌++◌, Some, sym, ap, ◌∙◌, subst, arith, map}
+use Rattle.drum_rounds.specs.declared.change.Change.{Change}
+use Rattle.drum_rounds.specs.Change.{all_followed}
+use Rattle.drum_rounds.specs.Stretch.{number_of, span_of, ComeTo}
+use Rattle.drum_rounds.proofs.Comings.{then_comes}
+use Rattle.drum_rounds.proofs.stretch.Stretch.then.Goals as goal
+
+pub returns : goal.returns
+returns c g hops others first second =
+    let own = c.args.self.now in
+    let next = c.args.next.now in
+    let leads = c.leads_to.ensures c.if-not-leads_to.false in
+    let made = rw c.in-Some-2.is at c.in_ok-changes.ensures in
+    let changes : c.in-Some-2.changes.items ≡ all_followed own.changes.items next.changes.items =
+    made ∙ ap (λ (cs : List Change). all_followed cs c.deref-2.result.now) c.deref.ensures.value
+    ∙ ap (λ (cs : List Change). all_followed own.changes.items cs) c.deref-2.ensures.value in
+    let time : c.in-Some.time ≡ own.time + next.time = c.in-Some.ensures.1 in
+    subst (λ (cs : List Change). ComeTo g (hops ++ others) (record {
+      from = own.from.number;
+      angle = own.angle;
+      onto = number_of next.onto;
+      time = c.in-Some.time;
+      changes = cs;
+    })) (sym changes)
+    (subst (λ (t : ℕ). ComeTo g (hops ++ others) (record {
+      from = own.from.number;
+      angle = own.angle;
+      onto = number_of next.onto;
+      time = t;
+      changes = all_followed own.changes.items next.changes.items;
+    })) (sym time)
+    (then_comes g hops others (span_of own) (span_of next) leads.0 leads.1 first second))

@@ -1,0 +1,76 @@
+//! A ceiling of a deck, with a walk that takes so long, or nearly.
+
+ghost use Rattle.std.specs.Prelude.{◌≡◌, IfOk, IfErr};
+ghost use Rattle.drum_flow.specs.Walk as walks;
+ghost use Rattle.drum_ceiling.specs.CeilingOf.{IsCeilingRefusal};
+ghost use Rattle.drum_rounds.specs.InRounds.{angle_of, pieces_of, passes_in, total_of};
+ghost use Rattle.drum_rounds.specs.InRounds.{IsInRoundsOf, SpellOut};
+ghost use Rattle.drum_rounds.specs.BracketOf.{IsBracketOf};
+
+use crate::in_rounds::InRounds;
+use crate::search;
+use crate::setting::Setting;
+use drum_ceiling::{Ceiling, ceiling};
+use drum_core::{Deck, Location};
+use drum_flow::{AcceptedFlow, Refusal};
+use drum_rows::{Row, rows_of};
+use drum_times::{Mark, Notes, Times};
+use std::alloc::{AllocError, Global};
+
+/// A ceiling, and a walk of the flow graph: the worst time is no more than the one, and no less than
+/// the other takes.
+#[derive(Debug, Drop)]
+pub struct Bracket {
+    pub ceiling: Ceiling,
+    pub walk: InRounds,
+}
+
+/// The walk without a hop.
+fn no_walk(alloc: Global, marks: &[Mark]) -> Result<InRounds, AllocError>
+    ensures { IfOk result (λ walk. (g : walks.Setting) → g.notes.marks ≡ marks.now
+        → SpellOut g (angle_of walk) (pieces_of walk) (passes_in walk) (total_of walk)) }
+{
+    Ok(InRounds {
+        angle: 0,
+        pieces: Vec::new(alloc),
+        passes: vec![in alloc; 0; marks.len()]?,
+        total: 0,
+    })
+}
+
+impl Setting<'_> {
+    /// A walk, as long as the search finds one: by the rows, and by an order of the locations in
+    /// which every edge without a mark goes on.
+    fn walk(
+        &self,
+        alloc: Global,
+        rows: &[Option<Row>],
+        order: &[Location],
+    ) -> Result<InRounds, AllocError>
+        ensures { IfOk result (IsInRoundsOf self.now.deck.now self.now.times.now self.now.notes.now) }
+    {
+        let pieces = search::find(alloc, self, rows, order)?;
+        match self.weigh(alloc, pieces)? {
+            Some(walk) => Ok(walk),
+            None => no_walk(alloc, self.notes.marks()),
+        }
+    }
+}
+
+/// A ceiling of a deck with its timing table and notes, with a walk in rounds, each hop as long as
+/// it can be. No walk takes more than the ceiling; where this one takes as long, it is a worst one.
+///
+/// # Errors
+///
+/// Those of [`ceiling`](drum_ceiling::ceiling).
+pub fn reached(alloc: Global, deck: &Deck, times: &Times, notes: &Notes) -> Result<Bracket, Refusal>
+    ensures given { IfOk result (IsBracketOf deck.now times.now notes.now) }
+    ensures refused { IfErr result (IsCeilingRefusal deck.now times.now notes.now) }
+{
+    let ceiling = ceiling(alloc, deck, times, notes)?;
+    let accepted = AcceptedFlow::of_any_size(alloc, deck, notes)?;
+    let rows = rows_of(alloc, accepted.flow(), times)?;
+    let by = Setting { deck, times, notes };
+    let walk = by.walk(alloc, &rows, accepted.order())?;
+    Ok(Bracket { ceiling, walk })
+}

@@ -1,0 +1,137 @@
+//! What hops come to: one alone, one stretch behind another, and rounds of one.
+
+ghost use Rattle.std.specs.Prelude.{◌≡◌, ◌++◌, [], ◌∷◌, List, IfOk, IfSome};
+ghost use Rattle.drum_machine.specs.WaysLeft.{seen_way};
+ghost use Rattle.drum_flow.specs.Seen.{seen_hop};
+ghost use Rattle.drum_flow.specs.SettingOf.{setting};
+ghost use Rattle.drum_flow.specs.Walk as walks;
+ghost use Rattle.drum_rows.specs.Marked.{mark_by};
+ghost use Rattle.drum_rounds.specs.Pieces.{repeated, PlacedHop};
+ghost use Rattle.drum_rounds.specs.Stretch.{next_by, number_of, span_of, ComeTo};
+
+use crate::changes::{changes_by, followed, over_rounds};
+use crate::piece::Placed;
+use crate::setting::Setting;
+use crate::stretch::Stretch;
+use drum_core::Location;
+use drum_flow::longest::longest;
+use drum_machine::Way;
+use drum_times::Mark;
+use std::alloc::{AllocError, Global};
+
+/// Where a hop by this way goes on.
+fn next_by(way: Way) -> Option<Location>
+    ensures { number_of result ≡ next_by (seen_way way) }
+{
+    match way {
+        Way::To(next) => Some(next),
+        Way::Early | Way::Late => None,
+    }
+}
+
+/// The index of the mark that a hop of a location passes by this way.
+fn mark_by(marks: &[Mark], from: Location, way: Way) -> Option<usize>
+    ensures { result ≡ mark_by marks.now from.number (seen_way way) }
+{
+    match way {
+        Way::To(next) => Mark::on_edge(marks, from, next),
+        Way::Early | Way::Late => None,
+    }
+}
+
+impl Stretch {
+    /// No hop, of a location at an angle.
+    pub fn none(
+        alloc: Global,
+        marks: &[Mark],
+        from: Location,
+        angle: u64,
+    ) -> Result<Stretch, AllocError>
+        ensures { IfOk result (λ made. (g : walks.Setting) → g.notes.marks ≡ marks.now
+            → ComeTo g [] (span_of made)) }
+    {
+        Ok(Stretch {
+            from,
+            angle,
+            onto: Some(from),
+            time: 0,
+            changes: changes_by(alloc, marks, None)?,
+        })
+    }
+
+    /// A hop; `None` where it is none of its location.
+    pub fn of_hop(
+        alloc: Global,
+        by: &Setting<'_>,
+        one: Placed,
+    ) -> Result<Option<Stretch>, AllocError>
+        ensures { IfOk result (λ made. IfSome made (λ stretch. ComeTo
+            (setting by.now.deck.now by.now.times.now by.now.notes.now)
+            (record { place = one.location.number; hop = seen_hop one.hop } ∷ [])
+            (span_of stretch))) }
+    {
+        if !by.has_hop(one.location, one.hop) {
+            return Ok(None);
+        }
+        let marks = by.notes.marks();
+        let end = longest(by.times, one.location, one.hop, one.angle);
+        let passed = mark_by(marks, one.location, one.hop.way);
+        Ok(Some(Stretch {
+            from: one.location,
+            angle: one.angle,
+            onto: next_by(one.hop.way),
+            time: u128::from(end - one.angle),
+            changes: changes_by(alloc, marks, passed)?,
+        }))
+    }
+
+    /// This stretch and then another; `None` where that doesn't begin where and when this one ends,
+    /// or there is no room for so much.
+    pub fn then(&self, alloc: Global, next: &Stretch) -> Result<Option<Stretch>, AllocError>
+        ensures { IfOk result (λ made. IfSome made (λ both. (g : walks.Setting)
+            (hops others : List PlacedHop) → ComeTo g hops (span_of self.now)
+            → ComeTo g others (span_of next.now) → ComeTo g (hops ++ others) (span_of both))) }
+    {
+        if self.changes.len() != next.changes.len() || !self.leads_to(next) {
+            return Ok(None);
+        }
+        let Some(time) = self.time.checked_add(next.time) else {
+            return Ok(None);
+        };
+        let Some(changes) = followed(alloc, &self.changes, &next.changes)? else {
+            return Ok(None);
+        };
+        Ok(Some(Stretch {
+            from: self.from,
+            angle: self.angle,
+            onto: next.onto,
+            time,
+            changes,
+        }))
+    }
+
+    /// So many rounds of this stretch; `None` where it doesn't end where and as it begins, or there
+    /// is no room for so much.
+    pub fn rounds(&self, alloc: Global, times: u16) -> Result<Option<Stretch>, AllocError>
+        ensures { IfOk result (λ made. IfSome made (λ all. (g : walks.Setting)
+            (hops : List PlacedHop) → ComeTo g hops (span_of self.now)
+            → ComeTo g (repeated times hops) (span_of all))) }
+    {
+        if times == 0 || !self.leads_to(self) {
+            return Ok(None);
+        }
+        let Some(time) = u128::from(times).checked_mul(self.time) else {
+            return Ok(None);
+        };
+        let Some(changes) = over_rounds(alloc, &self.changes, times)? else {
+            return Ok(None);
+        };
+        Ok(Some(Stretch {
+            from: self.from,
+            angle: self.angle,
+            onto: self.onto,
+            time,
+            changes,
+        }))
+    }
+}

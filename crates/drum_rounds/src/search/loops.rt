@@ -1,0 +1,217 @@
+//! Loops: the longest walks by passes of a mark and of those inside of it, the inner marks first.
+
+use super::free::{Last, Step};
+use super::passings::{Passing, Passings};
+use super::sources::Sources;
+use super::table::{Cell, Table, longer};
+use super::walks::{Walk, Walks};
+use drum_times::Mark;
+use std::alloc::{AllocError, Global};
+
+/// The loops of the marks, as long as the mark around hasn't taken them.
+#[derive(Debug, Drop)]
+pub struct Loops<'a> {
+    alloc: Global,
+    marks: &'a [Mark],
+    passings: &'a Passings,
+    sources: &'a Sources,
+    /// The marks in the order of the flow.
+    order: Vec<usize>,
+    /// How many sources there are, and with them the end.
+    size: usize,
+    loops: Vec<Option<Table>>,
+}
+
+impl<'a> Loops<'a> {
+    /// None yet.
+    pub fn new(
+        alloc: Global,
+        marks: &'a [Mark],
+        passings: &'a Passings,
+        sources: &'a Sources,
+    ) -> Result<Loops<'a>, AllocError> {
+        let mut loops = Vec::new(alloc);
+        for _ in marks {
+            loops.push(None)?;
+        }
+        Ok(Loops {
+            alloc,
+            marks,
+            passings,
+            sources,
+            order: passings.order(alloc, marks.len())?,
+            size: sources.free.len().saturating_add(1),
+            loops,
+        })
+    }
+
+    /// The column of the end.
+    fn end(&self) -> usize {
+        self.sources.free.len()
+    }
+
+    /// The longest walk from the start to an end.
+    pub fn longest(mut self, walks: &mut Walks) -> Result<Option<usize>, AllocError> {
+        let whole = self.whole(walks)?;
+        let mut longest = whole.at(0, self.end());
+        for (index, free) in self.sources.free.iter().enumerate() {
+            if let (Some(way), Some(last)) = (whole.at(0, index), free.last) {
+                longest = longer(longest, Some(ended(index, way, last, walks)?));
+            }
+        }
+        Ok(longest.map(|cell| cell.walk))
+    }
+
+    /// The longest walks by passes of all marks.
+    fn whole(&mut self, walks: &mut Walks) -> Result<Table, AllocError> {
+        for mark in (0..self.marks.len()).rev() {
+            let around = self.around(mark, walks)?;
+            if let Some(entry) = self.loops.get_mut(mark) {
+                *entry = Some(around);
+            }
+        }
+        self.group(None, walks)
+    }
+
+    /// Of the marks that stand right inside of one, or inside of none, each loop at most once, in the
+    /// order of the flow.
+    fn group(&mut self, around: Option<usize>, walks: &mut Walks) -> Result<Table, AllocError> {
+        let mut group = Table::one(self.alloc, self.size)?;
+        for index in 0..self.order.len() {
+            if let Some(inner) = self.taken(index, around) {
+                let longer = group.join(self.alloc, &inner, walks)?;
+                group.raise(&longer);
+            }
+        }
+        Ok(group)
+    }
+
+    /// The loop of the mark at this place of the order, if it stands right inside of this one.
+    fn taken(&mut self, index: usize, around: Option<usize>) -> Option<Table> {
+        let mark = *self.order.get(index)?;
+        if self.marks.get(mark)?.inside != around {
+            return None;
+        }
+        self.loops.get_mut(mark)?.take()
+    }
+
+    /// The loop of a mark.
+    fn around(&mut self, mark: usize, walks: &mut Walks) -> Result<Table, AllocError> {
+        let inside = self.group(Some(mark), walks)?;
+        let most = self.marks.get(mark).map_or(0, |mark| mark.most);
+        if most == 0 {
+            return Ok(inside);
+        }
+        let passes = self.passes(mark, walks)?;
+        let body = inside.join(self.alloc, &passes, walks)?;
+        self.in_rounds(most, inside, &body, walks)
+    }
+
+    /// The loop of a mark, by what is inside of it, and by that with a pass behind it.
+    fn in_rounds(
+        &self,
+        most: u16,
+        inside: Table,
+        body: &Table,
+        walks: &mut Walks,
+    ) -> Result<Table, AllocError> {
+        let rounds = self.rounds(body, most.saturating_sub(1), walks)?;
+        let passed = body.join(self.alloc, &rounds, walks)?;
+        let onward = passed.join(self.alloc, &inside, walks)?;
+        let mut whole = inside;
+        whole.raise(&onward);
+        if most > 1 && body.leads_back() {
+            let last = self.last(most, body, walks)?;
+            whole.raise(&last);
+        }
+        Ok(whole)
+    }
+
+    /// The walks whose last hop is the last of so many passes.
+    fn last(&self, most: u16, body: &Table, walks: &mut Walks) -> Result<Table, AllocError> {
+        let rounds = self.rounds(body, most.saturating_sub(2), walks)?;
+        let before = body.join(self.alloc, &rounds, walks)?;
+        let ending = self.ending(body)?;
+        before.join(self.alloc, &ending, walks)
+    }
+
+    /// So many rounds of walks that lead from a source back to it, where there is one.
+    fn rounds(&self, body: &Table, times: u16, walks: &mut Walks) -> Result<Table, AllocError> {
+        let mut rounds = Table::one(self.alloc, self.size)?;
+        if times == 0 {
+            return Ok(rounds);
+        }
+        for index in 0..self.end() {
+            if let Some(one) = body.at(index, index) {
+                let all = Cell {
+                    time: one.time.saturating_mul(u128::from(times)),
+                    walk: walks.rounds(times, one.walk)?,
+                };
+                rounds.raise_at(index, index, all);
+            }
+        }
+        Ok(rounds)
+    }
+
+    /// Of walks those to the end.
+    fn ending(&self, body: &Table) -> Result<Table, AllocError> {
+        let mut ending = Table::none(self.alloc, self.size)?;
+        for index in 0..self.end() {
+            if let Some(cell) = body.at(index, self.end()) {
+                ending.raise_at(index, self.end(), cell);
+            }
+        }
+        Ok(ending)
+    }
+
+    /// The longest ways free of marks with one pass of a mark behind them.
+    fn passes(&self, mark: usize, walks: &mut Walks) -> Result<Table, AllocError> {
+        let mut passes = Table::none(self.alloc, self.size)?;
+        for passing in &self.passings.list {
+            if passing.mark == mark {
+                self.add_passes(&mut passes, *passing, walks)?;
+            }
+        }
+        Ok(passes)
+    }
+
+    /// Adds the ways to an edge with a mark, with that edge behind them.
+    fn add_passes(
+        &self,
+        passes: &mut Table,
+        passing: Passing,
+        walks: &mut Walks,
+    ) -> Result<(), AllocError> {
+        let onto = self.sources.index_of(passing.onto);
+        for (index, free) in self.sources.free.iter().enumerate() {
+            if let Some(way) = free.at(passing.from) {
+                let step = Step {
+                    from: passing.from,
+                    edge: Some(passing.edge),
+                };
+                let walk = walks.add(Walk::Way(index, step))?;
+                let time = u128::from(way.time);
+                if let Some(onto) = onto {
+                    let time = time.saturating_add(u128::from(passing.time));
+                    passes.raise_at(index, onto, Cell { time, walk });
+                }
+                let time = time.saturating_add(u128::from(passing.stop));
+                passes.raise_at(index, self.end(), Cell { time, walk });
+            }
+        }
+        Ok(())
+    }
+}
+
+/// A walk to a source with the longest way from there to an end.
+fn ended(index: usize, before: Cell, last: Last, walks: &mut Walks) -> Result<Cell, AllocError> {
+    let step = Step {
+        from: last.from,
+        edge: None,
+    };
+    let way = walks.add(Walk::Way(index, step))?;
+    Ok(Cell {
+        time: before.time.saturating_add(u128::from(last.time)),
+        walk: walks.then(before.walk, way)?,
+    })
+}

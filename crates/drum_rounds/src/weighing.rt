@@ -1,0 +1,157 @@
+//! What the pieces of a walk come to, the last of which is the whole.
+
+ghost use Rattle.std.specs.Prelude.{◌≡◌, [], List, flat_map, IfOk, IfSome, IsTrue};
+ghost use Rattle.drum_flow.specs.SettingOf.{setting};
+ghost use Rattle.drum_rounds.specs.InRounds.{IsInRoundsOf};
+ghost use Rattle.drum_rounds.specs.Pieces.{repeated, spelled_at, spelled_behind, spelled_by, PlacedHop};
+ghost use Rattle.drum_rounds.specs.Stretch.{span_of, AreStretches, ComeTo, IsFromStart};
+
+use crate::changes::{are_within, passes_of};
+use crate::in_rounds::InRounds;
+use crate::piece::Piece;
+use crate::setting::Setting;
+use crate::stretch::Stretch;
+use drum_core::REVOLUTION;
+use std::alloc::{AllocError, Global};
+
+/// The first of these pieces.
+fn first_of<'a>(stretches: &'a [Stretch], pieces: &[usize]) -> Option<&'a Stretch> {
+    let [first, ..] = pieces else {
+        return None;
+    };
+    stretches.get(*first)
+}
+
+impl Setting<'_> {
+    /// What pieces in a row come to; `None` where they don't follow one another.
+    fn row(
+        &self,
+        alloc: Global,
+        stretches: &[Stretch],
+        pieces: &[usize],
+    ) -> Result<Option<Stretch>, AllocError>
+        ensures { IfOk result (λ made. IfSome made (λ whole. (before : List (List PlacedHop))
+            → let g = setting self.now.deck.now self.now.times.now self.now.notes.now in
+            AreStretches g before stretches.now
+            → ComeTo g (flat_map (spelled_at before) pieces.now) (span_of whole))) }
+    {
+        let Some(first) = first_of(stretches, pieces) else {
+            return Ok(None);
+        };
+        let mut whole = Stretch::none(alloc, self.notes.marks(), first.from, first.angle)?;
+        for number in pieces {
+            let Some(next) = stretches.get(*number) else {
+                return Ok(None);
+            };
+            let Some(longer) = whole.then(alloc, next)? else {
+                return Ok(None);
+            };
+            whole = longer;
+        }
+        Ok(Some(whole))
+    }
+
+    /// What so many rounds of a piece come to; `None` where there is no such piece, or it doesn't end
+    /// where and as it begins.
+    fn rounds(
+        &self,
+        alloc: Global,
+        stretches: &[Stretch],
+        times: u16,
+        number: usize,
+    ) -> Result<Option<Stretch>, AllocError>
+        ensures { IfOk result (λ made. IfSome made (λ all. (before : List (List PlacedHop))
+            → let g = setting self.now.deck.now self.now.times.now self.now.notes.now in
+            AreStretches g before stretches.now
+            → ComeTo g (repeated times (spelled_at before number)) (span_of all))) }
+    {
+        let Some(one) = stretches.get(number) else {
+            return Ok(None);
+        };
+        let Some(all) = one.rounds(alloc, times)? else {
+            return Ok(None);
+        };
+        Ok(Some(all))
+    }
+
+    /// What a piece comes to, by what those before it do; `None` where it isn't a stretch of a
+    /// walk.
+    fn piece(
+        &self,
+        alloc: Global,
+        stretches: &[Stretch],
+        piece: &Piece,
+    ) -> Result<Option<Stretch>, AllocError>
+        ensures { IfOk result (λ made. IfSome made (λ stretch. (before : List (List PlacedHop))
+            → let g = setting self.now.deck.now self.now.times.now self.now.notes.now in
+            AreStretches g before stretches.now
+            → ComeTo g (spelled_by before piece.now) (span_of stretch))) }
+    {
+        match piece {
+            Piece::Hop(one) => Stretch::of_hop(alloc, self, *one),
+            Piece::Row(pieces) => self.row(alloc, stretches, pieces),
+            Piece::Rounds(times, number) => self.rounds(alloc, stretches, *times, *number),
+        }
+    }
+
+    /// What each of the pieces comes to; `None` where one isn't a stretch of a walk.
+    fn stretches(
+        &self,
+        alloc: Global,
+        pieces: &[Piece],
+    ) -> Result<Option<Vec<Stretch>>, AllocError>
+        ensures { IfOk result (λ made. IfSome made (λ all. AreStretches
+            (setting self.now.deck.now self.now.times.now self.now.notes.now)
+            (spelled_behind [] pieces.now) all.items)) }
+    {
+        let mut stretches = Vec::new(alloc);
+        for piece in pieces {
+            let Some(stretch) = self.piece(alloc, &stretches, piece)? else {
+                return Ok(None);
+            };
+            stretches.push(stretch)?;
+        }
+        Ok(Some(stretches))
+    }
+
+    /// Whether a stretch begins as a walk does, and no count is ever above what its mark allows.
+    fn is_from_start(&self, whole: &Stretch) -> bool
+        ensures { IsTrue result → IsFromStart
+            (setting self.now.deck.now self.now.times.now self.now.notes.now) (span_of whole.now) }
+    {
+        let marks = self.notes.marks();
+        if whole.from.number != self.deck.start().number || whole.angle >= REVOLUTION {
+            return false;
+        }
+        if whole.changes.len() != marks.len() {
+            return false;
+        }
+        are_within(marks, &whole.changes)
+    }
+
+    /// The walk that the pieces spell out; `None` where that is none.
+    pub fn weigh(
+        &self,
+        alloc: Global,
+        pieces: Vec<Piece>,
+    ) -> Result<Option<InRounds>, AllocError>
+        ensures { IfOk result (λ made. IfSome made
+            (IsInRoundsOf self.now.deck.now self.now.times.now self.now.notes.now)) }
+    {
+        let Some(stretches) = self.stretches(alloc, &pieces)? else {
+            return Ok(None);
+        };
+        let Some(whole) = stretches.last() else {
+            return Ok(None);
+        };
+        if !self.is_from_start(whole) {
+            return Ok(None);
+        }
+        Ok(Some(InRounds {
+            angle: whole.angle,
+            pieces,
+            passes: passes_of(alloc, &whole.changes)?,
+            total: whole.time,
+        }))
+    }
+}
