@@ -1,7 +1,7 @@
 -- What hops come to: none, one, one stretch behind another, and rounds of one.
-use Rattle.std.proofs.Common.{◌≡◌, ◌≢◌, ℕ, zero, suc, ◌+◌, ◌-◌, ◌*◌, ◌%◌, ◌<◌, ◌≤◌, Bool, true, false, List, [], ◌∷◌, ◌++◌}
+use Rattle.std.proofs.Common.{◌≡◌, ◌≢◌, ℕ, zero, suc, ◌+◌, ◌-◌, ◌*◌, ◌%◌, ◌<◌, Bool, true, false, List, [], ◌∷◌, ◌++◌}
 use Rattle.std.proofs.Common.{length, map, refl, ap, sym, ◌∙◌, subst, arith, Option, Some, None, append_assoc}
-use Rattle.std.specs.Prelude.{◌==◌, if◌then◌else◌, flat_map, nat_eq, slice_get, Contains}
+use Rattle.std.specs.Prelude.{◌==◌, if◌then◌else◌, nat_eq, slice_get, Contains}
 use Rattle.std.specs.Option.{option_eq}
 use Rattle.std.proofs.Math.Nat.{suc-mul}
 use Rattle.std.proofs.lemmas.Bool.{eqb-true, eqb-false, eq-eqb, ne_eqb}
@@ -14,14 +14,14 @@ use Rattle.drum_core.specs.Op.{op_of}
 use Rattle.drum_times.specs.declared.notes.mark.Mark.{Mark}
 use Rattle.drum_times.specs.Marks.{mark_on}
 use Rattle.drum_machine.specs.Counts.{after_pass, is_inside, passed_from, AreWithin}
-use Rattle.drum_machine.specs.Since.{Edge, passes_of}
+use Rattle.drum_machine.specs.Since.{passes_of}
 use Rattle.drum_machine.specs.Ways.{Way, early, to, late}
-use Rattle.drum_flow.specs.Hops.{Hop, hops}
+use Rattle.drum_flow.specs.Hops.{hops}
 use Rattle.drum_flow.specs.Longest.{longest}
 use Rattle.drum_flow.specs.MostPasses.{edge_taken}
 use Rattle.drum_flow.specs.Walk.{IsTimed, IsWalkFrom, Setting, Taken, time_from}
 use Rattle.drum_flow.proofs.FromAngles.{leap_time}
-use Rattle.drum_flow.proofs.LongestLaws.{longest_is_timed, longest_later}
+use Rattle.drum_flow.proofs.LongestLaws.{longest_is_timed}
 use Rattle.drum_flow.proofs.Profiles.{hop_may_end}
 use Rattle.drum_rounds.specs.declared.change.Change.{Change}
 use Rattle.drum_rounds.specs.declared.change.Change.TheVariants.{Rise, SetBack}

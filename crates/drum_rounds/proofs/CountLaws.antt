@@ -1,7 +1,7 @@
 -- What changes do to counts: one after the other, over rounds, and by one hop.
 use Rattle.std.proofs.Common.{◌≡◌, ℕ, zero, suc, ◌+◌, ◌*◌, ◌<◌, ◌≤◌, Bool, true, false, List, [], ◌∷◌, length, map, refl, ap}
-use Rattle.std.proofs.Common.{sym, ◌∙◌, subst, arith, Option, Some, None, ◌++◌, take}
-use Rattle.std.specs.Prelude.{max, slice_get, ◌==◌, if◌then◌else◌}
+use Rattle.std.proofs.Common.{◌∙◌, arith, Option, Some, None, ◌++◌, take}
+use Rattle.std.specs.Prelude.{slice_get, ◌==◌, if◌then◌else◌}
 use Rattle.std.proofs.Math.Nat.{suc-mul}
 use Rattle.drum_times.specs.declared.notes.mark.Mark.{Mark}
 use Rattle.drum_machine.specs.Counts.{is_inside, no_counts, passed_from, AreWithin}

@@ -1,5 +1,5 @@
 -- Which hops a location has.
-use Rattle.std.proofs.Common.{◌≡◌, ℕ, suc, zero, List, [], ◌∷◌, ◌++◌, map, refl, ap, subst, sym, inl, inr, arith, Option}
+use Rattle.std.proofs.Common.{ℕ, List, [], ◌∷◌, map, subst, sym, inl, inr, arith, Option}
 use Rattle.std.specs.Prelude.{flat_map, Contains}
 use Rattle.std.proofs.lemmas.List.Elements.{Contains-append_left, Contains-append_right}
 use Rattle.drum_core.specs.declared.instruction.Instruction.{Instruction}

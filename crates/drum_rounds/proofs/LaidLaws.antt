@@ -1,8 +1,6 @@
 -- Hops that are laid one after the other, each as long as it can be.
-use Rattle.std.proofs.Common.{◌≡◌, ℕ, zero, suc, ◌+◌, ◌-◌, ◌*◌, ◌≤◌, List, [], ◌∷◌, ◌++◌, map, refl, ap, sym, ◌∙◌, arith}
-use Rattle.std.specs.Prelude.{flat_map}
+use Rattle.std.proofs.Common.{◌≡◌, ℕ, ◌+◌, List, [], ◌∷◌, ◌++◌, map, refl, ap, arith}
 use Rattle.drum_machine.specs.Since.{Edge}
-use Rattle.drum_flow.specs.Longest.{longest}
 use Rattle.drum_flow.specs.MostPasses.{edge_taken, edges_taken}
 use Rattle.drum_flow.specs.Walk.{Setting, Taken, time_from}
 use Rattle.drum_flow.proofs.LongestLaws.{longest_later}
@@ -27,9 +25,10 @@ module _ (g : Setting) (angle : ℕ) where
 
   pub longest_laid : (time : ℕ) (hops : List PlacedHop) → AreLongest g angle (map visited (laid g angle time hops))
   longest_laid time [] = tt
-  longest_laid time (x ∷ xs) =
-      (omega (arith, longest_later g.times x.place x.hop.ins x.hop.way (angle + time)),
-      longest_laid (laid_one g angle time x).ended xs)
+  longest_laid time (x ∷ xs) = (
+    omega (arith, longest_later g.times x.place x.hop.ins x.hop.way (angle + time)),
+    longest_laid (laid_one g angle time x).ended xs,
+  )
 
   pub edges_laid : (time : ℕ) (hops : List PlacedHop) → edges_taken (laid g angle time hops) ≡ edges_placed hops
   edges_laid time [] = refl

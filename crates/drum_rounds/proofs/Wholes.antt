@@ -1,19 +1,18 @@
 -- What the pieces come to, one after the other, and the last as a walk.
 use Rattle.std.proofs.Common.{◌≡◌, ℕ, zero, suc, ◌+◌, ◌-◌, ◌<◌, ◌≤◌, ◌%◌, List, [], ◌∷◌, ◌++◌, length, take, map, get_or}
 use Rattle.std.proofs.Common.{refl, ap, sym, ◌∙◌, subst, arith, Option, Some, None, inl, inr}
-use Rattle.std.specs.Prelude.{slice_get, slice_index, unwrap_or}
+use Rattle.std.specs.Prelude.{slice_get, slice_index}
 use Rattle.std.proofs.lemmas.Bool.{cases_lt}
 use Rattle.std.proofs.lemmas.List.{append-nil, length-append, length-map, take_more}
 use Rattle.drum_machine.specs.Counts.{no_counts}
-use Rattle.drum_machine.specs.Since.{Edge, passes_of}
-use Rattle.drum_flow.specs.MostPasses.{edges_taken}
-use Rattle.drum_flow.specs.Walk.{IsWalk, IsWalkFrom, Setting, Taken, time_from}
+use Rattle.drum_machine.specs.Since.{passes_of}
+use Rattle.drum_flow.specs.Walk.{IsWalkFrom, Setting}
 use Rattle.drum_rounds.specs.declared.change.Change.{Change}
 use Rattle.drum_rounds.specs.declared.piece.Piece.{Piece}
 use Rattle.drum_rounds.specs.declared.stretch.Stretch.{Stretch}
 use Rattle.drum_rounds.specs.Change.{counts_after, passes_by}
 use Rattle.drum_rounds.specs.InRounds.{SpellOut}
-use Rattle.drum_rounds.specs.Pieces.{placed, spelled, spelled_at, spelled_behind, spelled_by, PlacedHop}
+use Rattle.drum_rounds.specs.Pieces.{spelled, spelled_at, spelled_behind, spelled_by, PlacedHop}
 use Rattle.drum_rounds.specs.Stretch.{edges_placed, laid, span_of, AreStretches, ComeTo, GoOn, IsFromStart}
 use Rattle.drum_rounds.proofs.LaidLaws.{edges_laid, longest_laid, placed_laid}
 
@@ -43,9 +42,11 @@ at_push [] y x zero at = (λ less. absurd (omega (arith, less)), λ low. (refl, 
 at_push [] y x (suc k) at = cc
 at_push (z ∷ xs) y x zero at = (λ less. at, λ low. absurd (omega (arith, low)))
 at_push {X = X} (z ∷ xs) y x (suc k) at =
-    let so = at_push xs y x k at in
-    (λ less. so.0 (omega (arith, less)), λ low.
-    let then = so.1 (omega (arith, low)) in (ap suc then.0, then.1))
+    let so = at_push xs y x k at in (
+      λ less. so.0 (omega (arith, less)),
+      λ low.
+          let then = so.1 (omega (arith, low)) in (ap suc then.0, then.1),
+    )
 
 spelled_before : (xs : List (List PlacedHop)) (y : List PlacedHop) (k : ℕ) → k < length xs
     → spelled_at (xs ++ y ∷ []) k ≡ spelled_at xs k

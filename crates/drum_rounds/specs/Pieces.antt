@@ -33,7 +33,8 @@ spelled_by before (piece.Hop one) =
 spelled_by before (piece.Row pieces) = flat_map (spelled_at before) pieces.items
 spelled_by before (piece.Rounds times number) = repeated times (spelled_at before number)
 
--- what all pieces spell out, each by those before it: these stand behind some that spell out so much
+-- what all pieces spell out, each by those before it; these stand behind some that spell out so
+-- much
 abbrev pub spelled_behind : List (List PlacedHop) → List Piece → List (List PlacedHop)
 spelled_behind before [] = before
 spelled_behind before (piece ∷ pieces) =

@@ -17,8 +17,8 @@ use drum_rows::{Row, rows_of};
 use drum_times::{Mark, Notes, Times};
 use std::alloc::{AllocError, Global};
 
-/// A ceiling, and a walk of the flow graph: the worst time is no more than the one, and no less than
-/// the other takes.
+/// A ceiling, and a walk of the flow graph: the worst time is no more than the one, and no less
+/// than the other takes.
 #[derive(Debug, Drop)]
 pub struct Bracket {
     pub ceiling: Ceiling,
@@ -47,7 +47,8 @@ impl Setting<'_> {
         rows: &[Option<Row>],
         order: &[Location],
     ) -> Result<InRounds, AllocError>
-        ensures { IfOk result (IsInRoundsOf self.now.deck.now self.now.times.now self.now.notes.now) }
+        ensures { IfOk result
+            (IsInRoundsOf self.now.deck.now self.now.times.now self.now.notes.now) }
     {
         let pieces = search::find(alloc, self, rows, order)?;
         match self.weigh(alloc, pieces)? {

@@ -49,8 +49,8 @@ pub fn changes_by(
     Ok(changes)
 }
 
-/// The changes at an index, one after the other; `None` where there are none, or no room for so many
-/// passes.
+/// The changes at an index, one after the other; `None` where there are none, or no room for so
+/// many passes.
 fn followed_at(changes: &[Change], others: &[Change], index: usize) -> Option<Change>
     ensures { IfSome result (λ both. AreFollowedAt changes.now others.now index both) }
 {

@@ -1,5 +1,5 @@
-//! The search for a walk in rounds that takes as long as can be found. Nothing is promised of what is
-//! found, but that the search ends: who takes it looks whether it is a walk.
+//! The search for a walk in rounds that takes as long as can be found. Nothing is promised of what
+//! is found, but that the search ends: who takes it looks whether it is a walk.
 //!
 //! `search/passings` lists the edges with marks, in the order of the flow. `search/free` has the
 //! longest ways free of marks from where one begins, and `search/sources` those from the start and

@@ -3,7 +3,8 @@
 ghost use Rattle.std.specs.Prelude.{◌≡◌, [], List, flat_map, IfOk, IfSome, IsTrue};
 ghost use Rattle.drum_flow.specs.SettingOf.{setting};
 ghost use Rattle.drum_rounds.specs.InRounds.{IsInRoundsOf};
-ghost use Rattle.drum_rounds.specs.Pieces.{repeated, spelled_at, spelled_behind, spelled_by, PlacedHop};
+ghost use Rattle.drum_rounds.specs.Pieces.{repeated, spelled_at, spelled_behind, spelled_by};
+ghost use Rattle.drum_rounds.specs.Pieces.{PlacedHop};
 ghost use Rattle.drum_rounds.specs.Stretch.{span_of, AreStretches, ComeTo, IsFromStart};
 
 use crate::changes::{are_within, passes_of};
@@ -51,8 +52,8 @@ impl Setting<'_> {
         Ok(Some(whole))
     }
 
-    /// What so many rounds of a piece come to; `None` where there is no such piece, or it doesn't end
-    /// where and as it begins.
+    /// What so many rounds of a piece come to; `None` where there is no such piece, or it doesn't
+    /// end where and as it begins.
     fn rounds(
         &self,
         alloc: Global,
@@ -95,11 +96,7 @@ impl Setting<'_> {
     }
 
     /// What each of the pieces comes to; `None` where one isn't a stretch of a walk.
-    fn stretches(
-        &self,
-        alloc: Global,
-        pieces: &[Piece],
-    ) -> Result<Option<Vec<Stretch>>, AllocError>
+    fn stretches(&self, alloc: Global, pieces: &[Piece]) -> Result<Option<Vec<Stretch>>, AllocError>
         ensures { IfOk result (λ made. IfSome made (λ all. AreStretches
             (setting self.now.deck.now self.now.times.now self.now.notes.now)
             (spelled_behind [] pieces.now) all.items)) }
@@ -130,11 +127,7 @@ impl Setting<'_> {
     }
 
     /// The walk that the pieces spell out; `None` where that is none.
-    pub fn weigh(
-        &self,
-        alloc: Global,
-        pieces: Vec<Piece>,
-    ) -> Result<Option<InRounds>, AllocError>
+    pub fn weigh(&self, alloc: Global, pieces: Vec<Piece>) -> Result<Option<InRounds>, AllocError>
         ensures { IfOk result (λ made. IfSome made
             (IsInRoundsOf self.now.deck.now self.now.times.now self.now.notes.now)) }
     {

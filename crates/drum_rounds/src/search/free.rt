@@ -43,8 +43,8 @@ pub struct Free {
 }
 
 impl Free {
-    /// Those from a slot, by one sweep over the slots in an order in which every edge without a mark
-    /// goes on.
+    /// Those from a slot, by one sweep over the slots in an order in which every edge without a
+    /// mark goes on.
     pub fn from(
         alloc: Global,
         rows: &[Option<Row>],

@@ -73,11 +73,15 @@ impl<'a> Loops<'a> {
         self.group(None, walks)
     }
 
-    /// Of the marks that stand right inside of one, or inside of none, each loop at most once, in the
-    /// order of the flow.
+    /// Of the marks that stand right inside of one, or inside of none, each loop at most once, in
+    /// the order of the flow.
     fn group(&mut self, around: Option<usize>, walks: &mut Walks) -> Result<Table, AllocError> {
         let mut group = Table::one(self.alloc, self.size)?;
         for index in 0..self.order.len() {
+            // What is found then is thrown away.
+            if walks.is_full() {
+                break;
+            }
             if let Some(inner) = self.taken(index, around) {
                 let longer = group.join(self.alloc, &inner, walks)?;
                 group.raise(&longer);
@@ -99,7 +103,7 @@ impl<'a> Loops<'a> {
     fn around(&mut self, mark: usize, walks: &mut Walks) -> Result<Table, AllocError> {
         let inside = self.group(Some(mark), walks)?;
         let most = self.marks.get(mark).map_or(0, |mark| mark.most);
-        if most == 0 {
+        if most == 0 || walks.is_full() {
             return Ok(inside);
         }
         let passes = self.passes(mark, walks)?;

@@ -1,7 +1,7 @@
-use Rattle.std.proofs.Common.{◌≡◌, ℕ, ◌++◌, [], ◌∷◌, List, Some, take, ap, sym, ◌∙◌, arith}
+use Rattle.std.proofs.Common.{◌++◌, [], ◌∷◌, List, take, ap, sym, ◌∙◌, arith}
 use Rattle.std.proofs.lemmas.List.{take_all}
 use Rattle.drum_rounds.specs.declared.change.Change.{Change}
-use Rattle.drum_rounds.specs.Change.{all_followed, followed}
+use Rattle.drum_rounds.specs.Change.{all_followed}
 use Rattle.drum_rounds.proofs.CountLaws.{followed_more}
 use Rattle.drum_rounds.proofs.changes.followed.Goals as goal
 

@@ -1,4 +1,4 @@
-use Rattle.std.proofs.Common.{◌≡◌, ℕ, ◌≤◌, subst}
+use Rattle.std.proofs.Common.{ℕ, ◌≤◌, subst}
 use Rattle.drum_rounds.proofs.laws.walk_is_not_above_the_ceiling.Goals as goal
 
 pub returns : goal.returns

@@ -1,5 +1,5 @@
-use Rattle.std.proofs.Common.{◌≡◌, List, ◌∷◌, ap, sym, ◌∙◌, subst, refl}
-use Rattle.std.specs.Prelude.{Contains, IsTrue}
+use Rattle.std.proofs.Common.{◌≡◌, List, ap, sym, ◌∙◌, subst}
+use Rattle.std.specs.Prelude.{Contains}
 use Rattle.drum_machine.specs.Ways.{Way, ways}
 use Rattle.drum_machine.specs.WaysLeft.{seen_way, ways_left}
 use Rattle.drum_flow.proofs.Lists.{contains_here, contains_there}

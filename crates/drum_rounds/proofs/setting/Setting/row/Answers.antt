@@ -1,4 +1,4 @@
-use Rattle.std.proofs.Common.{◌≡◌, ℕ, ◌+◌, List, [], ◌∷◌, ◌++◌, Some, get_or, take, sym, ap, ◌∙◌, subst, arith}
+use Rattle.std.proofs.Common.{◌≡◌, ℕ, ◌+◌, List, [], ◌∷◌, ◌++◌, Some, get_or, take, sym, ap, ◌∙◌, subst}
 use Rattle.std.specs.Prelude.{flat_map, length, slice_get}
 use Rattle.std.proofs.lemmas.Bool.{ltb-true}
 use Rattle.std.proofs.lemmas.Option.{slice_get-get_or}
@@ -33,10 +33,10 @@ loop-number-preserved c before are =
     let more : flat_map (spelled_at before) (take k pieces) ++ spelled_at before number
     ≡ flat_map (spelled_at before) (take (k + 1) pieces) =
     sym (
-      ap (flat_map (spelled_at before)) (take_more pieces k 0 c.loop-number-test.true)
-          ∙ flat_map-append (spelled_at before) (take k pieces) (number ∷ [])
-          ∙ ap (λ (hs : List PlacedHop). flat_map (spelled_at before) (take k pieces) ++ hs)
-          (append-nil (spelled_at before number))
+    ap (flat_map (spelled_at before)) (take_more pieces k 0 c.loop-number-test.true)
+    ∙ flat_map-append (spelled_at before) (take k pieces) (number ∷ [])
+    ∙ ap (λ (hs : List PlacedHop). flat_map (spelled_at before) (take k pieces) ++ hs)
+    (append-nil (spelled_at before number))
     ) in
     subst (λ (hs : List PlacedHop). ComeTo g hs (span_of c.in-Some-2.longer)) more both
 

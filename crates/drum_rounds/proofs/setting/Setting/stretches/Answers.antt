@@ -1,4 +1,4 @@
-use Rattle.std.proofs.Common.{◌≡◌, ℕ, ◌+◌, List, [], ◌∷◌, ◌++◌, take, sym, ap, ◌∙◌, subst, refl, arith}
+use Rattle.std.proofs.Common.{◌+◌, List, [], take, sym, subst}
 use Rattle.std.proofs.lemmas.List.{take_all}
 use Rattle.drum_flow.specs.SettingOf.{setting}
 use Rattle.drum_rounds.specs.declared.piece.Piece.{Piece}

@@ -1,4 +1,4 @@
-use Rattle.std.proofs.Common.{◌≡◌, ℕ, ◌-◌, List, [], Some, length, sym, ap, ◌∙◌, subst, map}
+use Rattle.std.proofs.Common.{◌≡◌, ◌-◌, List, [], Some, length, sym, ap, ◌∙◌, subst, map}
 use Rattle.std.specs.Prelude.{slice_get}
 use Rattle.drum_flow.specs.SettingOf.{setting}
 use Rattle.drum_rounds.specs.declared.piece.Piece.{Piece}

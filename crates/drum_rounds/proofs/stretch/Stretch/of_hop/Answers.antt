@@ -1,4 +1,4 @@
-use Rattle.std.proofs.Common.{◌≡◌, ℕ, ◌+◌, List, [], ◌∷◌, Some, None, Option, sym, ap, ◌∙◌, subst, arith}
+use Rattle.std.proofs.Common.{◌≡◌, ℕ, ◌+◌, List, [], ◌∷◌, Option, sym, ap, ◌∙◌, subst, arith}
 use Rattle.drum_core.specs.Loads.{loads_in}
 use Rattle.drum_times.specs.declared.notes.mark.Mark.{Mark}
 use Rattle.drum_times.specs.Entries.{entry_in}
@@ -9,7 +9,7 @@ use Rattle.drum_flow.specs.SettingOf.{setting}
 use Rattle.drum_flow.proofs.Profiles.{hop_may_end}
 use Rattle.drum_rounds.specs.declared.change.Change.{Change}
 use Rattle.drum_rows.specs.Marked.{mark_by}
-use Rattle.drum_rounds.specs.Stretch.{changes_by, next_by, number_of, ComeTo}
+use Rattle.drum_rounds.specs.Stretch.{changes_by, next_by, ComeTo}
 use Rattle.drum_rounds.proofs.Comings.{hop_comes}
 use Rattle.drum_rounds.proofs.stretch.Stretch.of_hop.Goals as goal
 
@@ -32,9 +32,9 @@ returns c =
     let changes : changes_by by.notes.now.marks (mark_by by.notes.now.marks place way) 0 by.notes.now.marks
     ≡ c.in_ok-changes_by.field-0.items =
     sym (
-      c.in_ok-changes_by.ensures
-          ∙ ap (λ (k : Option ℕ). changes_by c.marks-marks.result.now k 0 c.marks-marks.result.now) c.mark_by-passed.ensures
-          ∙ ap (λ (ms : List Mark). changes_by ms (mark_by ms place way) 0 ms) marks
+    c.in_ok-changes_by.ensures
+    ∙ ap (λ (k : Option ℕ). changes_by c.marks-marks.result.now k 0 c.marks-marks.result.now) c.mark_by-passed.ensures
+    ∙ ap (λ (ms : List Mark). changes_by ms (mark_by ms place way) 0 ms) marks
     ) in
     let ends : longest (entry_in by.times.now) place one.hop.instruction way one.angle ≡ one.angle + took =
     omega (arith, c.longest-end.ensures.value, c.longest-end.ensures.later, c.from.ensures) in

@@ -1,4 +1,4 @@
-use Rattle.std.proofs.Common.{◌≡◌, ℕ, suc, ◌+◌, ◌-◌, ◌*◌, List, ◌++◌, Some, sym, ap, ◌∙◌, subst, arith, map}
+use Rattle.std.proofs.Common.{◌≡◌, ℕ, suc, ◌-◌, ◌*◌, List, sym, ap, ◌∙◌, subst, arith, map}
 use Rattle.drum_rounds.specs.declared.change.Change.{Change}
 use Rattle.drum_rounds.specs.Change.{over_rounds}
 use Rattle.drum_rounds.specs.Pieces.{repeated}
