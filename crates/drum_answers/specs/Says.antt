@@ -6,7 +6,6 @@ use Rattle.drum_times.specs.Entries.{entry_in}
 use Rattle.drum_flow.specs.Bounded.{IsDeckAccepted}
 use Rattle.drum_bound.specs.Table.{IsTable, Row}
 use Rattle.drum_bound.specs.Visited.{Visited}
-use Rattle.drum_ceiling.specs.declared.answer.Ceiling as ceilings
 use Rattle.drum_check.specs.Findings.{AreFindings, Finding, may_be_meant}
 use Rattle.drum_check.specs.Lacking.{are_long, check_text}
 use Rattle.drum_command.specs.declared.command.Files.{Files}
@@ -20,6 +19,7 @@ use Rattle.drum_lines.specs.declared.status.Status.TheVariants.{Done, Refused}
 use Rattle.drum_lines.specs.FaultStatus.{IsWanting}
 use Rattle.drum_lines.specs.Reply.{Reply, bound_reply, lists, says}
 use Rattle.drum_report.specs.CeilingText.{ceiling_text}
+use Rattle.drum_rounds.specs.declared.bracket.Bracket.{Bracket}
 use Rattle.drum_report.specs.Report.{report_text}
 use Rattle.drum_graph.specs.Graph.{AreNodes, Node}
 use Rattle.drum_graph.specs.GraphText.{graph_text}
@@ -29,7 +29,7 @@ use Rattle.drum_listing.specs.WaitsText.{waits_text}
 use Rattle.drum_listing.specs.WalkText.{walk_text}
 use Rattle.drum_documents.specs.declared.documents.Documents.{Documents}
 use Rattle.drum_documents.specs.Documents.{Say, Texts, setting_of}
-use Rattle.drum_documents.specs.Limits.{AreShort, IsAnalysisFault, IsBound, IsCeiling}
+use Rattle.drum_documents.specs.Limits.{AreShort, IsAnalysisFault, IsBound, IsBracket}
 use Rattle.drum_documents.specs.Limits.{IsCeilingFault, IsShortFault, IsWorstWalk}
 use Rattle.drum_toml.specs.declared.notes.notes_read.NotesRead.TheVariants.{Long}
 
@@ -58,8 +58,8 @@ graph_reply documents nodes =
 abbrev pub picture_reply : List ℕ → Reply
 picture_reply picture = says picture Done
 
-abbrev pub ceiling_reply : Documents → ceilings.Ceiling → Reply
-ceiling_reply documents ceiling = says (ceiling_text documents.notes ceiling) Done
+abbrev pub ceiling_reply : Documents → Bracket → Reply
+ceiling_reply documents bracket = says (ceiling_text documents.notes bracket) Done
 
 -- what was found, and how the program ends after it: as with a refusal, unless all may be meant
 abbrev pub status_after_check : List Finding → Status
@@ -115,11 +115,10 @@ abbrev pub SaysPicture : Documents → Reply → Type 0
 SaysPicture documents reply =
     IsDeckAccepted (setting_of documents) × (picture : List ℕ) × (reply ≡ picture_reply picture)
 
--- a ceiling, each of whose numbers is right
+-- a ceiling with a walk in rounds, each of whose numbers is right
 abbrev pub SaysCeiling : Documents → Reply → Type 0
 SaysCeiling documents reply =
-    (ceiling : ceilings.Ceiling) × IsCeiling documents ceiling
-    × (reply ≡ ceiling_reply documents ceiling)
+    (bracket : Bracket) × IsBracket documents bracket × (reply ≡ ceiling_reply documents bracket)
 
 -- all that keeps the deck from having a bound under its notes
 abbrev pub SaysFindings : Documents → Reply → Type 0

@@ -16,7 +16,7 @@ use crate::telling::{tell_ceiling, tell_graph, tell_report, tell_table, tell_wai
 use drum_bound::{Analysis, Refusal, analyse};
 use drum_command::Question;
 use drum_core::Output;
-use drum_documents::{Documents, bound_of, ceiling_of, only_short};
+use drum_documents::{Documents, bound_of, bracket_of, only_short};
 use drum_graph::Graph;
 use drum_lines::{Fault, Status, tell_bound, tell_text};
 use drum_listing::{Table, Waits};
@@ -138,7 +138,7 @@ fn say_picture<O: Output>(
     }
 }
 
-/// Writes a ceiling.
+/// Writes a ceiling and its walk.
 fn say_ceiling<O: Output>(
     alloc: Global,
     documents: &Documents,
@@ -150,8 +150,8 @@ fn say_ceiling<O: Output>(
         (device (O.written out.new) (O.failed out.new)) err err result }
     ensures spared { IfErr result (λ _. out.new ≡ out.old) }
 {
-    let ceiling = ceiling_of(alloc, documents)?;
-    Ok(tell_ceiling(out, documents, &ceiling))
+    let bracket = bracket_of(alloc, documents)?;
+    Ok(tell_ceiling(out, documents, &bracket))
 }
 
 /// Writes the answer to a question about documents, and tells how the program ends.

@@ -13,14 +13,13 @@ ghost use Rattle.drum_listing.specs.TableText.{table_text};
 ghost use Rattle.drum_listing.specs.WaitsOf.{AreWaits, firsts_of};
 ghost use Rattle.drum_listing.specs.WaitsText.{waits_text};
 ghost use Rattle.drum_listing.specs.WalkText.{walk_text};
-ghost use Rattle.drum_documents.specs.Limits.{IsCeiling};
+ghost use Rattle.drum_documents.specs.Limits.{IsBracket};
 ghost use Rattle.drum_lines.specs.Output.{GetsResult, device};
 ghost use Rattle.drum_answers.specs.Says.{status_after_check};
 ghost use Rattle.drum_report.specs.CeilingText.{ceiling_text};
 ghost use Rattle.drum_report.specs.Report.{report_text};
 
 use drum_bound::Analysis;
-use drum_ceiling::Ceiling;
 use drum_check::{Findings, Lacking, list_findings};
 use drum_core::Output;
 use drum_documents::Documents;
@@ -28,6 +27,7 @@ use drum_graph::{Graph, send_graph};
 use drum_lines::{Status, ended};
 use drum_listing::{Table, Waits, list_table, list_waits, list_walk};
 use drum_report::{report, report_ceiling};
+use drum_rounds::Bracket;
 
 /// Writes the report of an analysis.
 pub fn tell_report<O: Output>(out: &mut O, documents: &Documents, analysis: &Analysis) -> Status
@@ -102,15 +102,15 @@ pub fn tell_graph<O: Output>(out: &mut O, documents: &Documents, graph: &Graph) 
     )
 }
 
-/// Writes a ceiling.
-pub fn tell_ceiling<O: Output>(out: &mut O, documents: &Documents, ceiling: &Ceiling) -> Status
+/// Writes a ceiling and its walk.
+pub fn tell_ceiling<O: Output>(out: &mut O, documents: &Documents, bracket: &Bracket) -> Status
     requires called { O.called out.old ≤ 2 ^ 62 }
-    requires right { IsCeiling documents.now ceiling.now }
+    requires right { IsBracket documents.now bracket.now }
     ensures { GetsResult (device (O.written out.old) (O.failed out.old))
         (device (O.written out.new) (O.failed out.new))
-        (ceiling_text documents.now.notes ceiling.now) Status.Done result }
+        (ceiling_text documents.now.notes bracket.now) Status.Done result }
 {
-    ended(report_ceiling(ceiling, &documents.notes, out), Status::Done)
+    ended(report_ceiling(bracket, &documents.notes, out), Status::Done)
 }
 
 /// How the program ends after what was found: a mark that doesn't say that it stands inside another

@@ -1,5 +1,5 @@
--- What is known of documents: their bound, a worst walk, a ceiling, and what limits a run of
--- theirs.
+-- What is known of documents: their bound, a worst walk, a ceiling, alone and with a walk, and what
+-- limits a run of theirs.
 use Rattle.std.specs.Prelude.{◌≡◌, ℕ, ◌^◌, ◌<◌, List, IsTrue, not, ◌⊎◌}
 use Rattle.drum_core.specs.Loads.{loads_in, start_in}
 use Rattle.drum_flow.specs.declared.refusal.Refusal.{Refusal}
@@ -13,6 +13,8 @@ use Rattle.drum_bound.specs.Visited.{AreLongest, Visited, IsWalkOf}
 use Rattle.drum_ceiling.specs.declared.answer.Ceiling.{Ceiling}
 use Rattle.drum_ceiling.specs.CeilingOf.{IsCeilingOf, IsCeilingRefusal, total_of}
 use Rattle.drum_ceiling.specs.Right.{IsTooDear}
+use Rattle.drum_rounds.specs.declared.bracket.Bracket.{Bracket}
+use Rattle.drum_rounds.specs.BracketOf.{IsBracketOf}
 use Rattle.drum_lines.specs.declared.fault.Fault.{Fault}
 use Rattle.drum_lines.specs.declared.fault.Fault.TheVariants as fault
 use Rattle.drum_lines.specs.declared.limit.Limit.{Limit}
@@ -33,6 +35,10 @@ IsWorstWalk documents bound angle walk =
 -- that keeps to the notes ever uses more; its prices pay for every round of the marks
 abbrev pub IsCeiling : Documents → Ceiling → Type 0
 IsCeiling documents = IsCeilingOf documents.deck documents.times documents.notes
+
+-- a ceiling of theirs, with a walk in rounds, each hop as long as it can be
+abbrev pub IsBracket : Documents → Bracket → Type 0
+IsBracket documents = IsBracketOf documents.deck documents.times documents.notes
 
 -- the fault is a refusal, of which this is so
 abbrev pub IsRefusedFor : (Refusal → Type 0) → Fault → Type 0

@@ -1,9 +1,9 @@
-//! What documents have as a bound, as a ceiling, and what limits a run of theirs.
+//! What documents have as a bound, as a ceiling with a walk, and what limits a run of theirs.
 
 ghost use Rattle.std.specs.Prelude.{◌≡◌, ◌^◌, ◌<◌, IfOk, IfErr};
 ghost use Rattle.drum_documents.specs.Limits.{AreLong, AreShort, HaveNoBound, IsAnalysisFault};
-ghost use Rattle.drum_documents.specs.Limits.{IsBound, IsCeiling, IsCeilingFault, IsLimit};
-ghost use Rattle.drum_documents.specs.Limits.{IsLimitFault, IsProduct};
+ghost use Rattle.drum_documents.specs.Limits.{IsBound, IsBracket, IsCeiling, IsCeilingFault};
+ghost use Rattle.drum_documents.specs.Limits.{IsLimit, IsLimitFault, IsProduct};
 
 use crate::documents::Documents;
 use drum_bound::{Refusal, bound};
@@ -11,6 +11,7 @@ use drum_ceiling::{Ceiling, ceiling};
 use drum_flow::counts::product_of;
 use drum_flow::discover;
 use drum_lines::{Fault, Limit};
+use drum_rounds::{Bracket, reached};
 use std::alloc::Global;
 
 /// What a run that is followed may take at most is below this, in word times: 3,400 years.
@@ -40,6 +41,18 @@ pub fn ceiling_of(alloc: Global, documents: &Documents) -> Result<Ceiling, Fault
     ensures fault { IfErr result (IsCeilingFault documents.now) }
 {
     Ok(ceiling(alloc, &documents.deck, &documents.times, &documents.notes)?)
+}
+
+/// A ceiling of documents, with a walk that takes as long, or as long as one was found.
+///
+/// # Errors
+///
+/// Those of [`ceiling_of`].
+pub fn bracket_of(alloc: Global, documents: &Documents) -> Result<Bracket, Fault>
+    ensures bracket { IfOk result (IsBracket documents.now) }
+    ensures fault { IfErr result (IsCeilingFault documents.now) }
+{
+    Ok(reached(alloc, &documents.deck, &documents.times, &documents.notes)?)
 }
 
 /// Refuses documents with long notes, where what is asked for goes by the bound.

@@ -1,3 +1,4 @@
 mod Checks
+pub mod PriceText
 pub mod Spending
 pub mod Tallying

@@ -1,29 +1,36 @@
--- The text of a ceiling: what a pass of each mark costs, and then the total. A location has four
--- digits, and other numbers are plain decimal.
+-- The text of a ceiling and its walk: what a pass of each mark costs, and how often the walk passes
+-- it; and then what the walk takes, and the ceiling. A location has four digits, and other numbers
+-- are plain decimal.
 use Rattle.std.specs.Prelude.{ℕ, List, ◌++◌, codes, decimal, flat_map, slice_index}
 use Rattle.std.specs.List.{enumerate_from}
 use Rattle.drum_core.specs.Numeral.{digits_of}
 use Rattle.drum_times.specs.declared.notes.mark.Mark.{Mark}
 use Rattle.drum_times.specs.Allowed.{Notes}
-use Rattle.drum_ceiling.specs.declared.answer.Ceiling.{Ceiling}
 use Rattle.drum_ceiling.specs.CeilingOf.{prices_of, total_of}
 use Rattle.drum_lines.specs.NameText.{name_text}
+use Rattle.drum_rounds.specs.declared.bracket.Bracket.{Bracket}
+use Rattle.drum_rounds.specs.InRounds as walks
 
--- the line of a mark with this price, with its name at the end where it has one
-abbrev pub price_line : Mark → ℕ → List ℕ
-price_line mark price =
+-- the line of a mark with this price and so many passes, with its name at the end where it has one
+abbrev pub price_line : Mark → ℕ → ℕ → List ℕ
+price_line mark price passes =
     codes "mark " ++ digits_of 4 mark.from.number ++ codes " " ++ digits_of 4 mark.onto.number
-    ++ codes " price " ++ decimal price ++ name_text mark.name ++ codes "\n"
+    ++ codes " price " ++ decimal price ++ codes " passed " ++ decimal passes
+    ++ name_text mark.name ++ codes "\n"
 
--- the same of a mark with its index in the notes, with what the ceiling has there
-abbrev pub price_line_at : Ceiling → ℕ × Mark → List ℕ
-price_line_at ceiling noted = price_line noted.1 (slice_index (prices_of ceiling) noted.0)
+-- the same of a mark with its index in the notes, with what ceiling and walk have there
+abbrev pub price_line_at : Bracket → ℕ × Mark → List ℕ
+price_line_at bracket noted =
+    price_line noted.1 (slice_index (prices_of bracket.ceiling) noted.0)
+    (slice_index (walks.passes_in bracket.walk) noted.0)
 
--- the line of the total
-abbrev pub total_line : ℕ → List ℕ
-total_line total = codes "ceiling " ++ decimal total ++ codes "\n"
+-- the lines of what the walk takes, and of the ceiling
+abbrev pub total_lines : ℕ → ℕ → List ℕ
+total_lines reached total =
+    codes "reached " ++ decimal reached ++ codes "\nceiling " ++ decimal total ++ codes "\n"
 
--- The ceiling: a line for each mark of the notes, in their order, and the total.
-abbrev pub ceiling_text : Notes → Ceiling → List ℕ
-ceiling_text notes ceiling =
-    flat_map (price_line_at ceiling) (enumerate_from 0 notes.marks) ++ total_line (total_of ceiling)
+-- The ceiling with its walk: a line for each mark of the notes, in their order, and the two totals.
+abbrev pub ceiling_text : Notes → Bracket → List ℕ
+ceiling_text notes bracket =
+    flat_map (price_line_at bracket) (enumerate_from 0 notes.marks)
+    ++ total_lines (walks.total_of bracket.walk) (total_of bracket.ceiling)

@@ -1,43 +1,49 @@
-//! The lines of a ceiling: what a pass of each mark costs, and the total.
+//! The lines of a ceiling and its walk: what a pass of each mark costs, how often the walk passes
+//! it, and what both come to.
 
 ghost use Rattle.std.specs.Prelude.{◌≡◌, ◌+◌, ◌^◌, ◌≤◌, IfOk, length, flat_map};
 ghost use Rattle.std.specs.List.{enumerate_from};
 ghost use Rattle.drum_ceiling.specs.CeilingOf.{prices_of};
-ghost use Rattle.drum_report.specs.CeilingText.{ceiling_text, price_line, price_line_at, total_line};
+ghost use Rattle.drum_report.specs.CeilingText.{ceiling_text, price_line, price_line_at};
+ghost use Rattle.drum_report.specs.CeilingText.{total_lines};
 ghost use Rattle.drum_lines.specs.Sent.{IsSent, IsWritten, fails_by};
+ghost use Rattle.drum_rounds.specs.InRounds.{passes_in};
 
-use drum_ceiling::Ceiling;
 use drum_core::Output;
 use drum_lines::{WriteFault, four_digits, name_pieces, send};
+use drum_rounds::Bracket;
 use drum_times::{Mark, Notes};
 use itoa::Buffer;
 
-/// Writes the line of a mark with this price.
+/// Writes the line of a mark with this price and so many passes.
 fn send_price<O: Output>(
     writer: &mut O,
     sent: usize,
     mark: &Mark,
     price: u128,
+    passes: u128,
 ) -> Result<usize, WriteFault>
     requires called { O.called writer.old ≤ 2 ^ 62 + 2 ^ 40 }
     requires few { sent ≤ 2 ^ 40 }
     ensures sent { IsSent (O.written writer.old) (O.written writer.new) sent result
-        (price_line mark.now price) }
+        (price_line mark.now price passes) }
     ensures failures { O.failed writer.new ≡ O.failed writer.old + fails_by result }
-    ensures calls { O.called writer.new ≤ O.called writer.old + 120 }
-    ensures short { length (price_line mark.now price) ≤ 120 }
+    ensures calls { O.called writer.new ≤ O.called writer.old + 170 }
+    ensures short { length (price_line mark.now price passes) ≤ 170 }
 {
     let from = four_digits(mark.from.number());
     let onto = four_digits(mark.onto.number());
-    let mut cost = Buffer::new();
+    let (mut cost, mut often) = (Buffer::new(), Buffer::new());
     let (label, name) = name_pieces(mark);
-    let pieces: [&[u8]; 9] = [
+    let pieces: [&[u8]; 11] = [
         b"mark ",
         &from,
         b" ",
         &onto,
         b" price ",
         cost.format(price).as_bytes(),
+        b" passed ",
+        often.format(passes).as_bytes(),
         label,
         name,
         b"\n",
@@ -45,62 +51,76 @@ fn send_price<O: Output>(
     send(writer, sent, &pieces)
 }
 
-/// Writes the lines of marks, each with the price that the ceiling has at its index.
+/// Writes the lines of marks, each with what ceiling and walk have at its index.
 fn send_prices<O: Output>(
     writer: &mut O,
     marks: &[Mark],
-    ceiling: &Ceiling,
+    bracket: &Bracket,
 ) -> Result<usize, WriteFault>
     requires called { O.called writer.old ≤ 2 ^ 62 }
     requires marks { length marks.now ≤ 64 }
-    requires prices { length marks.now ≤ length (prices_of ceiling.now) }
+    requires prices { length marks.now ≤ length (prices_of bracket.now.ceiling) }
+    requires passes { length marks.now ≤ length (passes_in bracket.now.walk) }
     ensures sent { IsSent (O.written writer.old) (O.written writer.new) 0 result
-        (flat_map (price_line_at ceiling.now) (enumerate_from 0 marks.now)) }
+        (flat_map (price_line_at bracket.now) (enumerate_from 0 marks.now)) }
     ensures failures { O.failed writer.new ≡ O.failed writer.old + fails_by result }
-    ensures calls { O.called writer.new ≤ O.called writer.old + 7680 }
-    ensures few { IfOk result (λ total. total ≤ 7680) }
+    ensures calls { O.called writer.new ≤ O.called writer.old + 10880 }
+    ensures few { IfOk result (λ total. total ≤ 10880) }
 {
     let mut sent = 0;
     for (place, mark) in marks.iter().enumerate() {
-        sent = send_price(writer, sent, mark, ceiling.price(place))?;
+        let price = bracket.ceiling.price(place);
+        sent = send_price(writer, sent, mark, price, bracket.walk.passes(place))?;
     }
     Ok(sent)
 }
 
-/// Writes the line of the total.
-fn send_total<O: Output>(writer: &mut O, sent: usize, total: u128) -> Result<usize, WriteFault>
+/// Writes the lines of what the walk takes and of the ceiling.
+fn send_totals<O: Output>(
+    writer: &mut O,
+    sent: usize,
+    reached: u128,
+    total: u128,
+) -> Result<usize, WriteFault>
     requires called { O.called writer.old ≤ 2 ^ 62 + 2 ^ 40 }
     requires few { sent ≤ 2 ^ 40 }
     ensures sent { IsSent (O.written writer.old) (O.written writer.new) sent result
-        (total_line total) }
+        (total_lines reached total) }
     ensures failures { O.failed writer.new ≡ O.failed writer.old + fails_by result }
     ensures calls { O.called writer.new ≤ O.called writer.old + 120 }
 {
-    let mut number = Buffer::new();
-    let pieces: [&[u8]; 3] = [b"ceiling ", number.format(total).as_bytes(), b"\n"];
+    let (mut first, mut second) = (Buffer::new(), Buffer::new());
+    let pieces: [&[u8]; 5] = [
+        b"reached ",
+        first.format(reached).as_bytes(),
+        b"\nceiling ",
+        second.format(total).as_bytes(),
+        b"\n",
+    ];
     send(writer, sent, &pieces)
 }
 
-/// Writes a ceiling: for each mark of the notes what a pass of it costs, and then the total. It
-/// takes no memory.
+/// Writes a ceiling and its walk: for each mark of the notes what a pass of it costs, and how often
+/// the walk passes it; and then what both come to. It takes no memory.
 ///
 /// # Errors
 ///
 /// Where a write fails or takes no byte: then a prefix of the text has gone out, of as many bytes
 /// as the fault says.
 pub fn report_ceiling<O: Output>(
-    ceiling: &Ceiling,
+    bracket: &Bracket,
     notes: &Notes,
     writer: &mut O,
 ) -> Result<(), WriteFault>
     requires called { O.called writer.old ≤ 2 ^ 62 }
-    requires prices { length (prices_of ceiling.now) ≡ length notes.now.marks }
+    requires prices { length (prices_of bracket.now.ceiling) ≡ length notes.now.marks }
+    requires passes { length (passes_in bracket.now.walk) ≡ length notes.now.marks }
     ensures written { IsWritten (O.written writer.old) (O.written writer.new) result
-        (ceiling_text notes.now ceiling.now) }
+        (ceiling_text notes.now bracket.now) }
     ensures failures { O.failed writer.new ≡ O.failed writer.old + fails_by result }
-    ensures calls { O.called writer.new ≤ O.called writer.old + 7800 }
+    ensures calls { O.called writer.new ≤ O.called writer.old + 11000 }
 {
-    let sent = send_prices(writer, notes.marks(), ceiling)?;
-    send_total(writer, sent, ceiling.total())?;
+    let sent = send_prices(writer, notes.marks(), bracket)?;
+    send_totals(writer, sent, bracket.walk.total(), bracket.ceiling.total())?;
     Ok(())
 }

@@ -5,9 +5,9 @@ use Rattle.drum_answers.proofs.answering.say_ceiling.Goals as goal
 
 pub returns-clause-does : goal.returns-clause-does
 returns-clause-does g c err =
-    let ceiling = c.in_ok-ceiling.ceiling in (
-      ceiling_reply c.args.documents.now ceiling,
-      (ceiling, c.in_ok-ceiling.ensures.ceiling, refl),
+    let bracket = c.in_ok-bracket.bracket in (
+      ceiling_reply c.args.documents.now bracket,
+      (bracket, c.in_ok-bracket.ensures.bracket, refl),
       no_line _ _,
       (c.tell_ceiling.ensures, refl),
     )

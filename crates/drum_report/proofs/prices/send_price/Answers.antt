@@ -3,7 +3,7 @@ use Rattle.std.specs.Prelude.{codes, decimal}
 use Rattle.drum_core.specs.Numeral.{digits_of}
 use Rattle.drum_lines.specs.Sent.{IsSent}
 use Rattle.drum_lines.specs.NameText.{name_text}
-use Rattle.drum_lines.proofs.Sending.{named_texts}
+use Rattle.drum_report.proofs.PriceText.{price_texts}
 use Rattle.drum_report.proofs.prices.send_price.Goals as goal
 
 pub returns-clause-sent : goal.returns-clause-sent
@@ -11,18 +11,14 @@ returns-clause-sent g c =
     let Sent : List ℕ → Type 0 =
     IsSent (g.O.Output.written c.args.writer.now) (g.O.Output.written c.send.new.output) c.args.sent
     c.send.result in
-    let price : List ℕ =
-    codes " price " ++ decimal c.args.price ++ name_text c.args.mark.now.name ++ codes "\n" in
-    let told : Sent (codes "mark "
-    ++ (c.four_digits-from.result ++ (codes " " ++ (digits_of 4 c.args.mark.now.onto.number ++ price)))) =
-    subst (λ (rest : List ℕ). Sent (codes "mark " ++ (c.four_digits-from.result ++ (codes " " ++ rest))))
-    (named_texts (codes " price ") c.four_digits-onto.result (digits_of 4 c.args.mark.now.onto.number)
-    c.as_bytes.result.now (decimal c.args.price)
+    subst Sent
+    (price_texts c.four_digits-from.result (digits_of 4 c.args.mark.now.from.number)
+    c.four_digits-onto.result (digits_of 4 c.args.mark.now.onto.number)
+    c.as_bytes.result.now (decimal c.args.price) c.as_bytes-2.result.now (decimal c.args.passes)
     c.name_pieces.result.0.now c.name_pieces.result.1.now (name_text c.args.mark.now.name)
+    (c.four_digits-from.ensures ∙ ap (digits_of 4) c.number.ensures)
     (c.four_digits-onto.ensures ∙ ap (digits_of 4) c.number-2.ensures)
     (c.as_bytes.ensures.value ∙ c.format.ensures.text)
+    (c.as_bytes-2.ensures.value ∙ c.format-2.ensures.text)
     c.name_pieces.ensures.value)
-    c.send.ensures.sent in
-    subst (λ (digits : List ℕ). Sent
-    (codes "mark " ++ (digits ++ (codes " " ++ (digits_of 4 c.args.mark.now.onto.number ++ price)))))
-    (c.four_digits-from.ensures ∙ ap (digits_of 4) c.number.ensures) told
+    c.send.ensures.sent

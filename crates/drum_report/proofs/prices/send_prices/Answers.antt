@@ -7,7 +7,8 @@ use Rattle.std.proofs.lemmas.Result.{err_from_is_err_and}
 use Rattle.std.specs.Prelude.{slice_index}
 use Rattle.std.specs.List.{enumerate_from}
 use Rattle.drum_times.specs.declared.notes.mark.Mark.{Mark}
-use Rattle.drum_ceiling.specs.declared.answer.Ceiling.{Ceiling}
+use Rattle.drum_rounds.specs.declared.bracket.Bracket.{Bracket}
+use Rattle.drum_rounds.specs.InRounds.{passes_in}
 use Rattle.drum_ceiling.specs.CeilingOf.{prices_of}
 use Rattle.drum_lines.specs.Sent.{IsSent}
 use Rattle.drum_lines.proofs.Sending.{sent_more, sent_cut}
@@ -18,20 +19,22 @@ use Rattle.drum_report.proofs.prices.send_prices.Goals as goal
 within : (marks : List Mark) (place : ℕ) → place < length marks → place < length (enumerate_from 0 marks)
 within marks place inside = omega (arith, inside, length-enumerate_from 0 marks)
 
--- the line of a mark is what the ceiling has at its place
-line_told : (ceiling : Ceiling) (marks : List Mark) (place price : ℕ) (mark : Mark) → place < length marks
-    → mark ≡ get_or marks place mark → price ≡ slice_index (prices_of ceiling) place
-    → price_line mark price ≡ price_line_at ceiling (get_or (enumerate_from 0 marks) place (place, mark))
-line_told ceiling marks place price mark inside is cost =
+-- the line of a mark is what ceiling and walk have at its place
+line_told : (bracket : Bracket) (marks : List Mark) (place price passes : ℕ) (mark : Mark) → place < length marks
+    → mark ≡ get_or marks place mark → price ≡ slice_index (prices_of bracket.ceiling) place
+    → passes ≡ slice_index (passes_in bracket.walk) place
+    → price_line mark price passes ≡ price_line_at bracket (get_or (enumerate_from 0 marks) place (place, mark))
+line_told bracket marks place price passes mark inside is cost often =
     let numbered : 0 + place ≡ place = omega arith in
-    ap (price_line mark) cost
-    ∙ ap (λ (m : Mark). price_line_at ceiling (place, m)) is
-    ∙ sym (ap (price_line_at ceiling) (get_or-enumerate_from 0 marks place (place, mark) inside
+    ap (λ (n : ℕ). price_line mark n passes) cost
+    ∙ ap (price_line mark (slice_index (prices_of bracket.ceiling) place)) often
+    ∙ ap (λ (m : Mark). price_line_at bracket (place, m)) is
+    ∙ sym (ap (price_line_at bracket) (get_or-enumerate_from 0 marks place (place, mark) inside
     ∙ ap (λ (n : ℕ). (n, get_or marks place mark)) numbered))
 
 pub returns-in_err-sent-clause-sent : goal.returns-in_err-sent-clause-sent
 returns-in_err-sent-clause-sent g c =
-    let ceiling = c.args.ceiling.now in
+    let bracket = c.args.bracket.now in
     let marks = c.args.marks.now in
     let place = c.loop-place.place in
     let mark = c.index-marks-place.result in
@@ -41,17 +44,18 @@ returns-in_err-sent-clause-sent g c =
     let fault = c.in_err-sent.field-0.0 in
     let p = err_from_is_err_and c.from_residual.result c.from_residual.ensures.1 in
     let here : IsSent between new c.loop-place.sent (Err fault)
-    (price_line_at ceiling (get_or (enumerate_from 0 marks) place (place, mark))) =
+    (price_line_at bracket (get_or (enumerate_from 0 marks) place (place, mark))) =
     subst (IsSent between new c.loop-place.sent (Err fault))
-    (line_told ceiling marks place c.price.result mark c.loop-place-test.true c.index-marks-place.is c.price.ensures)
+    (line_told bracket marks place c.price-price.result c.passes.result mark c.loop-place-test.true c.index-marks-place.is
+    c.price-price.ensures c.passes.ensures)
     c.in_err-sent.ensures.sent in
-    rw (p.1, p.2) (sent_cut (price_line_at ceiling) (enumerate_from 0 marks) place (place, mark)
+    rw (p.1, p.2) (sent_cut (price_line_at bracket) (enumerate_from 0 marks) place (place, mark)
     (within marks place c.loop-place-test.true) old between new 0 c.loop-place.sent fault
     c.loop-place.invariant.so_far here)
 
 pub loop-place-preserved : goal.loop-place-preserved
 loop-place-preserved g c =
-    let ceiling = c.args.ceiling.now in
+    let bracket = c.args.bracket.now in
     let marks = c.args.marks.now in
     let place = c.loop-place.place in
     let mark = c.index-marks-place.result in
@@ -59,12 +63,13 @@ loop-place-preserved g c =
     let between = g.O.Output.written c.loop-place.writer in
     let new = g.O.Output.written c.send_price.new.writer in
     let here : IsSent between new c.loop-place.sent (Ok c.in_ok-sent.sent)
-    (price_line_at ceiling (get_or (enumerate_from 0 marks) place (place, mark))) =
+    (price_line_at bracket (get_or (enumerate_from 0 marks) place (place, mark))) =
     subst (IsSent between new c.loop-place.sent (Ok c.in_ok-sent.sent))
-    (line_told ceiling marks place c.price.result mark c.loop-place-test.true c.index-marks-place.is c.price.ensures)
+    (line_told bracket marks place c.price-price.result c.passes.result mark c.loop-place-test.true c.index-marks-place.is
+    c.price-price.ensures c.passes.ensures)
     c.in_ok-sent.ensures.sent in
     record {
-      so_far = sent_more (price_line_at ceiling) (enumerate_from 0 marks) place (place, mark)
+      so_far = sent_more (price_line_at bracket) (enumerate_from 0 marks) place (place, mark)
           (within marks place c.loop-place-test.true) old between new 0 c.loop-place.sent c.in_ok-sent.sent
           c.loop-place.invariant.so_far here;
       few = omega (arith, c.loop-place.invariant.few, c.in_ok-sent.ensures.sent.0, c.in_ok-sent.ensures.short);
@@ -80,4 +85,4 @@ returns-clause-sent g c =
     (omega (arith, c.loop-place-test.false, length-enumerate_from 0 c.args.marks.now)) in
     subst (λ (some : List (ℕ × Mark)). IsSent (g.O.Output.written c.args.writer.now)
     (g.O.Output.written c.loop-place.writer) 0 (Ok c.loop-place.sent)
-    (flat_map (price_line_at c.args.ceiling.now) some)) all c.loop-place.invariant.so_far
+    (flat_map (price_line_at c.args.bracket.now) some)) all c.loop-place.invariant.so_far

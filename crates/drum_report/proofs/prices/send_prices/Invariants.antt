@@ -8,8 +8,8 @@ use Rattle.drum_report.proofs.prices.send_prices.Given as goal
 abbrev pub invariant-loop-place : goal.invariant-loop-place
 invariant-loop-place g l = record {
   so_far : IsSent (g.O.Output.written l.fn.writer) (g.O.Output.written l.writer) 0 (Ok l.sent)
-      (flat_map (price_line_at l.ceiling) (take l.place (enumerate_from 0 l.marks)));
-  few : l.sent ≤ 120 * l.place;
-  calls : g.O.Output.called l.writer ≤ g.O.Output.called l.fn.writer + 120 * l.place;
+      (flat_map (price_line_at l.bracket) (take l.place (enumerate_from 0 l.marks)));
+  few : l.sent ≤ 170 * l.place;
+  calls : g.O.Output.called l.writer ≤ g.O.Output.called l.fn.writer + 170 * l.place;
   failures : g.O.Output.failed l.writer ≡ g.O.Output.failed l.fn.writer;
 }
