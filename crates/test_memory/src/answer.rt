@@ -2,9 +2,9 @@
 
 use crate::page::Page;
 use drum_bound::{Analysis, Flow, Refusal};
-use drum_ceiling::Ceiling;
 use drum_core::{Deck, DeckFault, WholeError};
 use drum_machine::{Machine, Memory};
+use drum_rounds::Bracket;
 use drum_times::{NoteFault, Notes, Times};
 use drum_tool::{Fault, Findings, InputFault, Inputs, Lacking, Status, Verdict};
 use std::alloc::AllocError;
@@ -22,7 +22,7 @@ pub(crate) enum Answer<'a> {
     Flow(Result<Flow<'a>, Refusal>),
     Analysis(Result<Analysis, Refusal>),
     Bound(Result<u64, Refusal>),
-    Ceiling(Result<Ceiling, Refusal>),
+    Bracket(Result<Bracket, Refusal>),
     Findings(Result<(Findings, Lacking), AllocError>),
     Verdict(Result<Verdict, Fault>),
     /// How the program ended, and what went out.
@@ -52,7 +52,7 @@ impl Answer<'_> {
             | Answer::Flow(Err(Refusal::Memory))
             | Answer::Analysis(Err(Refusal::Memory))
             | Answer::Bound(Err(Refusal::Memory))
-            | Answer::Ceiling(Err(Refusal::Memory))
+            | Answer::Bracket(Err(Refusal::Memory))
             | Answer::Faults(Err(_))
             | Answer::Findings(Err(_))
             | Answer::Verdict(Err(Fault::Memory | Fault::Refused(Refusal::Memory))) => true,

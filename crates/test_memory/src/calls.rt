@@ -3,9 +3,9 @@
 use crate::answer::Answer;
 use crate::page::Page;
 use drum_bound::{accept, analyse, bound, flow};
-use drum_ceiling::ceiling;
 use drum_core::{Reading, Word, Writing, read_deck, read_whole};
 use drum_machine::{Machine, Setup};
+use drum_rounds::reached;
 use drum_toml::{long_notes_faults, read_long_notes, read_notes, read_times};
 use drum_tool::{Documents, Findings, Inputs, Lacking, read_inputs, replay, run, run_joined};
 use std::alloc::{AllocError, Global};
@@ -28,7 +28,7 @@ pub(crate) enum Call<'a> {
     Accept(&'a Documents),
     Analyse(&'a Documents),
     Bound(&'a Documents),
-    Ceiling(&'a Documents),
+    Reached(&'a Documents),
     Findings(&'a Documents),
     /// A replay with these inputs.
     Replay(&'a Documents, &'a str),
@@ -92,8 +92,8 @@ impl<'a> Call<'a> {
                 Answer::Analysis(analyse(alloc, &of.deck, &of.times, &of.notes))
             }
             (Call::Bound(of), _) => { Answer::Bound(bound(alloc, &of.deck, &of.times, &of.notes)) }
-            (Call::Ceiling(of), _) => {
-                Answer::Ceiling(ceiling(alloc, &of.deck, &of.times, &of.notes))
+            (Call::Reached(of), _) => {
+                Answer::Bracket(reached(alloc, &of.deck, &of.times, &of.notes))
             }
             (Call::Findings(of), _) => { Answer::Findings(findings(alloc, of)) }
             (Call::Replay(of, _), Spent::Inputs(inputs)) => {

@@ -126,7 +126,7 @@ fn of_documents(rt: HostRuntime) -> Result<(), Fail> {
         holds(&rt, Call::Accept(&documents))?;
         holds(&rt, Call::Analyse(&documents))?;
         holds(&rt, Call::Bound(&documents))?;
-        holds(&rt, Call::Ceiling(&documents))?;
+        holds(&rt, Call::Reached(&documents))?;
         holds(&rt, Call::Findings(&documents))?;
         holds(&rt, Call::Replay(&documents, "ANGLE 01\n"))?;
         holds(
@@ -155,7 +155,7 @@ fn of_refusals(rt: HostRuntime) -> Result<(), Fail> {
         holds(&rt, Call::Accept(&documents))?;
         holds(&rt, Call::Analyse(&documents))?;
         holds(&rt, Call::Bound(&documents))?;
-        holds(&rt, Call::Ceiling(&documents))?;
+        holds(&rt, Call::Reached(&documents))?;
         holds(&rt, Call::Findings(&documents))?;
     }
     Ok(())
