@@ -1,44 +1,100 @@
-"""Whether the lines of a ceiling are what docs/FORMATS.md says, of a deck, a timing table and notes
-that are admitted; and, by the plain model, whether its numbers may be those."""
+"""Whether the lines of a ceiling and of its walk are what docs/FORMATS.md says, of a deck, a timing
+table and notes that are admitted; and, by the plain model, whether the numbers may be those."""
 
 import re
+from math import prod
 
 from findings import Flow
-from latest import worst
+from latest import Latest, Uncounted, worst
 from marks import is_inside, marks_of, place_on
 from model import found
 from results import NUMBER, PLACE
 from tables import TextWalks
 from toml_text import document_of
 
-PRICED = re.compile("mark {0} {0} price {1}".format(PLACE, NUMBER))
-TOTAL = re.compile("ceiling %s\n" % NUMBER)
+PRICED = re.compile("mark {0} {0} price {1} passed {1}".format(PLACE, NUMBER))
+TOTALS = re.compile("reached {0}\nceiling {0}\n".format(NUMBER))
 
 # The model goes through all rounds where there are no more instructions times counts than this, and
-# through all steps where there are no more instructions.
-FEW_ROUNDS, FEW_STEPS = 300, 3000
+# through all steps where there are no more instructions; and through all passes where there are no
+# more instructions times counts times passes.
+FEW_ROUNDS, FEW_STEPS, FEW_PASSES = 300, 3000, 10_000
 
 # From so many word times on there may be no ceiling.
 LARGEST = 2**127
 
 
-def ceiling_of(text, files):
-    """The number that ends a ceiling, with a line before it for each mark of the notes; None where
-    it can't be one, as far as the model tells."""
-    marks, lines = marks_of(document_of(files["notes"])), text.splitlines(keepends=True)
-    total = TOTAL.fullmatch(lines[-1]) if lines else None
-    if not total or len(lines) != len(marks) + 1:
+class Bracket:
+    """What the lines of a ceiling and its walk tell: the prices, how often the walk passes each mark,
+    what it takes, and the ceiling."""
+
+    def __init__(self, priced, totals):
+        self.prices = [int(one.group(3)) for one in priced]
+        self.passes = [int(one.group(4)) for one in priced]
+        self.reached, self.ceiling = map(int, totals.groups())
+
+
+def bracket_of(text, marks):
+    """What lines tell; None where they aren't those of a ceiling under these marks."""
+    lines = text.splitlines(keepends=True)
+    totals = TOTALS.fullmatch("".join(lines[-2:]))
+    if not totals or len(lines) != len(marks) + 2:
         return None
-    prices = []
+    priced = []
     for mark, line in zip(marks, lines):
         matched = PRICED.fullmatch(line.removesuffix(mark.ending() + "\n"))
         if not matched or tuple(map(int, matched.group(1, 2))) != mark.first:
             return None
-        prices.append(int(matched.group(3)))
-    total = int(total.group(1))
+        priced.append(matched)
+    return Bracket(priced, totals)
+
+
+def ceiling_of(text, files):
+    """The number that ends a ceiling, with a line before it for each mark of the notes and one of a
+    walk; None where it can't be one, as far as the model tells."""
+    told = bracket_of(text, marks_of(document_of(files["notes"])))
+    if told is None or told.ceiling >= LARGEST:
+        return None
     limit = most_ceiling(files)
-    is_low = total < LARGEST and (limit is None or total <= limit)
-    return total if is_low and pay_for_rounds(prices, files) else None
+    is_low = limit is None or told.ceiling <= limit
+    is_right = is_low and pay_for_rounds(told.prices, files) and may_be_walk(told, files)
+    return told.ceiling if is_right else None
+
+
+def may_be_walk(told, files):
+    """Whether a walk may take what is reached and pass the marks so often, as far as the model
+    tells: it takes no more than the ceiling, it passes no mark more often than the notes let any,
+    and where the model can go through all walks, one of those with these passes takes as long."""
+    walks = TextWalks(files)
+    most = passes_of(walks.marks)
+    if told.reached > told.ceiling or any(map(int.__gt__, told.passes, most)):
+        return False
+    if not walks.is_small():
+        return True
+    if walks.size() * prod(1 + passes for passes in most) > FEW_PASSES:
+        return told.reached <= worst(walks)
+    return told.reached <= longest_by_passes(walks).get(tuple(told.passes), -1)
+
+
+def longest_by_passes(walks):
+    """What the longest walk takes of those that pass each mark so often, for all such passes."""
+    latest, none = Latest(walks, Uncounted()), (0,) * len(walks.marks)
+    start, begun = (walks.start, none), (walks.start + 1) % 50
+    # The latest arrivals at each place with counts, and the latest end of a walk, by the passes.
+    arrivals, ended = {start: {none: begun}}, {none: begun}
+    for key in latest.behind(start):
+        for passes, arrived in arrivals[key].items():
+            at = found(key[0], arrived)
+            for op, d, i, way, onto in latest.hops(key):
+                ready = at + walks.times[op]["before"]
+                end = ready if way == "early" else max(walks.ends(op, d, ready))
+                mark = place_on(walks.marks, (key[0], way))
+                then = tuple(often + (place == mark) for place, often in enumerate(passes))
+                ended[then] = max(end, ended.get(then, 0))
+                if onto is not None:
+                    behind = arrivals.setdefault(onto, {})
+                    behind[then] = max(end, behind.get(then, 0))
+    return {passes: end - begun for passes, end in ended.items()}
 
 
 def least_ceiling(files):

@@ -215,7 +215,7 @@ def of_results():
 def ceiling(case, marks_in_it, total):
     """The ceiling of a case's deck, which some walk reaches."""
     last = b"ceiling %d\n" % total
-    holds = has_lines(marks_in_it + 1, last)
+    holds = is_ceiling(marks_in_it, total, total)
     name = "the ceiling of %s" % case.name.removeprefix("bound of ")
     return Case(name, last, "ceiling", holds=holds, **case.parts)
 
@@ -243,7 +243,7 @@ def of_ceilings():
     yield Case("%s by its ceiling" % traced.name, line, "trace", holds=holds, **parts)
     # Nobody passes a mark of these.
     notes = NOTES + marks_of_many()
-    holds = has_lines(64 + 1, b"ceiling 56\n")
+    holds = is_ceiling(64, 56, 56)
     yield Case("64 marks of 64 edges", b"ceiling 56\n", "ceiling", notes=notes, holds=holds)
     name = "check of 64 marks of 64 edges"
     last = b"unused mark 0063 0263\n"
@@ -255,15 +255,17 @@ def of_ceilings():
 
 
 def is_ceiling(marks_in_it, least, most):
-    """That a file has a line for each mark, and a ceiling of so many word times."""
+    """That a file has a line for each mark, and a ceiling of so many word times behind what a walk
+    takes, which is no more."""
 
     def look(path):
         with open(path, "rb") as file:
-            lines = file.read().splitlines()
-        last = re.fullmatch(rb"ceiling ([0-9]+)", lines[-1] if lines else b"")
-        if last and len(lines) == marks_in_it + 1 and least <= int(last.group(1)) <= most:
+            lines = file.read().splitlines(keepends=True)
+        totals = re.fullmatch(rb"reached ([0-9]+)\nceiling ([0-9]+)\n", b"".join(lines[-2:]))
+        reached, ceiling = map(int, totals.groups()) if totals else (0, -1)
+        if len(lines) == marks_in_it + 2 and reached <= ceiling and least <= ceiling <= most:
             return None
-        return "%d lines, the last %r" % (len(lines), lines[-1:])
+        return "%d lines, the last %r" % (len(lines), lines[-2:])
 
     return look
 
@@ -378,7 +380,7 @@ def of_marks():
     ]:
         number, total, deck, text = made
         last = b"ceiling %d\n" % total
-        parts = {"deck": deck, "notes": NOTES + text, "holds": has_lines(number + 1, last)}
+        parts = {"deck": deck, "notes": NOTES + text, "holds": is_ceiling(number, total, total)}
         yield Case("the ceiling of %s" % name, last, "ceiling", **parts)
     straight = 49 + 1999 * 51
     for name, number, passes, (deck, text) in [

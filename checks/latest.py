@@ -155,6 +155,12 @@ class Latest:
         behind.append(key)
         return behind
 
+    def behind(self, start):
+        """Each location with counts that a walk comes to, before all that it leads to."""
+        # The order is looked for as deep as a walk has hops.
+        sys.setrecursionlimit(1_000_000)
+        return reversed(self.order(start, set(), []))
+
     def take(self, key):
         """Follows each hop of a location with counts from its latest arrival."""
         place, _ = key
@@ -177,9 +183,7 @@ class Latest:
         start = self.walks.start, (0,) * len(self.walks.marks)
         angle = (self.walks.start + 1) % 50
         self.arrivals[start] = angle, self.nothing
-        # The order is looked for as deep as a walk has hops.
-        sys.setrecursionlimit(1_000_000)
-        for key in reversed(self.order(start, set(), [])):
+        for key in self.behind(start):
             self.take(key)
         end, tally = self.ended
         return None if tally is MANY else tally.text() + ["bound %d" % (end - angle)]
