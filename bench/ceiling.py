@@ -17,9 +17,11 @@ The decks are made here, from seeds:
 
 The ceiling is compared with `bound`, where there is one, and with the optimum that glpsol gives of
 two linear programs (linear_programs.py): that by entries, and that of the whole run, which is what
-prices alone come to. Without glpsol they are left out. A deck where a ceiling isn't what it is
-compared with is printed, with what was found. The status is 1 where a ceiling is below the bound,
-or above the optimum of the whole run or the ceiling of EARLIER."""
+prices alone come to. Without glpsol they are left out. The time that the walk beside the ceiling
+reaches is compared with the ceiling and the bound. A deck where a ceiling is above what it is
+compared with, or the time reached below, is printed, with what was found. The status is 1 where a
+ceiling is below the bound, or above the optimum of the whole run or the ceiling of EARLIER; or
+where the time reached is above the ceiling or the bound."""
 
 import itertools
 import os
@@ -42,7 +44,8 @@ from program import built_program
 
 TIMES = os.path.join(TOP, "examples/times.toml")
 COUNT = 300
-PRICED = re.compile(r"mark [0-9]{4} [0-9]{4} price [0-9]+( passed [0-9]+)?( name \S+)?")
+PRICED = re.compile(r"mark [0-9]{4} [0-9]{4} price [0-9]+ passed [0-9]+( name \S+)?")
+TOTALS = re.compile(r"reached ([0-9]+)\nceiling ([0-9]+)")
 TOTAL = re.compile(r"ceiling ([0-9]+)")
 
 
@@ -80,16 +83,17 @@ class Bench:
         """Whether the deck is small enough for a bound."""
         return not self.run("bound").stderr.startswith("fault 36 ")
 
-    def ceiling(self):
-        """The ceiling, once each mark of the notes is seen to have a line with its price."""
-        *marks, last = self.lines("ceiling")
-        total = TOTAL.fullmatch(last)
+    def bracket(self):
+        """What a walk reaches, and the ceiling, once each mark of the notes is seen to have a line
+        with its price and passes."""
+        lines = self.lines("ceiling")
+        marks, totals = lines[:-2], TOTALS.fullmatch("\n".join(lines[-2:]))
         wrong = [line for line in marks if not PRICED.fullmatch(line)]
         with open(self.path("notes")) as file:
             count = file.read().count("[[mark]]")
-        if total is None or wrong or len(marks) != count:
-            sys.exit("lines of a ceiling of %d marks: %s" % (count, marks + [last]))
-        return int(total[1])
+        if totals is None or wrong or len(marks) != count:
+            sys.exit("lines of a ceiling of %d marks: %s" % (count, lines))
+        return int(totals[1]), int(totals[2])
 
     def ceiling_of(self, program):
         """The ceiling by another build, whatever its other lines are."""
@@ -111,27 +115,33 @@ def is_equal(one, other):
 
 class Tally:
     """How often a number was equal to what it is compared with, how often it was above or below,
-    and how far above at most."""
+    and how far at most."""
 
     def __init__(self, what, other):
         self.what, self.other = what, other
-        self.equal, self.below, self.above, self.worst = 0, 0, 0, 1.0
+        self.equal, self.below, self.above, self.least, self.worst = 0, 0, 0, 1.0, 1.0
 
-    def add(self, deck, number, other, is_told=True):
+    def add(self, deck, number, other, told):
+        """Counts two numbers, and prints them where the one is `above` or `below` the other, which
+        of these is to be told."""
         if is_equal(number, other):
             self.equal += 1
-        elif number < other:
+            return
+        if number < other:
             self.below += 1
+            self.least = min(self.least, number / other)
         else:
             self.above += 1
             self.worst = max(self.worst, number / max(other, 1))
-            if is_told:
-                told = deck, self.what, number, self.other, other
-                print("%s: the %s %.12g, the %s %.12g" % told)
+        if told == ("below" if number < other else "above"):
+            numbers = deck, self.what, number, self.other, other
+            print("%s: the %s %.12g, the %s %.12g" % numbers)
 
     def told(self):
         text = "the %s is the %s on %d" % (self.what, self.other, self.equal)
-        text += ", below it on %d" % self.below if self.below else ""
+        text += " of %d" % self.count()
+        if self.below:
+            text += ", below it on %d, %.6g times at least" % (self.below, self.least)
         if self.above:
             text += ", above it on %d, %.6g times at most" % (self.above, self.worst)
         return text
@@ -146,6 +156,8 @@ class Set:
     def __init__(self, bench, name, decks, earlier=None):
         self.bench, self.name, self.decks, self.earlier = bench, name, decks, earlier
         pairs = [
+            ("time reached", "ceiling"),
+            ("time reached", "bound"),
             ("ceiling", "bound"),
             ("optimum by entries", "bound"),
             ("optimum of the whole run", "bound"),
@@ -158,8 +170,10 @@ class Set:
     def numbers(self, with_bound):
         """What is found of the deck that is put, by what it is called."""
         whole, entries = self.bench.optima()
+        reached, ceiling = self.bench.bracket()
         found = {
-            "ceiling": self.bench.ceiling(),
+            "time reached": reached,
+            "ceiling": ceiling,
             "bound": self.bench.bound() if with_bound else None,
             "optimum by entries": entries,
             "optimum of the whole run": whole,
@@ -175,8 +189,8 @@ class Set:
             found = self.numbers(with_bound)
             for tally in self.tallies:
                 if tally.what in found and tally.other in found:
-                    is_told = tally.what == "ceiling"
-                    tally.add(name, found[tally.what], found[tally.other], is_told)
+                    told = {"ceiling": "above", "time reached": "below"}.get(tally.what)
+                    tally.add(name, found[tally.what], found[tally.other], told)
             wrong += ["%s: %s" % (name, one) for one in wrongs(found)]
         count = max(tally.count() for tally in self.tallies)
         told = [tally.told() for tally in self.tallies if tally.count()]
@@ -186,9 +200,12 @@ class Set:
 
 def wrongs(found):
     """What may not be of the numbers that were found of a deck."""
-    ceiling = found["ceiling"]
+    ceiling, reached = found["ceiling"], found["time reached"]
     if ceiling < found.get("bound", 0):
         yield "the ceiling %d is below the bound %d" % (ceiling, found["bound"])
+    for name in ("ceiling", "bound"):
+        if reached > found.get(name, reached):
+            yield "the time reached %d is above the %s %d" % (reached, name, found[name])
     for name in ("optimum of the whole run", "earlier ceiling"):
         if name in found and ceiling > found[name] and not is_equal(ceiling, found[name]):
             yield "the ceiling %d is above the %s %.12g" % (ceiling, name, found[name])
@@ -273,7 +290,8 @@ def main():
             ("past the limit", structured_decks(half, "large", is_large=True), False),
         ]:
             wrong += Set(bench, name, decks, earlier).compare(with_bound)
-    print("\n".join(wrong) or "no ceiling is below a bound, or dearer than prices alone")
+    right = "no ceiling is below a bound, or dearer than prices alone, and no walk is above it"
+    print("\n".join(wrong) or right)
     sys.exit(1 if wrong else 0)
 
 

@@ -77,9 +77,9 @@ def main():
             loops = Loops(stride)
             bounds = list(parts(bench, loops))
             bench.put(loops.deck(), loops.notes(range(LOOPS)))
-            told = "words %d apart: parts %s, their sum %d, ceiling %d,"
+            told = "words %d apart: parts %s, their sum %d, reached %d, ceiling %d,"
             told += " optimum of the whole run %s, by entries %s"
-            found = sum(bounds), bench.ceiling(), *bench.optima()
+            found = sum(bounds), *bench.bracket(), *bench.optima()
             print(told % (stride, " ".join(map(str, bounds)), *found))
 
 
