@@ -2,16 +2,17 @@
 //! pieces, each once, and may be far too long to be listed. Beside a ceiling it says how much is
 //! open of the worst time.
 //!
-//! Code, from the bottom up. `piece` is what such a walk is made of. `change` and `changes` are what
-//! hops do to the count of a mark and of all marks; `stretch` is what hops come to, and `coming`
-//! tells it of one hop, of one stretch behind another, and of rounds of one. By these `weighing`
-//! tells the walk that pieces spell out, an `in_rounds`, or that they spell out none; `setting` has
-//! the deck, the timing table and the notes. `search` looks for pieces of a long walk, and owes only
-//! that it ends. `bracket` has a ceiling with a walk. `laws` has laws of the definitions.
+//! Code, from the bottom up. `piece` is what such a walk is made of. `change` and `changes` are
+//! what hops do to the count of a mark and of all marks; `stretch` is what hops come to, and
+//! `coming` tells it of one hop, of one stretch behind another, and of rounds of one. By these
+//! `weighing` tells the walk that pieces spell out, an `in_rounds`, or that they spell out none;
+//! `setting` has the deck, the timing table and the notes. `search` looks for pieces of a long
+//! walk, and owes only that it ends. `bracket` has a ceiling with a walk. `laws` has laws of the
+//! definitions.
 //!
-//! Definitions, in the order to read them: `Pieces` (what pieces spell out), `InRounds` (when a walk
-//! in rounds is right), `BracketOf` (the same of a ceiling with a walk). The others say what the
-//! code's types mean by these: `Change` and `Stretch`.
+//! Definitions, in the order to read them: `Pieces` (what pieces spell out), `InRounds` (when a
+//! walk in rounds is right), `BracketOf` (the same of a ceiling with a walk). The others say what
+//! the code's types mean by these: `Change` and `Stretch`.
 //!
 //! Proofs. `CountLaws` has what changes do to counts, `LaidLaws` hops that are laid one after the
 //! other, each as long as it can be, and `HopLaws` which hops a location has. `Comings` shows what

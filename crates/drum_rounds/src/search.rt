@@ -55,9 +55,6 @@ pub fn find(
     let Some(whole) = found else {
         return Ok(Vec::new(alloc));
     };
-    if walks.is_full() {
-        return Ok(Vec::new(alloc));
-    }
     let mut building = Building::new(alloc, by, rows, &sources, &walks);
     // One place behind the start the search for it takes longest.
     let angle = (u64::from(start.number) + 1) % REVOLUTION;

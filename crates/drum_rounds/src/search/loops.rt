@@ -56,7 +56,7 @@ impl<'a> Loops<'a> {
         let mut longest = whole.at(0, self.end());
         for (index, free) in self.sources.free.iter().enumerate() {
             if let (Some(way), Some(last)) = (whole.at(0, index), free.last) {
-                longest = longer(longest, Some(ended(index, way, last, walks)?));
+                longest = longer(longest, ended(index, way, last, walks)?);
             }
         }
         Ok(longest.map(|cell| cell.walk))
@@ -73,21 +73,53 @@ impl<'a> Loops<'a> {
         self.group(None, walks)
     }
 
-    /// Of the marks that stand right inside of one, or inside of none, each loop at most once, in
-    /// the order of the flow.
+    /// Of the marks that stand right inside of one, or inside of none, each loop at most once. It
+    /// isn't known which comes before which: so each is put behind those so far and before them, in
+    /// the order of the flow and against it.
     fn group(&mut self, around: Option<usize>, walks: &mut Walks) -> Result<Table, AllocError> {
+        let inner = self.all_taken(around)?;
         let mut group = Table::one(self.alloc, self.size)?;
-        for index in 0..self.order.len() {
-            // What is found then is thrown away.
-            if walks.is_full() {
-                break;
-            }
-            if let Some(inner) = self.taken(index, around) {
-                let longer = group.join(self.alloc, &inner, walks)?;
-                group.raise(&longer);
-            }
+        for one in &inner {
+            self.put(&mut group, one, walks)?;
+        }
+        if inner.len() < 2 {
+            return Ok(group);
+        }
+        let backward = self.backward(&inner, walks)?;
+        group.raise(&backward)?;
+        Ok(group)
+    }
+
+    /// The same against the order of the flow.
+    fn backward(&self, inner: &[Table], walks: &mut Walks) -> Result<Table, AllocError> {
+        let mut group = Table::one(self.alloc, self.size)?;
+        for one in inner.iter().rev() {
+            self.put(&mut group, one, walks)?;
         }
         Ok(group)
+    }
+
+    /// Puts a loop behind walks and before them, as long as there is room.
+    fn put(&self, group: &mut Table, one: &Table, walks: &mut Walks) -> Result<(), AllocError> {
+        if walks.is_full() {
+            return Ok(());
+        }
+        let behind = group.join(self.alloc, one, walks)?;
+        let before = one.join(self.alloc, group, walks)?;
+        group.raise(&behind)?;
+        group.raise(&before)
+    }
+
+    /// The loops of the marks that stand right inside of one, or inside of none, in the order of
+    /// the flow.
+    fn all_taken(&mut self, around: Option<usize>) -> Result<Vec<Table>, AllocError> {
+        let mut inner = Vec::new(self.alloc);
+        for index in 0..self.order.len() {
+            if let Some(one) = self.taken(index, around) {
+                inner.push(one)?;
+            }
+        }
+        Ok(inner)
     }
 
     /// The loop of the mark at this place of the order, if it stands right inside of this one.
@@ -123,10 +155,10 @@ impl<'a> Loops<'a> {
         let passed = body.join(self.alloc, &rounds, walks)?;
         let onward = passed.join(self.alloc, &inside, walks)?;
         let mut whole = inside;
-        whole.raise(&onward);
+        whole.raise(&onward)?;
         if most > 1 && body.leads_back() {
             let last = self.last(most, body, walks)?;
-            whole.raise(&last);
+            whole.raise(&last)?;
         }
         Ok(whole)
     }
@@ -146,12 +178,12 @@ impl<'a> Loops<'a> {
             return Ok(rounds);
         }
         for index in 0..self.end() {
-            if let Some(one) = body.at(index, index) {
-                let all = Cell {
-                    time: one.time.saturating_mul(u128::from(times)),
-                    walk: walks.rounds(times, one.walk)?,
-                };
-                rounds.raise_at(index, index, all);
+            if let Some(one) = body.at(index, index)
+                && let Some(walk) = walks.rounds(times, one.walk)?
+            {
+                let time = one.time.saturating_mul(u128::from(times));
+                let onto = index;
+                rounds.raise_at(index, Cell { onto, time, walk })?;
             }
         }
         Ok(rounds)
@@ -162,7 +194,7 @@ impl<'a> Loops<'a> {
         let mut ending = Table::none(self.alloc, self.size)?;
         for index in 0..self.end() {
             if let Some(cell) = body.at(index, self.end()) {
-                ending.raise_at(index, self.end(), cell);
+                ending.raise_at(index, cell)?;
             }
         }
         Ok(ending)
@@ -186,36 +218,61 @@ impl<'a> Loops<'a> {
         passing: Passing,
         walks: &mut Walks,
     ) -> Result<(), AllocError> {
-        let onto = self.sources.index_of(passing.onto);
         for (index, free) in self.sources.free.iter().enumerate() {
             if let Some(way) = free.at(passing.from) {
                 let step = Step {
                     from: passing.from,
                     edge: Some(passing.edge),
                 };
-                let walk = walks.add(Walk::Way(index, step))?;
-                let time = u128::from(way.time);
-                if let Some(onto) = onto {
-                    let time = time.saturating_add(u128::from(passing.time));
-                    passes.raise_at(index, onto, Cell { time, walk });
+                if let Some(walk) = walks.add(Walk::Way(index, step))? {
+                    self.add_pass(passes, passing, index, u128::from(way.time), walk)?;
                 }
-                let time = time.saturating_add(u128::from(passing.stop));
-                passes.raise_at(index, self.end(), Cell { time, walk });
             }
         }
         Ok(())
     }
+
+    /// Adds a walk from a source to an edge with a mark, where its last hop begins at this time,
+    /// and goes on behind it or ends.
+    fn add_pass(
+        &self,
+        passes: &mut Table,
+        passing: Passing,
+        from: usize,
+        begun: u128,
+        walk: usize,
+    ) -> Result<(), AllocError> {
+        if let Some(onto) = self.sources.index_of(passing.onto) {
+            let time = begun.saturating_add(u128::from(passing.time));
+            passes.raise_at(from, Cell { onto, time, walk })?;
+        }
+        let onto = self.end();
+        let time = begun.saturating_add(u128::from(passing.stop));
+        passes.raise_at(from, Cell { onto, time, walk })
+    }
 }
 
-/// A walk to a source with the longest way from there to an end.
-fn ended(index: usize, before: Cell, last: Last, walks: &mut Walks) -> Result<Cell, AllocError> {
+/// A walk to a source with the longest way from there to an end; `None` where there is no room for
+/// it.
+fn ended(
+    index: usize,
+    before: Cell,
+    last: Last,
+    walks: &mut Walks,
+) -> Result<Option<Cell>, AllocError> {
     let step = Step {
         from: last.from,
         edge: None,
     };
-    let way = walks.add(Walk::Way(index, step))?;
-    Ok(Cell {
+    let Some(way) = walks.add(Walk::Way(index, step))? else {
+        return Ok(None);
+    };
+    let Some(walk) = walks.then(before.walk, way)? else {
+        return Ok(None);
+    };
+    Ok(Some(Cell {
+        onto: before.onto,
         time: before.time.saturating_add(u128::from(last.time)),
-        walk: walks.then(before.walk, way)?,
-    })
+        walk,
+    }))
 }

@@ -3,9 +3,11 @@
 use super::walks::Walks;
 use std::alloc::{AllocError, Global};
 
-/// A walk, with the word times that it takes.
+/// A walk, with where it leads and the word times that it takes.
 #[derive(Clone, Copy, Debug)]
 pub struct Cell {
+    /// The source that it leads to, or the column of the end.
+    pub onto: usize,
     pub time: u128,
     /// Its number.
     pub walk: usize,
@@ -19,11 +21,11 @@ struct Joint {
     second: usize,
 }
 
-/// The longest walks that were found from each source to each, and in the last column to an end of
-/// the whole; none, where there is no walk.
+/// The longest walks that were found from each source to each, and to an end of the whole, which is
+/// the last column. Rows hold what was found alone, since most have little.
 #[derive(Debug, Drop)]
 pub struct Table {
-    pub rows: Vec<Vec<Option<Cell>>>,
+    rows: Vec<Vec<Cell>>,
 }
 
 /// The longer of two, the first where they are as long.
@@ -35,10 +37,27 @@ pub fn longer(first: Option<Cell>, second: Option<Cell>) -> Option<Cell> {
     }
 }
 
-/// A row without walks.
-fn empty_row(alloc: Global, size: usize) -> Result<Vec<Option<Cell>>, AllocError> {
-    let row: Vec<Option<Cell>> = vec![in alloc; None; size]?;
-    Ok(row)
+/// The walk of a row that leads there.
+fn cell_of(row: &[Cell], onto: usize) -> Option<Cell> {
+    for cell in row {
+        if cell.onto == onto {
+            return Some(*cell);
+        }
+    }
+    None
+}
+
+/// Takes a walk into a row, if it is longer than the one that leads there.
+fn raise_row(row: &mut Vec<Cell>, cell: Cell) -> Result<(), AllocError> {
+    let Some(place) = row.iter().position(|one| one.onto == cell.onto) else {
+        return Ok(row.push(cell)?);
+    };
+    if let Some(known) = row.get_mut(place)
+        && known.time < cell.time
+    {
+        *known = cell;
+    }
+    Ok(())
 }
 
 impl Table {
@@ -46,7 +65,7 @@ impl Table {
     pub fn none(alloc: Global, size: usize) -> Result<Table, AllocError> {
         let mut rows = Vec::new(alloc);
         for _ in 0..size {
-            rows.push(empty_row(alloc, size)?)?;
+            rows.push(Vec::new(alloc))?;
         }
         Ok(Table { rows })
     }
@@ -56,29 +75,26 @@ impl Table {
         let mut table = Table::none(alloc, size)?;
         for index in 0..size {
             let cell = Cell {
+                onto: index,
                 time: 0,
                 walk: Walks::NONE,
             };
-            table.raise_at(index, index, cell);
+            table.raise_at(index, cell)?;
         }
         Ok(table)
     }
 
     /// The walk from one to another.
     pub fn at(&self, from: usize, onto: usize) -> Option<Cell> {
-        match self.rows.get(from) {
-            Some(row) => row.get(onto).copied().flatten(),
-            None => None,
-        }
+        cell_of(self.rows.get(from)?, onto)
     }
 
-    /// Takes a walk from one to another, if it is longer than the one that is known.
-    pub fn raise_at(&mut self, from: usize, onto: usize, cell: Cell) {
-        if let Some(row) = self.rows.get_mut(from)
-            && let Some(entry) = row.get_mut(onto)
-        {
-            *entry = longer(*entry, Some(cell));
+    /// Takes a walk from one, if it is longer than the one that is known.
+    pub fn raise_at(&mut self, from: usize, cell: Cell) -> Result<(), AllocError> {
+        if let Some(row) = self.rows.get_mut(from) {
+            raise_row(row, cell)?;
         }
+        Ok(())
     }
 
     /// Whether a walk leads from a source back to it.
@@ -92,10 +108,19 @@ impl Table {
     }
 
     /// Those of another table where they are longer.
-    pub fn raise(&mut self, other: &Table) {
-        for (row, others) in self.rows.iter_mut().zip(&other.rows) {
-            raise_row(row, others);
+    pub fn raise(&mut self, other: &Table) -> Result<(), AllocError> {
+        for (from, row) in other.rows.iter().enumerate() {
+            self.raise_from(from, row)?;
         }
+        Ok(())
+    }
+
+    /// Those of a row where they are longer.
+    fn raise_from(&mut self, from: usize, row: &[Cell]) -> Result<(), AllocError> {
+        for cell in row {
+            self.raise_at(from, *cell)?;
+        }
+        Ok(())
     }
 
     /// The longest of these walks with one of another table behind it.
@@ -114,25 +139,14 @@ impl Table {
     }
 
     /// The longest of the walks of a row with one of this table behind it.
-    fn behind(
-        &self,
-        alloc: Global,
-        row: &[Option<Cell>],
-    ) -> Result<Vec<Option<Joint>>, AllocError> {
-        let mut joints: Vec<Option<Joint>> = vec![in alloc; None; row.len()]?;
-        for (cell, next) in row.iter().zip(&self.rows) {
-            if let Some(first) = cell {
+    fn behind(&self, alloc: Global, row: &[Cell]) -> Result<Vec<Option<Joint>>, AllocError> {
+        let mut joints: Vec<Option<Joint>> = vec![in alloc; None; self.rows.len()]?;
+        for first in row {
+            if let Some(next) = self.rows.get(first.onto) {
                 raise_joints(&mut joints, *first, next);
             }
         }
         Ok(joints)
-    }
-}
-
-/// Those of another row where they are longer.
-fn raise_row(row: &mut [Option<Cell>], others: &[Option<Cell>]) {
-    for (cell, other) in row.iter_mut().zip(others) {
-        *cell = longer(*cell, *other);
     }
 }
 
@@ -145,35 +159,33 @@ fn longer_joint(known: Option<Joint>, joint: Joint) -> Joint {
 }
 
 /// Takes a walk with one of a row behind it, where that is longer.
-fn raise_joints(joints: &mut [Option<Joint>], first: Cell, next: &[Option<Cell>]) {
-    for (known, second) in joints.iter_mut().zip(next) {
-        if let Some(second) = second {
-            let joint = Joint {
-                time: first.time.saturating_add(second.time),
-                first: first.walk,
-                second: second.walk,
-            };
+fn raise_joints(joints: &mut [Option<Joint>], first: Cell, next: &[Cell]) {
+    for second in next {
+        let joint = Joint {
+            time: first.time.saturating_add(second.time),
+            first: first.walk,
+            second: second.walk,
+        };
+        if let Some(known) = joints.get_mut(second.onto) {
             *known = Some(longer_joint(*known, joint));
         }
     }
 }
 
-/// The walks that are put together.
+/// The walks that are put together, as far as there is room.
 fn joined(
     alloc: Global,
     joints: &[Option<Joint>],
     walks: &mut Walks,
-) -> Result<Vec<Option<Cell>>, AllocError> {
+) -> Result<Vec<Cell>, AllocError> {
     let mut row = Vec::new(alloc);
-    for joint in joints {
-        let cell = match joint {
-            Some(joint) => Some(Cell {
-                time: joint.time,
-                walk: walks.then(joint.first, joint.second)?,
-            }),
-            None => None,
-        };
-        row.push(cell)?;
+    for (onto, joint) in joints.iter().enumerate() {
+        if let Some(joint) = joint
+            && let Some(walk) = walks.then(joint.first, joint.second)?
+        {
+            let time = joint.time;
+            row.push(Cell { onto, time, walk })?;
+        }
     }
     Ok(row)
 }

@@ -20,8 +20,6 @@ pub enum Walk {
 #[derive(Debug, Drop)]
 pub struct Walks {
     list: Vec<Walk>,
-    /// Whether there was no room for one.
-    is_full: bool,
 }
 
 impl Walks {
@@ -35,15 +33,12 @@ impl Walks {
     pub fn new(alloc: Global) -> Result<Walks, AllocError> {
         let mut list = Vec::new(alloc);
         list.push(Walk::None)?;
-        Ok(Walks {
-            list,
-            is_full: false,
-        })
+        Ok(Walks { list })
     }
 
-    /// Whether there was no room for one.
+    /// Whether there is no room for more.
     pub fn is_full(&self) -> bool {
-        self.is_full
+        self.list.len() >= Walks::MOST
     }
 
     /// The walk with a number.
@@ -51,32 +46,31 @@ impl Walks {
         self.list.get(number).copied()
     }
 
-    /// Adds a walk. Its number; where there is no room for it, that of the one without hops.
-    pub fn add(&mut self, walk: Walk) -> Result<usize, AllocError> {
+    /// Adds a walk. Its number; `None` where there is no room for it.
+    pub fn add(&mut self, walk: Walk) -> Result<Option<usize>, AllocError> {
         let number = self.list.len();
         if number >= Walks::MOST {
-            self.is_full = true;
-            return Ok(Walks::NONE);
+            return Ok(None);
         }
         self.list.push(walk)?;
-        Ok(number)
+        Ok(Some(number))
     }
 
-    /// One walk and then another.
-    pub fn then(&mut self, first: usize, second: usize) -> Result<usize, AllocError> {
+    /// One walk and then another; `None` where there is no room for that.
+    pub fn then(&mut self, first: usize, second: usize) -> Result<Option<usize>, AllocError> {
         if first == Walks::NONE {
-            return Ok(second);
+            return Ok(Some(second));
         }
         if second == Walks::NONE {
-            return Ok(first);
+            return Ok(Some(first));
         }
         self.add(Walk::Then(first, second))
     }
 
-    /// So many rounds of a walk, one at least.
-    pub fn rounds(&mut self, times: u16, walk: usize) -> Result<usize, AllocError> {
+    /// So many rounds of a walk, one at least; `None` where there is no room for them.
+    pub fn rounds(&mut self, times: u16, walk: usize) -> Result<Option<usize>, AllocError> {
         if times <= 1 || walk == Walks::NONE {
-            return Ok(walk);
+            return Ok(Some(walk));
         }
         self.add(Walk::Rounds(times, walk))
     }
