@@ -9,7 +9,8 @@ ghost use Rattle.drum_documents.specs.Limits.{IsShortFault, IsWorstWalk};
 ghost use Rattle.drum_lines.specs.Does.{Does};
 ghost use Rattle.drum_lines.specs.Output.{Device, device};
 ghost use Rattle.drum_lines.specs.FaultStatus.{IsWanting};
-ghost use Rattle.drum_answers.specs.Says.{OfShort, Refuses, Says, SaysBound, SaysCeiling, SaysGraph};
+ghost use Rattle.drum_answers.specs.Says.{OfShort, Refuses, Says, SaysBound, SaysCeiling};
+ghost use Rattle.drum_answers.specs.Says.{SaysGraph};
 ghost use Rattle.drum_answers.specs.Says.{SaysPicture, SaysReport, SaysTable, SaysWaits, SaysWalk};
 
 use crate::telling::{tell_ceiling, tell_graph, tell_report, tell_table, tell_waits, tell_walk};
@@ -69,7 +70,8 @@ fn say_report<O: Output>(alloc: Global, documents: &Documents, out: &mut O) -> R
 /// Writes a worst walk.
 fn say_walk<O: Output>(alloc: Global, documents: &Documents, out: &mut O) -> Result<Status, Fault>
     requires { O.called out.old ≤ 2 ^ 62 }
-    ensures does { (err : Device) → Does (OfShort SaysWalk documents.now) (IsShortFault documents.now)
+    ensures does { (err : Device)
+        → Does (OfShort SaysWalk documents.now) (IsShortFault documents.now)
         (device (O.written out.old) (O.failed out.old))
         (device (O.written out.new) (O.failed out.new)) err err result }
     ensures spared { IfErr result (λ _. out.new ≡ out.old) }
@@ -82,7 +84,8 @@ fn say_walk<O: Output>(alloc: Global, documents: &Documents, out: &mut O) -> Res
 /// Writes where the word times of a worst walk go.
 fn say_waits<O: Output>(alloc: Global, documents: &Documents, out: &mut O) -> Result<Status, Fault>
     requires { O.called out.old ≤ 2 ^ 62 }
-    ensures does { (err : Device) → Does (OfShort SaysWaits documents.now) (IsShortFault documents.now)
+    ensures does { (err : Device)
+        → Does (OfShort SaysWaits documents.now) (IsShortFault documents.now)
         (device (O.written out.old) (O.failed out.old))
         (device (O.written out.new) (O.failed out.new)) err err result }
     ensures spared { IfErr result (λ _. out.new ≡ out.old) }
@@ -125,7 +128,8 @@ fn say_picture<O: Output>(
     out: &mut O,
 ) -> Result<Status, Fault>
     requires { O.called out.old ≤ 2 ^ 62 }
-    ensures does { (err : Device) → Does (OfShort SaysPicture documents.now) (IsShortFault documents.now)
+    ensures does { (err : Device)
+        → Does (OfShort SaysPicture documents.now) (IsShortFault documents.now)
         (device (O.written out.old) (O.failed out.old))
         (device (O.written out.new) (O.failed out.new)) err err result }
     ensures spared { IfErr result (λ _. out.new ≡ out.old) }

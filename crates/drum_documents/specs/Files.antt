@@ -18,7 +18,8 @@ use Rattle.drum_lines.specs.declared.part.Part as parts
 use Rattle.drum_lines.specs.declared.part.Part.TheVariants as part
 use Rattle.drum_lines.specs.declared.part.PartFault.TheVariants as what
 use Rattle.drum_documents.specs.Asked.{NamedFile, most_of}
-use Rattle.drum_documents.specs.Documents.{SaysDeck, SayInputs, RefusesDeck, RefusesTimes, RefusesNotes}
+use Rattle.drum_documents.specs.Documents.{SaysDeck, SayInputs, RefusesDeck, RefusesTimes}
+use Rattle.drum_documents.specs.Documents.{RefusesNotes}
 use Rattle.drum_documents.specs.Documents.{RefusesInputs}
 
 -- What a source tells of its files, by how many are sought before and by the name: nothing; that

@@ -3,7 +3,8 @@
 ghost use Rattle.std.specs.Prelude.{◌≡◌, ◌+◌, ◌^◌, ◌≤◌, ℕ, List, Option, Some, IfOk, IfErr};
 ghost use Rattle.std.specs.Prelude.{IfSome};
 ghost use Rattle.drum_lines.specs.FaultStatus.{failed_by};
-ghost use Rattle.drum_documents.specs.Asked.{AsksFor, IsLookedAt, IsOfText, IsRead, LooksFor, fault_in};
+ghost use Rattle.drum_documents.specs.Asked.{AsksFor, IsLookedAt, IsOfText, IsRead, LooksFor};
+ghost use Rattle.drum_documents.specs.Asked.{fault_in};
 ghost use Rattle.drum_documents.specs.Asked.{all_named_in, most_of, named_in, reading};
 ghost use Rattle.drum_documents.specs.Files.{AreHeld, AreHeldWithInputs, AreNotHeld};
 ghost use Rattle.drum_documents.specs.Files.{AreNotHeldWithInputs, AreTold, Held, HoldsDeck};

@@ -10,7 +10,8 @@ ghost use Rattle.drum_machine.specs.Run.{Stride};
 ghost use Rattle.drum_machine.specs.Step.{State, contents_after};
 ghost use Rattle.drum_flow.specs.SettingOf.{setting};
 ghost use Rattle.drum_flow.specs.Bounded.{IsBounded};
-ghost use Rattle.drum_replay.specs.Following.{AreOfRun, CanBegin, IsFollowed, IsFollowing, stride_of, used_so_far, state_of, waits_of};
+ghost use Rattle.drum_replay.specs.Following.{AreOfRun, CanBegin, IsFollowed, IsFollowing};
+ghost use Rattle.drum_replay.specs.Following.{stride_of, used_so_far, state_of, waits_of};
 
 use drum_core::Deck;
 use drum_lines::Verdict;
