@@ -17,8 +17,8 @@ PassesLast marks index place hops = (earlier : List Taken) × (last : Taken)
     × (mark_on marks last.place place ≡ Some index)
 
 -- A round of a mark in a walk: after the hops before it, a pass of the mark has led to a place on
--- the drum; the hops of the round come back there, the last of them by a pass of the mark. There may
--- be more passes of it between, and of any other mark.
+-- the drum; the hops of the round come back there, the last of them by a pass of the mark. There
+-- may be more passes of it between, and of any other mark.
 pub record IsRound (g : Setting) (angle index place : ℕ) (before round : List Taken) : Type 0
   where
     pub walk : IsWalk g angle (before ++ round)

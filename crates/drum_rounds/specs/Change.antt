@@ -8,7 +8,7 @@ abbrev pub count_after : Change → ℕ → ℕ
 count_after (Rise by) count = count + by
 count_after (SetBack passes rise highest last) count = last
 
--- the most that it is, on the way there
+-- the most that it is on the way there, or more
 abbrev pub peak : Change → ℕ → ℕ
 peak (Rise by) count = count + by
 peak (SetBack passes rise highest last) count = max (count + rise) highest

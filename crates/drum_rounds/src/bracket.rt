@@ -1,4 +1,4 @@
-//! A ceiling of a deck, with a walk that takes so long, or nearly.
+//! A ceiling of a deck, with a walk beside it.
 
 ghost use Rattle.std.specs.Prelude.{◌≡◌, IfOk, IfErr};
 ghost use Rattle.drum_flow.specs.Walk as walks;

@@ -4,7 +4,7 @@ ghost use Rattle.std.specs.Prelude.{◌≡◌, ◌<◌, length, slice_index};
 
 use crate::piece::Piece;
 
-/// A walk of the flow graph by the pieces that it is made of, each of which is held once.
+/// A walk of the flow graph by the pieces that it is made of.
 #[derive(Debug, Drop)]
 pub struct InRounds {
     pub(crate) angle: u64,
@@ -23,7 +23,7 @@ impl InRounds {
         self.angle
     }
 
-    /// Its pieces, in order: each names earlier ones, and the last is the whole walk.
+    /// Its pieces, in order: the last spells out the whole walk. Without any it has no hop.
     pub fn pieces(&self) -> &[Piece]
         ensures { result.now ≡ pieces_of self.now }
     {

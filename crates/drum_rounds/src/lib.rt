@@ -1,6 +1,5 @@
-//! A walk of the flow graph that takes as long as can be found, in rounds: it is held by its
-//! pieces, each once, and may be far too long to be listed. Beside a ceiling it says how much is
-//! open of the worst time.
+//! A walk of the flow graph beside each ceiling, in rounds: it is held by its pieces, and may be
+//! far too long to be listed. The worst time is between what it takes and the ceiling.
 //!
 //! Code, from the bottom up. `piece` is what such a walk is made of. `change` and `changes` are
 //! what hops do to the count of a mark and of all marks; `stretch` is what hops come to, and

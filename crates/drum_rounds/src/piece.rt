@@ -9,13 +9,15 @@ use drum_flow::Hop;
 #[derive(Clone, Copy, Debug)]
 pub struct Placed {
     pub location: Location,
-    /// The drum's angle when the search for the location begins, 0 to 49.
+    /// The drum's angle when the search for the location begins, 0 to 49. What a piece spells out
+    /// doesn't hang on it.
     pub angle: u64,
     pub hop: Hop,
     pub ghost on_drum: { angle < 50 },
 }
 
-/// A piece of a walk. It names earlier pieces by their numbers, from 0.
+/// A piece of a walk. It names earlier pieces by their numbers, from 0; any other number stands for
+/// no hop.
 #[derive(Debug, Drop)]
 pub enum Piece {
     /// A hop.
