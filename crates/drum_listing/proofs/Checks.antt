@@ -16,7 +16,8 @@ use Rattle.drum_machine.specs.Step.{State, step}
 use Rattle.drum_machine.specs.Ways.{Way, early, to, late}
 use Rattle.drum_bound.specs.Visited.{Visited}
 use Rattle.drum_listing.specs.declared.moments.Moments.{Moments}
-use Rattle.drum_listing.specs.Moments.{moments_of}
+use Rattle.drum_listing.specs.Moments.{later, moments_of}
+use Rattle.drum_listing.specs.Pieces.{times_text}
 use Rattle.drum_listing.specs.TraceText.{stride_lines}
 use Rattle.drum_listing.specs.WalkText.{walk_text}
 
@@ -106,3 +107,14 @@ steps : stride_lines times 7
     ++ codes "step 9 0100 +8401000106 found 49 ended 49" ++ registers
 unfolding first digits
 steps = refl
+
+-- moments of a hop that begins late in a long walk
+abbrev soon : Moments
+soon = record { found = 48; ready = Some 51; operand = None }
+
+late_times : times_text (later 340000000000000000000000000000000000000 soon) 340000000000000000000000000000000000051
+    (codes "\n")
+    ≡ codes " found 340000000000000000000000000000000000048 ready 340000000000000000000000000000000000051"
+    ++ codes " ended 340000000000000000000000000000000000051\n"
+unfolding digits
+late_times = refl

@@ -1,5 +1,5 @@
 -- Lines, put together of their pieces.
-use Rattle.std.proofs.Common.{◌≡◌, ℕ, List, [], ◌∷◌, ◌++◌, flat_map, map, refl, ap, sym, ◌∙◌, append_assoc, Option}
+use Rattle.std.proofs.Common.{◌≡◌, ℕ, ◌+◌, List, [], ◌∷◌, ◌++◌, flat_map, map, refl, ap, sym, ◌∙◌, append_assoc, Option}
 use Rattle.std.proofs.Common.{Some, None, Bool}
 use Rattle.std.proofs.lemmas.List.{append-nil}
 use Rattle.std.specs.Prelude.{codes, decimal}
@@ -16,17 +16,17 @@ use Rattle.drum_machine.specs.Ways.{Way, early, to, late}
 use Rattle.drum_flow.specs.RunHops.{hop_of}
 use Rattle.drum_bound.specs.Visited.{Visited, visited}
 use Rattle.drum_listing.specs.declared.moments.Moments.{Moments}
-use Rattle.drum_listing.specs.Moments.{moments_of}
+use Rattle.drum_listing.specs.Moments.{later, moments_of}
 use Rattle.drum_listing.specs.MomentsText.{moment_text, moments_text}
 use Rattle.drum_listing.specs.Pieces.{digits_with, fetch_text, held_text, name_with, onto_digits}
-use Rattle.drum_listing.specs.Pieces.{times_text, remainder_name, remainder_sign, way_name}
+use Rattle.drum_listing.specs.Pieces.{times_text, told_text, remainder_name, remainder_sign, way_name}
 use Rattle.drum_listing.specs.HeldText.{accumulator_text, latch_text, registers_text, remainder_text}
 use Rattle.drum_listing.specs.TraceText.{stride_acted, stride_line}
 use Rattle.drum_listing.specs.WalkText.{hop_text, visit_line, way_text}
 
 -- a moment is its two pieces, and so are a remainder's sign and a way
 moment_pieces : (name : List ℕ) (moment : Option ℕ)
-    → moment_text name moment ≡ name_with name moment ++ digits_with moment
+    → moment_text name moment ≡ name_with name moment ++ digits_with decimal moment
 moment_pieces name None = refl
 moment_pieces name (Some moment) = refl
 
@@ -42,7 +42,7 @@ way_pieces late = refl
 
 -- texts one behind the other, grouped otherwise
 times_grouped : (begin found ready ready' operand operand' behind ended last : List ℕ)
-    → begin ++ (found ++ (ready ++ (ready' ++ (operand ++ (operand' ++ (behind ++ (ended ++ last)))))))
+    → begin ++ found ++ ready ++ ready' ++ operand ++ operand' ++ behind ++ ended ++ last
     ≡ (begin ++ found ++ (ready ++ ready') ++ (operand ++ operand')) ++ behind ++ ended ++ last
 times_grouped begin found ready ready' operand operand' behind ended last = simp append_assoc
 
@@ -50,29 +50,46 @@ hop_grouped : (hop moments behind ended last : List ℕ)
     → hop ++ (moments ++ behind ++ ended ++ last) ≡ hop ++ moments ++ behind ++ ended ++ last
 hop_grouped hop moments behind ended last = simp append_assoc
 
--- the end of a line
-pub times_told : (moments : Moments) (ended : ℕ) (found ready ready' operand operand' end last : List ℕ)
-    → found ≡ decimal moments.found → ready ≡ name_with (codes " ready ") moments.ready
-    → ready' ≡ digits_with moments.ready
-    → operand ≡ name_with (codes " data ") moments.operand → operand' ≡ digits_with moments.operand
-    → end ≡ decimal ended
-    → codes " found " ++ (found
-    ++ (ready ++ (ready' ++ (operand ++ (operand' ++ (codes " ended " ++ (end ++ (last ++ []))))))))
-    ≡ times_text moments ended last
-times_told moments ended found ready ready' operand operand' end last p q r s t u =
-    rw (p, q, r, s, t, u, append-nil last) (
+-- the end of a line, in numbers of any width
+pieces_grouped : (begin found name ready named operand behind ended last : List ℕ)
+    → begin ++ (found ++ (name ++ (ready ++ (named ++ (operand ++ (behind ++ (ended ++ (last ++ []))))))))
+    ≡ begin ++ found ++ name ++ ready ++ named ++ operand ++ behind ++ ended ++ last
+pieces_grouped begin found name ready named operand behind ended last = simp (append_assoc, append-nil)
+
+pub pieces_told : {X : Type 0} (text : X → List ℕ) (found : X) (ready operand : Option X) (ended : X)
+    (found' name ready' named operand' end last : List ℕ)
+    → found' ≡ text found → name ≡ name_with (codes " ready ") ready → ready' ≡ digits_with text ready
+    → named ≡ name_with (codes " data ") operand → operand' ≡ digits_with text operand → end ≡ text ended
+    → codes " found " ++ (found'
+    ++ (name ++ (ready' ++ (named ++ (operand' ++ (codes " ended " ++ (end ++ (last ++ []))))))))
+    ≡ told_text text found ready operand ended last
+pieces_told {X} text found ready operand ended found' name ready' named operand' end last p q r s t u =
+    rw (p, q, r, s, t, u) (
+    pieces_grouped (codes " found ") (text found) (name_with (codes " ready ") ready) (digits_with text ready)
+    (name_with (codes " data ") operand) (digits_with text operand) (codes " ended ") (text ended) last)
+
+-- those of an instruction
+pub times_told : (moments : Moments) (ended : ℕ) (last : List ℕ)
+    → told_text decimal moments.found moments.ready moments.operand ended last ≡ times_text moments ended last
+times_told moments ended last =
     times_grouped (codes " found ") (decimal moments.found) (name_with (codes " ready ") moments.ready)
-    (digits_with moments.ready)
-    (name_with (codes " data ") moments.operand) (digits_with moments.operand) (codes " ended ") (decimal ended)
-    last
+    (digits_with decimal moments.ready)
+    (name_with (codes " data ") moments.operand) (digits_with decimal moments.operand) (codes " ended ")
+    (decimal ended) last
     ∙ ap (λ (xs : List ℕ). (codes " found " ++ decimal moments.found ++ xs
-    ++ (name_with (codes " data ") moments.operand ++ digits_with moments.operand)) ++ codes " ended "
+    ++ (name_with (codes " data ") moments.operand ++ digits_with decimal moments.operand)) ++ codes " ended "
     ++ decimal ended ++ last)
     (sym (moment_pieces (codes " ready ") moments.ready))
     ∙ ap (λ (xs : List ℕ). (codes " found " ++ decimal moments.found ++ moment_text (codes " ready ") moments.ready
     ++ xs) ++ codes " ended " ++ decimal ended ++ last)
     (sym (moment_pieces (codes " data ") moments.operand))
-    )
+
+-- and so much later
+pub later_told : (moments : Moments) (by ended found : ℕ) (ready operand : Option ℕ) (last : List ℕ)
+    → found ≡ moments.found + by → ready ≡ (later by moments).ready → operand ≡ (later by moments).operand
+    → told_text decimal found ready operand ended last ≡ times_text (later by moments) ended last
+later_told moments by ended found ready operand last p q r =
+    rw (p, q, r) (times_told (later by moments) ended last)
 
 -- the registers
 registers_grouped : (name accumulator remainder remainder' behind distributor latch : List ℕ)
@@ -118,14 +135,14 @@ fetch_told number place word digits at spelled p q r =
     ∙ three_grouped (codes "step ") (codes " ") (decimal number) (digits_of 4 place) (spelling word))
 
 -- a hop, and a named number behind it
-pub hop_told : (visit : Visited) (number : ℕ) (place op d i way onto name digits : List ℕ)
+pub hop_told : (visit : Visited) (number place op d i way onto name digits : List ℕ)
     → place ≡ digits_of 4 visit.place → op ≡ digits_of 2 visit.ins.op → d ≡ digits_of 4 visit.ins.d
     → i ≡ digits_of 4 visit.ins.i
-    → way ≡ way_name visit.way → onto ≡ onto_digits visit.way → digits ≡ decimal number
+    → way ≡ way_name visit.way → onto ≡ onto_digits visit.way → digits ≡ number
     → place ++ (codes " " ++ (op
     ++ (codes " " ++ (d ++ (codes " "
     ++ (i ++ (codes " " ++ (way ++ (onto ++ (name ++ (digits ++ [])))))))))))
-    ≡ hop_text visit ++ name ++ decimal number
+    ≡ hop_text visit ++ name ++ number
 hop_told visit number place op d i way onto name digits p q r s t u v =
     rw (p, q, r, s, t, u, v, way_pieces visit.way) (simp (append_assoc, append-nil))
 

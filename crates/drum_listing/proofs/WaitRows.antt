@@ -13,14 +13,18 @@ use Rattle.drum_bound.specs.Visited.{Visited, seen_visit}
 use Rattle.drum_listing.specs.declared.waits.kind.Kind.{Kind}
 use Rattle.drum_listing.specs.declared.waits.wait.Wait.{Wait}
 use Rattle.drum_listing.specs.Waits.{for_data, for_instruction, time_of}
-use Rattle.drum_listing.specs.WaitsOf.{kind_of, of_kind, row_of, same_kind}
+use Rattle.drum_listing.specs.WaitsOf.{kind_of, of_kind, row_of, same_kind, sums_of}
 use Rattle.drum_listing.proofs.SameKinds.{same_kind_equiv}
 use Rattle.drum_listing.proofs.Waiting.{data_soon, instruction_soon}
 
-same_wait : (a b : Wait) → a.first ≡ b.first → a.visits ≡ b.visits → a.time ≡ b.time
-    → a.instruction ≡ b.instruction → a.operand ≡ b.operand → a ≡ b
+same_wait : (a b : Wait) → a.first ≡ b.first → a.sums.visits ≡ b.sums.visits
+    → a.sums.time ≡ b.sums.time → a.sums.instruction ≡ b.sums.instruction
+    → a.sums.operand ≡ b.sums.operand → a ≡ b
 same_wait a b p q r s t =
-    λ j. record { first = p j; visits = q j; time = r j; instruction = s j; operand = t j }
+    λ j. record {
+      first = p j;
+      sums = record { visits = q j; time = r j; instruction = s j; operand = t j };
+    }
 
 -- ---- sums over hops with one more
 
@@ -43,58 +47,41 @@ count_more hops visit =
 
 -- a row with a hop more, and one of one hop
 pub row_more : (times : Op → Entry) (angle : ℕ) (hops : List Visit) (visit : Visit) (old wait : Wait)
-    → Some old ≡ row_of times angle hops → wait.first ≡ old.first → wait.visits ≡ old.visits + 1
-    → wait.time ≡ old.time + time_of (seen_visit visit)
-    → wait.instruction ≡ old.instruction + for_instruction times angle (seen_visit visit)
-    → wait.operand ≡ old.operand + for_data times angle (seen_visit visit)
+    → Some old ≡ row_of times angle hops → wait.first ≡ old.first
+    → wait.sums.visits ≡ old.sums.visits + 1
+    → wait.sums.time ≡ old.sums.time + time_of (seen_visit visit)
+    → wait.sums.instruction ≡ old.sums.instruction + for_instruction times angle (seen_visit visit)
+    → wait.sums.operand ≡ old.sums.operand + for_data times angle (seen_visit visit)
     → row_of times angle (hops ++ visit ∷ []) ≡ Some wait
 row_more times angle [] visit old wait is first visits time instruction had = cc
 row_more times angle (one ∷ others) visit old wait is first visits time instruction had =
     let hops : List Visit = one ∷ others in
     let all : List Visited = map seen_visit hops in
-    let row : Wait = record {
-      first = one;
-      visits = length all;
-      time = sum_by time_of all;
-      instruction = sum_by (for_instruction times angle) all;
-      operand = sum_by (for_data times angle) all;
-    } in
+    let row : Wait = record { first = one; sums = sums_of times angle all } in
     let same : old ≡ row = cc in
     let more : List Visited = map seen_visit (hops ++ visit ∷ []) in
-    let new : Wait = record {
-      first = one;
-      visits = length more;
-      time = sum_by time_of more;
-      instruction = sum_by (for_instruction times angle) more;
-      operand = sum_by (for_data times angle) more;
-    } in
+    let new : Wait = record { first = one; sums = sums_of times angle more } in
     ap (λ (w : Wait). Some w) (same_wait new wait
     (sym (first ∙ ap (λ (w : Wait). w.first) same))
-    (omega (arith, count_more hops visit, visits, ap (λ (w : Wait). w.visits) same))
-    (omega (arith, sum_more time_of hops visit, time, ap (λ (w : Wait). w.time) same))
+    (omega (arith, count_more hops visit, visits, ap (λ (w : Wait). w.sums.visits) same))
+    (omega (arith, sum_more time_of hops visit, time, ap (λ (w : Wait). w.sums.time) same))
     (omega (
       arith,
       sum_more (for_instruction times angle) hops visit,
       instruction,
-      ap (λ (w : Wait). w.instruction) same,
+      ap (λ (w : Wait). w.sums.instruction) same,
     ))
-    (omega (arith, sum_more (for_data times angle) hops visit, had, ap (λ (w : Wait). w.operand) same)))
+    (omega (arith, sum_more (for_data times angle) hops visit, had, ap (λ (w : Wait). w.sums.operand) same)))
 
 pub row_begun : (times : Op → Entry) (angle : ℕ) (hops : List Visit) (visit : Visit) (wait : Wait)
-    → None ≡ row_of times angle hops → wait.first ≡ visit → wait.visits ≡ 1
-    → wait.time ≡ time_of (seen_visit visit)
-    → wait.instruction ≡ for_instruction times angle (seen_visit visit)
-    → wait.operand ≡ for_data times angle (seen_visit visit)
+    → None ≡ row_of times angle hops → wait.first ≡ visit → wait.sums.visits ≡ 1
+    → wait.sums.time ≡ time_of (seen_visit visit)
+    → wait.sums.instruction ≡ for_instruction times angle (seen_visit visit)
+    → wait.sums.operand ≡ for_data times angle (seen_visit visit)
     → row_of times angle (hops ++ visit ∷ []) ≡ Some wait
 row_begun times angle [] visit wait is first visits time instruction had =
     let hop : Visited = seen_visit visit in
-    let new : Wait = record {
-      first = visit;
-      visits = 1;
-      time = sum_by time_of (hop ∷ []);
-      instruction = sum_by (for_instruction times angle) (hop ∷ []);
-      operand = sum_by (for_data times angle) (hop ∷ []);
-    } in
+    let new : Wait = record { first = visit; sums = sums_of times angle (hop ∷ []) } in
     ap (λ (w : Wait). Some w) (same_wait new wait (sym first) (sym visits)
     (omega (arith, sum_by-cons time_of hop [], time))
     (omega (arith, sum_by-cons (for_instruction times angle) hop [], instruction))
@@ -206,10 +193,10 @@ prefix_le f walk i visit within is =
 
 -- The sums of a row of the hops so far leave room for one more.
 pub record HasRoom (times : Op → Entry) (angle : ℕ) (visit : Visit) (row : Wait) : Type 0 where
-  pub visits : row.visits + 1 < 2 ^ 62
-  pub time : row.time + time_of (seen_visit visit) < 2 ^ 62
-  pub instruction : row.instruction + for_instruction times angle (seen_visit visit) < 2 ^ 62
-  pub had : row.operand + for_data times angle (seen_visit visit) < 2 ^ 62
+  pub visits : row.sums.visits + 1 < 2 ^ 128
+  pub time : row.sums.time + time_of (seen_visit visit) < 2 ^ 128
+  pub instruction : row.sums.instruction + for_instruction times angle (seen_visit visit) < 2 ^ 128
+  pub had : row.sums.operand + for_data times angle (seen_visit visit) < 2 ^ 128
 
 pub has_room : (times : Op → Entry) (angle : ℕ) (kind : Kind) (walk : List Visit) (i : ℕ)
     (visit : Visit) (row : Wait) → i < length walk → visit ≡ get_or walk i visit
@@ -224,14 +211,8 @@ has_room times angle kind walk i visit row within is few short =
     go (one ∷ others) some row_is =
         let hops : List Visit = one ∷ others in
         let all : List Visited = map seen_visit hops in
-        let sums : Wait = record {
-          first = one;
-          visits = length all;
-          time = sum_by time_of all;
-          instruction = sum_by (for_instruction times angle) all;
-          operand = sum_by (for_data times angle) all;
-        } in
-        let same : row ≡ sums = cc in
+        let summed : Wait = record { first = one; sums = sums_of times angle all } in
+        let same : row ≡ summed = cc in
         let is_kind : Visit → Bool = λ (v : Visit). same_kind kind (kind_of v) in
         let before : length (take i walk) ≤ i = omega (arith, length-take-le i walk (omega arith)) in
         let count : length hops ≤ i =
@@ -240,13 +221,13 @@ has_room times angle kind walk i visit row within is few short =
         subst (λ (xs : List Visit). sum_by time_of (map seen_visit xs)
         ≤ sum_by time_of (map seen_visit (take i walk))) some (part_le time_of is_kind (take i walk)) in
         record {
-          visits = omega (arith, ap (λ (w : Wait). w.visits) same, count, length-map hops seen_visit);
+          visits = omega (arith, ap (λ (w : Wait). w.sums.visits) same, count, length-map hops seen_visit);
           time =
-              omega (arith, ap (λ (w : Wait). w.time) same, long, prefix_le time_of walk i visit within is);
+              omega (arith, ap (λ (w : Wait). w.sums.time) same, long, prefix_le time_of walk i visit within is);
           instruction =
               omega (
                 arith,
-                ap (λ (w : Wait). w.instruction) same,
+                ap (λ (w : Wait). w.sums.instruction) same,
                 count,
                 soon_sum (for_instruction times angle) (instruction_soon times angle) hops,
                 instruction_soon times angle (seen_visit visit),
@@ -254,7 +235,7 @@ has_room times angle kind walk i visit row within is few short =
           had =
               omega (
                 arith,
-                ap (λ (w : Wait). w.operand) same,
+                ap (λ (w : Wait). w.sums.operand) same,
                 count,
                 soon_sum (for_data times angle) (data_soon times angle) hops,
                 data_soon times angle (seen_visit visit),

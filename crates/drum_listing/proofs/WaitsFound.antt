@@ -21,9 +21,10 @@ use Rattle.drum_bound.specs.Visited.{AreInTime, Visited, seen_visit}
 use Rattle.drum_bound.proofs.Lists.{contains_map}
 use Rattle.drum_listing.specs.declared.waits.Waits.{Waits}
 use Rattle.drum_listing.specs.declared.waits.kind.Kind.{Kind}
+use Rattle.drum_listing.specs.declared.waits.sums.Sums.{Sums}
 use Rattle.drum_listing.specs.declared.waits.wait.Wait.{Wait}
-use Rattle.drum_listing.specs.Waits.{AreDearestFirst, ComesBefore, IsFirst, alike, for_data, for_instruction, is_alike, time_alike, time_of}
-use Rattle.drum_listing.specs.WaitsOf.{AreRows, AreWaits, IsSumOf, first_of, kind_of, of_kind, row_of, same_kind}
+use Rattle.drum_listing.specs.Waits.{AreDearestFirst, ComesBefore, IsFirst, alike, is_alike, time_alike, time_of}
+use Rattle.drum_listing.specs.WaitsOf.{AreRows, AreWaits, IsSumOf, first_of, kind_of, of_kind, row_of, same_kind, sums_of}
 use Rattle.drum_listing.proofs.SameKinds.{same_kind_equiv}
 use Rattle.drum_listing.proofs.WaitRows.{of_same, part_le}
 
@@ -123,11 +124,7 @@ some_pass is (one ∷ walk) visit has so none =
 record IsRowOf (times : Op → Entry) (angle : ℕ) (walk : List Visit) (kind : Kind) (row : Wait) : Type 0
   where
     pub head : IsHead (λ visit. same_kind kind (kind_of visit)) walk row.first
-    pub visits : row.visits ≡ length (map seen_visit (of_kind kind walk))
-    pub time : row.time ≡ sum_by time_of (map seen_visit (of_kind kind walk))
-    pub instruction : row.instruction
-        ≡ sum_by (for_instruction times angle) (map seen_visit (of_kind kind walk))
-    pub had : row.operand ≡ sum_by (for_data times angle) (map seen_visit (of_kind kind walk))
+    pub sums : row.sums ≡ sums_of times angle (map seen_visit (of_kind kind walk))
 
 row_is : (times : Op → Entry) (angle : ℕ) (walk : List Visit) (kind : Kind) (row : Wait)
     → row_of times angle (of_kind kind walk) ≡ Some row → IsRowOf times angle walk kind row
@@ -141,26 +138,13 @@ row_is times angle walk kind row = go (of_kind kind walk) refl
     go [] at found = cc
     go (one ∷ others) at found =
         let all : List Visited = map seen_visit (one ∷ others) in
-        let sums : Wait = record {
-          first = one;
-          visits = length all;
-          time = sum_by time_of all;
-          instruction = sum_by (for_instruction times angle) all;
-          operand = sum_by (for_data times angle) all;
-        } in
-        let same : sums ≡ row = cc in
-        let back : one ∷ others ≡ of_kind kind walk = sym at in
+        let summed : Wait = record { first = one; sums = sums_of times angle all } in
+        let same : summed ≡ row = cc in
         record {
           head = subst (λ (visit : Visit). IsHead (λ v. same_kind kind (kind_of v)) walk visit)
               (ap (λ (w : Wait). w.first) same) (head_of (λ v. same_kind kind (kind_of v)) walk one others at);
-          visits = sym (ap (λ (w : Wait). w.visits) same)
-              ∙ ap (λ (hops : List Visit). length (map seen_visit hops)) back;
-          time = sym (ap (λ (w : Wait). w.time) same)
-              ∙ ap (λ (hops : List Visit). sum_by time_of (map seen_visit hops)) back;
-          instruction = sym (ap (λ (w : Wait). w.instruction) same)
-              ∙ ap (λ (hops : List Visit). sum_by (for_instruction times angle) (map seen_visit hops)) back;
-          had = sym (ap (λ (w : Wait). w.operand) same)
-              ∙ ap (λ (hops : List Visit). sum_by (for_data times angle) (map seen_visit hops)) back;
+          sums = sym (ap (λ (w : Wait). w.sums) same)
+              ∙ ap (λ (hops : List Visit). sums_of times angle (map seen_visit hops)) (sym at);
         }
 
 -- the hops that are alike to its first are those of the kind
@@ -173,14 +157,7 @@ alike_of walk kind row so =
 module _ (times : Op → Entry) (angle : ℕ) (walk : List Visit) (kind : Kind) (row : Wait)
     (is : IsRowOf times angle walk kind row) where
   sums_up : IsSumOf times angle (map seen_visit walk) row
-  sums_up =
-      let same = alike_of walk kind row is.head.passes in
-      record {
-        visits = is.visits ∙ ap (λ (hops : List Visited). length hops) same;
-        time = is.time ∙ ap (sum_by time_of) same;
-        instruction = is.instruction ∙ ap (sum_by (for_instruction times angle)) same;
-        operand = is.had ∙ ap (sum_by (for_data times angle)) same;
-      }
+  sums_up = is.sums ∙ ap (sums_of times angle) (alike_of walk kind row is.head.passes)
 
   is_first : IsFirst (map seen_visit walk) (first_of row)
   is_first = (
@@ -216,7 +193,8 @@ row_at (row ∷ rows) (suc i) hop at = row_at rows i hop at
 
 -- the order of the rows
 abbrev pub IsDearer : Wait → Wait → Type 0
-IsDearer a b = (b.time < a.time) ⊎ ((a.time ≡ b.time) × (a.first.begun ≤ b.first.begun))
+IsDearer a b =
+    (b.sums.time < a.sums.time) ⊎ ((a.sums.time ≡ b.sums.time) × (a.first.begun ≤ b.first.begun))
 
 abbrev pub AreDearest : List Wait → Type 0
 AreDearest rows = (k : ℕ) (a b : Wait) → slice_get rows k ≡ Some a → slice_get rows (suc k) ≡ Some b
@@ -294,13 +272,7 @@ module _ {S : Type 0} (times : Op → Entry) (angle : ℕ) (walk : List Visit) (
           (same_kind_equiv.refl (kind_of visit)) none)
       go (one ∷ others) some =
           let all : List Visited = map seen_visit (one ∷ others) in
-          let row : Wait = record {
-            first = one;
-            visits = length all;
-            time = sum_by time_of all;
-            instruction = sum_by (for_instruction times angle) all;
-            operand = sum_by (for_data times angle) all;
-          } in
+          let row : Wait = record { first = one; sums = sums_of times angle all } in
           let found : get same_kind rows (kind_of visit) ≡ Some row =
           are.found (kind_of visit) ∙ ap (row_of times angle) some in
           let place = place_from_lookup (same_kind (kind_of visit)) rows.entries row found in
@@ -344,13 +316,13 @@ module _ {S : Type 0} (times : Op → Entry) (angle : ℕ) (walk : List Visit) (
         let second = row_at (values_of rows.entries) (suc k) b q in
         let one = sum_of first.0 (contains_from_get (values_of rows.entries) k first.0 first.1) in
         let other = sum_of second.0 (contains_from_get (values_of rows.entries) (suc k) second.0 second.1) in
-        let took : first.0.time ≡ time_alike (map seen_visit walk) a =
-        one.time ∙ ap (time_alike (map seen_visit walk)) first.2 in
-        let takes : second.0.time ≡ time_alike (map seen_visit walk) b =
-        other.time ∙ ap (time_alike (map seen_visit walk)) second.2 in
+        let took : first.0.sums.time ≡ time_alike (map seen_visit walk) a =
+        ap (λ (sums : Sums). sums.time) one ∙ ap (time_alike (map seen_visit walk)) first.2 in
+        let takes : second.0.sums.time ≡ time_alike (map seen_visit walk) b =
+        ap (λ (sums : Sums). sums.time) other ∙ ap (time_alike (map seen_visit walk)) second.2 in
         let begins : first.0.first.begun ≡ a.begun = ap (λ (hop : Visited). hop.begun) first.2 in
         let later : second.0.first.begun ≡ b.begun = ap (λ (hop : Visited). hop.begun) second.2 in
-        comes_before a b first.0.time second.0.time first.0.first.begun second.0.first.begun took takes begins
+        comes_before a b first.0.sums.time second.0.sums.time first.0.first.begun second.0.first.begun took takes begins
         later (sorted k first.0 second.0 first.1 second.1);
   }
     where
@@ -391,10 +363,10 @@ not_below a a' b b' = go (nat_lt a a') (a == a') (nat_lt b b') (b == b') refl re
 
 -- what the sort sorts by
 abbrev pub sort_key : Kind × Wait → ℕ × ℕ
-sort_key entry = (18446744073709551615 - entry.1.time, entry.1.first.begun)
+sort_key entry = (340282366920938463463374607431768211455 - entry.1.sums.time, entry.1.first.begun)
 
 pub dearest_sorted : (entries : List (Kind × Wait))
-    → ((row : Wait) → Contains (values_of entries) row → row.time < 2 ^ 50)
+    → ((row : Wait) → Contains (values_of entries) row → row.sums.time < 2 ^ 50)
     → ((k : ℕ) (d : Kind × Wait) → 0 ≤ k → k + 1 < length entries
     → is_lt (ordering_then
     (nat_cmp (sort_key (get_or entries (k + 1) d)).0 (sort_key (get_or entries k d)).0)
@@ -419,8 +391,8 @@ dearest_sorted entries short sorted k a b p q =
     (nat_cmp (sort_key x).0 (sort_key (get_or entries k one)).0)
     (nat_cmp (sort_key x).1 (sort_key (get_or entries k one)).1)) ≡ false) there
     (sorted k one (omega arith) within)) in
-    let low : a.time < 2 ^ 50 = short a (contains_from_get (values_of entries) k a p) in
-    let short_too : b.time < 2 ^ 50 = short b (contains_from_get (values_of entries) (suc k) b q) in
+    let low : a.sums.time < 2 ^ 50 = short a (contains_from_get (values_of entries) k a p) in
+    let short_too : b.sums.time < 2 ^ 50 = short b (contains_from_get (values_of entries) (suc k) b q) in
     elim (not_below (sort_key other).0 (sort_key one).0 (sort_key other).1 (sort_key one).1 so) [
       | inl less ↦ inl (omega (arith, less, low, short_too))
       | inr same ↦ inr (omega (arith, same.0, low, short_too), same.1)
@@ -450,13 +422,13 @@ module _ {S : Type 0} (times : Op → Entry) (angle : ℕ) (walk : List Visit) (
     (are : AreRows times angle walk rows) where
   -- no row takes longer
   pub row_short : (row : Wait) → Contains (values_of rows.entries) row
-      → row.time ≤ sum_by time_of (map seen_visit walk)
+      → row.sums.time ≤ sum_by time_of (map seen_visit walk)
   row_short row has =
       let at = contains_at (values_of rows.entries) row has in
       let entry = entry_is times angle walk rows are at.0 row at.1 in
       omega (
         arith,
-        entry.2.time,
+        ap (λ (sums : Sums). sums.time) entry.2.sums,
         part_le time_of (λ (v : Visit). same_kind entry.0 (kind_of v)) walk,
       )
 

@@ -1,7 +1,7 @@
 -- When an instruction is found, is ready and has its data, in word times used. The moments are
 -- those of the machine's steps.
 use Rattle.std.specs.Prelude.{ℕ, ◌+◌, ◌-◌, Bool, true, false, ◌||◌, not, if◌then◌else◌, Option}
-use Rattle.std.specs.Prelude.{Some, None}
+use Rattle.std.specs.Prelude.{Some, None, option_map}
 use Rattle.drum_core.specs.declared.instruction.Instruction.{Instruction}
 use Rattle.drum_core.specs.declared.op.Op.{Op}
 use Rattle.drum_core.specs.Op.{op_of, operand_of, is_operand}
@@ -35,3 +35,11 @@ moments_with times angle place d way begun (Some op) =
 abbrev pub moments_of : (Op → Entry) → ℕ → ℕ → Instruction → Way → ℕ → Moments
 moments_of times angle place ins way begun =
     moments_with times angle place ins.d way begun (op_of ins.op)
+
+-- these moments, so many word times later
+abbrev pub later : ℕ → Moments → Moments
+later by moments = record {
+  found = moments.found + by;
+  ready = option_map (λ moment. moment + by) moments.ready;
+  operand = option_map (λ moment. moment + by) moments.operand;
+}

@@ -1,5 +1,6 @@
 -- Pieces of lines, as the code writes them.
-use Rattle.std.specs.Prelude.{ℕ, Bool, List, [], ◌∷◌, ◌++◌, codes, decimal, Option, Some, None}
+use Rattle.std.specs.Prelude.{ℕ, ◌-◌, Bool, List, [], ◌∷◌, ◌++◌, codes, decimal, Option, Some}
+use Rattle.std.specs.Prelude.{None}
 use Rattle.drum_core.specs.declared.word.Word.{Word}
 use Rattle.drum_core.specs.Numeral.{digits_of}
 use Rattle.drum_core.specs.Word.{spelling}
@@ -8,21 +9,42 @@ use Rattle.drum_machine.specs.Contents.{Contents}
 use Rattle.drum_machine.specs.Ways.{Way, early, to, late}
 use Rattle.drum_bound.specs.Visited.{Visited}
 use Rattle.drum_listing.specs.declared.moments.Moments.{Moments}
+use Rattle.drum_listing.specs.declared.waits.sums.Sums.{Sums}
 use Rattle.drum_listing.specs.HeldText.{acted_text, acting, registers_text, sign}
-use Rattle.drum_listing.specs.MomentsText.{moments_text}
+use Rattle.drum_listing.specs.MomentsText.{moment_text, moments_text}
 
--- the name of a moment, and its digits
-abbrev pub name_with : List ℕ → Option ℕ → List ℕ
-name_with name None = []
-name_with name (Some moment) = name
+-- the name of a moment, and its digits, which are its text
+abbrev pub name_with : {X : Type 0} → List ℕ → Option X → List ℕ
+name_with {X} name None = []
+name_with {X} name (Some moment) = name
 
-abbrev pub digits_with : Option ℕ → List ℕ
-digits_with None = []
-digits_with (Some moment) = decimal moment
+abbrev pub digits_with : {X : Type 0} → (X → List ℕ) → Option X → List ℕ
+digits_with {X} text None = []
+digits_with {X} text (Some moment) = text moment
+
+-- moments, when the step ends, and what comes last, in numbers of any width
+abbrev pub told_text : {X : Type 0} → (X → List ℕ) → X → Option X → Option X → X → List ℕ
+    → List ℕ
+told_text {X} text found ready operand ended last =
+    codes " found " ++ text found ++ name_with (codes " ready ") ready ++ digits_with text ready
+    ++ name_with (codes " data ") operand ++ digits_with text operand
+    ++ codes " ended " ++ text ended ++ last
 
 -- the moments, when the step ends, and what comes last
 abbrev pub times_text : Moments → ℕ → List ℕ → List ℕ
 times_text moments ended last = moments_text moments ++ codes " ended " ++ decimal ended ++ last
+
+-- what hops of a kind take in all
+abbrev pub sums_text : Sums → List ℕ
+sums_text sums =
+    codes " time " ++ decimal sums.time ++ codes " instruction " ++ decimal sums.instruction
+    ++ codes " data " ++ decimal sums.operand
+    ++ codes " work " ++ decimal (sums.time - sums.instruction - sums.operand)
+
+-- the angles at which they would wait for nothing
+abbrev pub angles_text : Option ℕ → Option ℕ → List ℕ
+angles_text d next =
+    moment_text (codes " data-at ") d ++ moment_text (codes " next-at ") next ++ codes "\n"
 
 -- what a machine holds after a hop, and what that did to words of the drum
 abbrev pub held_text : Visited → Contents → List ℕ

@@ -9,18 +9,22 @@ use Rattle.drum_listing.specs.MomentsText.{moment_text}
 use Rattle.drum_listing.specs.Waits.{alike, data_at, for_data, for_instruction, next_at, time_alike}
 use Rattle.drum_listing.specs.WalkText.{hop_text}
 
--- the line of the hops of a kind, of which this one is the first
+-- The line of the hops of a kind, by one of them, by how many they are, and by the word times that
+-- they take, that they wait for their instructions, and that they wait for their data.
+abbrev pub kind_line : (Op → Entry) → ℕ → Visited → ℕ → ℕ → ℕ → ℕ → List ℕ
+kind_line times angle hop visits time instruction operand =
+    hop_text hop ++ codes " visits " ++ decimal visits ++ codes " time " ++ decimal time
+    ++ codes " instruction " ++ decimal instruction ++ codes " data " ++ decimal operand
+    ++ codes " work " ++ decimal (time - instruction - operand)
+    ++ moment_text (codes " data-at ") (data_at times angle hop)
+    ++ moment_text (codes " next-at ") (next_at angle hop) ++ codes "\n"
+
+-- that of the hops of a walk that are of the kind of one, the first of them
 abbrev pub wait_line : (Op → Entry) → ℕ → List Visited → Visited → List ℕ
 wait_line times angle walk first =
     let hops = alike first walk in
-    let time = time_alike walk first in
-    let instruction = sum_by (for_instruction times angle) hops in
-    let operand = sum_by (for_data times angle) hops in
-    hop_text first ++ codes " visits " ++ decimal (length hops) ++ codes " time " ++ decimal time
-    ++ codes " instruction " ++ decimal instruction ++ codes " data " ++ decimal operand
-    ++ codes " work " ++ decimal (time - instruction - operand)
-    ++ moment_text (codes " data-at ") (data_at times angle first)
-    ++ moment_text (codes " next-at ") (next_at angle first) ++ codes "\n"
+    kind_line times angle first (length hops) (time_alike walk first)
+    (sum_by (for_instruction times angle) hops) (sum_by (for_data times angle) hops)
 
 -- the lines of all kinds, and the time of the walk
 abbrev pub waits_text : (Op → Entry) → ℕ → List Visited → List Visited → ℕ → List ℕ

@@ -1,6 +1,6 @@
 //! Where a hop begins, its instruction and how it ends, in a line.
 
-ghost use Rattle.std.specs.Prelude.{◌≡◌, ◌+◌, ◌^◌, ◌≤◌, ◌++◌, IfOk, decimal, length};
+ghost use Rattle.std.specs.Prelude.{◌≡◌, ◌+◌, ◌^◌, ◌≤◌, ◌++◌, IfOk, length};
 ghost use Rattle.drum_machine.specs.WaysLeft.{seen_way};
 ghost use Rattle.drum_lines.specs.Sent.{IsSent, fails_by};
 ghost use Rattle.drum_listing.specs.Pieces.{onto_digits, way_name as name_of};
@@ -11,7 +11,7 @@ use crate::told::Told;
 use drum_bound::Way;
 use drum_core::Output;
 use drum_lines::{WriteFault, four_digits, send, two_digits};
-use itoa::Buffer;
+use itoa::{Buffer, Integer};
 
 /// How a hop ends, up to the location where it goes on.
 fn way_name(way: Way) -> &'static [u8]
@@ -41,21 +41,26 @@ fn onto_with(digits: &mut [u8; 4], way: Way) -> &[u8]
 
 /// Writes where a hop begins, its instruction, how it ends, and a named number, where `sent` bytes
 /// have gone out before, and returns how many have gone out then.
-pub fn send_hop<O: Output>(
+///
+/// # Errors
+///
+/// Where a write fails or takes no byte: then a prefix of these has gone out, up to where the fault
+/// says.
+pub fn send_hop<O: Output, I: Integer>(
     writer: &mut O,
     sent: usize,
     told: &Told,
     name: &'static [u8],
-    number: u64,
+    number: I,
 ) -> Result<usize, WriteFault>
     requires called { O.called writer.old ≤ 2 ^ 62 + 2 ^ 60 }
     requires few { sent ≤ 2 ^ 60 }
     requires short { length name.now ≤ 10 }
     ensures sent { IsSent (O.written writer.old) (O.written writer.new) sent result
-        (hop_text (seen_told told.now) ++ name.now ++ decimal number) }
+        (hop_text (seen_told told.now) ++ name.now ++ I.text number) }
     ensures failures { O.failed writer.new ≡ O.failed writer.old + fails_by result }
-    ensures calls { O.called writer.new ≤ O.called writer.old + 60 }
-    ensures few { IfOk result (λ total. total ≤ sent + 60) }
+    ensures calls { O.called writer.new ≤ O.called writer.old + 80 }
+    ensures few { IfOk result (λ total. total ≤ sent + 80) }
 {
     let place = four_digits(told.place.number());
     let op = two_digits(told.instruction.op());

@@ -3,18 +3,22 @@
 //! go; and the table of worst times.
 //!
 //! Code, from the bottom up. `moments` is when an instruction is found, is ready and has its data,
-//! and `moments_text` the end of a line, which tells them. `told` is a hop as its line tells it, of
-//! a visit or of a step. `hop_text` writes where a hop begins, its instruction and how it ends.
-//! `registers_text` writes the registers and the latch after a step. `acted` writes what a step did
-//! to words of the drum: the word that it wrote, or the card that it read or punched. `visit_line`
-//! and `step_line` write a line each. `page` is an output in which lines are gathered until there
-//! is no room for one more. `line` is what is written as a line, and `passing` gathers one after
-//! the other on a page and writes many at a time. `walk` has `list_walk`, and `step_page` has
-//! `pass_step`, for one line of a trace after the other. `table` has the table, sorted, with
-//! `table/line` and `table/listing`. `waits` has where the word times of a walk go. `waits/sums`
-//! goes over the walk once. For each kind of hops (`waits/kind`) it adds up what they have spent
-//! (`waits/spent`), in a `waits/wait`. `waits/listing` has `list_waits`, and `waits/line` the line
-//! of a kind. `laws` has laws of the definitions.
+//! and `moments_text` the end of a line, which tells them, as they are or later. `told` is a hop as
+//! its line tells it, of a visit or of a step. `hop_text` writes where a hop begins, its
+//! instruction, how it ends, and a named number. `registers_text` writes the registers and the
+//! latch after a step. `acted` writes what a step did to words of the drum: the word that it wrote,
+//! or the card that it read or punched. `visit_line` and `step_line` write a line each. `page` is
+//! an output in which lines are gathered until there is no room for one more. `line` is what is
+//! written as a line, and `passing` gathers one after the other on a page and writes many at a
+//! time. `walk` has `list_walk`, and `step_page` has `pass_step`, for one line of a trace after the
+//! other. `table` has the table, sorted, with `table/line` and `table/listing`. `waits` has where
+//! the word times of a walk go. `waits/adding` goes over the walk once. For each kind of hops
+//! (`waits/kind`) it adds up what they have spent (`waits/spent`, `waits/sums`), beside the first
+//! of them, in a `waits/wait`. `waits/listing` has `list_waits`, and `waits/line` the line of a
+//! kind. `laws` has laws of the definitions.
+//!
+//! A crate above writes lines of its own hops by `send_hop`, `send_times_later` and `send_kind`,
+//! whose numbers may be as large as a u128, and gathers them by `pass_line`.
 //!
 //! Definitions, in the order to read them: `Moments`, `MomentsText`, `WalkText`, `HeldText` (what a
 //! machine holds after a step), `TraceText`, `Waits`, `WaitsText`, `TableText`. The others say what
@@ -47,10 +51,14 @@ mod visit_line;
 mod waits;
 mod walk;
 
+pub use hop_text::send_hop;
+pub use line::Line;
 pub use moments::Moments;
+pub use moments_text::send_times_later;
 pub use page::Page;
+pub use passing::pass_line;
 pub use step_page::pass_step;
 pub use table::{Table, list_table};
 pub use told::Told;
-pub use waits::{Waits, list_waits};
+pub use waits::{Sums, Waits, list_waits, send_kind};
 pub use walk::list_walk;

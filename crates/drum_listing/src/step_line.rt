@@ -130,8 +130,8 @@ fn send_course<O: Output>(
         (fetch_text number told.now.place.number word
         ++ times_text moments.now told.now.ended []) }
     ensures failures { O.failed writer.new ≡ O.failed writer.old + fails_by result }
-    ensures calls { O.called writer.new ≤ O.called writer.old + 200 }
-    ensures few { IfOk result (λ total. total ≤ sent + 200) }
+    ensures calls { O.called writer.new ≤ O.called writer.old + 250 }
+    ensures few { IfOk result (λ total. total ≤ sent + 250) }
 {
     let sent = send_fetch(writer, sent, number, told.place, word)?;
     send_times(writer, sent, moments, told.ended, b"")

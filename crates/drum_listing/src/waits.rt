@@ -3,6 +3,7 @@
 ghost use Rattle.std.specs.Prelude.{◌≤◌};
 ghost use Rattle.indexmap.specs.IndexMap.{index_map_len};
 
+mod adding;
 mod kind;
 mod line;
 mod listing;
@@ -10,13 +11,15 @@ mod spent;
 mod sums;
 mod wait;
 
+use adding::by_kind;
 use drum_bound::Analysis;
 use drum_times::Times;
 use indexmap::IndexMap;
 use kind::Kind;
+pub use line::send_kind;
 pub use listing::list_waits;
 use std::alloc::{AllocError, Global};
-use sums::by_kind;
+pub use sums::Sums;
 use wait::Wait;
 
 /// Where the word times of a walk go: what the hops of each kind take in all, the dearest kind
@@ -47,7 +50,7 @@ impl Waits {
             (visits_of analysis.now)) }
     {
         let mut by_kind = by_kind(alloc, analysis.walk(), times, analysis.angle())?;
-        by_kind.sort_by_key(|_, wait| (u64::MAX - wait.time, wait.first.begun))?;
+        by_kind.sort_by_key(|_, wait| (u128::MAX - wait.sums.time, wait.first.begun))?;
         Ok(Waits { by_kind })
     }
 

@@ -5,10 +5,12 @@ ghost use Rattle.drum_core.specs.Op.{op_of};
 ghost use Rattle.drum_times.specs.Entries.{entry_in};
 ghost use Rattle.drum_machine.specs.WaysLeft.{seen_way};
 ghost use Rattle.drum_lines.specs.Sent.{IsSent, fails_by};
+ghost use Rattle.drum_listing.specs.Pieces.{angles_text, sums_text};
+ghost use Rattle.drum_listing.specs.Told.{seen_told};
 ghost use Rattle.drum_listing.specs.Waits.{data_angle, next_angle, on_drum};
-ghost use Rattle.drum_listing.specs.WaitsOf.{angles_text, row_text, sums_text};
+ghost use Rattle.drum_listing.specs.WaitsText.{kind_line};
 
-use super::wait::Wait;
+use super::sums::Sums;
 use crate::hop_text::send_hop;
 use crate::moments::Moments;
 use crate::moments_text::{digits_with, name_with};
@@ -52,16 +54,16 @@ fn next_at(told: &Told, angle: u8) -> Option<u64>
     }
 }
 
-/// Writes the sums of a kind of hops where `sent` bytes have gone out before, and returns how many
-/// have gone out then.
-fn send_sums<O: Output>(writer: &mut O, sent: usize, wait: &Wait) -> Result<usize, WriteFault>
+/// Writes what hops of a kind take in all where `sent` bytes have gone out before, and returns how
+/// many have gone out then.
+fn send_sums<O: Output>(writer: &mut O, sent: usize, sums: &Sums) -> Result<usize, WriteFault>
     requires called { O.called writer.old ≤ 2 ^ 62 + 2 ^ 61 }
     requires few { sent ≤ 2 ^ 61 }
     ensures sent { IsSent (O.written writer.old) (O.written writer.new) sent result
-        (sums_text wait.now) }
+        (sums_text sums.now) }
     ensures failures { O.failed writer.new ≡ O.failed writer.old + fails_by result }
-    ensures calls { O.called writer.new ≤ O.called writer.old + 120 }
-    ensures few { IfOk result (λ total. total ≤ sent + 120) }
+    ensures calls { O.called writer.new ≤ O.called writer.old + 200 }
+    ensures few { IfOk result (λ total. total ≤ sent + 200) }
 {
     let mut time = Buffer::new();
     let mut instruction = Buffer::new();
@@ -69,13 +71,13 @@ fn send_sums<O: Output>(writer: &mut O, sent: usize, wait: &Wait) -> Result<usiz
     let mut work = Buffer::new();
     let pieces: [&[u8]; 8] = [
         b" time ",
-        time.format(wait.time).as_bytes(),
+        time.format(sums.time).as_bytes(),
         b" instruction ",
-        instruction.format(wait.instruction).as_bytes(),
+        instruction.format(sums.instruction).as_bytes(),
         b" data ",
-        operand.format(wait.operand).as_bytes(),
+        operand.format(sums.operand).as_bytes(),
         b" work ",
-        work.format(wait.work()).as_bytes(),
+        work.format(sums.work()).as_bytes(),
     ];
     send(writer, sent, &pieces)
 }
@@ -93,8 +95,8 @@ fn send_angles<O: Output>(
     ensures sent { IsSent (O.written writer.old) (O.written writer.new) sent result
         (angles_text operand next) }
     ensures failures { O.failed writer.new ≡ O.failed writer.old + fails_by result }
-    ensures calls { O.called writer.new ≤ O.called writer.old + 60 }
-    ensures few { IfOk result (λ total. total ≤ sent + 60) }
+    ensures calls { O.called writer.new ≤ O.called writer.old + 100 }
+    ensures few { IfOk result (λ total. total ≤ sent + 100) }
 {
     let mut operand_digits = Buffer::new();
     let mut next_digits = Buffer::new();
@@ -109,26 +111,34 @@ fn send_angles<O: Output>(
 }
 
 /// Writes the line of a kind of hops where `sent` bytes have gone out before, and returns how many
-/// have gone out then.
-pub fn send_wait<O: Output>(
+/// have gone out then. One of the hops is told, on a drum with this angle at time 0, and the sums
+/// are what all of them take, in word times.
+///
+/// # Errors
+///
+/// Where a write fails or takes no byte: then a prefix of the line has gone out, up to where the
+/// fault says.
+pub fn send_kind<O: Output>(
     writer: &mut O,
     sent: usize,
-    wait: &Wait,
+    told: &Told,
+    sums: &Sums,
     times: &Times,
     angle: u8,
 ) -> Result<usize, WriteFault>
     requires called { O.called writer.old ≤ 2 ^ 62 + 2 ^ 60 }
     requires few { sent ≤ 2 ^ 60 }
+    requires early { told.now.begun ≤ 2 ^ 62 }
     ensures sent { IsSent (O.written writer.old) (O.written writer.new) sent result
-        (row_text (entry_in times.now) angle wait.now) }
+        (kind_line (entry_in times.now) angle (seen_told told.now) sums.now.visits
+        sums.now.time sums.now.instruction sums.now.operand) }
     ensures failures { O.failed writer.new ≡ O.failed writer.old + fails_by result }
-    ensures calls { O.called writer.new ≤ O.called writer.old + 250 }
-    ensures few { IfOk result (λ total. total ≤ sent + 250) }
+    ensures calls { O.called writer.new ≤ O.called writer.old + 400 }
+    ensures few { IfOk result (λ total. total ≤ sent + 400) }
 {
-    let told = Told::of(&wait.first);
-    let moments = Moments::of(&told, times, angle);
-    let sent = send_hop(writer, sent, &told, b" visits ", wait.visits)?;
-    let sent = send_sums(writer, sent, wait)?;
-    let operand = data_at(&told, &moments, angle);
-    send_angles(writer, sent, operand, next_at(&told, angle))
+    let moments = Moments::of(told, times, angle);
+    let sent = send_hop(writer, sent, told, b" visits ", sums.visits)?;
+    let sent = send_sums(writer, sent, sums)?;
+    let operand = data_at(told, &moments, angle);
+    send_angles(writer, sent, operand, next_at(told, angle))
 }

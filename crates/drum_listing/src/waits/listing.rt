@@ -8,8 +8,9 @@ ghost use Rattle.drum_listing.specs.WaitsOf.{AreWaits, firsts_of, row_text};
 ghost use Rattle.drum_listing.specs.WaitsText.{waits_text};
 
 use super::Waits;
-use super::line::send_wait;
+use super::line::send_kind;
 use super::wait::Wait;
+use crate::told::Told;
 use drum_bound::Analysis;
 use drum_core::Output;
 use drum_lines::{WriteFault, send_bound};
@@ -27,12 +28,13 @@ fn send_waits<O: Output>(
     ensures sent { IsSent (O.written writer.old) (O.written writer.new) 0 result
         (flat_map (row_text (entry_in times.now) angle) rows.now) }
     ensures failures { O.failed writer.new ≡ O.failed writer.old + fails_by result }
-    ensures calls { O.called writer.new ≤ O.called writer.old + 1000000000 }
-    ensures few { IfOk result (λ total. total ≤ 1000000000) }
+    ensures calls { O.called writer.new ≤ O.called writer.old + 2000000000 }
+    ensures few { IfOk result (λ total. total ≤ 2000000000) }
 {
     let mut sent = 0;
     for wait in rows {
-        sent = send_wait(writer, sent, wait, times, angle)?;
+        let told = Told::of(&wait.first);
+        sent = send_kind(writer, sent, &told, &wait.sums, times, angle)?;
     }
     Ok(sent)
 }

@@ -1,40 +1,62 @@
-//! What the hops of each kind take in all.
-
-ghost use Rattle.std.specs.Prelude.{◌^◌, ◌<◌, ◌≤◌, IfOk, length, map, sum_by};
-ghost use Rattle.drum_times.specs.Entries.{entry_in};
-ghost use Rattle.drum_bound.specs.Visited.{seen_visit};
-ghost use Rattle.drum_listing.specs.Waits.{time_of};
-ghost use Rattle.drum_listing.specs.WaitsOf.{AreRows};
-
-use super::kind::Kind;
 use super::spent::Spent;
-use super::wait::Wait;
-use drum_bound::Visit;
-use drum_times::Times;
-use indexmap::IndexMap;
-use std::alloc::{AllocError, Global};
 
-/// What the hops of each kind take in all, in the order in which the walk comes to the kinds, on a
-/// drum with this angle at time 0.
-pub fn by_kind(
-    alloc: Global,
-    walk: &[Visit],
-    times: &Times,
-    angle: u8,
-) -> Result<IndexMap<Kind, Wait>, AllocError>
-    requires few { length walk.now ≤ 4000000 }
-    requires short { sum_by time_of (map seen_visit walk.now) < 2 ^ 50 }
-    ensures { IfOk result (AreRows (entry_in times.now) angle walk.now) }
-{
-    let mut waits = IndexMap::new(alloc);
-    for visit in walk {
-        let kind = Kind::of(visit);
-        let spent = Spent::of(visit, times, angle);
-        let wait = match waits.get(&kind) {
-            Some(wait) => Wait::with(wait, &spent),
-            None => Wait::first(visit, &spent),
-        };
-        waits.insert(kind, wait)?;
+/// What hops of one kind take in all.
+#[derive(Clone, Copy, Debug, PartialEq, Eq)]
+pub struct Sums {
+    /// How many hops there are.
+    pub visits: u128,
+    /// All of their word times.
+    pub time: u128,
+    /// The word times for which they wait for their instructions, until these are found.
+    pub instruction: u128,
+    /// The word times for which they wait for their data, from when their instructions are ready.
+    pub operand: u128,
+}
+
+impl Sums {
+    ghost use Rattle.std.specs.Prelude.{◌≡◌, ◌+◌, ◌-◌, ◌^◌, ◌<◌};
+
+    /// What one hop takes.
+    pub(crate) fn of(spent: &Spent) -> Sums
+        ensures visits { result.visits ≡ 1 }
+        ensures time { result.time ≡ spent.now.time }
+        ensures instruction { result.instruction ≡ spent.now.instruction }
+        ensures operand { result.operand ≡ spent.now.operand }
+    {
+        Sums {
+            visits: 1,
+            time: u128::from(spent.time),
+            instruction: u128::from(spent.instruction),
+            operand: u128::from(spent.operand),
+        }
     }
-    Ok(waits)
+
+    /// With a hop more.
+    pub(crate) fn with(&self, spent: &Spent) -> Sums
+        requires visits { self.now.visits + 1 < 2 ^ 128 }
+        requires time { self.now.time + spent.now.time < 2 ^ 128 }
+        requires instruction { self.now.instruction + spent.now.instruction < 2 ^ 128 }
+        requires operand { self.now.operand + spent.now.operand < 2 ^ 128 }
+        ensures visits { result.visits ≡ self.now.visits + 1 }
+        ensures time { result.time ≡ self.now.time + spent.now.time }
+        ensures instruction { result.instruction
+            ≡ self.now.instruction + spent.now.instruction }
+        ensures operand { result.operand ≡ self.now.operand + spent.now.operand }
+    {
+        Sums {
+            visits: self.visits + 1,
+            time: self.time + u128::from(spent.time),
+            instruction: self.instruction + u128::from(spent.instruction),
+            operand: self.operand + u128::from(spent.operand),
+        }
+    }
+
+    /// The word times that are left beside those that are waited: the operations' own.
+    pub fn work(&self) -> u128
+        ensures { result ≡ self.now.time - self.now.instruction - self.now.operand }
+    {
+        self.time
+            .saturating_sub(self.instruction)
+            .saturating_sub(self.operand)
+    }
 }

@@ -9,7 +9,7 @@ pub returns-clause-sent : goal.returns-clause-sent
 returns-clause-sent g c =
     subst (IsSent (g.O.Output.written c.args.writer.now) (g.O.Output.written c.send.new.output) c.args.sent
     c.send.result)
-    (hop_told (seen_told c.args.told.now) c.args.number c.four_digits-place.result c.two_digits-op.result c.four_digits-d.result
+    (hop_told (seen_told c.args.told.now) (g.I.Integer.text c.args.number) c.four_digits-place.result c.two_digits-op.result c.four_digits-d.result
     c.four_digits-i.result
     c.way_name.result.now c.onto_with.result.now c.args.name.now c.as_bytes.result.now
     (c.four_digits-place.ensures ∙ ap (digits_of 4) c.number.ensures)

@@ -1,15 +1,10 @@
-use Rattle.std.proofs.Common.{◌∙◌, subst}
+use Rattle.std.proofs.Common.{subst}
 use Rattle.drum_lines.specs.Sent.{IsSent}
 use Rattle.drum_listing.proofs.Lines.{times_told}
 use Rattle.drum_listing.proofs.moments_text.send_times.Goals as goal
 
 pub returns-clause-sent : goal.returns-clause-sent
 returns-clause-sent g c =
-    subst (IsSent (g.O.Output.written c.args.writer.now) (g.O.Output.written c.send.new.output) c.args.sent
-    c.send.result)
-    (times_told c.args.moments.now c.args.ended c.as_bytes.result.now c.name_with.result.now c.digits_with.result.now
-    c.name_with-2.result.now c.digits_with-2.result.now
-    c.as_bytes-2.result.now c.args.last.now (c.as_bytes.ensures.value ∙ c.format.ensures.text) c.name_with.ensures.name
-    c.digits_with.ensures.digits c.name_with-2.ensures.name c.digits_with-2.ensures.digits
-    (c.as_bytes-2.ensures.value ∙ c.format-2.ensures.text))
-    c.send.ensures.sent
+    subst (IsSent (g.O.Output.written c.args.writer.now) (g.O.Output.written c.send_told.new.writer) c.args.sent
+    c.send_told.result)
+    (times_told c.args.moments.now c.args.ended c.args.last.now) c.send_told.ensures.sent

@@ -1,6 +1,5 @@
 use Rattle.std.proofs.Common.{◌≡◌, List, map, ap, ◌∙◌, subst, rules}
 use Rattle.std.proofs.lemmas.List.Sorted.{answers_always}
-use Rattle.drum_bound.specs.declared.worst.Worst.{Worst}
 use Rattle.drum_bound.specs.RowOf.{row_in}
 use Rattle.drum_bound.specs.Table.{Row}
 use Rattle.drum_listing.specs.TableText.{AreInOrder}

@@ -1,6 +1,6 @@
 -- Of send_counts: what went out are the counts so far, of which there are 64 at most; where a
 -- write fails, a prefix of that text has gone out.
-use Rattle.std.proofs.Common.{ℕ, ◌≤◌, List, length, flat_map, Ok, Err, subst, arith}
+use Rattle.std.proofs.Common.{ℕ, ◌≤◌, List, length, flat_map, Ok, subst, arith}
 use Rattle.std.proofs.lemmas.List.{take_all}
 use Rattle.std.proofs.lemmas.Result.{err_from_is_err_and}
 use Rattle.drum_lines.specs.Sent.{IsSent}

@@ -1,5 +1,5 @@
-use Rattle.std.proofs.Common.{◌≡◌, ℕ, List, [], ◌++◌, ap, ◌∙◌, subst}
-use Rattle.std.specs.Prelude.{codes, decimal}
+use Rattle.std.proofs.Common.{ap, ◌∙◌, subst}
+use Rattle.std.specs.Prelude.{decimal}
 use Rattle.drum_core.specs.Numeral.{digits_of}
 use Rattle.drum_lines.specs.Sent.{IsSent}
 use Rattle.drum_listing.proofs.TableLines.{place_told}

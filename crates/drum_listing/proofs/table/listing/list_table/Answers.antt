@@ -1,6 +1,6 @@
 -- Of list_table: the lines that are written are those of the rows in their order, as the definition
 -- has the table's text.
-use Rattle.std.proofs.Common.{◌≡◌, List, ℕ, flat_map, Ok, Err, subst}
+use Rattle.std.proofs.Common.{List, ℕ, flat_map, Ok, Err, subst}
 use Rattle.std.proofs.lemmas.Result.{err_from_is_err_and}
 use Rattle.drum_times.specs.declared.notes.mark.Mark.{Mark}
 use Rattle.drum_bound.specs.declared.worst.Worst.{Worst}

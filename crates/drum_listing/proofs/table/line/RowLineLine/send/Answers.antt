@@ -1,11 +1,11 @@
 -- Of RowLine's send: the line is place, counts and time, one behind the other, and the counts are
 -- those that the row's number stands for; where a write fails, a prefix of that text has gone out.
-use Rattle.std.proofs.Common.{◌≡◌, ℕ, List, ◌++◌, flat_map, Ok, Err, ap, ◌∙◌, subst}
+use Rattle.std.proofs.Common.{ℕ, List, ◌++◌, flat_map, Ok, Err, subst}
 use Rattle.std.proofs.lemmas.Result.{err_from_is_err_and}
 use Rattle.drum_bound.specs.RowOf.{row_in}
 use Rattle.drum_lines.specs.Sent.{IsSent}
 use Rattle.drum_lines.proofs.Sending.{IsSent-cut, IsSent-then}
-use Rattle.drum_listing.specs.TableText.{count_text, row_line}
+use Rattle.drum_listing.specs.TableText.{count_text}
 use Rattle.drum_listing.proofs.TableLines.{counts_text, place_text, row_pieces, time_text}
 use Rattle.drum_listing.proofs.table.line.RowLineLine.send.Goals as goal
 

@@ -1,0 +1,99 @@
+-- Of by_kind: each kind that the walk so far has come to has the sums over its hops, and no other
+-- has any. The walk's hops are few and its time is short, so the sums have room.
+use Rattle.std.proofs.Common.{◌≡◌, ◌+◌, ℕ, cond, Some, None, Option, ap, subst, sym, ◌∙◌, List, [], ◌∷◌, ◌++◌, take, arith}
+use Rattle.std.proofs.Common.{◌<◌, ◌≤◌, refl, Bool, true, false, length, is_some, if◌then◌else◌}
+use Rattle.std.proofs.lemmas.List.{length-take-le}
+use Rattle.indexmap.specs.IndexMap.{get, index_map_len}
+use Rattle.drum_bound.specs.declared.visit.Visit.{Visit}
+use Rattle.drum_times.specs.Entries.{entry_in}
+use Rattle.drum_listing.specs.declared.waits.kind.Kind.{Kind}
+use Rattle.drum_listing.specs.declared.waits.wait.Wait.{Wait}
+use Rattle.drum_listing.specs.WaitsOf.{kind_of, of_kind, row_of, same_kind}
+use Rattle.drum_listing.proofs.SameKinds.{get_same, unique_same, update_same}
+use Rattle.drum_listing.proofs.WaitRows.{HasRoom, has_room, row_begun, row_more, rows_more}
+use Rattle.drum_listing.proofs.waits.adding.by_kind.Goals as goal
+use Rattle.drum_listing.proofs.waits.adding.by_kind.Goals.{in-Some, in-None}
+
+-- the sums that are there leave room for the hop at hand
+room : (c : goal.After-spent-1) → HasRoom (entry_in c.args.times.now) c.args.angle c.visit-item.result c.in-Some.wait.now
+room c =
+    has_room (entry_in c.args.times.now) c.args.angle c.of-kind.result c.args.walk.now c.loop-visit.visit-index
+    c.visit-item.result c.in-Some.wait.now c.loop-visit-test.true c.visit-item.is c.requires.few c.requires.short
+    (get_same c.loop-visit.waits c.of-kind.result (Some c.in-Some.wait.now) c.in-Some.ensures.value
+    ∙ c.loop-visit.invariant.found c.of-kind.result)
+
+pub with-requires-clause-visits : goal.with-requires-clause-visits
+with-requires-clause-visits c = (room c).visits
+
+pub with-requires-clause-time : goal.with-requires-clause-time
+with-requires-clause-time c = omega (arith, (room c).time, c.of-spent.ensures.time)
+
+pub with-requires-clause-instruction : goal.with-requires-clause-instruction
+with-requires-clause-instruction c = omega (arith, (room c).instruction, c.of-spent.ensures.instruction)
+
+pub with-requires-clause-operand : goal.with-requires-clause-operand
+with-requires-clause-operand c = omega (arith, (room c).had, c.of-spent.ensures.operand)
+
+-- no more rows than hops, with one hop more
+one_more : (there : Bool) (walk : List Visit) (i before after : ℕ) → i < length walk
+    → before ≤ length (take i walk) → after ≡ before + (if there then 0 else 1)
+    → after ≤ length (take (i + 1) walk)
+one_more true walk i before after within few more =
+    omega (
+      arith,
+      length-take-le i walk (omega arith),
+      length-take-le (i + 1) walk (omega arith),
+    )
+one_more false walk i before after within few more =
+    omega (
+      arith,
+      length-take-le i walk (omega arith),
+      length-take-le (i + 1) walk (omega arith),
+    )
+
+pub loop-visit-preserved : goal.loop-visit-preserved
+loop-visit-preserved c =
+    let times = entry_in c.args.times.now in
+    let angle = c.args.angle in
+    let walk = c.args.walk.now in
+    let i = c.loop-visit.visit-index in
+    let visit = c.visit-item.result in
+    let kind = c.of-kind.result in
+    let old = c.loop-visit.waits in
+    let new = c.insert.new.self in
+    let hops = of_kind (kind_of visit) (take i walk) in
+    let at : (found : Option Wait) → found ≡ get same_kind old kind → found ≡ row_of times angle hops =
+    λ found is. is ∙ c.loop-visit.invariant.found kind
+    ∙ ap (λ (k : Kind). row_of times angle (of_kind k (take i walk))) c.of-kind.ensures in
+    let row : row_of times angle (hops ++ visit ∷ []) ≡ Some c.match-get.wait =
+    elim c.match-get.branch [
+      | in-Some w ↦
+          let before = w.in-Some.wait.now in
+          row_more times angle hops visit before (record { first = before.first; sums = w.with.result })
+          (at (Some before) (get_same old kind (Some before) w.in-Some.ensures.value))
+          refl w.with.ensures.visits
+          (w.with.ensures.time ∙ ap (λ (n : ℕ). before.sums.time + n) c.of-spent.ensures.time)
+          (w.with.ensures.instruction
+          ∙ ap (λ (n : ℕ). before.sums.instruction + n) c.of-spent.ensures.instruction)
+          (w.with.ensures.operand ∙ ap (λ (n : ℕ). before.sums.operand + n) c.of-spent.ensures.operand)
+          ∙ ap (λ (wait : Wait). Some wait) (sym w.wait-is)
+      | in-None w ↦
+          row_begun times angle hops visit (record { first = visit; sums = w.of.result })
+          (at None (get_same old kind None w.in-None.ensures.value))
+          refl w.of.ensures.visits
+          (w.of.ensures.time ∙ c.of-spent.ensures.time)
+          (w.of.ensures.instruction ∙ c.of-spent.ensures.instruction)
+          (w.of.ensures.operand ∙ c.of-spent.ensures.operand)
+          ∙ ap (λ (wait : Wait). Some wait) (sym w.wait-is)
+    ] in
+    record {
+      found =
+          rows_more times angle walk i visit c.match-get.wait (get same_kind old) (get same_kind new)
+          c.loop-visit-test.true c.visit-item.is c.loop-visit.invariant.found row
+          (subst (λ (k : Kind). (other : Kind) → get same_kind new other
+          ≡ cond (same_kind k other) (Some c.match-get.wait) (get same_kind old other)) c.of-kind.ensures
+          (update_same old new kind c.match-get.wait c.in_ok-insert.ensures.updates.0));
+      apart = unique_same new c.in_ok-insert.ensures.unique;
+      few = one_more (is_some c.in_ok-insert.field-0) walk i (index_map_len old) (index_map_len new)
+          c.loop-visit-test.true c.loop-visit.invariant.few c.in_ok-insert.ensures.len;
+    }

@@ -1,0 +1,47 @@
+//! What the hops of each kind take in all.
+
+ghost use Rattle.std.specs.Prelude.{◌^◌, ◌<◌, ◌≤◌, IfOk, length, map, sum_by};
+ghost use Rattle.drum_times.specs.Entries.{entry_in};
+ghost use Rattle.drum_bound.specs.Visited.{seen_visit};
+ghost use Rattle.drum_listing.specs.Waits.{time_of};
+ghost use Rattle.drum_listing.specs.WaitsOf.{AreRows};
+
+use super::kind::Kind;
+use super::spent::Spent;
+use super::sums::Sums;
+use super::wait::Wait;
+use drum_bound::Visit;
+use drum_times::Times;
+use indexmap::IndexMap;
+use std::alloc::{AllocError, Global};
+
+/// What the hops of each kind take in all, in the order in which the walk comes to the kinds, on a
+/// drum with this angle at time 0.
+pub fn by_kind(
+    alloc: Global,
+    walk: &[Visit],
+    times: &Times,
+    angle: u8,
+) -> Result<IndexMap<Kind, Wait>, AllocError>
+    requires few { length walk.now ≤ 4000000 }
+    requires short { sum_by time_of (map seen_visit walk.now) < 2 ^ 50 }
+    ensures { IfOk result (AreRows (entry_in times.now) angle walk.now) }
+{
+    let mut waits: IndexMap<Kind, Wait> = IndexMap::new(alloc);
+    for visit in walk {
+        let kind = Kind::of(visit);
+        let spent = Spent::of(visit, times, angle);
+        let wait = match waits.get(&kind) {
+            Some(wait) => Wait {
+                first: wait.first,
+                sums: wait.sums.with(&spent),
+            },
+            None => Wait {
+                first: *visit,
+                sums: Sums::of(&spent),
+            },
+        };
+        waits.insert(kind, wait)?;
+    }
+    Ok(waits)
+}
