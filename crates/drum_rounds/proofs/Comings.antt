@@ -6,7 +6,7 @@ use Rattle.std.specs.Option.{option_eq}
 use Rattle.std.proofs.Math.Nat.{suc-mul}
 use Rattle.std.proofs.lemmas.Bool.{eqb-true, eqb-false, eq-eqb, ne_eqb}
 use Rattle.std.proofs.lemmas.Grind.{flat_map-append}
-use Rattle.std.proofs.lemmas.List.{append-nil, length-map}
+use Rattle.std.proofs.lemmas.List.{append-nil, length-map, map-append}
 use Rattle.std.proofs.lemmas.List.Sums.{sum_by-append}
 use Rattle.drum_core.specs.declared.instruction.Instruction.{Instruction}
 use Rattle.drum_core.specs.declared.op.Op.{Op}
@@ -27,7 +27,8 @@ use Rattle.drum_rounds.specs.declared.change.Change.{Change}
 use Rattle.drum_rounds.specs.declared.change.Change.TheVariants.{Rise, SetBack}
 use Rattle.drum_rounds.specs.Change.{all_followed, counts_after, over_rounds, passes_by, peaks}
 use Rattle.drum_rows.specs.Marked.{mark_by}
-use Rattle.drum_rounds.specs.Pieces.{repeated, PlacedHop}
+use Rattle.drum_rounds.specs.InRounds.{takes}
+use Rattle.drum_rounds.specs.Pieces.{placed, repeated, PlacedHop}
 use Rattle.drum_rounds.specs.Stretch.{changes_by, edges_placed, laid, laid_one, next_by, units_by, wait_by, ComeTo, GoOn, Span}
 use Rattle.drum_rounds.proofs.CountLaws.{at_followed, at_rounds, counts_followed, counts_once, counts_others, long_by}
 use Rattle.drum_rounds.proofs.CountLaws.{long_followed, passes_followed, passes_rounds, within_first, within_followed}
@@ -95,6 +96,8 @@ none_comes g place angle =
     record {
       each = long_by marks None 0 marks;
       passed = λ index change is. passes_one marks None 0 marks index index change (omega arith) is;
+      lasts = refl;
+      placed = λ from time at. refl;
       time = λ from time at. omega arith;
       walks = λ from time counts rest at within goes.
           let so = within_none marks 0 marks counts within in
@@ -116,7 +119,7 @@ within_by marks (Some passed) counts within = within_passed marks passed 0 marks
 -- a hop of a place
 module _ (g : Setting) (place angle : ℕ) (ins : Instruction) (on_drum : angle < 50) (took : ℕ) where
   abbrev one_hop : Way → PlacedHop
-  one_hop way = record { place = place; hop = record { ins = ins; way = way } }
+  one_hop way = record { place = place; angle = angle; hop = record { ins = ins; way = way } }
 
   abbrev one_span : Way → Span
   one_span way = record {
@@ -189,6 +192,9 @@ module _ (g : Setting) (place angle : ℕ) (ins : Instruction) (on_drum : angle 
   hop_comes way has is = record {
     each = long_by g.notes.marks (mark_by g.notes.marks place way) 0 g.notes.marks;
     passed = hop_passes way;
+    lasts = omega (arith, is);
+    placed = λ start time at.
+        ap (λ (a : ℕ). record { place = place; angle = a; hop = record { ins = ins; way = way } } ∷ []) at;
     time = λ start time at. ends_later way is start time at;
     walks = hop_walks way has is;
   }
@@ -230,6 +236,15 @@ module _ (g : Setting) (xs ys : List PlacedHop) (a b : Span) (onto : a.onto ≡ 
       ∙ second.time start (time + a.time) (then_turn start time at) in
       omega (arith, parts, last)
 
+  then_placed : (start time : ℕ) → (start + time) % 50 ≡ a.angle
+      → map (placed start) (laid g start time (xs ++ ys)) ≡ xs ++ ys
+  then_placed start time at =
+      ap (map (placed start)) (then_laid start time at)
+      ∙ map-append (placed start) (laid g start time xs) (laid g start (time + a.time) ys)
+      ∙ ap (λ (hs : List PlacedHop). hs ++ map (placed start) (laid g start (time + a.time) ys))
+      (first.placed start time at)
+      ∙ ap (λ (hs : List PlacedHop). xs ++ hs) (second.placed start (time + a.time) (then_turn start time at))
+
   then_walks : (start time : ℕ) (counts : List ℕ) (rest : List Taken) → (start + time) % 50 ≡ a.angle
       → AreWithin g.notes.marks (peaks both.changes counts)
       → GoOn g start (time + both.time) (counts_after both.changes counts) rest b.onto
@@ -264,6 +279,8 @@ module _ (g : Setting) (xs ys : List PlacedHop) (a b : Span) (onto : a.onto ≡ 
         ∙ ap (λ (n : ℕ). n + passes_by so.1.0) (first.passed index so.0 so.1.1)
         ∙ ap (λ (n : ℕ). passes_of g.notes.marks index (edges_placed xs) + n) (second.passed index so.1.0 so.1.2)
         ∙ sym (passes_append g.notes.marks index xs ys);
+    lasts = omega (arith, first.lasts, second.lasts, sum_by-append (takes g.times) xs ys);
+    placed = then_placed;
     time = then_time;
     walks = then_walks;
   }
@@ -305,6 +322,10 @@ module _ (g : Setting) (hops : List PlacedHop) (a : Span) (onto : a.onto ≡ Som
   first_round = record {
     each = length-map a.changes (over_rounds 1) ∙ one.each;
     passed = rounds_passed 1;
+    lasts = omega (arith, same, one.lasts, sum_by-append (takes g.times) hops []);
+    placed = λ start time at.
+        ap (λ (hs : List PlacedHop). map (placed start) (laid g start time hs)) (append-nil hops)
+        ∙ one.placed start time at ∙ sym (append-nil hops);
     time = λ start time at.
         ap (λ (hs : List PlacedHop). time_from time (laid g start time hs)) (append-nil hops)
         ∙ one.time start time at ∙ ap (λ (n : ℕ). time + n) same;
@@ -351,6 +372,15 @@ module _ (g : Setting) (hops : List PlacedHop) (a : Span) (onto : a.onto ≡ Som
         ∙ others.time start (time + a.time) (again start time at) in
         omega (arith, parts, last, sum)
 
+    more_placed : (start time : ℕ) → (start + time) % 50 ≡ a.angle
+        → map (placed start) (laid g start time (hops ++ repeated (suc more) hops)) ≡ hops ++ repeated (suc more) hops
+    more_placed start time at =
+        ap (map (placed start)) (more_laid start time at)
+        ∙ map-append (placed start) (laid g start time hops) (laid g start (time + a.time) (repeated (suc more) hops))
+        ∙ ap (λ (hs : List PlacedHop). hs ++ map (placed start) (laid g start (time + a.time) (repeated (suc more) hops)))
+        (one.placed start time at)
+        ∙ ap (λ (hs : List PlacedHop). hops ++ hs) (others.placed start (time + a.time) (again start time at))
+
     more_walks : (start time : ℕ) (counts : List ℕ) (rest : List Taken) → (start + time) % 50 ≡ a.angle
         → AreWithin g.notes.marks (peaks (map (over_rounds (suc (suc more))) a.changes) counts)
         → GoOn g start (time + suc (suc more) * a.time)
@@ -381,6 +411,8 @@ module _ (g : Setting) (hops : List PlacedHop) (a : Span) (onto : a.onto ≡ Som
     more_rounds = record {
       each = length-map a.changes (over_rounds (suc (suc more))) ∙ one.each;
       passed = rounds_passed (suc (suc more));
+      lasts = omega (arith, sum, one.lasts, others.lasts, sum_by-append (takes g.times) hops (repeated (suc more) hops));
+      placed = more_placed;
       time = more_time;
       walks = more_walks;
     }

@@ -5,7 +5,7 @@ use Rattle.drum_flow.specs.MostPasses.{edge_taken, edges_taken}
 use Rattle.drum_flow.specs.Walk.{Setting, Taken, time_from}
 use Rattle.drum_flow.proofs.LongestLaws.{longest_later}
 use Rattle.drum_bound.specs.Visited.{visited, AreLongest}
-use Rattle.drum_rounds.specs.Pieces.{placed, PlacedHop}
+use Rattle.drum_rounds.specs.Pieces.{PlacedHop}
 use Rattle.drum_rounds.specs.Stretch.{edges_placed, laid, laid_one}
 
 pub time_append : (time : ℕ) (xs ys : List Taken) → time_from time (xs ++ ys) ≡ time_from (time_from time xs) ys
@@ -18,10 +18,6 @@ module _ (g : Setting) (angle : ℕ) where
   laid_append time [] ys = refl
   laid_append time (x ∷ xs) ys =
       ap (λ (rest : List Taken). laid_one g angle time x ∷ rest) (laid_append (laid_one g angle time x).ended xs ys)
-
-  pub placed_laid : (time : ℕ) (hops : List PlacedHop) → map placed (laid g angle time hops) ≡ hops
-  placed_laid time [] = refl
-  placed_laid time (x ∷ xs) = ap (λ (rest : List PlacedHop). x ∷ rest) (placed_laid (laid_one g angle time x).ended xs)
 
   pub longest_laid : (time : ℕ) (hops : List PlacedHop) → AreLongest g angle (map visited (laid g angle time hops))
   longest_laid time [] = tt

@@ -1,39 +1,24 @@
 -- What the pieces come to, one after the other, and the last as a walk.
 use Rattle.std.proofs.Common.{◌≡◌, ℕ, zero, suc, ◌+◌, ◌-◌, ◌<◌, ◌≤◌, ◌%◌, List, [], ◌∷◌, ◌++◌, length, take, map, get_or}
 use Rattle.std.proofs.Common.{refl, ap, sym, ◌∙◌, subst, arith, Option, Some, None, inl, inr}
-use Rattle.std.specs.Prelude.{slice_get, slice_index}
+use Rattle.std.specs.Prelude.{slice_get, slice_index, sum_by}
 use Rattle.std.proofs.lemmas.Bool.{cases_lt}
 use Rattle.std.proofs.lemmas.List.{append-nil, length-append, length-map, take_more}
 use Rattle.drum_machine.specs.Counts.{no_counts}
 use Rattle.drum_machine.specs.Since.{passes_of}
 use Rattle.drum_flow.specs.Walk.{IsWalkFrom, Setting}
-use Rattle.drum_rounds.specs.declared.change.Change.{Change}
 use Rattle.drum_rounds.specs.declared.piece.Piece.{Piece}
 use Rattle.drum_rounds.specs.declared.stretch.Stretch.{Stretch}
 use Rattle.drum_rounds.specs.Change.{counts_after, passes_by}
-use Rattle.drum_rounds.specs.InRounds.{SpellOut}
-use Rattle.drum_rounds.specs.Pieces.{spelled, spelled_at, spelled_behind, spelled_by, PlacedHop}
+use Rattle.drum_rounds.specs.InRounds.{takes, SpellOut}
+use Rattle.drum_rounds.specs.Order.{AreInOrder}
+use Rattle.drum_rounds.specs.Pieces.{spelled, spelled_at, spelled_behind, spelled_by, spelled_of, PlacedHop}
 use Rattle.drum_rounds.specs.Stretch.{edges_placed, laid, span_of, AreStretches, ComeTo, GoOn, IsFromStart}
-use Rattle.drum_rounds.proofs.LaidLaws.{edges_laid, longest_laid, placed_laid}
+use Rattle.drum_rounds.proofs.LaidLaws.{edges_laid, longest_laid}
+use Rattle.drum_rounds.proofs.SpelledLaws.{behind_more, long_behind, spelled_before, spelled_last}
 
 pub no_stretches : (g : Setting) → AreStretches g [] []
 no_stretches g = record { each = refl; come = λ number stretch at. cc }
-
-behind_more : (before : List (List PlacedHop)) (pieces : List Piece) (piece : Piece)
-    → spelled_behind before (pieces ++ piece ∷ [])
-    ≡ spelled_behind before pieces ++ spelled_by (spelled_behind before pieces) piece ∷ []
-behind_more before [] piece = refl
-behind_more before (one ∷ pieces) piece = behind_more (before ++ spelled_by before one ∷ []) pieces piece
-
-long_behind : (before : List (List PlacedHop)) (pieces : List Piece)
-    → length (spelled_behind before pieces) ≡ length before + length pieces
-long_behind before [] = omega arith
-long_behind before (one ∷ pieces) =
-    omega (
-      arith,
-      long_behind (before ++ spelled_by before one ∷ []) pieces,
-      length-append before (spelled_by before one ∷ []),
-    )
 
 -- what stands in a list with one more at its end
 at_push : {X : Type 0} (xs : List X) (y x : X) (k : ℕ) → slice_get (xs ++ y ∷ []) k ≡ Some x
@@ -47,16 +32,6 @@ at_push {X = X} (z ∷ xs) y x (suc k) at =
       λ low.
           let then = so.1 (omega (arith, low)) in (ap suc then.0, then.1),
     )
-
-spelled_before : (xs : List (List PlacedHop)) (y : List PlacedHop) (k : ℕ) → k < length xs
-    → spelled_at (xs ++ y ∷ []) k ≡ spelled_at xs k
-spelled_before [] y k less = absurd (omega (arith, less))
-spelled_before (x ∷ xs) y zero less = refl
-spelled_before (x ∷ xs) y (suc k) less = spelled_before xs y k (omega (arith, less))
-
-spelled_last : (xs : List (List PlacedHop)) (y : List PlacedHop) → spelled_at (xs ++ y ∷ []) (length xs) ≡ y
-spelled_last [] y = refl
-spelled_last (x ∷ xs) y = spelled_last xs y
 
 push_stretch : (g : Setting) (before : List (List PlacedHop)) (stretches : List Stretch) (hops : List PlacedHop)
     (stretch : Stretch) → AreStretches g before stretches → ComeTo g hops (span_of stretch)
@@ -94,15 +69,15 @@ stretches_more g pieces k piece stretches stretch less is are come =
     (push_stretch g (spelled_behind [] (take k pieces)) stretches
     (spelled_by (spelled_behind [] (take k pieces)) piece) stretch are come)
 
--- the passes of each mark
-passed_at : (changes : List Change) (told : ℕ → ℕ) (first : ℕ)
-    → ((index : ℕ) (change : Change) → slice_get changes index ≡ Some change → passes_by change ≡ told (first + index))
-    → (index : ℕ) → index < length changes → slice_index (map passes_by changes) index ≡ told (first + index)
-passed_at [] told first each index less = absurd (omega (arith, less))
-passed_at (change ∷ changes) told first each zero less = each 0 change refl
-passed_at (change ∷ changes) told first each (suc index) less =
+-- what is told of each of a list by its index
+told_at : {X : Type 0} (f : X → ℕ) (xs : List X) (told : ℕ → ℕ) (first : ℕ)
+    → ((index : ℕ) (x : X) → slice_get xs index ≡ Some x → f x ≡ told (first + index))
+    → (index : ℕ) → index < length xs → slice_index (map f xs) index ≡ told (first + index)
+told_at {X = X} f [] told first each index less = absurd (omega (arith, less))
+told_at {X = X} f (x ∷ xs) told first each zero less = each 0 x refl
+told_at {X = X} f (x ∷ xs) told first each (suc index) less =
     let next : first + 1 + index ≡ first + suc index = omega arith in
-    passed_at changes told (first + 1)
+    told_at f xs told (first + 1)
     (λ k one at.
     let same : first + suc k ≡ first + 1 + k = omega arith in
     each (suc k) one at ∙ ap told same)
@@ -111,9 +86,9 @@ passed_at (change ∷ changes) told first each (suc index) less =
 -- The last piece is a walk, where it begins as one does and no count is ever above what its mark allows.
 pub whole_walk : (g : Setting) (pieces : List Piece) (stretches : List Stretch) (whole : Stretch) (passes : List ℕ)
     → AreStretches g (spelled_behind [] pieces) stretches → slice_get stretches (length stretches - 1) ≡ Some whole
-    → IsFromStart g (span_of whole) → passes ≡ map passes_by whole.changes.items
+    → IsFromStart g (span_of whole) → passes ≡ map passes_by whole.changes.items → AreInOrder pieces
     → SpellOut g whole.angle pieces passes whole.time
-whole_walk g pieces stretches whole passes are last begins all =
+whole_walk g pieces stretches whole passes are last begins all order =
     let marks = g.notes.marks in
     let span = span_of whole in
     let hops = spelled pieces in
@@ -131,15 +106,16 @@ whole_walk g pieces stretches whole passes are last begins all =
     (subst (IsWalkFrom g angle span.from 0 counts) (append-nil taken)
     (come.walks angle 0 counts [] at begins.within on)) in
     record {
+      order = order;
       hops = taken;
-      same = placed_laid g angle 0 hops;
+      same = come.placed angle 0 at;
       walk = record { on_drum = begins.on_drum; from_start = walk };
       longest = longest_laid g angle 0 hops;
       time = come.time angle 0 at ∙ omega arith;
       each = ap length all ∙ length-map whole.changes.items passes_by ∙ come.each;
       passed = λ index less.
           ap (λ (ps : List ℕ). slice_index ps index) all
-          ∙ passed_at span.changes (λ k. passes_of marks k (edges_placed hops)) 0
+          ∙ told_at passes_by span.changes (λ k. passes_of marks k (edges_placed hops)) 0
           (λ k change there.
           let same : k ≡ 0 + k = omega arith in
           come.passed k change there ∙ ap (λ (n : ℕ). passes_of marks n (edges_placed hops)) same)
@@ -155,3 +131,19 @@ whole_walk g pieces stretches whole passes are last begins all =
         → GoOn g whole.angle (0 + whole.time) (counts_after whole.changes.items (no_counts g.notes.marks)) [] onto
     nothing_on None = refl
     nothing_on (Some next) = tt
+
+-- how long pieces take, by what they come to
+pub lasting_each : (g : Setting) (pieces : List Piece) (stretches : List Stretch) (number : ℕ)
+    → AreStretches g (spelled_behind [] pieces) stretches → number < length pieces
+    → slice_index (map (λ (one : Stretch). one.time) stretches) number ≡ sum_by (takes g.times) (spelled_of pieces number)
+lasting_each g pieces stretches number are less =
+    let whole = sum_of number in
+    told_at (λ (one : Stretch). one.time) stretches (λ k. sum_by (takes g.times) (spelled_of pieces k)) 0
+    (λ k stretch at. (are.come k stretch at).lasts ∙ sum_of k)
+    number (omega (arith, less, are.each, long_behind [] pieces)) ∙ sym whole
+  where
+    sum_of : (k : ℕ) → sum_by (takes g.times) (spelled_of pieces k)
+        ≡ sum_by (takes g.times) (spelled_of pieces (0 + k))
+    sum_of k =
+        let same : k ≡ 0 + k = omega arith in
+        ap (λ (n : ℕ). sum_by (takes g.times) (spelled_of pieces n)) same

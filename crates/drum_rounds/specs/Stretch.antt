@@ -1,6 +1,6 @@
 -- Stretches of a walk: what hops come to, from where and when the first begins.
 use Rattle.std.specs.Prelude.{◌≡◌, ℕ, ◌+◌, ◌-◌, ◌%◌, ◌==◌, if◌then◌else◌, List, [], ◌∷◌, ◌++◌}
-use Rattle.std.specs.Prelude.{flat_map, length, slice_get, Option, Some, None, ◌<◌}
+use Rattle.std.specs.Prelude.{flat_map, length, map, slice_get, sum_by, Option, Some, None, ◌<◌}
 use Rattle.drum_core.specs.declared.location.Location.{Location}
 use Rattle.drum_core.specs.declared.op.Op.{Op}
 use Rattle.drum_core.specs.Op.{op_of}
@@ -16,7 +16,8 @@ use Rattle.drum_rounds.specs.declared.change.Change.{Change}
 use Rattle.drum_rounds.specs.declared.change.Change.TheVariants.{Rise, SetBack}
 use Rattle.drum_rounds.specs.declared.stretch.Stretch.{Stretch}
 use Rattle.drum_rounds.specs.Change.{counts_after, passes_by, peaks}
-use Rattle.drum_rounds.specs.Pieces.{spelled_at, PlacedHop}
+use Rattle.drum_rounds.specs.InRounds.{takes}
+use Rattle.drum_rounds.specs.Pieces.{placed, spelled_at, PlacedHop}
 
 -- where hops begin, at which angle, where the last leads if it goes on, how long they take, and
 -- what they do to each mark's count
@@ -81,12 +82,16 @@ abbrev pub GoOn : Setting → ℕ → ℕ → List ℕ → List Taken → Option
 GoOn g angle time counts rest None = rest ≡ []
 GoOn g angle time counts rest (Some next) = IsWalkFrom g angle next time counts rest
 
--- The hops come to this: from any time of the span's angle they take as long, and with what goes on
--- behind them they are a walk, if the counts are never above what the marks allow.
+-- The hops come to this: from any time of the span's angle they begin at their own angles and take
+-- as long, and with what goes on behind them they are a walk, if the counts are never above what
+-- the marks allow.
 pub record ComeTo (g : Setting) (hops : List PlacedHop) (span : Span) : Type 0 where
   pub each : length span.changes ≡ length g.notes.marks
   pub passed : (index : ℕ) (change : Change) → slice_get span.changes index ≡ Some change
       → passes_by change ≡ passes_of g.notes.marks index (edges_placed hops)
+  pub lasts : span.time ≡ sum_by (takes g.times) hops
+  pub placed : (angle time : ℕ) → (angle + time) % 50 ≡ span.angle
+      → map (placed angle) (laid g angle time hops) ≡ hops
   pub time : (angle time : ℕ) → (angle + time) % 50 ≡ span.angle
       → time_from time (laid g angle time hops) ≡ time + span.time
   pub walks : (angle time : ℕ) (counts : List ℕ) (rest : List Taken)

@@ -3,11 +3,12 @@
 ghost use Rattle.std.specs.Prelude.{◌≡◌, IfOk, IfErr};
 ghost use Rattle.drum_flow.specs.Walk as walks;
 ghost use Rattle.drum_ceiling.specs.CeilingOf.{IsCeilingRefusal};
-ghost use Rattle.drum_rounds.specs.InRounds.{angle_of, pieces_of, passes_in, total_of};
-ghost use Rattle.drum_rounds.specs.InRounds.{IsInRoundsOf, SpellOut};
+ghost use Rattle.drum_rounds.specs.InRounds.{angle_of, lasting_of, often_of, pieces_of, passes_in};
+ghost use Rattle.drum_rounds.specs.InRounds.{total_of, AreTold, IsInRoundsOf, SpellOut};
 ghost use Rattle.drum_rounds.specs.BracketOf.{IsBracketOf};
 
 use crate::in_rounds::InRounds;
+use crate::piece::Piece;
 use crate::search;
 use crate::setting::Setting;
 use drum_ceiling::{Ceiling, ceiling};
@@ -25,16 +26,19 @@ pub struct Bracket {
     pub walk: InRounds,
 }
 
-/// The walk without a hop.
+/// The walk without a hop: a row of none.
 fn no_walk(alloc: Global, marks: &[Mark]) -> Result<InRounds, AllocError>
     ensures { IfOk result (λ walk. (g : walks.Setting) → g.notes.marks ≡ marks.now
-        → SpellOut g (angle_of walk) (pieces_of walk) (passes_in walk) (total_of walk)) }
+        → SpellOut g (angle_of walk) (pieces_of walk) (passes_in walk) (total_of walk)
+        × AreTold g.times (pieces_of walk) (lasting_of walk) (often_of walk)) }
 {
     Ok(InRounds {
         angle: 0,
-        pieces: Vec::new(alloc),
+        pieces: vec![in alloc; Piece::Row(Vec::new(alloc))]?,
         passes: vec![in alloc; 0; marks.len()]?,
         total: 0,
+        lasting: vec![in alloc; 0]?,
+        often: vec![in alloc; 1]?,
     })
 }
 

@@ -1,12 +1,11 @@
 //! What hops come to: one alone, one stretch behind another, and rounds of one.
 
-ghost use Rattle.std.specs.Prelude.{◌≡◌, ◌++◌, [], ◌∷◌, List, IfOk, IfSome};
+ghost use Rattle.std.specs.Prelude.{◌≡◌, ◌<◌, ◌++◌, [], ◌∷◌, List, IfOk, IfSome};
 ghost use Rattle.drum_machine.specs.WaysLeft.{seen_way};
-ghost use Rattle.drum_flow.specs.Seen.{seen_hop};
 ghost use Rattle.drum_flow.specs.SettingOf.{setting};
 ghost use Rattle.drum_flow.specs.Walk as walks;
 ghost use Rattle.drum_rows.specs.Marked.{mark_by};
-ghost use Rattle.drum_rounds.specs.Pieces.{repeated, PlacedHop};
+ghost use Rattle.drum_rounds.specs.Pieces.{repeated, seen_placed, PlacedHop};
 ghost use Rattle.drum_rounds.specs.Stretch.{next_by, number_of, span_of, ComeTo};
 
 use crate::changes::{changes_by, followed, over_rounds};
@@ -67,8 +66,7 @@ impl Stretch {
     ) -> Result<Option<Stretch>, AllocError>
         ensures { IfOk result (λ made. IfSome made (λ stretch. ComeTo
             (setting by.now.deck.now by.now.times.now by.now.notes.now)
-            (record { place = one.location.number; hop = seen_hop one.hop } ∷ [])
-            (span_of stretch))) }
+            (seen_placed one ∷ []) (span_of stretch))) }
     {
         if !by.has_hop(one.location, one.hop) {
             return Ok(None);
@@ -113,11 +111,12 @@ impl Stretch {
     /// So many rounds of this stretch; `None` where it doesn't end where and as it begins, or there
     /// is no room for so much.
     pub fn rounds(&self, alloc: Global, times: u16) -> Result<Option<Stretch>, AllocError>
+        requires { 0 < times }
         ensures { IfOk result (λ made. IfSome made (λ all. (g : walks.Setting)
             (hops : List PlacedHop) → ComeTo g hops (span_of self.now)
             → ComeTo g (repeated times hops) (span_of all))) }
     {
-        if times == 0 || !self.leads_to(self) {
+        if !self.leads_to(self) {
             return Ok(None);
         }
         let Some(time) = u128::from(times).checked_mul(self.time) else {

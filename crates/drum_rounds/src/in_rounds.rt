@@ -11,10 +11,13 @@ pub struct InRounds {
     pub(crate) pieces: Vec<Piece>,
     pub(crate) passes: Vec<u128>,
     pub(crate) total: u128,
+    pub(crate) lasting: Vec<u128>,
+    pub(crate) often: Vec<u128>,
 }
 
 impl InRounds {
-    ghost use Rattle.drum_rounds.specs.InRounds.{angle_of, pieces_of, passes_in, total_of};
+    ghost use Rattle.drum_rounds.specs.InRounds.{angle_of, lasting_of, often_of, pieces_of};
+    ghost use Rattle.drum_rounds.specs.InRounds.{passes_in, total_of};
 
     /// The drum's angle when the walk begins.
     pub fn angle(&self) -> u64
@@ -23,7 +26,7 @@ impl InRounds {
         self.angle
     }
 
-    /// Its pieces, in order: the last spells out the whole walk. Without any it has no hop.
+    /// Its pieces, in order: the last spells out the whole walk.
     pub fn pieces(&self) -> &[Piece]
         ensures { result.now ≡ pieces_of self.now }
     {
@@ -43,5 +46,21 @@ impl InRounds {
         ensures { result ≡ total_of self.now }
     {
         self.total
+    }
+
+    /// The word times that its piece with this number takes.
+    pub fn lasting(&self, number: usize) -> u128
+        requires { number < length (lasting_of self.now) }
+        ensures { result ≡ slice_index (lasting_of self.now) number }
+    {
+        self.lasting[number]
+    }
+
+    /// How often its piece with this number comes in the whole walk.
+    pub fn often(&self, number: usize) -> u128
+        requires { number < length (often_of self.now) }
+        ensures { result ≡ slice_index (often_of self.now) number }
+    {
+        self.often[number]
     }
 }

@@ -6,12 +6,13 @@
 //! from behind each pass. `search/walks` holds what walks are put together from, `search/table` the
 //! longest walks from each source to each, and `search/loops` joins them mark by mark, the inner
 //! ones first. `search/laying` makes pieces of hops, each hop once at each angle, and
-//! `search/building` of whole walks.
+//! `search/building` of whole walks; `search/numbering` puts them in order.
 
 mod building;
 mod free;
 mod laying;
 mod loops;
+mod numbering;
 mod passings;
 mod sources;
 mod table;

@@ -9,9 +9,11 @@ ghost use Rattle.drum_rounds.specs.Stretch.{span_of, AreStretches, ComeTo, IsFro
 
 use crate::changes::{are_within, passes_of};
 use crate::in_rounds::InRounds;
-use crate::piece::Piece;
+use crate::order::Order;
+use crate::piece::{Piece, Rounds};
 use crate::setting::Setting;
 use crate::stretch::Stretch;
+use crate::told::Told;
 use drum_core::REVOLUTION;
 use std::alloc::{AllocError, Global};
 
@@ -52,24 +54,23 @@ impl Setting<'_> {
         Ok(Some(whole))
     }
 
-    /// What so many rounds of a piece come to; `None` where there is no such piece, or it doesn't
-    /// end where and as it begins.
+    /// What rounds of a piece come to; `None` where there is no such piece, or it doesn't end where
+    /// and as it begins.
     fn rounds(
         &self,
         alloc: Global,
         stretches: &[Stretch],
-        times: u16,
-        number: usize,
+        rounds: Rounds,
     ) -> Result<Option<Stretch>, AllocError>
         ensures { IfOk result (λ made. IfSome made (λ all. (before : List (List PlacedHop))
             → let g = setting self.now.deck.now self.now.times.now self.now.notes.now in
             AreStretches g before stretches.now
-            → ComeTo g (repeated times (spelled_at before number)) (span_of all))) }
+            → ComeTo g (repeated rounds.times (spelled_at before rounds.piece)) (span_of all))) }
     {
-        let Some(one) = stretches.get(number) else {
+        let Some(one) = stretches.get(rounds.piece) else {
             return Ok(None);
         };
-        let Some(all) = one.rounds(alloc, times)? else {
+        let Some(all) = one.rounds(alloc, rounds.times)? else {
             return Ok(None);
         };
         Ok(Some(all))
@@ -91,7 +92,7 @@ impl Setting<'_> {
         match piece {
             Piece::Hop(one) => Stretch::of_hop(alloc, self, *one),
             Piece::Row(pieces) => self.row(alloc, stretches, pieces),
-            Piece::Rounds(times, number) => self.rounds(alloc, stretches, *times, *number),
+            Piece::Rounds(rounds) => self.rounds(alloc, stretches, *rounds),
         }
     }
 
@@ -137,14 +138,19 @@ impl Setting<'_> {
         let Some(whole) = stretches.last() else {
             return Ok(None);
         };
-        if !self.is_from_start(whole) {
+        if !self.is_from_start(whole) || !Order::of(alloc, &pieces)?.is_kept() {
             return Ok(None);
         }
+        let Some(told) = Told::of(alloc, &pieces, &stretches)? else {
+            return Ok(None);
+        };
         Ok(Some(InRounds {
             angle: whole.angle,
-            pieces,
             passes: passes_of(alloc, &whole.changes)?,
             total: whole.time,
+            lasting: told.lasting,
+            often: told.often,
+            pieces,
         }))
     }
 }

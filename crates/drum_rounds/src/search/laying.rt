@@ -1,8 +1,9 @@
 //! The pieces of a walk: each hop once at each angle.
 
 use super::free::Step;
+use super::numbering::in_order;
 use super::row_at;
-use crate::piece::{Piece, Placed};
+use crate::piece::{Piece, Placed, Rounds};
 use crate::setting::Setting;
 use crate::stretch::Stretch;
 use drum_core::REVOLUTION;
@@ -99,7 +100,8 @@ impl<'a> Laying<'a> {
         if times <= 1 {
             return Ok(Some(one));
         }
-        let added = self.add(Piece::Rounds(times, one.piece), 1)?;
+        let piece = one.piece;
+        let added = self.add(Piece::Rounds(Rounds { times, piece }), 1)?;
         Ok(added.map(|piece| Laid {
             piece,
             angle: one.angle,
@@ -167,19 +169,9 @@ impl<'a> Laying<'a> {
         Ok(added.map(|piece| Laid { piece, angle }))
     }
 
-    /// The pieces, the last of which is this one.
+    /// The pieces that this one spells out with those that it names, in order.
     pub fn finish(self, whole: usize) -> Result<Vec<Piece>, AllocError> {
-        let Laying {
-            alloc,
-            mut pieces,
-            ..
-        } = self;
-        if whole.saturating_add(1) < pieces.len() {
-            let mut row = Vec::new(alloc);
-            row.push(whole)?;
-            pieces.push(Piece::Row(row))?;
-        }
-        Ok(pieces)
+        in_order(self.alloc, &self.pieces, whole)
     }
 }
 

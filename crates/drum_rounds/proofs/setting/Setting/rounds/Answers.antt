@@ -9,7 +9,7 @@ use Rattle.drum_rounds.proofs.setting.Setting.rounds.Goals as goal
 pub returns : goal.returns
 returns c before are =
     let own = c.args.self.now in
-    let number = c.args.number in
+    let number = c.args.rounds.piece in
     let stretches = c.args.stretches.now in
     let one = c.in-Some.one.now in
     let made = rw c.in-Some-2.is at c.in_ok-all.ensures in

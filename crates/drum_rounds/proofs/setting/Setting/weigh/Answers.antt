@@ -4,6 +4,8 @@ use Rattle.drum_flow.specs.SettingOf.{setting}
 use Rattle.drum_rounds.specs.declared.piece.Piece.{Piece}
 use Rattle.drum_rounds.specs.declared.stretch.Stretch.{Stretch}
 use Rattle.drum_rounds.specs.Change.{passes_by}
+use Rattle.drum_rounds.specs.InRounds.{AreTold}
+use Rattle.drum_rounds.specs.Order.{AreInOrder}
 use Rattle.drum_rounds.specs.Pieces.{spelled_behind}
 use Rattle.drum_rounds.specs.Stretch.{AreStretches}
 use Rattle.drum_rounds.proofs.Wholes.{whole_walk}
@@ -23,6 +25,18 @@ returns c =
     subst (λ (ss : List Stretch). slice_get ss (length ss - 1) ≡ Some whole) c.deref-2.ensures.value
     (sym c.in-Some-last.ensures.value) in
     let all : c.in_ok-passes_of.field-0.items ≡ map passes_by whole.changes.items =
-    c.in_ok-passes_of.ensures ∙ ap (map passes_by) c.deref-3.ensures.value in
-    whole_walk g pieces stretches whole c.in_ok-passes_of.field-0.items are last
-    (c.is_from_start.ensures c.if-not-is_from_start.false) all
+    c.in_ok-passes_of.ensures ∙ ap (map passes_by) c.deref-5.ensures.value in
+    let order : AreInOrder pieces =
+    subst AreInOrder (c.in_ok-of.ensures ∙ c.deref-else-not-is_from_start.ensures.value)
+    (c.is_kept.ensures c.if-not-is_kept.false) in
+    let told = rw c.in-Some-2.is at c.in_ok-told.ensures in
+    let lasting = c.in-Some-2.told.lasting.items in
+    let often = c.in-Some-2.told.often.items in
+    let near : AreStretches g (spelled_behind [] c.deref-3.result.now) c.deref-4.result.now =
+    subst (λ (ps : List Piece). AreStretches g (spelled_behind [] ps) c.deref-4.result.now)
+    (sym c.deref-3.ensures.value)
+    (subst (AreStretches g (spelled_behind [] pieces)) (sym c.deref-4.ensures.value) are) in (
+      whole_walk g pieces stretches whole c.in_ok-passes_of.field-0.items are last
+          (c.is_from_start.ensures c.if-not-is_from_start.false) all order,
+      subst (λ (ps : List Piece). AreTold g.times ps lasting often) c.deref-3.ensures.value (told g near),
+    )

@@ -4,11 +4,11 @@ use Rattle.drum_times.specs.declared.notes.mark.Mark.{Mark}
 use Rattle.drum_times.specs.Entries.{entry_in}
 use Rattle.drum_machine.specs.WaysLeft.{seen_way}
 use Rattle.drum_flow.specs.Longest.{longest}
-use Rattle.drum_flow.specs.Seen.{seen_hop}
 use Rattle.drum_flow.specs.SettingOf.{setting}
 use Rattle.drum_flow.proofs.Profiles.{hop_may_end}
 use Rattle.drum_rounds.specs.declared.change.Change.{Change}
 use Rattle.drum_rows.specs.Marked.{mark_by}
+use Rattle.drum_rounds.specs.Pieces.{seen_placed}
 use Rattle.drum_rounds.specs.Stretch.{changes_by, next_by, ComeTo}
 use Rattle.drum_rounds.proofs.Comings.{hop_comes}
 use Rattle.drum_rounds.proofs.stretch.Stretch.of_hop.Goals as goal
@@ -40,14 +40,14 @@ returns c =
     omega (arith, c.longest-end.ensures.value, c.longest-end.ensures.later, c.from.ensures) in
     let is =
     hop_comes g place one.angle one.hop.instruction one.on_drum took way (c.has_hop.ensures c.if-not-has_hop.false) ends in
-    subst (λ (onto : Option ℕ). ComeTo g (record { place = place; hop = seen_hop one.hop } ∷ []) (record {
+    subst (λ (onto : Option ℕ). ComeTo g (seen_placed one ∷ []) (record {
       from = place;
       angle = one.angle;
       onto = onto;
       time = took;
       changes = c.in_ok-changes_by.field-0.items;
     })) (sym c.next_by.ensures)
-    (subst (λ (cs : List Change). ComeTo g (record { place = place; hop = seen_hop one.hop } ∷ []) (record {
+    (subst (λ (cs : List Change). ComeTo g (seen_placed one ∷ []) (record {
       from = place;
       angle = one.angle;
       onto = next_by way;

@@ -11,7 +11,7 @@ returns c g hops one =
     let own = c.args.self.now in
     let times = c.args.times in
     let leads = c.leads_to.ensures c.if-not-leads_to.false in
-    let some : suc (times - 1) ≡ times = omega (arith, c.if-times-eq0.false) in
+    let some : suc (times - 1) ≡ times = omega (arith, c.requires) in
     let made = rw c.in-Some-2.is at c.in_ok-changes.ensures in
     let changes : c.in-Some-2.changes.items ≡ map (over_rounds times) own.changes.items =
     made ∙ ap (map (over_rounds times)) c.deref.ensures.value in
