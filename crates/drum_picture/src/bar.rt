@@ -15,7 +15,7 @@ const WIDTH: u64 = 1180;
 struct Share {
     ink: Ink,
     name: &'static str,
-    time: u64,
+    time: u128,
 }
 
 /// The parts of the bar, from left to right.
@@ -45,10 +45,10 @@ fn parts_of(shares: Shares) -> [Share; 4] {
 }
 
 /// Writes what a part is, below the bar.
-fn draw_name(text: &mut String, share: Share, bound: u64, x: u64) -> Result<(), AllocError> {
+fn draw_name(text: &mut String, share: Share, whole: u128, x: u64) -> Result<(), AllocError> {
     let Share { ink, name, time } = share;
     let percent = Tenths {
-        count: scaled(time, bound, 2000).saturating_add(1) / 2,
+        count: u128::from(scaled(time, whole, 2000)).saturating_add(1) / 2,
     };
     let beside = x.saturating_add(18);
     write!(text, "<rect {ink} x='{x}' y='38' width='11' height='11'/>")?;
@@ -59,20 +59,26 @@ fn draw_name(text: &mut String, share: Share, bound: u64, x: u64) -> Result<(), 
     )
 }
 
-/// Draws where the word times of a walk go: a bar, with its parts' names and numbers.
-pub(crate) fn draw_bar(text: &mut String, shares: Shares, bound: u64) -> Result<(), AllocError> {
-    text.push_str("<g transform='translate(30 742)'>")?;
+/// Draws where the word times of a walk go: a bar at this height of the page, with its parts' names
+/// and numbers. All of them are the whole.
+pub(crate) fn draw_bar(
+    text: &mut String,
+    shares: Shares,
+    whole: u128,
+    top: u64,
+) -> Result<(), AllocError> {
+    write!(text, "<g transform='translate(30 {top})'>")?;
     write!(
         text,
-        "<text {TITLE} x='-2' y='-10'>Where all {bound} word times go</text>\n"
+        "<text {TITLE} x='-2' y='-10'>Where all {whole} word times go</text>\n"
     )?;
-    let (mut left, mut column) = (0u64, 0u64);
+    let (mut left, mut column) = (0u128, 0u64);
     for share in parts_of(shares) {
-        let (ink, x) = (share.ink, scaled(left, bound, WIDTH));
+        let (ink, x) = (share.ink, scaled(left, whole, WIDTH));
         left = left.saturating_add(share.time);
-        let width = scaled(left, bound, WIDTH).saturating_sub(x);
+        let width = scaled(left, whole, WIDTH).saturating_sub(x);
         write!(text, "<rect {ink} x='{x}' width='{width}' height='24'/>")?;
-        draw_name(text, share, bound, column)?;
+        draw_name(text, share, whole, column)?;
         column = column.saturating_add(300);
     }
     text.push_str("</g>\n")

@@ -1,7 +1,7 @@
 //! The curves from word to word.
 
 use crate::beside::{beside_top, is_beside};
-use crate::edges::{MOST_EDGES, TakenEdge};
+use crate::edges::TakenEdge;
 use crate::ink::Ink;
 use crate::point::Point;
 use crate::rings::{RIM, Ring, ring_of};
@@ -90,7 +90,7 @@ pub(crate) fn draw_curves(
     } else {
         28
     };
-    for one in edges.iter().take(MOST_EDGES) {
+    for one in edges {
         draw_curve(
             text,
             rings,

@@ -3,61 +3,54 @@
 use crate::bar::draw_bar;
 use crate::beside::draw_beside;
 use crate::curves::draw_curves;
+use crate::drawn::Drawn;
 use crate::drum::{draw_rim, draw_rings, draw_words};
-use crate::edges::taken_edges;
 use crate::labels::draw_labels;
-use crate::page::{TITLE, begin, draw_drum_title, draw_rows_key};
+use crate::layout::Layout;
+use crate::page::{begin, draw_drum_title, draw_rows_key};
 use crate::revolutions::{draw_revolutions, draw_revolutions_title};
 use crate::rings::rings_of;
-use crate::rows::Rows;
-use crate::shares::Shares;
-use crate::tallies::Tallies;
-use crate::walk::Walk;
 use drum_bound::Analysis;
 use drum_core::Deck;
-use drum_times::Times;
+use drum_rounds::Bracket;
+use drum_times::{Notes, Times};
 use std::alloc::{AllocError, Global};
 
 /// Draws the drum: its words, and the edges of the walk between them.
-fn draw_drum(
-    alloc: Global,
-    text: &mut String,
-    walk: Walk<'_>,
-    tallies: &Tallies,
-) -> Result<(), AllocError> {
+fn draw_drum(alloc: Global, text: &mut String, drawn: &Drawn) -> Result<(), AllocError> {
+    let (tallies, edges) = (&drawn.tallies, &drawn.edges);
     let rings = rings_of(alloc, tallies)?;
-    let edges = taken_edges(alloc, walk)?;
-    draw_drum_title(text, &rings, edges.len())?;
+    draw_drum_title(text, &rings, edges.count)?;
     text.push_str("<g class='drum' transform='translate(310 396) scale(.1)'>\n")?;
     draw_rings(text, &rings)?;
     draw_rim(text)?;
     draw_words(text, &rings, tallies)?;
-    draw_curves(text, &rings, &edges)?;
+    draw_curves(text, &rings, &edges.drawn)?;
     draw_labels(text, &rings, tallies)?;
     draw_beside(text, tallies)?;
     text.push_str("</g>\n")
 }
 
-/// Draws the walk: its first revolutions and those where it spends most, and where its word times
-/// go.
-fn draw_walk(
-    alloc: Global,
-    text: &mut String,
-    walk: Walk<'_>,
-    times: &Times,
-    tallies: &Tallies,
-) -> Result<(), AllocError> {
-    if walk.visits.is_empty() {
-        return write!(
-            text,
-            "<text {TITLE} x='690' y='112'>The worst walk has no hop</text>\n"
-        );
+/// Draws the walk: revolutions of it, and where its word times go.
+fn draw_walk(text: &mut String, drawn: &Drawn, layout: Layout) -> Result<(), AllocError> {
+    draw_revolutions_title(text, drawn, layout)?;
+    if drawn.rows.hops.is_empty() {
+        return Ok(());
     }
-    let rows = Rows::of(alloc, walk, times, tallies)?;
-    draw_revolutions_title(text, walk, &rows)?;
-    draw_rows_key(text)?;
-    draw_revolutions(text, walk, times, &rows)?;
-    draw_bar(text, Shares::of(walk, times), walk.bound)
+    draw_rows_key(text, layout.left)?;
+    draw_revolutions(text, drawn, layout)?;
+    draw_bar(text, drawn.shares, drawn.walk.time, layout.bar_top)
+}
+
+/// Draws all of it.
+fn draw(alloc: Global, drawn: &Drawn) -> Result<String, AllocError> {
+    let layout = Layout::of(&drawn.rows, &drawn.braces);
+    let mut text = String::new(alloc);
+    begin(&mut text, drawn.walk, layout)?;
+    draw_drum(alloc, &mut text, drawn)?;
+    draw_walk(&mut text, drawn, layout)?;
+    text.push_str("</svg>\n")?;
+    Ok(text)
 }
 
 /// The picture of an analysis, an SVG document: the drum with the words of the deck and the edges
@@ -74,12 +67,25 @@ pub fn picture(
     deck: &Deck,
     times: &Times,
 ) -> Result<String, AllocError> {
-    let walk = Walk::of(analysis);
-    let tallies = Tallies::of(alloc, walk, analysis.table(), deck)?;
-    let mut text = String::new(alloc);
-    begin(&mut text, walk)?;
-    draw_drum(alloc, &mut text, walk, &tallies)?;
-    draw_walk(alloc, &mut text, walk, times, &tallies)?;
-    text.push_str("</svg>\n")?;
-    Ok(text)
+    draw(alloc, &Drawn::of_analysis(alloc, analysis, deck, times)?)
+}
+
+/// The picture of a walk in rounds, beside a ceiling: the same, but that each piece of the walk is
+/// shown once, with its rounds beside it. It means something where the ceiling and its walk are of
+/// this deck with this timing table and these notes. No clause says what it is.
+///
+/// # Errors
+///
+/// [`AllocError`] where there is no memory.
+pub fn picture_in_rounds(
+    alloc: Global,
+    bracket: &Bracket,
+    deck: &Deck,
+    times: &Times,
+    notes: &Notes,
+) -> Result<String, AllocError> {
+    draw(
+        alloc,
+        &Drawn::of_bracket(alloc, bracket, deck, times, notes)?,
+    )
 }

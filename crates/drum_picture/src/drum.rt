@@ -65,13 +65,13 @@ fn draw_ring_words(
     text: &mut String,
     ring: Ring,
     tallies: &Tallies,
-    most: u64,
+    most: u128,
 ) -> Result<(), AllocError> {
     let band = ring.band;
     for angle in 0..50u16 {
         if let Some(word) = Word::of(tallies, ring.first() + angle, most) {
             let degrees = Tenths {
-                count: u64::from(angle) * 72,
+                count: u128::from(angle) * 72,
             };
             write!(text, "<use href='#b{band}' transform='rotate({degrees})'")?;
             word.finish(text)?;

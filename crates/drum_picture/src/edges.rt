@@ -1,7 +1,6 @@
 //! Which edges the walk takes, and how often.
 
-use crate::walk::Walk;
-use drum_bound::Way;
+use drum_bound::{Visit, Way};
 use std::alloc::{AllocError, Global};
 use std::collections::HashMap;
 
@@ -20,18 +19,36 @@ pub struct Edge {
 pub struct TakenEdge {
     pub edge: Edge,
     /// How often.
-    pub taken: u64,
+    pub taken: u128,
 }
 
-/// How often the walk takes each edge.
-fn counted(alloc: Global, walk: Walk<'_>) -> Result<HashMap<Edge, u64>, AllocError> {
-    let mut counts = HashMap::new(alloc);
-    for visit in walk.visits {
-        if let Way::To(onto) = visit.way {
-            let edge = Edge {
+/// The edges that the walk takes.
+#[derive(Debug, Drop)]
+pub struct Edges {
+    /// Those that it takes most, these first.
+    pub drawn: Vec<TakenEdge>,
+    /// How many there are.
+    pub count: usize,
+}
+
+impl Edge {
+    /// The edge that a hop takes; `None` where it goes on at no location.
+    pub(crate) fn of(visit: &Visit) -> Option<Edge> {
+        match visit.way {
+            Way::To(onto) => Some(Edge {
                 from: visit.place.number(),
                 onto: onto.number(),
-            };
+            }),
+            Way::Early | Way::Late => None,
+        }
+    }
+}
+
+/// How often these hops take each edge.
+fn counted(alloc: Global, visits: &[Visit]) -> Result<HashMap<Edge, u64>, AllocError> {
+    let mut counts = HashMap::new(alloc);
+    for visit in visits {
+        if let Some(edge) = Edge::of(visit) {
             let taken = counts.entry(edge)?.or_insert(0u64);
             *taken = taken.saturating_add(1);
         }
@@ -39,16 +56,56 @@ fn counted(alloc: Global, walk: Walk<'_>) -> Result<HashMap<Edge, u64>, AllocErr
     Ok(counts)
 }
 
-/// The edges that the walk takes, those first that it takes most.
-pub(crate) fn taken_edges(alloc: Global, walk: Walk<'_>) -> Result<Vec<TakenEdge>, AllocError> {
-    let counts = counted(alloc, walk)?;
-    let mut edges = Vec::new(alloc);
-    for (edge, taken) in counts.iter() {
-        edges.push(TakenEdge {
-            edge: *edge,
-            taken: *taken,
-        })?;
+impl Edges {
+    /// None yet.
+    fn new(alloc: Global) -> Edges {
+        Edges {
+            drawn: Vec::new(alloc),
+            count: 0,
+        }
     }
-    edges.sort_by_key(|one| (u64::MAX - one.taken, one.edge.from, one.edge.onto))?;
-    Ok(edges)
+
+    /// The edges of hops that are taken once each.
+    pub(crate) fn of_visits(alloc: Global, visits: &[Visit]) -> Result<Edges, AllocError> {
+        let counts = counted(alloc, visits)?;
+        let mut edges = Edges::new(alloc);
+        for (edge, taken) in counts.iter() {
+            edges.add(*edge, u128::from(*taken))?;
+        }
+        edges.keep_most()?;
+        Ok(edges)
+    }
+
+    /// The edges that these are, the same ones together.
+    pub(crate) fn together(alloc: Global, taken: &[TakenEdge]) -> Result<Edges, AllocError> {
+        let mut counts = HashMap::new(alloc);
+        for one in taken {
+            let sum = counts.entry(one.edge)?.or_insert(0u128);
+            *sum = sum.saturating_add(one.taken);
+        }
+        let mut edges = Edges::new(alloc);
+        for (edge, taken) in counts.iter() {
+            edges.add(*edge, *taken)?;
+        }
+        edges.keep_most()?;
+        Ok(edges)
+    }
+
+    /// Adds an edge.
+    fn add(&mut self, edge: Edge, taken: u128) -> Result<(), AllocError> {
+        // so that there is memory for few, however many there are
+        if self.drawn.len() >= 4 * MOST_EDGES {
+            self.keep_most()?;
+        }
+        self.drawn.push(TakenEdge { edge, taken })?;
+        self.count = self.count.saturating_add(1);
+        Ok(())
+    }
+
+    /// Keeps those that the walk takes most.
+    fn keep_most(&mut self) -> Result<(), AllocError> {
+        self.drawn.sort_by_key(|one| (u128::MAX - one.taken, one.edge.from, one.edge.onto))?;
+        self.drawn.truncate(MOST_EDGES);
+        Ok(())
+    }
 }

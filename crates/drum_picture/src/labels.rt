@@ -33,7 +33,7 @@ pub const LARGE_FONT: u16 = 102;
 /// `count` tenths of a degree.
 fn tenths(count: u16) -> Tenths {
     Tenths {
-        count: u64::from(count),
+        count: u128::from(count),
     }
 }
 
@@ -116,7 +116,7 @@ fn draw_ring_labels(
     text: &mut String,
     ring: Ring,
     tallies: &Tallies,
-    most: u64,
+    most: u128,
 ) -> Result<(), AllocError> {
     let first = ring.first();
     for number in first..first + 50 {

@@ -1,30 +1,45 @@
-//! The picture of an analysis: its worst walk, drawn as an SVG document of bounded size. It is
-//! proved to be safe and to end, whatever is handed in; how it looks is no contract.
-//! docs/PICTURE.md says how it is read.
+//! The picture of an analysis, or of a ceiling: the worst walk of the one, or the walk in rounds
+//! beside the other, drawn as an SVG document of bounded size. It is proved to be safe and to end,
+//! whatever is handed in; how it looks is no contract. docs/PICTURE.md says how it is read.
 //!
-//! Code. `drawing` has `picture`. What is drawn is found first. `walk` is the walk that is drawn,
-//! and `parts` says when the parts of a hop begin and end. `tallies` counts visits by location,
-//! `edges` counts hops from word to word, and `shares` adds up where all word times go.
-//! `operations` tells what stands at a location, and `rows` which revolutions are shown. The drum
-//! is drawn by `drum`, with `rings`, `word`, `labels`, `curves` and `beside` (8000 to 8003), over
-//! `point`, where angles become points. The walk is drawn a revolution a row by `revolutions`, with
-//! `spans` (the parts of a hop; how wide a word time is, and how far apart the rows are). `page`
-//! has what stands around them: the heading and the keys. `bar` draws where the word times go, with
-//! their percentages. `ink` has the colours. `scale` (a share of a length) and `tenths` (a number
-//! with one decimal place) serve them all.
+//! Code. `drawing` has `picture` and `picture_in_rounds`. What is drawn is found first, and is
+//! `drawn` of whichever walk: `of_analysis` finds it of an analysis, `of_bracket` of a ceiling with
+//! its walk. `walk` says which walk it is and how long. `tallies` counts visits by location,
+//! `edges` counts hops from word to word, and `shares` adds up where all word times go. `rows` has
+//! the revolutions that are shown, with each `drawn_hop`, and `extent` says how much of the walk
+//! that is. `parts` says when the parts of a hop begin and end, and `operations` what stands at a
+//! location. Of a walk in rounds `pieces` tells what each piece takes and how often it comes, and
+//! `going` goes through them, hop by hop; `braces` are the rounds of which one is shown.
+//!
+//! Then it is drawn. `layout` says where the drawings stand. The drum is drawn by `drum`, with
+//! `rings`, `word`, `labels`, `curves` and `beside` (8000 to 8003), over `point`, where angles
+//! become points. The walk is drawn a revolution a row by `revolutions`, with `spans` (the parts of
+//! a hop; how wide a word time is, and how far apart the rows are). `page` has what stands around
+//! them: the heading and the keys. `bar` draws where the word times go, with their percentages.
+//! `ink` has the colours. `scale` (a share of a length) and `tenths` (a number with one decimal
+//! place) serve them all.
 #![tactic(auto)]
 
 mod bar;
 mod beside;
+mod braces;
 mod curves;
 mod drawing;
+mod drawn;
+mod drawn_hop;
 mod drum;
 mod edges;
+mod extent;
+mod going;
 mod ink;
 mod labels;
+mod layout;
+mod of_analysis;
+mod of_bracket;
 mod operations;
 mod page;
 mod parts;
+mod pieces;
 mod point;
 mod revolutions;
 mod rings;
@@ -37,4 +52,4 @@ mod tenths;
 mod walk;
 mod word;
 
-pub use drawing::picture;
+pub use drawing::{picture, picture_in_rounds};

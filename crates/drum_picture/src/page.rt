@@ -2,16 +2,16 @@
 
 use crate::edges::MOST_EDGES;
 use crate::ink::Ink;
+use crate::layout::Layout;
 use crate::rings::Ring;
-use crate::walk::Walk;
+use crate::walk::{Kind, Walk};
 use std::alloc::AllocError;
 
 /// The attributes of a drawing's title.
 pub const TITLE: &str = "font-size='15' font-weight='600'";
 
-/// How the picture begins. What the style says of colours is for a dark page.
-const HEAD: &str = "<svg xmlns='http://www.w3.org/2000/svg' viewBox='0 0 1240 830' \
-font-family='system-ui, sans-serif' font-size='12' fill='#1b1b1b' role='img'>
+/// How the picture goes on behind its size. What the style says of colours is for a dark page.
+const HEAD: &str = "font-family='system-ui, sans-serif' font-size='12' fill='#1b1b1b' role='img'>
 <style>
 :root { background: #ffffff }
 .drum text { text-anchor: middle; pointer-events: none } .rows text { font-size: 9px }
@@ -28,7 +28,6 @@ font-family='system-ui, sans-serif' font-size='12' fill='#1b1b1b' role='img'>
 <defs><marker id='tip' viewBox='0 0 10 10' refX='9' refY='5' markerWidth='110' \
 markerHeight='110' markerUnits='userSpaceOnUse' orient='auto'>\
 <path class='tip' fill='#8d919a' d='M0 1L10 5L0 9Z'/></marker></defs>
-<rect class='page' fill='#ffffff' width='1240' height='830'/>
 ";
 
 /// One colour of a key: what it is drawn in, where, and what it means.
@@ -105,19 +104,55 @@ fn draw_entries(text: &mut String, entries: &[Entry]) -> Result<(), AllocError> 
     text.push_str("</g>\n")
 }
 
-/// Begins the picture, with its heading.
-pub(crate) fn begin(text: &mut String, walk: Walk<'_>) -> Result<(), AllocError> {
-    let bound = walk.bound;
-    text.push_str(HEAD)?;
+/// Writes what an analysis comes to.
+fn draw_bound(text: &mut String, bound: u128) -> Result<(), AllocError> {
     write!(text, "<title>The worst walk: {bound} word times</title>\n")?;
     write!(
         text,
         "<text font-size='27' font-weight='600' x='28' y='46'>bound {bound} word times</text>\n"
+    )
+}
+
+/// Writes what a walk in rounds takes, and the ceiling that it is beside.
+fn draw_reached(text: &mut String, reached: u128, ceiling: u128) -> Result<(), AllocError> {
+    write!(
+        text,
+        "<title>A walk in rounds: {reached} word times</title>\n"
     )?;
+    write!(
+        text,
+        "<text font-size='27' font-weight='600' x='28' y='40'>reached {reached} word times</text>\n"
+    )?;
+    write!(
+        text,
+        "<text {TITLE} x='29' y='64'>ceiling {ceiling} word times</text>\n"
+    )
+}
+
+/// Begins the picture, with its heading.
+pub(crate) fn begin(text: &mut String, walk: Walk, layout: Layout) -> Result<(), AllocError> {
+    let (width, height) = (layout.width, layout.height);
+    text.push_str("<svg xmlns='http://www.w3.org/2000/svg' ")?;
+    write!(text, "viewBox='0 0 {width} {height}' ")?;
+    text.push_str(HEAD)?;
+    write!(
+        text,
+        "<rect class='page' fill='#ffffff' width='{width}' height='{height}'/>\n"
+    )?;
+    let base = match walk.kind {
+        Kind::Worst => {
+            draw_bound(text, walk.time)?;
+            70u64
+        }
+        Kind::InRounds(ceiling) => {
+            draw_reached(text, walk.time, ceiling)?;
+            84
+        }
+    };
     let (faint, time, revolutions) = (Ink::Faint, walk.milliseconds(), walk.revolutions());
     write!(
         text,
-        "<text {faint} x='29' y='70'>{time} milliseconds at 96 "
+        "<text {faint} x='29' y='{base}'>{time} milliseconds at 96 "
     )?;
     write!(
         text,
@@ -169,9 +204,9 @@ pub(crate) fn draw_drum_title(
     draw_entries(text, &DRUM_KEY)
 }
 
-/// Writes what the colours of the rows mean.
-pub(crate) fn draw_rows_key(text: &mut String) -> Result<(), AllocError> {
-    text.push_str("<g transform='translate(690 124)'>")?;
+/// Writes what the colours of the rows mean, which begin here.
+pub(crate) fn draw_rows_key(text: &mut String, left: u64) -> Result<(), AllocError> {
+    write!(text, "<g transform='translate({left} 124)'>")?;
     text.push_str("<rect x='1' width='2' height='11'/><text x='8' y='10'>found</text>\n")?;
     draw_entries(text, &ROWS_KEY)
 }

@@ -1,34 +1,29 @@
 //! The walk, a revolution a row.
 
+use crate::drawn::Drawn;
 use crate::ink::Ink;
+use crate::layout::Layout;
 use crate::page::TITLE;
-use crate::parts::Parts;
-use crate::rows::{FIRST_ROWS, MOST_ROWS, Rows, drawn_from};
-use crate::spans::{COLUMN, draw_visit, top_of};
-use crate::walk::Walk;
-use drum_times::Times;
+use crate::rows::{Above, Row};
+use crate::spans::{COLUMN, draw_hop, top_of};
 use std::alloc::AllocError;
 
 /// Writes which part of the walk is shown.
 pub(crate) fn draw_revolutions_title(
     text: &mut String,
-    walk: Walk<'_>,
-    rows: &Rows,
+    drawn: &Drawn,
+    layout: Layout,
 ) -> Result<(), AllocError> {
-    let shown = rows.shown.last().map_or(0, |last| last.saturating_add(1));
-    let all = walk.revolutions();
-    write!(text, "<text {TITLE} x='690' y='112'>The worst walk: ")?;
-    if let Some(again) = rows.again {
-        let from = again.revolution.saturating_add(1);
-        write!(
+    let (left, name) = (layout.left, drawn.walk.name());
+    if drawn.rows.hops.is_empty() {
+        return write!(
             text,
-            "first {FIRST_ROWS}, then from {from}, of {all} revolutions</text>\n"
-        )
-    } else if shown.saturating_mul(50) >= walk.angle.saturating_add(walk.bound) {
-        write!(text, "all {all} revolutions</text>\n")
-    } else {
-        write!(text, "first {shown} of {all} revolutions</text>\n")
+            "<text {TITLE} x='{left}' y='112'>{name} has no hop</text>\n"
+        );
     }
+    write!(text, "<text {TITLE} x='{left}' y='112'>{name}: ")?;
+    drawn.extent.write(text, drawn.walk)?;
+    text.push_str("</text>\n")
 }
 
 /// Draws the angles above the rows.
@@ -40,27 +35,27 @@ fn draw_angles(text: &mut String) -> Result<(), AllocError> {
     text.push_str("\n")
 }
 
+/// Draws a line between a row with its upper side here and the one above it, where time doesn't
+/// just go on.
+fn draw_above(text: &mut String, above: Above, y: u64) -> Result<(), AllocError> {
+    let ink = match above {
+        Above::Nothing => return Ok(()),
+        Above::Cards => Ink::Cards,
+        Above::Jump => Ink::Rest,
+    };
+    let middle = y.saturating_sub(6);
+    write!(
+        text,
+        "<rect {ink} x='-4' y='{middle}' width='508' height='2'/>"
+    )
+}
+
 /// Draws the rows without the walk, each with the number of its revolution, from 1.
-fn draw_rows(text: &mut String, rows: &Rows) -> Result<(), AllocError> {
-    let mut next = 0u64;
-    for (row, revolution) in (0..MOST_ROWS as u64).zip(rows.shown.iter()) {
-        let (y, base, number) = (
-            top_of(row),
-            top_of(row).saturating_add(8),
-            revolution.saturating_add(1),
-        );
-        if *revolution > next {
-            let ink = match rows.is_again(*revolution) {
-                true => Ink::Rest,
-                false => Ink::Cards,
-            };
-            let middle = y.saturating_sub(6);
-            write!(
-                text,
-                "<rect {ink} x='-4' y='{middle}' width='508' height='2'/>"
-            )?;
-        }
-        next = number;
+fn draw_rows(text: &mut String, rows: &[Row]) -> Result<(), AllocError> {
+    for (place, row) in rows.iter().enumerate() {
+        let y = top_of(place);
+        draw_above(text, row.above, y)?;
+        let (base, number) = (y.saturating_add(8), row.revolution.saturating_add(1));
         let (empty, faint) = (Ink::Row, Ink::Faint);
         write!(text, "<rect {empty} y='{y}' width='500' height='9'/>")?;
         write!(
@@ -71,38 +66,19 @@ fn draw_rows(text: &mut String, rows: &Rows) -> Result<(), AllocError> {
     Ok(())
 }
 
-/// Draws hops, those that begin before a revolution is over.
-fn draw_visits(
-    text: &mut String,
-    walk: Walk<'_>,
-    times: &Times,
-    rows: &Rows,
-    visit: usize,
-    last: u64,
-) -> Result<(), AllocError> {
-    for visit in drawn_from(walk, visit) {
-        let parts = Parts::of(visit, walk.angle, times);
-        if parts.begun / 50 <= last {
-            draw_visit(text, rows, visit, parts)?;
-        }
-    }
-    Ok(())
-}
-
 /// Draws revolutions of the walk, one a row, each from angle 0.
 pub(crate) fn draw_revolutions(
     text: &mut String,
-    walk: Walk<'_>,
-    times: &Times,
-    rows: &Rows,
+    drawn: &Drawn,
+    layout: Layout,
 ) -> Result<(), AllocError> {
-    text.push_str("<g class='rows' transform='translate(690 174)'>\n")?;
+    let (left, rows) = (layout.left, &drawn.rows);
+    write!(text, "<g class='rows' transform='translate({left} 174)'>\n")?;
     draw_angles(text)?;
-    draw_rows(text, rows)?;
-    draw_visits(text, walk, times, rows, 0, rows.last_of_first())?;
-    if let Some(again) = rows.again {
-        let last = rows.shown.last().copied().unwrap_or(0);
-        draw_visits(text, walk, times, rows, again.visit, last)?;
+    draw_rows(text, &rows.shown)?;
+    for hop in rows.hops.iter() {
+        draw_hop(text, &rows.shown, hop)?;
     }
+    drawn.braces.draw(text)?;
     text.push_str("</g>\n")
 }

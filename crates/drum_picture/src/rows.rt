@@ -1,129 +1,148 @@
-use crate::parts::Parts;
-use crate::tallies::Tallies;
-use crate::walk::Walk;
-use drum_bound::Visit;
-use drum_times::Times;
+//! Which revolutions are drawn, and the hops in them.
+
+use crate::drawn_hop::DrawnHop;
 use std::alloc::{AllocError, Global};
 
-/// How many rows are drawn at most.
-pub const MOST_ROWS: usize = 24;
+/// How many rows the page has room for where it is no longer than wide; walks in rounds may have
+/// more.
+pub const PAGE_ROWS: usize = 24;
 
-/// How many of them are the walk's first, where it spends most further on.
-pub const FIRST_ROWS: usize = 6;
+/// What stands between a row and the row above it.
+#[derive(Clone, Copy, Debug, PartialEq, Eq)]
+pub enum Above {
+    /// Nothing: time goes on.
+    Nothing,
+    /// Revolutions in which the machine only waits for cards are left out.
+    Cards,
+    /// Time jumps.
+    Jump,
+}
 
-/// How many hops are drawn at most: rows have no more word times.
-pub const MOST_VISITS: usize = 1200;
+/// A revolution that is drawn, as a row.
+#[derive(Clone, Copy, Debug, PartialEq, Eq)]
+pub struct Row {
+    /// Which one of the walk's, from 0.
+    pub revolution: u128,
+    pub above: Above,
+}
 
-/// Which revolutions are drawn, one a row.
+/// The revolutions that are drawn, one a row, and the hops that begin in them.
 #[derive(Debug, Drop)]
 pub struct Rows {
-    /// The revolutions in order, from 0: those of the first hops, and where the walk spends most
-    /// further on, those from there on; but for some that cards are waited for from their beginning
-    /// to their end.
-    pub shown: Vec<u64>,
-    /// From which hop on the walk is drawn again, and the revolution in which that one begins;
-    /// nothing where the rows are its first alone.
-    pub again: Option<Again>,
-}
-
-/// Where rows begin again.
-#[derive(Clone, Copy, Debug, PartialEq, Eq)]
-pub struct Again {
-    /// The hop, from 0.
-    pub visit: usize,
-    /// Its revolution.
-    pub revolution: u64,
-}
-
-/// Where a walk first comes to the location at which it spends most word times.
-fn heaviest(walk: Walk<'_>, times: &Times, tallies: &Tallies) -> Option<Again> {
-    let most = tallies.most_time();
-    let (place, visit) = walk
-        .visits
-        .iter()
-        .enumerate()
-        .find(|one| tallies.at(one.1.place.number()).time == most)?;
-    Some(Again {
-        visit: place,
-        revolution: Parts::of(visit, walk.angle, times).begun / 50,
-    })
+    /// The revolutions, in order; but for some that cards are waited for from their beginning to
+    /// their end, and those that time jumps over.
+    pub shown: Vec<Row>,
+    /// The hops, in order.
+    pub hops: Vec<DrawnHop>,
+    /// How many rows there are at most.
+    most: usize,
+    /// Whether time jumps before the next hop.
+    jumps: bool,
 }
 
 impl Rows {
-    /// The rows of a walk.
-    pub(crate) fn of(
-        alloc: Global,
-        walk: Walk<'_>,
-        times: &Times,
-        tallies: &Tallies,
-    ) -> Result<Rows, AllocError> {
-        let mut rows = Rows {
+    /// No row yet, and so many at most.
+    pub(crate) fn new(alloc: Global, most: usize) -> Rows {
+        Rows {
             shown: Vec::new(alloc),
-            again: None,
-        };
-        rows.show_from(walk, times, 0)?;
-        if let Some(again) = heaviest(walk, times, tallies) {
-            if again.revolution > rows.last_before(MOST_ROWS) {
-                rows.shown.truncate(FIRST_ROWS);
-                rows.show_from(walk, times, again.visit)?;
-                rows.again = Some(again);
-            }
+            hops: Vec::new(alloc),
+            most,
+            jumps: false,
         }
-        Ok(rows)
     }
 
-    /// Shows the revolutions of the hops from one on.
-    fn show_from(&mut self, walk: Walk<'_>, times: &Times, visit: usize) -> Result<(), AllocError> {
-        for visit in drawn_from(walk, visit) {
-            let parts = Parts::of(visit, walk.angle, times);
-            // a clock that a hop ends at belongs to the next hop
-            let last = parts.worked.saturating_sub(1) / 50;
-            self.show(parts.begun / 50, last.max(parts.found / 50))?;
-            let end = parts.ended.saturating_sub(1) / 50;
-            self.show(end, end)?;
+    /// Says that time jumps before the next hop.
+    pub(crate) fn jump(&mut self) {
+        self.jumps = true;
+    }
+
+    /// Takes a hop in, with its revolutions. Whether it is drawn: it isn't where it begins behind
+    /// the last row that there is room for.
+    pub(crate) fn take(&mut self, hop: DrawnHop) -> Result<bool, AllocError> {
+        let first = hop.first_revolution();
+        if self.jumps {
+            self.push(first, Above::Jump)?;
+            self.jumps = false;
         }
-        Ok(())
+        let parts = hop.parts;
+        // a clock that a hop ends at belongs to the next hop
+        let last = parts.worked.saturating_sub(1).max(parts.found);
+        self.show(first, hop.revolution(last))?;
+        let end = hop.revolution(parts.ended.saturating_sub(1));
+        self.show(end, end)?;
+        if first > self.last() {
+            return Ok(false);
+        }
+        self.hops.push(hop)?;
+        Ok(true)
     }
 
     /// Shows the revolutions from one to another, which aren't before those that are shown.
-    fn show(&mut self, first: u64, last: u64) -> Result<(), AllocError> {
-        let end = last.min(first.saturating_add(MOST_ROWS as u64));
+    fn show(&mut self, first: u128, last: u128) -> Result<(), AllocError> {
+        let end = last.min(first.saturating_add(self.most as u128));
         for revolution in first..=end {
-            let is_next = match self.shown.last() {
-                Some(shown) => *shown < revolution,
-                None => true,
-            };
-            if is_next && self.shown.len() < MOST_ROWS {
-                self.shown.push(revolution)?;
-            }
+            let above = self.above(revolution);
+            self.push(revolution, above)?;
         }
         Ok(())
     }
 
-    /// The last of the first `count` revolutions that are shown; 0 where there is none.
-    fn last_before(&self, count: usize) -> u64 {
-        self.shown.iter().take(count).last().copied().unwrap_or(0)
-    }
-
-    /// The last revolution that is shown of the walk's beginning.
-    pub(crate) fn last_of_first(&self) -> u64 {
-        match self.again {
-            Some(_) => self.last_before(FIRST_ROWS),
-            None => self.last_before(MOST_ROWS),
+    /// What stands above a revolution that time goes on to.
+    fn above(&self, revolution: u128) -> Above {
+        let next = match self.shown.last() {
+            Some(row) => row.revolution.saturating_add(1),
+            None => 0,
+        };
+        if revolution > next {
+            Above::Cards
+        } else {
+            Above::Nothing
         }
     }
 
-    /// Whether a revolution is the one with which the rows begin again.
-    pub(crate) fn is_again(&self, revolution: u64) -> bool {
-        match self.again {
-            Some(again) => again.revolution == revolution,
-            None => false,
+    /// Shows a revolution, where it isn't shown yet and there is room.
+    fn push(&mut self, revolution: u128, above: Above) -> Result<(), AllocError> {
+        let is_next = match self.shown.last() {
+            Some(row) => row.revolution < revolution,
+            None => true,
+        };
+        if is_next && self.shown.len() < self.most {
+            self.shown.push(Row { revolution, above })?;
         }
+        Ok(())
     }
-}
 
-/// The hops that are drawn from one on, whether in a row or not.
-pub(crate) fn drawn_from<'a>(walk: Walk<'a>, visit: usize) -> &'a [Visit] {
-    let visits = walk.visits.get(visit..).unwrap_or(&[]);
-    visits.get(..MOST_VISITS).unwrap_or(visits)
+    /// Keeps so many rows, the first ones, and the hops that begin in them; then time jumps.
+    pub(crate) fn cut(&mut self, rows: usize) {
+        self.shown.truncate(rows);
+        let last = self.last();
+        let kept = self
+            .hops
+            .iter()
+            .filter(|hop| hop.first_revolution() <= last)
+            .count();
+        self.hops.truncate(kept);
+        self.jump();
+    }
+
+    /// The last revolution that is shown; 0 where there is none.
+    pub(crate) fn last(&self) -> u128 {
+        self.shown.last().map_or(0, |row| row.revolution)
+    }
+
+    /// The row in which a hop begins, both counted from 0; `None` where there is no such hop.
+    pub(crate) fn row_of(&self, hop: usize) -> Option<usize> {
+        let revolution = self.hops.get(hop)?.first_revolution();
+        let until = self
+            .shown
+            .iter()
+            .filter(|row| row.revolution <= revolution)
+            .count();
+        Some(until.saturating_sub(1))
+    }
+
+    /// How many rows there are more than the page has room for.
+    pub(crate) fn more_rows(&self) -> usize {
+        self.shown.len().saturating_sub(PAGE_ROWS)
+    }
 }

@@ -1,47 +1,41 @@
 use crate::parts::Parts;
-use crate::walk::Walk;
-use drum_times::Times;
 
 /// Where the word times of a walk go.
 #[derive(Clone, Copy, Debug, PartialEq, Eq)]
 pub struct Shares {
     /// Waiting for instructions.
-    pub instructions: u64,
+    pub instructions: u128,
     /// Waiting for data.
-    pub data: u64,
+    pub data: u128,
     /// Work.
-    pub work: u64,
+    pub work: u128,
     /// Waiting for cards.
-    pub cards: u64,
+    pub cards: u128,
+}
+
+/// These word times and those from one clock to another, so often.
+fn more(so_far: u128, from: u64, to: u64, taken: u128) -> u128 {
+    let time = u128::from(to.saturating_sub(from));
+    so_far.saturating_add(time.saturating_mul(taken))
 }
 
 impl Shares {
-    /// Where the word times of a hop go, more than nothing.
-    fn with(self, parts: Parts) -> Shares {
-        let seek = parts.found.saturating_sub(parts.begun);
-        let first = parts.ready.saturating_sub(parts.found);
-        let data = parts.reached.saturating_sub(parts.ready);
-        let second = parts.worked.saturating_sub(parts.reached);
-        let cards = parts.ended.saturating_sub(parts.worked);
-        Shares {
-            instructions: self.instructions.saturating_add(seek),
-            data: self.data.saturating_add(data),
-            work: self.work.saturating_add(first.saturating_add(second)),
-            cards: self.cards.saturating_add(cards),
-        }
-    }
+    /// Of no word times.
+    pub const NONE: Shares = Shares {
+        instructions: 0,
+        data: 0,
+        work: 0,
+        cards: 0,
+    };
 
-    /// Where the word times of a walk go: one pass over it.
-    pub(crate) fn of(walk: Walk<'_>, times: &Times) -> Shares {
-        let mut shares = Shares {
-            instructions: 0,
-            data: 0,
-            work: 0,
-            cards: 0,
-        };
-        for visit in walk.visits {
-            shares = shares.with(Parts::of(visit, walk.angle, times));
+    /// These, and where the word times of a hop go that is taken so often.
+    pub(crate) fn with(self, parts: Parts, taken: u128) -> Shares {
+        let before = more(self.work, parts.found, parts.ready, taken);
+        Shares {
+            instructions: more(self.instructions, parts.begun, parts.found, taken),
+            data: more(self.data, parts.ready, parts.reached, taken),
+            work: more(before, parts.reached, parts.worked, taken),
+            cards: more(self.cards, parts.worked, parts.ended, taken),
         }
-        shares
     }
 }

@@ -1,8 +1,9 @@
 //! The parts of a hop, each a span of a row.
 
+use crate::drawn_hop::DrawnHop;
 use crate::ink::Ink;
 use crate::parts::{Parts, next_found};
-use crate::rows::{MOST_ROWS, Rows};
+use crate::rows::Row;
 use drum_bound::Visit;
 use std::alloc::AllocError;
 
@@ -17,25 +18,31 @@ const LABEL: u64 = 3;
 
 const LONG_LABEL: u64 = 6;
 
-/// Where the rows' upper sides are, in pixels from the first's.
-pub(crate) fn top_of(row: u64) -> u64 {
-    row.saturating_mul(PITCH)
+/// Where the upper side of a row is, in pixels from the first's.
+pub(crate) fn top_of(row: usize) -> u64 {
+    (row as u64).saturating_mul(PITCH)
 }
 
-/// Draws the time from one clock to another, in each of its rows.
+/// Which column of a row, 0 to 50, a moment is in; its ends stand for what is before and behind it.
+fn column_of(row: Row, moment: u128) -> u64 {
+    let first = row.revolution.saturating_mul(50);
+    u64::try_from(moment.saturating_sub(first).min(50)).unwrap_or(50)
+}
+
+/// Draws the time from one clock of a hop to another, in each of its rows.
 fn draw_span(
     text: &mut String,
-    rows: &Rows,
+    rows: &[Row],
+    hop: &DrawnHop,
     ink: Ink,
-    from: u64,
-    to: u64,
+    span: (u64, u64),
 ) -> Result<(), AllocError> {
-    for (row, revolution) in (0..MOST_ROWS as u64).zip(rows.shown.iter()) {
-        let first = revolution.saturating_mul(50);
-        let left = from.saturating_sub(first).min(50);
-        let right = to.saturating_sub(first).min(50);
+    let (from, to) = (hop.moment(span.0), hop.moment(span.1));
+    for (place, row) in rows.iter().enumerate() {
+        let (left, right) = (column_of(*row, from), column_of(*row, to));
         if left < right {
-            let (x, y, width) = (left * COLUMN, top_of(row), (right - left) * COLUMN);
+            let (x, y) = (left.saturating_mul(COLUMN), top_of(place));
+            let width = right.saturating_sub(left).saturating_mul(COLUMN);
             write!(text, "<path {ink} d='M{x} {y}h{width}v9h-{width}z'/>")?;
         }
     }
@@ -60,29 +67,27 @@ fn draw_label(
     Ok(())
 }
 
-/// Draws a stroke where an instruction is found, with its label where there is room before the next
-/// is found.
-fn draw_stroke(
-    text: &mut String,
-    rows: &Rows,
-    visit: &Visit,
-    found: u64,
-    next: u64,
-) -> Result<(), AllocError> {
+/// Draws a stroke where the instruction of a hop is found, with its label where there is room
+/// before the next is found.
+fn draw_stroke(text: &mut String, rows: &[Row], hop: &DrawnHop) -> Result<(), AllocError> {
+    let found = hop.parts.found;
     let angle = found % 50;
+    let next = next_found(&hop.visit, hop.parts);
     let room = next.saturating_sub(found).min(50 - angle);
-    for (row, revolution) in (0..MOST_ROWS as u64).zip(rows.shown.iter()) {
-        if *revolution == found / 50 {
-            let (x, y, base) = (angle * COLUMN, top_of(row), top_of(row).saturating_sub(2));
+    let revolution = hop.revolution(found);
+    for (place, row) in rows.iter().enumerate() {
+        if row.revolution == revolution {
+            let (x, y) = (angle * COLUMN, top_of(place));
+            let base = y.saturating_sub(2);
             write!(text, "<path d='M{x} {y}h2v9h-2z'/>")?;
-            draw_label(text, visit, x, base, room)?;
+            draw_label(text, &hop.visit, x, base, room)?;
         }
     }
     Ok(())
 }
 
 /// Writes what a hop is, shown where it is pointed at.
-fn draw_visit_title(text: &mut String, visit: &Visit, parts: Parts) -> Result<(), AllocError> {
+fn draw_hop_title(text: &mut String, visit: &Visit, parts: Parts) -> Result<(), AllocError> {
     let number = visit.place.number();
     let seek = parts.found.saturating_sub(parts.begun);
     let data = parts.reached.saturating_sub(parts.ready);
@@ -99,20 +104,15 @@ fn draw_visit_title(text: &mut String, visit: &Visit, parts: Parts) -> Result<()
 }
 
 /// Draws a hop: its parts, and the stroke.
-pub(crate) fn draw_visit(
-    text: &mut String,
-    rows: &Rows,
-    visit: &Visit,
-    parts: Parts,
-) -> Result<(), AllocError> {
+pub(crate) fn draw_hop(text: &mut String, rows: &[Row], hop: &DrawnHop) -> Result<(), AllocError> {
+    let parts = hop.parts;
     text.push_str("<g>")?;
-    draw_visit_title(text, visit, parts)?;
-    draw_span(text, rows, Ink::Seek, parts.begun, parts.found)?;
+    draw_hop_title(text, &hop.visit, parts)?;
+    draw_span(text, rows, hop, Ink::Seek, (parts.begun, parts.found))?;
     // the wait for data is drawn over it
-    draw_span(text, rows, Ink::Work, parts.found, parts.worked)?;
-    draw_span(text, rows, Ink::Data, parts.ready, parts.reached)?;
-    draw_span(text, rows, Ink::Cards, parts.worked, parts.ended)?;
-    let next = next_found(visit, parts);
-    draw_stroke(text, rows, visit, parts.found, next)?;
+    draw_span(text, rows, hop, Ink::Work, (parts.found, parts.worked))?;
+    draw_span(text, rows, hop, Ink::Data, (parts.ready, parts.reached))?;
+    draw_span(text, rows, hop, Ink::Cards, (parts.worked, parts.ended))?;
+    draw_stroke(text, rows, hop)?;
     text.push_str("</g>\n")
 }

@@ -2,8 +2,7 @@
 
 use crate::operations::Operations;
 use crate::parts::data_of;
-use crate::walk::Walk;
-use drum_bound::{Visit, Worst};
+use drum_bound::Visit;
 use drum_core::{Deck, Instruction, Location};
 use std::alloc::{AllocError, Global};
 
@@ -18,11 +17,11 @@ pub struct Tally {
     /// Whether some walk executes it.
     pub executed: bool,
     /// How often the walk executes it.
-    pub visits: u64,
+    pub visits: u128,
     /// The word times that the walk spends at it.
-    pub time: u64,
+    pub time: u128,
     /// How often the walk waits for it as data.
-    pub data: u64,
+    pub data: u128,
     /// Which operations stand there: those that the walk executes, else that of the deck's word.
     pub operations: Operations,
 }
@@ -61,29 +60,18 @@ fn place_of(location: Location) -> usize {
 }
 
 impl Tallies {
-    /// The tallies of a walk, of the locations that a table of worst times has, and of a deck.
-    pub(crate) fn of(
-        alloc: Global,
-        walk: Walk<'_>,
-        table: &[Worst],
-        deck: &Deck,
-    ) -> Result<Tallies, AllocError> {
-        let mut tallies = Tallies {
+    /// Of locations that nothing is known of.
+    pub(crate) fn new(alloc: Global) -> Result<Tallies, AllocError> {
+        Ok(Tallies {
             all: vec![in alloc; Tally::NONE; LOCATIONS]?,
-        };
-        for visit in walk.visits {
-            tallies.count(visit);
-        }
-        tallies.note_executed(table);
-        tallies.note_loaded(deck);
-        Ok(tallies)
+        })
     }
 
-    /// Counts a hop.
-    fn count(&mut self, visit: &Visit) {
+    /// Counts a hop that the walk takes so often.
+    pub(crate) fn count(&mut self, visit: &Visit, taken: u128) {
         if let Some(tally) = self.all.get_mut(place_of(visit.place)) {
-            let time = u64::from(visit.took);
-            tally.visits = tally.visits.saturating_add(1);
+            let time = u128::from(visit.took).saturating_mul(taken);
+            tally.visits = tally.visits.saturating_add(taken);
             tally.time = tally.time.saturating_add(time);
             tally.operations = tally.operations.with(visit.instruction.op());
         }
@@ -91,19 +79,19 @@ impl Tallies {
             return;
         };
         if let Some(tally) = self.all.get_mut(place_of(data)) {
-            tally.data = tally.data.saturating_add(1);
+            tally.data = tally.data.saturating_add(taken);
         }
     }
 
-    fn note_executed(&mut self, table: &[Worst]) {
-        for worst in table {
-            if let Some(tally) = self.all.get_mut(place_of(worst.place)) {
-                tally.executed = true;
-            }
+    /// Notes that some walk executes a location.
+    pub(crate) fn note_executed(&mut self, location: Location) {
+        if let Some(tally) = self.all.get_mut(place_of(location)) {
+            tally.executed = true;
         }
     }
 
-    fn note_loaded(&mut self, deck: &Deck) {
+    /// Notes the words of a deck, when all hops are counted.
+    pub(crate) fn note_loaded(&mut self, deck: &Deck) {
         for (number, tally) in (0..Location::DRUM).zip(self.all.iter_mut()) {
             let word = Location::new(number).and_then(|location| deck.word(location));
             tally.loaded = word.is_some();
@@ -131,8 +119,8 @@ impl Tallies {
     }
 
     /// The most word times that the walk spends at one location.
-    pub(crate) fn most_time(&self) -> u64 {
-        let mut most = 0u64;
+    pub(crate) fn most_time(&self) -> u128 {
+        let mut most = 0u128;
         for tally in self.all.iter() {
             most = most.max(tally.time);
         }

@@ -3,7 +3,7 @@ use std::fmt;
 /// A number of tenths, written with one decimal place.
 #[derive(Clone, Copy, Debug)]
 pub struct Tenths {
-    pub count: u64,
+    pub count: u128,
 }
 
 impl fmt::Display for Tenths {

@@ -1,40 +1,54 @@
+//! Which walk is drawn, and how long it takes.
+
 use crate::tenths::Tenths;
-use drum_bound::{Analysis, Visit};
+
+/// Which walk it is.
+#[derive(Clone, Copy, Debug, PartialEq, Eq)]
+pub enum Kind {
+    /// The worst walk of an analysis, which takes as long as the bound.
+    Worst,
+    /// A walk in rounds, beside this ceiling.
+    InRounds(u128),
+}
 
 /// The walk that is drawn.
-#[derive(Clone, Copy, Debug)]
-pub struct Walk<'a> {
-    /// Its hops, in order.
-    pub visits: &'a [Visit],
+#[derive(Clone, Copy, Debug, PartialEq, Eq)]
+pub struct Walk {
+    pub kind: Kind,
     /// The drum's angle when it begins.
     pub angle: u64,
     /// The word times that it takes.
-    pub bound: u64,
+    pub time: u128,
 }
 
-impl<'a> Walk<'a> {
-    /// The walk of an analysis.
-    pub(crate) fn of(analysis: &'a Analysis) -> Walk<'a> {
-        Walk {
-            visits: analysis.walk(),
-            angle: u64::from(analysis.angle()),
-            bound: analysis.bound(),
+impl Walk {
+    /// What it is called at the beginning of a title.
+    pub(crate) fn name(self) -> &'static str {
+        match self.kind {
+            Kind::Worst => "The worst walk",
+            Kind::InRounds(_) => "The walk in rounds",
         }
+    }
+
+    /// The revolution in which it ends, from 1.
+    pub(crate) fn last_revolution(self) -> u128 {
+        let end = self.time.saturating_add(u128::from(self.angle));
+        end.saturating_add(49) / 50
     }
 
     /// How many revolutions it takes, rounded.
     pub(crate) fn revolutions(self) -> Tenths {
         Tenths {
-            count: self.bound.saturating_add(2) / 5,
+            count: self.time.saturating_add(2) / 5,
         }
     }
 
     /// How many milliseconds it takes at 96 microseconds a word time, rounded.
     pub(crate) fn milliseconds(self) -> Tenths {
         // 24 tenths to 25 word times: the whole ones first, so that the product fits
-        let rest = (self.bound % 25 * 24 + 12) / 25;
+        let rest = (self.time % 25 * 24 + 12) / 25;
         Tenths {
-            count: (self.bound / 25 * 24).saturating_add(rest),
+            count: (self.time / 25 * 24).saturating_add(rest),
         }
     }
 }

@@ -20,14 +20,14 @@ pub struct Word {
 }
 
 /// An s behind the name of what there is more than one of.
-pub(crate) fn plural(count: u64) -> &'static str {
+pub(crate) fn plural(count: u128) -> &'static str {
     if count == 1 { "" } else { "s" }
 }
 
 impl Word {
     /// The word of a location; `None` where none is drawn. The most word times are those of the
     /// word that has most.
-    pub(crate) fn of(tallies: &Tallies, number: u16, most: u64) -> Option<Word> {
+    pub(crate) fn of(tallies: &Tallies, number: u16, most: u128) -> Option<Word> {
         let tally = tallies.at(number);
         if !tally.is_used() {
             return None;

@@ -1,0 +1,90 @@
+//! What is drawn of a ceiling with its walk in rounds: that walk.
+
+use crate::drawn::Drawn;
+use crate::edges::{Edge, Edges, TakenEdge};
+use crate::extent::Extent;
+use crate::going::Going;
+use crate::pieces::{Content, Weighed, weigh};
+use crate::rows::Rows;
+use crate::shares::Shares;
+use crate::tallies::Tallies;
+use crate::walk::{Kind, Walk};
+use drum_core::Deck;
+use drum_flow::discover;
+use drum_rounds::Bracket;
+use drum_times::{Notes, Times};
+use std::alloc::{AllocError, Global};
+
+/// The edges of the hops of a walk.
+fn edges_of(alloc: Global, pieces: &[Weighed<'_>]) -> Result<Edges, AllocError> {
+    let mut all = Vec::new(alloc);
+    for piece in pieces {
+        if let (Content::Hop(hop), true) = (piece.content, piece.taken > 0) {
+            if let Some(edge) = Edge::of(&hop.visit) {
+                let taken = piece.taken;
+                all.push(TakenEdge { edge, taken })?;
+            }
+        }
+    }
+    Edges::together(alloc, &all)
+}
+
+/// Counts the hops of a walk.
+fn count(tallies: &mut Tallies, pieces: &[Weighed<'_>]) -> Shares {
+    let mut shares = Shares::NONE;
+    for piece in pieces {
+        if let (Content::Hop(hop), true) = (piece.content, piece.taken > 0) {
+            tallies.count(&hop.visit, piece.taken);
+            shares = shares.with(hop.parts, piece.taken);
+        }
+    }
+    shares
+}
+
+/// How much of a walk these rows are.
+fn extent_of(walk: Walk, rows: &Rows) -> Extent {
+    let mut time = 0u128;
+    for hop in rows.hops.iter() {
+        time = time.saturating_add(u128::from(hop.visit.took));
+    }
+    if time < walk.time {
+        Extent::Some(rows.shown.len())
+    } else {
+        Extent::All
+    }
+}
+
+impl Drawn {
+    /// What is drawn of a ceiling of a deck, a timing table and notes.
+    pub(crate) fn of_bracket(
+        alloc: Global,
+        bracket: &Bracket,
+        deck: &Deck,
+        times: &Times,
+        notes: &Notes,
+    ) -> Result<Drawn, AllocError> {
+        let walk = Walk {
+            kind: Kind::InRounds(bracket.ceiling.total()),
+            angle: bracket.walk.angle(),
+            time: bracket.walk.total(),
+        };
+        let pieces = weigh(alloc, bracket.walk.pieces(), times)?;
+        let mut tallies = Tallies::new(alloc)?;
+        let shares = count(&mut tallies, &pieces);
+        let flow = discover(alloc, deck, notes)?;
+        for location in flow.executed() {
+            tallies.note_executed(*location);
+        }
+        tallies.note_loaded(deck);
+        let (rows, braces) = Going::all(alloc, &pieces, walk.angle)?;
+        Ok(Drawn {
+            walk,
+            tallies,
+            edges: edges_of(alloc, &pieces)?,
+            shares,
+            extent: extent_of(walk, &rows),
+            rows,
+            braces,
+        })
+    }
+}
