@@ -9,7 +9,6 @@ use Rattle.drum_core.specs.Word.{word}
 use Rattle.drum_machine.specs.Ways.{to, late}
 use Rattle.drum_times.specs.declared.notes.mark.Mark.{Mark}
 use Rattle.drum_bound.specs.Visited.{Visited}
-use Rattle.drum_report.specs.CeilingText.{price_line, total_lines}
 use Rattle.drum_report.specs.Report.{mark_line, time_in, used_after, visits_at}
 
 -- a walk of two words: the first takes 55 word times, the second one
@@ -69,11 +68,5 @@ named = record {
 of_marks :
     (mark_line walk plain ≡ codes "mark 0100 0106 passed 1 of 12\n")
     × (mark_line walk named ≡ codes "mark 0100 0106 passed 1 of 12 name cards\n")
-    × (price_line plain 55 1 ≡ codes "mark 0100 0106 price 55 passed 1\n")
-    × (price_line named 55 12 ≡ codes "mark 0100 0106 price 55 passed 12 name cards\n")
 unfolding digits
-of_marks = (refl, refl, refl, refl)
-
-of_totals : total_lines 5536 55365 ≡ codes "reached 5536\nceiling 55365\n"
-unfolding digits
-of_totals = refl
+of_marks = (refl, refl)

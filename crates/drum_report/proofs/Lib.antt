@@ -1,4 +1,3 @@
 mod Checks
-pub mod PriceText
 pub mod Spending
 pub mod Tallying

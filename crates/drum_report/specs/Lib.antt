@@ -1,3 +1,2 @@
-pub mod CeilingText
 pub mod Report
 pub mod TalliesOf

@@ -12,8 +12,8 @@ use Rattle.drum_rounds.specs.InRounds.{passes_in}
 use Rattle.drum_ceiling.specs.CeilingOf.{prices_of}
 use Rattle.drum_lines.specs.Sent.{IsSent}
 use Rattle.drum_lines.proofs.Sending.{sent_more, sent_cut}
-use Rattle.drum_report.specs.CeilingText.{price_line, price_line_at}
-use Rattle.drum_report.proofs.prices.send_prices.Goals as goal
+use Rattle.drum_bracket.specs.CeilingText.{price_line, price_line_at}
+use Rattle.drum_bracket.proofs.prices.send_prices.Goals as goal
 
 -- the place of a mark is within those that are numbered
 within : (marks : List Mark) (place : ℕ) → place < length marks → place < length (enumerate_from 0 marks)

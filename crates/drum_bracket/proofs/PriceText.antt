@@ -1,5 +1,5 @@
 -- The text of a mark's line in a ceiling, of its pieces.
-use Rattle.std.proofs.Common.{◌≡◌, ℕ, List, ◌++◌, refl, ap, sym, ◌∙◌, append_assoc}
+use Rattle.std.proofs.Common.{◌≡◌, ℕ, List, ◌++◌, ap, sym, ◌∙◌, append_assoc}
 use Rattle.std.specs.Prelude.{codes}
 
 pub price_texts : (from from' onto onto' price price' passes passes' label name named : List ℕ) → from ≡ from'

@@ -4,8 +4,8 @@
 ghost use Rattle.std.specs.Prelude.{◌≡◌, ◌+◌, ◌^◌, ◌≤◌, IfOk, length, flat_map};
 ghost use Rattle.std.specs.List.{enumerate_from};
 ghost use Rattle.drum_ceiling.specs.CeilingOf.{prices_of};
-ghost use Rattle.drum_report.specs.CeilingText.{ceiling_text, price_line, price_line_at};
-ghost use Rattle.drum_report.specs.CeilingText.{total_lines};
+ghost use Rattle.drum_bracket.specs.CeilingText.{ceiling_text, price_line, price_line_at};
+ghost use Rattle.drum_bracket.specs.CeilingText.{total_lines};
 ghost use Rattle.drum_lines.specs.Sent.{IsSent, IsWritten, fails_by};
 ghost use Rattle.drum_rounds.specs.InRounds.{passes_in};
 
@@ -76,14 +76,14 @@ fn send_prices<O: Output>(
 }
 
 /// Writes the lines of what the walk takes and of the ceiling.
-fn send_totals<O: Output>(
+pub fn send_totals<O: Output>(
     writer: &mut O,
     sent: usize,
     reached: u128,
     total: u128,
 ) -> Result<usize, WriteFault>
-    requires called { O.called writer.old ≤ 2 ^ 62 + 2 ^ 40 }
-    requires few { sent ≤ 2 ^ 40 }
+    requires called { O.called writer.old ≤ 2 ^ 62 + 2 ^ 60 }
+    requires few { sent ≤ 2 ^ 60 }
     ensures sent { IsSent (O.written writer.old) (O.written writer.new) sent result
         (total_lines reached total) }
     ensures failures { O.failed writer.new ≡ O.failed writer.old + fails_by result }

@@ -1,10 +1,10 @@
-use Rattle.std.proofs.Common.{ℕ, List, ◌++◌, ◌∙◌, ap, subst}
-use Rattle.std.specs.Prelude.{codes, decimal}
+use Rattle.std.proofs.Common.{ℕ, List, ◌∙◌, ap, subst}
+use Rattle.std.specs.Prelude.{decimal}
 use Rattle.drum_core.specs.Numeral.{digits_of}
 use Rattle.drum_lines.specs.Sent.{IsSent}
 use Rattle.drum_lines.specs.NameText.{name_text}
-use Rattle.drum_report.proofs.PriceText.{price_texts}
-use Rattle.drum_report.proofs.prices.send_price.Goals as goal
+use Rattle.drum_bracket.proofs.PriceText.{price_texts}
+use Rattle.drum_bracket.proofs.prices.send_price.Goals as goal
 
 pub returns-clause-sent : goal.returns-clause-sent
 returns-clause-sent g c =

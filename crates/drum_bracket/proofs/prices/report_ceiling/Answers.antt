@@ -6,8 +6,8 @@ use Rattle.drum_ceiling.specs.CeilingOf.{total_of}
 use Rattle.drum_rounds.specs.InRounds as walks
 use Rattle.drum_lines.specs.Sent.{IsSent}
 use Rattle.drum_lines.proofs.Sending.{IsSent-then, written_cut}
-use Rattle.drum_report.specs.CeilingText.{ceiling_text, price_line_at, total_lines}
-use Rattle.drum_report.proofs.prices.report_ceiling.Goals as goal
+use Rattle.drum_bracket.specs.CeilingText.{ceiling_text, price_line_at, total_lines}
+use Rattle.drum_bracket.proofs.prices.report_ceiling.Goals as goal
 
 pub returns-in_err-send_totals-clause-written : goal.returns-in_err-send_totals-clause-written
 returns-in_err-send_totals-clause-written g c =

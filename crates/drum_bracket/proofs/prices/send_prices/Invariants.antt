@@ -1,8 +1,8 @@
 use Rattle.std.proofs.Common.{◌≡◌, ◌+◌, ◌*◌, ◌≤◌, flat_map, take, Ok}
 use Rattle.std.specs.List.{enumerate_from}
 use Rattle.drum_lines.specs.Sent.{IsSent}
-use Rattle.drum_report.specs.CeilingText.{price_line_at}
-use Rattle.drum_report.proofs.prices.send_prices.Given as goal
+use Rattle.drum_bracket.specs.CeilingText.{price_line_at}
+use Rattle.drum_bracket.proofs.prices.send_prices.Given as goal
 
 -- the lines so far have gone out
 abbrev pub invariant-loop-place : goal.invariant-loop-place

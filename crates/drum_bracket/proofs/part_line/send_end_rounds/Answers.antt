@@ -1,0 +1,12 @@
+use Rattle.std.proofs.Common.{◌∙◌, subst}
+use Rattle.drum_lines.specs.Sent.{IsSent}
+use Rattle.drum_bracket.proofs.RoundsLines.{end_texts}
+use Rattle.drum_bracket.proofs.part_line.send_end_rounds.Goals as goal
+
+pub returns-clause-sent : goal.returns-clause-sent
+returns-clause-sent g c =
+    subst (IsSent (g.O.Output.written c.args.writer.now) (g.O.Output.written c.send.new.output) c.args.sent
+    c.send.result)
+    (end_texts c.args.each c.args.ended c.as_bytes.result.now c.as_bytes-2.result.now
+    (c.as_bytes.ensures.value ∙ c.format.ensures.text) (c.as_bytes-2.ensures.value ∙ c.format-2.ensures.text))
+    c.send.ensures.sent

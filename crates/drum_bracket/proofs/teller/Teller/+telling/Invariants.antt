@@ -1,0 +1,31 @@
+use Rattle.std.proofs.Common.{◌≡◌, ◌+◌, ◌*◌, Ok, take}
+use Rattle.drum_bracket.specs.ProgressOf.{held_by, told_of, HasAdded, HasTold}
+use Rattle.drum_bracket.specs.TellerOf.{row_told}
+use Rattle.drum_bracket.proofs.teller.Teller.+telling.Given as goal
+
+-- each piece names earlier ones alone
+abbrev pub decreases-named : goal.decreases-named
+decreases-named g l = 4 * l.limit
+
+abbrev pub decreases-row : goal.decreases-row
+decreases-row g l = 4 * l.limit + 1
+
+abbrev pub decreases-rounds : goal.decreases-rounds
+decreases-rounds g l = 4 * l.limit + 1
+
+abbrev pub decreases-piece : goal.decreases-piece
+decreases-piece g l = 4 * l.number + 2
+
+abbrev pub decreases-first : goal.decreases-first
+decreases-first g l = 4 * l.number + 3
+
+-- the pieces so far were told
+abbrev pub invariant-row-loop-number : goal.invariant-row-loop-number
+invariant-row-loop-number g l = record {
+  lines : HasAdded (g.O.Output.written l.fn.writer) (g.O.Output.written l.writer) l.fn.progress.sent
+      (held_by l.fn.progress) (Ok l.progress.sent) (held_by l.progress)
+      (row_told l.self l.limit (take l.number-index l.names) (told_of l.fn.progress)).0;
+  told : HasTold (g.O.Output.called l.fn.writer) (g.O.Output.called l.writer) l.fn.progress l.progress
+      (row_told l.self l.limit (take l.number-index l.names) (told_of l.fn.progress));
+  failures : g.O.Output.failed l.writer ≡ g.O.Output.failed l.fn.writer;
+}
