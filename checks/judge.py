@@ -3,7 +3,7 @@ checks/damaged-inputs holds to it the cases of checks/damage.py."""
 
 from collections import namedtuple
 
-from ceilings import ceiling_of, least_ceiling, may_be_too_large
+from ceilings import bracket_of, ceiling_of, least_ceiling, may_be_too_large
 from damage import CHECKS, FILES, LEAST, files_of_joined, joined
 from faults import Fault, fault_of, has_its_form, is_accepted, names_what_is_there
 from findings import Flow, is_check, is_first_of, is_loose_end
@@ -20,6 +20,7 @@ from results import (
     waits_of_walk,
     walked_bound,
 )
+from rounds import passes_of, rounded
 from tables import graphed, tabled
 from text_faults import listed_faults
 from toml_text import document_of
@@ -35,7 +36,8 @@ Told = namedtuple("Told", "kind bound used fault by", defaults=[None, None, None
 WALKED = ["walk", "report", "waits"]
 # Those that read long notes, and of these the ones that go by the bound all the same.
 OF_LONG = [*CHECKS, "graph", "ceiling", "walk", "waits", "draw", "trace"]
-BY_BOUND = ["walk", "waits", "draw"]
+# Of these: by the bound alone, and past it by the walk beside a ceiling.
+BY_BOUND, PAST_BOUND = ["waits"], ["walk", "draw"]
 
 # From so many word times on no trace goes by a ceiling.
 LONGEST = 2**50
@@ -76,6 +78,12 @@ def faults_of_notes(asked):
     return notes_faults(files["notes"], command in OF_LONG)
 
 
+def walked(text, files):
+    """What a walk takes, where its lines are in order, by the bound or in rounds."""
+    is_bound = text.endswith("\n") and text.rsplit("\n", 2)[-2].startswith("bound ")
+    return walked_bound(text, files) if is_bound else rounded(text, files)
+
+
 def result_of(asked, status, text):
     """What a result tells that was asked for; None where it is none."""
     command, files = asked
@@ -92,7 +100,7 @@ def result_of(asked, status, text):
         return line and verdict_of(line, status)
     kinds = {
         "report": ("report", lambda: reported_bound(text, files)),
-        "walk": ("walk", lambda: walked_bound(text, files)),
+        "walk": ("walk", lambda: walked(text, files)),
         "waits": ("waits", lambda: waited_bound(text)),
         "table": ("table", lambda: tabled(text, files)),
         "graph": ("graph", lambda: graphed(text, files)),
@@ -238,6 +246,23 @@ def is_as_of_short(asked, ran, told, run):
     return is_one and told == told_of((command, short), other)
 
 
+def goes_with_ceiling(asked, ran, told, run):
+    """Whether a walk, or a picture of one, is that which stands beside the ceiling: it takes what is
+    reached and passes each mark as often; or both have one fault."""
+    command, files = asked
+    ceiling = run(words_of("ceiling"), files, b"")
+    if ceiling.status != DONE:
+        return told.fault is not None and (ran.status, ran.err) == (ceiling.status, ceiling.err)
+    beside = bracket_of(ceiling.out.decode(), marks_of(document_of(files["notes"])))
+    if told.fault is not None or told.bound != beside.reached:
+        return False
+    if command == "draw":
+        return True
+    totals = b"".join(ceiling.out.splitlines(keepends=True)[-2:])
+    passes = passes_of(ran.out.decode(), files)
+    return ran.out.endswith(totals) and passes in (None, beside.passes)
+
+
 def agrees_of_long(asked, ran, told, run):
     """Whether a run over long notes without a fault agrees with what the other commands tell."""
     command, files = asked
@@ -253,6 +278,8 @@ def agrees_of_long(asked, ran, told, run):
         return told.fault is None
     if command in BY_BOUND:
         return told.fault is not None and told.fault.ending == "longnotes"
+    if command in PAST_BOUND:
+        return goes_with_ceiling(asked, ran, told, run)
     if command == "ceiling":
         check = run(words_of(CHECKS[0]), files, b"")
         checked = told_of((CHECKS[0], files), check)
@@ -290,10 +317,15 @@ def agrees(asked, ran, told, run):
         return ran == bound
     if command == "bound":
         return ends_alike(other("report"), ran) and is_said_of_joined(files, ran, run)
+    past = told_of(("bound", files), bound)
+    if command in PAST_BOUND and past.fault and past.fault.ending == "product":
+        return goes_with_ceiling(asked, ran, told, run)
     if command in WALKED:
-        walked = [ran if name == command else other(name) for name in WALKED]
-        is_one = all(ends_alike(one, bound) for one in walked)
-        return is_one and are_counted(*walked, files)
+        all_three = [ran if name == command else other(name) for name in WALKED]
+        are_past = past.fault and past.fault.ending == "product"
+        long = [one for name, one in zip(WALKED, all_three) if not are_past or name != "walk"]
+        is_one = all(ends_alike(one, bound) for one in long)
+        return is_one and (are_past or are_counted(*all_three, files))
     if command in CHECKS:
         if command == CHECKS[1] and told.fault:
             replay = told_of(("replay", files), other("replay"))

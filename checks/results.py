@@ -285,13 +285,15 @@ def waits_of_walk(walk, files):
 
 
 def pictured_bound(text):
-    """The bound that a picture names, where it is well-formed."""
+    """The bound that a picture names, or what the walk takes that it is of, where it is
+    well-formed."""
     if not text.startswith("<svg") or not text.endswith("</svg>\n"):
         return None
     try:
         root = xml.fromstring(text)
     except xml.ParseError:
         return None
-    named = [re.fullmatch("bound %s word times" % NUMBER, part.text or "") for part in root.iter()]
+    name = "(?:bound|reached) %s word times" % NUMBER
+    named = [re.fullmatch(name, part.text or "") for part in root.iter()]
     bounds = [int(matched.group(1)) for matched in named if matched]
     return bounds[0] if len(bounds) == 1 else None

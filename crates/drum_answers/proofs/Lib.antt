@@ -1,1 +1,2 @@
+pub mod Bases
 mod Soundly

@@ -1,2 +1,3 @@
+pub mod Basis
 pub mod Checked
 pub mod Says

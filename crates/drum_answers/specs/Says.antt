@@ -18,7 +18,8 @@ use Rattle.drum_lines.specs.declared.status.Status.{Status}
 use Rattle.drum_lines.specs.declared.status.Status.TheVariants.{Done, Refused}
 use Rattle.drum_lines.specs.FaultStatus.{IsWanting}
 use Rattle.drum_lines.specs.Reply.{Reply, bound_reply, lists, says}
-use Rattle.drum_report.specs.CeilingText.{ceiling_text}
+use Rattle.drum_bracket.specs.CeilingText.{ceiling_text}
+use Rattle.drum_bracket.specs.RoundsText.{rounds_text}
 use Rattle.drum_rounds.specs.declared.bracket.Bracket.{Bracket}
 use Rattle.drum_report.specs.Report.{report_text}
 use Rattle.drum_graph.specs.Graph.{AreNodes, Node}
@@ -29,20 +30,23 @@ use Rattle.drum_listing.specs.WaitsText.{waits_text}
 use Rattle.drum_listing.specs.WalkText.{walk_text}
 use Rattle.drum_documents.specs.declared.documents.Documents.{Documents}
 use Rattle.drum_documents.specs.Documents.{Say, Texts, setting_of}
-use Rattle.drum_documents.specs.Limits.{AreShort, IsAnalysisFault, IsBound, IsBracket}
+use Rattle.drum_documents.specs.Limits.{AreShort, HaveNoBound, IsAnalysisFault, IsBound, IsBracket}
 use Rattle.drum_documents.specs.Limits.{IsCeilingFault, IsShortFault, IsWorstWalk}
 use Rattle.drum_toml.specs.declared.notes.notes_read.NotesRead.TheVariants.{Long}
 
 -- ---- what is said
 
--- a report of a walk, a walk from an angle, the kinds of its hops, a table, a flow graph, a
--- picture, and a ceiling
+-- a report of a walk, a walk from an angle, one in rounds, the kinds of a walk's hops, a table, a
+-- flow graph, a picture, and a ceiling
 abbrev pub report_reply : Documents → List Visited → Reply
 report_reply documents walk = says (report_text documents.deck documents.notes walk) Done
 
 abbrev pub walk_reply : Documents → ℕ → List Visited → ℕ → Reply
 walk_reply documents angle walk bound =
     says (walk_text (entry_in documents.times) angle walk bound) Done
+
+abbrev pub rounds_reply : Documents → Bracket → Reply
+rounds_reply documents bracket = says (rounds_text (entry_in documents.times) bracket) Done
 
 abbrev pub waits_reply : Documents → ℕ → List Visited → List Visited → ℕ → Reply
 waits_reply documents angle walk firsts bound =
@@ -89,6 +93,10 @@ SaysWalk documents reply =
     × (angle : ℕ) × (walk : List Visited) × IsWorstWalk documents bound angle walk
     × (reply ≡ walk_reply documents angle walk bound)
 
+-- and where there is none, a walk in rounds
+abbrev pub SaysRounds : Documents → Bracket → Reply → Type 0
+SaysRounds documents bracket reply = reply ≡ rounds_reply documents bracket
+
 -- where the word times of such a walk go: a line for each kind of its hops, the dearest first
 abbrev pub SaysWaits : Documents → Reply → Type 0
 SaysWaits documents reply =
@@ -115,6 +123,11 @@ abbrev pub SaysPicture : Documents → Reply → Type 0
 SaysPicture documents reply =
     IsDeckAccepted (setting_of documents) × (picture : List ℕ) × (reply ≡ picture_reply picture)
 
+-- and where there is a walk in rounds
+abbrev pub SaysPictureInRounds : Documents → Bracket → Reply → Type 0
+SaysPictureInRounds documents bracket reply =
+    (picture : List ℕ) × (reply ≡ picture_reply picture)
+
 -- a ceiling with a walk in rounds, each of whose numbers is right
 abbrev pub SaysCeiling : Documents → Reply → Type 0
 SaysCeiling documents reply =
@@ -131,15 +144,24 @@ SaysFindings documents reply =
 abbrev pub OfShort : (Documents → Reply → Type 0) → Documents → Reply → Type 0
 OfShort Says documents reply = AreShort documents × Says documents reply
 
+-- What is said by the bound, where the notes are short and there is one; in every other case by a
+-- ceiling with a walk in rounds.
+abbrev pub ByEither : (Documents → Reply → Type 0) → (Documents → Bracket → Reply → Type 0)
+    → Documents → Reply → Type 0
+ByEither ByBound ByCeiling documents reply =
+    (AreShort documents × ByBound documents reply)
+    ⊎ (HaveNoBound documents × (bracket : Bracket) × IsBracket documents bracket
+    × ByCeiling documents bracket reply)
+
 -- what is said of documents, where this is asked of them
 abbrev pub Says : Question → Documents → Reply → Type 0
 Says Bound = SaysBound
 Says Report = SaysReport
-Says Walk = OfShort SaysWalk
+Says Walk = ByEither SaysWalk SaysRounds
 Says Waits = OfShort SaysWaits
 Says Table = SaysTable
 Says Graph = SaysGraph
-Says Draw = OfShort SaysPicture
+Says Draw = ByEither SaysPicture SaysPictureInRounds
 Says Ceiling = SaysCeiling
 
 -- why nothing is said of them: the deck with its notes is refused, or, where the bound is gone by,
@@ -148,11 +170,11 @@ Says Ceiling = SaysCeiling
 abbrev pub Refuses : Question → Documents → Fault → Type 0
 Refuses Bound = IsAnalysisFault
 Refuses Report = IsAnalysisFault
-Refuses Walk = IsShortFault
+Refuses Walk = IsCeilingFault
 Refuses Waits = IsShortFault
 Refuses Table = IsAnalysisFault
 Refuses Graph = λ documents. IsWanting
-Refuses Draw = IsShortFault
+Refuses Draw = IsCeilingFault
 Refuses Ceiling = IsCeilingFault
 
 -- ---- what is said of texts

@@ -1,47 +1,35 @@
 //! The answers to questions about documents, each written to an output.
 
 ghost use Rattle.std.specs.Prelude.{◌≡◌, ◌^◌, ◌≤◌, IfOk, IfErr};
-ghost use Rattle.drum_bound.specs.AnalysisOf.{angle_of, bound_of, rows_of, visits_of};
-ghost use Rattle.drum_bound.specs.Table.{IsTable};
-ghost use Rattle.drum_documents.specs.Documents.{setting_of};
-ghost use Rattle.drum_documents.specs.Limits.{IsAnalysisFault, IsBound, IsCeilingFault};
-ghost use Rattle.drum_documents.specs.Limits.{IsShortFault, IsWorstWalk};
+ghost use Rattle.drum_documents.specs.Limits.{HaveNoBound, IsAnalysisFault, IsBracket};
+ghost use Rattle.drum_documents.specs.Limits.{IsCeilingFault, IsShortFault};
 ghost use Rattle.drum_lines.specs.Does.{Does};
 ghost use Rattle.drum_lines.specs.Output.{Device, device};
 ghost use Rattle.drum_lines.specs.FaultStatus.{IsWanting};
-ghost use Rattle.drum_answers.specs.Says.{OfShort, Refuses, Says, SaysBound, SaysCeiling};
-ghost use Rattle.drum_answers.specs.Says.{SaysGraph};
-ghost use Rattle.drum_answers.specs.Says.{SaysPicture, SaysReport, SaysTable, SaysWaits, SaysWalk};
+ghost use Rattle.drum_answers.specs.Says.{ByEither, OfShort, Refuses, Says, SaysBound};
+ghost use Rattle.drum_answers.specs.Says.{SaysCeiling, SaysGraph, SaysPicture};
+ghost use Rattle.drum_answers.specs.Says.{SaysPictureInRounds, SaysReport, SaysRounds};
+ghost use Rattle.drum_answers.specs.Says.{SaysTable, SaysWaits, SaysWalk};
 
-use crate::telling::{tell_ceiling, tell_graph, tell_report, tell_table, tell_waits, tell_walk};
-use drum_bound::{Analysis, Refusal, analyse};
+use crate::analysis::analysis_of;
+use crate::basis::{Basis, basis_of};
+use crate::telling::{
+    tell_ceiling, tell_graph, tell_report, tell_rounds, tell_table, tell_waits, tell_walk,
+};
+use drum_bound::Refusal;
+use drum_bracket::Outline;
 use drum_command::Question;
 use drum_core::Output;
 use drum_documents::{Documents, bound_of, bracket_of, only_short};
 use drum_graph::Graph;
 use drum_lines::{Fault, Status, tell_bound, tell_text};
 use drum_listing::{Table, Waits};
-use drum_picture::picture;
-use std::alloc::Global;
+use drum_picture::{picture, picture_in_rounds};
+use drum_rounds::Bracket;
+use std::alloc::{AllocError, Global};
 
 /// The most bytes of a picture that is printed.
 const PICTURE_BYTES: usize = 1 << 61;
-
-/// The analysis of documents.
-///
-/// # Errors
-///
-/// [`Fault::Refused`] where the deck with its notes isn't accepted, or there is no memory.
-fn analysis_of(alloc: Global, documents: &Documents) -> Result<Analysis, Fault>
-    ensures bound { IfOk result (λ analysis. IsBound documents.now (bound_of analysis)) }
-    ensures walk { IfOk result (λ analysis.
-        IsWorstWalk documents.now (bound_of analysis) (angle_of analysis) (visits_of analysis)) }
-    ensures table { IfOk result (λ analysis.
-        IsTable (setting_of documents.now) (rows_of analysis)) }
-    ensures fault { IfErr result (IsAnalysisFault documents.now) }
-{
-    Ok(analyse(alloc, &documents.deck, &documents.times, &documents.notes)?)
-}
 
 /// Writes the bound.
 fn say_bound<O: Output>(alloc: Global, documents: &Documents, out: &mut O) -> Result<Status, Fault>
@@ -67,18 +55,40 @@ fn say_report<O: Output>(alloc: Global, documents: &Documents, out: &mut O) -> R
     Ok(tell_report(out, documents, &analysis))
 }
 
-/// Writes a worst walk.
-fn say_walk<O: Output>(alloc: Global, documents: &Documents, out: &mut O) -> Result<Status, Fault>
-    requires { O.called out.old ≤ 2 ^ 62 }
-    ensures does { (err : Device)
-        → Does (OfShort SaysWalk documents.now) (IsShortFault documents.now)
+/// Writes the walk beside a ceiling.
+fn say_rounds<O: Output>(
+    alloc: Global,
+    documents: &Documents,
+    bracket: &Bracket,
+    out: &mut O,
+) -> Result<Status, Fault>
+    requires called { O.called out.old ≤ 2 ^ 62 }
+    requires none { HaveNoBound documents.now }
+    requires right { IsBracket documents.now bracket.now }
+    ensures does { (err : Device) → Does (ByEither SaysWalk SaysRounds documents.now)
+        (IsCeilingFault documents.now)
         (device (O.written out.old) (O.failed out.old))
         (device (O.written out.new) (O.failed out.new)) err err result }
     ensures spared { IfErr result (λ _. out.new ≡ out.old) }
 {
-    only_short(documents)?;
-    let analysis = analysis_of(alloc, documents)?;
-    Ok(tell_walk(out, documents, &analysis))
+    let outline = Outline::of(alloc, &bracket.walk)?;
+    Ok(tell_rounds(out, documents, bracket, outline))
+}
+
+/// Writes a worst walk.
+fn say_walk<O: Output>(alloc: Global, documents: &Documents, out: &mut O) -> Result<Status, Fault>
+    requires { O.called out.old ≤ 2 ^ 62 }
+    ensures does { (err : Device) → Does (ByEither SaysWalk SaysRounds documents.now)
+        (IsCeilingFault documents.now)
+        (device (O.written out.old) (O.failed out.old))
+        (device (O.written out.new) (O.failed out.new)) err err result }
+    ensures spared { IfErr result (λ _. out.new ≡ out.old) }
+{
+    let basis = basis_of(alloc, documents)?;
+    match basis {
+        Basis::Bound(analysis) => Ok(tell_walk(out, documents, &analysis)),
+        Basis::Ceiling(bracket) => say_rounds(alloc, documents, &bracket, out),
+    }
 }
 
 /// Writes where the word times of a worst walk go.
@@ -121,6 +131,17 @@ fn say_graph<O: Output>(alloc: Global, documents: &Documents, out: &mut O) -> Re
     Ok(tell_graph(out, documents, &graph))
 }
 
+/// Draws a worst walk.
+fn picture_by(alloc: Global, documents: &Documents, basis: &Basis) -> Result<String, AllocError> {
+    let (deck, times) = (&documents.deck, &documents.times);
+    match basis {
+        Basis::Bound(analysis) => picture(alloc, analysis, deck, times),
+        Basis::Ceiling(bracket) => {
+            picture_in_rounds(alloc, bracket, deck, times, &documents.notes)
+        }
+    }
+}
+
 /// Writes a picture of a worst walk.
 fn say_picture<O: Output>(
     alloc: Global,
@@ -128,15 +149,14 @@ fn say_picture<O: Output>(
     out: &mut O,
 ) -> Result<Status, Fault>
     requires { O.called out.old ≤ 2 ^ 62 }
-    ensures does { (err : Device)
-        → Does (OfShort SaysPicture documents.now) (IsShortFault documents.now)
+    ensures does { (err : Device) → Does (ByEither SaysPicture SaysPictureInRounds documents.now)
+        (IsCeilingFault documents.now)
         (device (O.written out.old) (O.failed out.old))
         (device (O.written out.new) (O.failed out.new)) err err result }
     ensures spared { IfErr result (λ _. out.new ≡ out.old) }
 {
-    only_short(documents)?;
-    let analysis = analysis_of(alloc, documents)?;
-    match picture(alloc, &analysis, &documents.deck, &documents.times) {
+    let basis = basis_of(alloc, documents)?;
+    match picture_by(alloc, documents, &basis) {
         Ok(text) if text.len() <= PICTURE_BYTES => Ok(tell_text(out, text.as_bytes())),
         _ => Err(Fault::Refused(Refusal::Memory)),
     }

@@ -16,17 +16,20 @@ ghost use Rattle.drum_listing.specs.WalkText.{walk_text};
 ghost use Rattle.drum_documents.specs.Limits.{IsBracket};
 ghost use Rattle.drum_lines.specs.Output.{GetsResult, device};
 ghost use Rattle.drum_answers.specs.Says.{status_after_check};
-ghost use Rattle.drum_report.specs.CeilingText.{ceiling_text};
+ghost use Rattle.drum_bracket.specs.CeilingText.{ceiling_text};
+ghost use Rattle.drum_bracket.specs.OutlineOf.{IsOutlineOf};
+ghost use Rattle.drum_bracket.specs.RoundsText.{rounds_text};
 ghost use Rattle.drum_report.specs.Report.{report_text};
 
 use drum_bound::Analysis;
+use drum_bracket::{Outline, list_rounds, report_ceiling};
 use drum_check::{Findings, Lacking, list_findings};
 use drum_core::Output;
 use drum_documents::Documents;
 use drum_graph::{Graph, send_graph};
 use drum_lines::{Status, ended};
 use drum_listing::{Table, Waits, list_table, list_waits, list_walk};
-use drum_report::{report, report_ceiling};
+use drum_report::report;
 use drum_rounds::Bracket;
 
 /// Writes the report of an analysis.
@@ -52,6 +55,26 @@ pub fn tell_walk<O: Output>(out: &mut O, documents: &Documents, analysis: &Analy
         (bound_of analysis.now)) Status.Done result }
 {
     ended(list_walk(analysis, &documents.times, out), Status::Done)
+}
+
+/// Writes the walk beside a ceiling, by its outline.
+pub fn tell_rounds<O: Output>(
+    out: &mut O,
+    documents: &Documents,
+    bracket: &Bracket,
+    outline: Outline,
+) -> Status
+    requires called { O.called out.old ≤ 2 ^ 62 }
+    requires right { IsBracket documents.now bracket.now }
+    requires outlined { IsOutlineOf bracket.now.walk outline }
+    ensures { GetsResult (device (O.written out.old) (O.failed out.old))
+        (device (O.written out.new) (O.failed out.new))
+        (rounds_text (entry_in documents.now.times) bracket.now) Status.Done result }
+{
+    ended(
+        list_rounds(outline, bracket, &documents.times, out),
+        Status::Done,
+    )
 }
 
 /// Writes where the word times of the worst walk of an analysis go.

@@ -75,11 +75,11 @@ pub question_of_none : (question : Question) (documents : Documents) (fault : Fa
     → IsOfNoFile fault
 question_of_none Bound documents fault is = refused_of_none _ fault is
 question_of_none Report documents fault is = refused_of_none _ fault is
-question_of_none Walk documents fault is = short_of_none documents fault is
+question_of_none Walk documents fault is = refused_of_none _ fault is
 question_of_none Waits documents fault is = short_of_none documents fault is
 question_of_none Table documents fault is = refused_of_none _ fault is
 question_of_none Graph documents fault is = wanting_of_none fault is
-question_of_none Draw documents fault is = short_of_none documents fault is
+question_of_none Draw documents fault is = refused_of_none _ fault is
 question_of_none Ceiling documents fault is = refused_of_none _ fault is
 
 -- so a result with such a fault says of no read that it failed

@@ -28,7 +28,7 @@ pub use drum_inputs::{InputFault, Inputs, read_inputs};
 pub use drum_lines::{Fault, Part, PartFault, Status, Verdict, WriteFault, tell_fault, tell_usage};
 pub use drum_replay::replay;
 pub use drum_report::report;
-pub use drum_rounds::{Bracket, InRounds, Piece, Placed, reached};
+pub use drum_rounds::{Bracket, InRounds, Piece, Placed, Rounds, reached};
 pub use drum_times::{Edge, NoteFault, Notes, Times};
 pub use drum_toml::{read_notes, read_times};
 pub use running::{run, run_joined};

@@ -1,21 +1,20 @@
 use Rattle.std.proofs.Common.{List, ℕ, inl, inr, refl, subst}
-use Rattle.std.proofs.lemmas.Result.{err_from_is_err_and}
 use Rattle.std.specs.Prelude.{string_bytes}
+use Rattle.drum_documents.specs.declared.documents.Documents.{Documents}
 use Rattle.drum_lines.specs.declared.status.Status.TheVariants.{Done}
 use Rattle.drum_lines.specs.Output.{GetsResult, device}
-use Rattle.drum_answers.specs.Says.{picture_reply}
+use Rattle.drum_answers.specs.declared.basis.Basis.{Basis}
+use Rattle.drum_answers.specs.declared.basis.Basis.TheVariants.{Bound, Ceiling}
+use Rattle.drum_answers.specs.Basis.{IsBasis}
+use Rattle.drum_answers.specs.Says.{picture_reply, ByEither, SaysPicture, SaysPictureInRounds}
 use Rattle.drum_lines.proofs.NoLine.{no_line}
 use Rattle.drum_answers.proofs.answering.say_picture.Goals as goal
 
-pub returns-in_err-only_short-clause-does : goal.returns-in_err-only_short-clause-does
-returns-in_err-only_short-clause-does g c =
-    let p = err_from_is_err_and c.from_residual.result c.from_residual.ensures.1 in
-    rw (p.1, p.2) (λ err. inl c.in_err-only_short.ensures.long)
-
-pub returns-in_err-analysis-clause-does : goal.returns-in_err-analysis-clause-does
-returns-in_err-analysis-clause-does g c =
-    let p = err_from_is_err_and c.from_residual-in_err-analysis.result c.from_residual-in_err-analysis.ensures.1 in
-    rw (p.1, p.2) (λ err. inr (c.in_ok-only_short.ensures.short, c.in_err-analysis.ensures.fault))
+-- a picture is said, whatever it is told by
+said : (documents : Documents) (basis : Basis) (text : List ℕ) → IsBasis documents basis
+    → ByEither SaysPicture SaysPictureInRounds documents (picture_reply text)
+said documents (Bound analysis) text is = inl (is.0, (is.1.accepted, text, refl))
+said documents (Ceiling bracket) text is = inr (is.0, bracket, is.1, (text, refl))
 
 pub returns-in-Ok-clause-does : goal.returns-in-Ok-clause-does
 returns-in-Ok-clause-does g c err =
@@ -26,10 +25,7 @@ returns-in-Ok-clause-does g c err =
     subst (λ (said : List ℕ). GetsResult old new said Done c.tell_text.result) c.as_bytes.ensures.value
     c.tell_text.ensures in (
       picture_reply text,
-      (c.in_ok-only_short.ensures.short, (c.in_ok-analysis.ensures.bound.accepted, text, refl)),
+      said c.args.documents.now c.in_ok-basis.basis text c.in_ok-basis.ensures.basis,
       no_line _ _,
       (gets, refl),
     )
-
-pub returns-clause-does : goal.returns-clause-does
-returns-clause-does g c err = inr (c.in_ok-only_short.ensures.short, tt)
