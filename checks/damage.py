@@ -76,6 +76,10 @@ def notes(programmed, load_cards, *more):
     return head + "".join(more)
 
 
+# Marks that no walk passes: their counts are past the limit of a bound all the same.
+UNPASSED = mark(1997, 1999, 9999) + mark(1998, 1999, 9999)
+
+
 def ten_words(numbers):
     return " ".join("%+011d" % number for number in numbers)
 
@@ -329,6 +333,8 @@ def case_of(seed):
         # The timing table is the longest by far, and any damage to it is likely to be refused.
         name = FILES[[0, 0, 0, 1, 2, 2, 3, 3][chance.below(8)]]
         files[name] = damaged(chance, files[name], piece)
+    if chance.is_one_of(4):
+        files["notes"] += UNPASSED.encode()
     text = joined(files)
     if chance.is_one_of(4):
         text = damaged(chance, text, other["deck"])
