@@ -1,6 +1,7 @@
 mod Checks
 pub mod EndLaws
 pub mod LineCounts
+pub mod LineSums
 pub mod Lists
 pub mod Passing
 pub mod PriceText

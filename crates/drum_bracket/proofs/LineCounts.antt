@@ -1,12 +1,12 @@
 -- How many lines a walk in rounds has: a part is told once, and another piece, which is named once
 -- at most, no more often.
 use Rattle.std.proofs.Common.{◌≡◌, ℕ, zero, suc, ◌+◌, ◌-◌, ◌*◌, ◌^◌, ◌<◌, ◌≤◌, Bool, true, false, cond, ◌&&◌, List, [], ◌∷◌, ◌++◌}
-use Rattle.std.proofs.Common.{length, flat_map, filter, refl, ap, sym, ◌∙◌, subst, arith, Option, Some, None, inl, inr}
+use Rattle.std.proofs.Common.{length, flat_map, refl, ap, sym, ◌∙◌, subst, arith, Option, Some, None, inl, inr}
 use Rattle.std.proofs.Common.{append_assoc, length-append}
 use Rattle.std.specs.Prelude.{◌==◌, is_none, nat_lt, not, slice_get, sum_by, unwrap_or}
-use Rattle.std.proofs.Math.Nat.{mul-le-mul_right, mul-zero, suc-mul}
+use Rattle.std.proofs.Math.Nat.{mul-le-mul_right, mul-zero}
 use Rattle.std.proofs.lemmas.List.{append-nil}
-use Rattle.std.proofs.lemmas.Bool.{cases_lt, eq-eqb, eqb-true, false≢true, lt-ltb, ltb-false, ltb-true}
+use Rattle.std.proofs.lemmas.Bool.{cases_lt, eq-eqb, eqb-true, false≢true, lt-ltb, ltb-false, ltb-true, ne_eqb}
 use Rattle.std.proofs.lemmas.List.Sums.{sum_by-append, sum_by-cons}
 use Rattle.std.proofs.lemmas.Option.{slice_get_within}
 use Rattle.drum_core.specs.declared.op.Op.{Op}
@@ -18,6 +18,7 @@ use Rattle.drum_bracket.specs.CountsOf.{times_in}
 use Rattle.drum_bracket.specs.RoundsText.{end_line, end_rounds_line, is_composed, is_part, one_more, tell, tell_behind, tell_by, tell_named, tell_one}
 use Rattle.drum_bracket.specs.RoundsText.{tell_part, tell_row, Telling, Told}
 use Rattle.drum_bracket.proofs.Lists.{at_before, at_last, at_none}
+use Rattle.drum_bracket.proofs.LineSums.{upto, upto_add, upto_le, none_upto, upto_last, names_sum}
 
 -- ---- how many lines a piece has, where a part that it names has one
 
@@ -51,13 +52,6 @@ weights_kept pieces before (one ∷ others) k less =
     weights_kept pieces (before ++ weight pieces before one ∷ []) others k
     (omega (arith, less, length-append before (weight pieces before one ∷ [])))
     ∙ of_before before (weight pieces before one) k less
-
-ne_eqb : (a b : ℕ) → (a ≡ b → ⊥) → (a == b) ≡ false
-ne_eqb a b apart = go (a == b) refl
-  where
-    go : (c : Bool) → (a == b) ≡ c → c ≡ false
-    go true is = absurd (apart (eqb-true a b is))
-    go false is = refl
 
 -- the lines of parts that have not begun, by the numbers of their pieces below a count
 unspent : (ℕ → Bool) → (ℕ → ℕ) → (ℕ → Option ℕ) → ℕ → ℕ
@@ -279,99 +273,6 @@ ge_ltb a b low = go (nat_lt a b) refl
     go : (c : Bool) → nat_lt a b ≡ c → c ≡ false
     go true is = absurd (omega (arith, low, ltb-true a b is))
     go false is = refl
-
--- ---- sums
-
-upto : (ℕ → ℕ) → ℕ → ℕ
-upto f zero = 0
-upto f (suc count) = upto f count + f count
-
-upto_add : (f g : ℕ → ℕ) (count : ℕ) → upto (λ k. f k + g k) count ≡ upto f count + upto g count
-unfolding upto
-upto_add f g zero = refl
-upto_add f g (suc count) = omega (arith, upto_add f g count)
-
-upto_le : (f g : ℕ → ℕ) (count : ℕ) → ((k : ℕ) → k < count → f k ≤ g k) → upto f count ≤ upto g count
-unfolding upto
-upto_le f g zero less = omega arith
-upto_le f g (suc count) less =
-    omega (arith, upto_le f g count (λ k low. less k (omega (arith, low))), less count (omega arith))
-
-none_upto : (f : ℕ → ℕ) → upto f 0 ≡ 0
-unfolding upto
-none_upto f = refl
-
-upto_last : (f : ℕ → ℕ) (count : ℕ) → 0 < count → f (count - 1) ≤ upto f count
-unfolding upto
-upto_last f zero some = absurd (omega (arith, some))
-upto_last f (suc count) some = let same : suc count - 1 ≡ count = omega arith in omega (arith, ap f same)
-
--- one of them alone
-abbrev single : (ℕ → ℕ) → ℕ → ℕ → ℕ
-single f number k = cond (number == k) (f k) 0
-
-upto_none : (f : ℕ → ℕ) (number count : ℕ) → count ≤ number → upto (single f number) count ≡ 0
-unfolding upto
-upto_none f number zero low = refl
-upto_none f number (suc count) low =
-    let apart : number ≡ count → ⊥ = λ e. omega (arith, low, e) in
-    omega (
-      arith,
-      upto_none f number count (omega (arith, low)),
-      ap (λ (b : Bool). cond b (f count) 0) (ne_eqb number count apart),
-    )
-
-upto_single : (f : ℕ → ℕ) (number count : ℕ) → number < count → upto (single f number) count ≡ f number
-unfolding upto
-upto_single f number zero low = absurd (omega (arith, low))
-upto_single f number (suc count) low = elim (cases_lt number count) [
-  | inl less ↦
-      let apart : number ≡ count → ⊥ = λ e. omega (arith, less, e) in
-      omega (
-        arith,
-        upto_single f number count less,
-        ap (λ (b : Bool). cond b (f count) 0) (ne_eqb number count apart),
-      )
-  | inr more ↦
-      let here : number ≡ count = omega (arith, more, low) in
-      omega (
-        arith,
-        upto_none f number count (omega (arith, here)),
-        ap (λ (b : Bool). cond b (f count) 0) (eq-eqb number count here),
-        ap f here,
-      )
-]
-
--- what names stand for, by how often each is among them
-times_more : (f : ℕ → ℕ) (name : ℕ) (names : List ℕ) (k : ℕ)
-    → times_in (name ∷ names) k * f k ≡ times_in names k * f k + single f name k
-times_more f name names k = go (name == k)
-  where
-    go : (b : Bool) → length (cond b (name ∷ filter (λ other. other == k) names) (filter (λ other. other == k) names)) * f k
-        ≡ times_in names k * f k + cond b (f k) 0
-    go true = omega (arith, suc-mul (times_in names k) (f k))
-    go false = omega arith
-
-names_sum : (f : ℕ → ℕ) (count : ℕ) → ((k : ℕ) → count ≤ k → f k ≡ 0) → (names : List ℕ)
-    → sum_by f names ≤ upto (λ k. times_in names k * f k) count
-names_sum f count beyond [] = omega arith
-names_sum f count beyond (name ∷ names) =
-    let more : upto (λ k. times_in (name ∷ names) k * f k) count
-    ≡ upto (λ k. times_in names k * f k + single f name k) count =
-    ap (λ (g : ℕ → ℕ). upto g count) (λ i k. times_more f name names k i) in
-    let one : f name ≤ upto (single f name) count =
-    elim (cases_lt name count) [
-      | inl less ↦ omega (arith, upto_single f name count less)
-      | inr low ↦ omega (arith, beyond name (omega (arith, low)))
-    ] in
-    omega (
-      arith,
-      sum_by-cons f name names,
-      names_sum f count beyond names,
-      more,
-      upto_add (λ k. times_in names k * f k) (single f name) count,
-      one,
-    )
 
 -- ---- tests
 

@@ -16,8 +16,8 @@
 //! Proofs. `PriceText` is a mark's line, and `RoundsLines` are a walk's, of their pieces. `Lists`
 //! has what stands where in a list, and `EndLaws` where hops begin. `Passing` has lines that are
 //! told one after the other, and what room they take; `Tellings` how pieces are told, and how long
-//! they take; `Totals` that the whole takes the walk's time; `LineCounts` how many lines there are
-//! at most; `Starts` a walk from its beginning. `Checks` evaluates the definitions.
+//! they take; `Totals` that the whole takes the walk's time; `LineCounts`, by `LineSums`, how many
+//! lines there are at most; `Starts` a walk from its beginning. `Checks` evaluates the definitions.
 #![tactic(auto)]
 
 mod counts;
