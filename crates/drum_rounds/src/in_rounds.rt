@@ -56,7 +56,7 @@ impl InRounds {
         self.lasting[number]
     }
 
-    /// How often its piece with this number comes in the whole walk.
+    /// How often its piece with this number, if that is a hop, comes in the whole walk.
     pub fn often(&self, number: usize) -> u128
         requires { number < length (often_of self.now) }
         ensures { result ≡ slice_index (often_of self.now) number }

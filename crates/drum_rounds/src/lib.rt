@@ -11,8 +11,8 @@
 //! that it ends. `bracket` has a ceiling with a walk. `laws` has laws of the definitions.
 //!
 //! Definitions, in the order to read them: `Pieces` (what pieces spell out), `Order` (how they are
-//! numbered), `InRounds` (when a walk in rounds is right), `BracketOf` (the same of a ceiling with a
-//! walk). The others say what the code's types mean by these: `Change`, `Stretch`, `OrderOf` and
+//! numbered), `InRounds` (when a walk in rounds is right), `BracketOf` (the same of a ceiling with
+//! a walk). The others say what the code's types mean by these: `Change`, `Stretch`, `OrderOf` and
 //! `OftenOf`.
 //!
 //! Proofs. `CountLaws` has what changes do to counts, `LaidLaws` hops that are laid one after the
