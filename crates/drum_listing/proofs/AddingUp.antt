@@ -175,7 +175,7 @@ kinds_add_up g angle used walk firsts is kinds =
 -- ---- the columns of a kind
 
 -- its waits are part of its time
-abbrev Fits : (Op → Entry) → ℕ → Visited → Type 0
+abbrev pub Fits : (Op → Entry) → ℕ → Visited → Type 0
 Fits times angle hop = for_instruction times angle hop + for_data times angle hop ≤ time_of hop
 
 -- with the moments as they are counted: from the start angle on
@@ -195,7 +195,7 @@ ends_behind entry op d place units wait clock =
       never_earlier (parity_recurs entry.parity) (reached op d (ready entry place clock)),
     )
 
-hop_fits : (times : Op → Entry) (angle : ℕ) (hop : Taken) → IsTimed times angle hop (op_of hop.ins.op)
+pub hop_fits : (times : Op → Entry) (angle : ℕ) (hop : Taken) → IsTimed times angle hop (op_of hop.ins.op)
     → Fits times angle (visited hop)
 hop_fits times angle hop = go (op_of hop.ins.op)
   where

@@ -2,6 +2,8 @@ pub mod AddingUp
 mod Checks
 pub mod DataAngles
 pub mod Gathers
+pub mod KindRows
+pub mod LaterMoments
 pub mod Lines
 pub mod NextAngles
 pub mod OneListing

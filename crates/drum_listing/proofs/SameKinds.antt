@@ -172,6 +172,7 @@ pub record HaveInCommon (a b : Visited) : Type 0 where
   pub place : a.place ≡ b.place
   pub op : a.ins.op ≡ b.ins.op
   pub d : a.ins.d ≡ b.ins.d
+  pub i : a.ins.i ≡ b.ins.i
   pub way : a.way ≡ b.way
 
 pub in_common : (a b : Visited) → is_alike a b ≡ true → HaveInCommon a b
@@ -182,5 +183,6 @@ in_common a b so =
       place = eqb-true a.place b.place each.first;
       op = eqb-true a.ins.op b.ins.op each.second;
       d = eqb-true a.ins.d b.ins.d each.third;
+      i = eqb-true a.ins.i b.ins.i each.fourth;
       way = same_way a.way b.way each.fifth;
     }

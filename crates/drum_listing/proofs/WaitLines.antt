@@ -152,7 +152,7 @@ row_line times angle walk wait is =
     ap (λ (sums : Sums). kind_line times angle (first_of wait) sums.visits sums.time sums.instruction
     sums.operand) is
 
-same_texts : {X : Type 0} (f g : X → List ℕ) (xs : List X) → ((x : X) → Contains xs x → f x ≡ g x)
+pub same_texts : {X : Type 0} (f g : X → List ℕ) (xs : List X) → ((x : X) → Contains xs x → f x ≡ g x)
     → flat_map f xs ≡ flat_map g xs
 same_texts f g [] same = refl
 same_texts f g (x ∷ xs) same =

@@ -1,16 +1,12 @@
 -- That rows of all kinds of a walk, sorted, are its waits.
-use Rattle.std.proofs.Common.{◌≡◌, ℕ, zero, suc, ◌+◌, ◌-◌, ◌^◌, ◌<◌, ◌≤◌, ◌⊎◌, inl, inr, Bool, true, false, cond, List, [], ◌∷◌, ◌++◌, length}
-use Rattle.std.proofs.Common.{get_or, map, refl, ap, sym, ◌∙◌, subst, arith, Some, filter, is_lt, nat_cmp}
-use Rattle.std.proofs.Common.{◌==◌, Less, Equal, Greater, nat_lt, ltb-false, eqb-true, eq-eqb}
-use Rattle.std.proofs.lemmas.Bool.{cases_lt}
+use Rattle.std.proofs.Common.{◌≡◌, ℕ, zero, suc, ◌+◌, ◌<◌, ◌≤◌, ◌⊎◌, inl, inr, Bool, true, false, cond, List, [], ◌∷◌, ◌++◌}
+use Rattle.std.proofs.Common.{map, refl, ap, sym, ◌∙◌, subst, arith, Some, filter}
 use Rattle.std.proofs.lemmas.List.Sums.{sum_by-cons}
 use Rattle.std.proofs.lemmas.Map.Entries.{hash_map_get_place, place_from_lookup}
-use Rattle.std.proofs.lemmas.Map.Keys.{apart_from_distinct}
-use Rattle.std.proofs.lemmas.Option.{get_or_from_slice_get, slice_get-map, slice_get_within}
+use Rattle.std.proofs.lemmas.Option.{slice_get-map}
 use Rattle.std.proofs.Math.Logic.{∥∥₁_elim}
 use Rattle.std.proofs.Props.{props}
-use Rattle.std.specs.Map.{keys_of, values_of}
-use Rattle.std.specs.Ordering.{ordering_then}
+use Rattle.std.specs.Map.{values_of}
 use Rattle.std.specs.Prelude.{Contains, option_map, slice_get, sum_by}
 use Rattle.indexmap.specs.IndexMap.{IndexMap, get}
 use Rattle.drum_core.specs.declared.op.Op.{Op}
@@ -25,6 +21,7 @@ use Rattle.drum_listing.specs.declared.waits.sums.Sums.{Sums}
 use Rattle.drum_listing.specs.declared.waits.wait.Wait.{Wait}
 use Rattle.drum_listing.specs.Waits.{AreDearestFirst, ComesBefore, IsFirst, alike, is_alike, time_alike, time_of}
 use Rattle.drum_listing.specs.WaitsOf.{AreRows, AreWaits, IsSumOf, first_of, kind_of, of_kind, row_of, same_kind, sums_of}
+use Rattle.drum_listing.proofs.KindRows.{entry_of, key_at, one_place, AreDearest}
 use Rattle.drum_listing.proofs.SameKinds.{same_kind_equiv}
 use Rattle.drum_listing.proofs.WaitRows.{of_same, part_le}
 
@@ -173,14 +170,12 @@ module _ (times : Op → Entry) (angle : ℕ) (walk : List Visit) (kind : Kind) 
 
 -- ---- the rows of all kinds
 
--- an entry with a row of its values
-entry_of : (pairs : List (Kind × Wait)) (i : ℕ) (row : Wait) → slice_get (values_of pairs) i ≡ Some row
-    → (key : Kind) × (slice_get pairs i ≡ Some (key, row))
-entry_of [] i row at = absurd (cc)
-entry_of (pair ∷ pairs) zero row at =
-    let same : pair.1 ≡ row = cc in
-    (pair.0, ap (λ (r : Wait). Some (pair.0, r)) same)
-entry_of (pair ∷ pairs) (suc i) row at = entry_of pairs i row at
+-- what a row is sorted by
+abbrev pub time_in : Wait → ℕ
+time_in row = row.sums.time
+
+abbrev pub begun_in : Wait → ℕ
+begun_in row = row.first.begun
 
 -- a row whose first hop this is
 row_at : (rows : List Wait) (i : ℕ) (hop : Visited) → slice_get (map first_of rows) i ≡ Some hop
@@ -190,15 +185,6 @@ row_at (row ∷ rows) zero hop at =
     let same : first_of row ≡ hop = cc in
     (row, refl, same)
 row_at (row ∷ rows) (suc i) hop at = row_at rows i hop at
-
--- the order of the rows
-abbrev pub IsDearer : Wait → Wait → Type 0
-IsDearer a b =
-    (b.sums.time < a.sums.time) ⊎ ((a.sums.time ≡ b.sums.time) × (a.first.begun ≤ b.first.begun))
-
-abbrev pub AreDearest : List Wait → Type 0
-AreDearest rows = (k : ℕ) (a b : Wait) → slice_get rows k ≡ Some a → slice_get rows (suc k) ≡ Some b
-    → IsDearer a b
 
 module _ {S : Type 0} (times : Op → Entry) (angle : ℕ) (walk : List Visit) (rows : IndexMap Kind Wait S)
     (are : AreRows times angle walk rows) where
@@ -212,38 +198,6 @@ module _ {S : Type 0} (times : Op → Entry) (angle : ℕ) (walk : List Visit) (
             (sym (are.found entry.0)
             ∙ hash_map_get_place same_kind_equiv rows i entry.0 row are.apart entry.1),
       )
-
-  -- the key of an entry, at its place
-  key_at : (i : ℕ) (key : Kind) (row : Wait) → slice_get rows.entries i ≡ Some (key, row)
-      → slice_get (keys_of rows.entries) i ≡ Some key
-  key_at i key row at =
-      slice_get-map (λ (e : Kind × Wait). e.0) rows.entries i
-      ∙ ap (option_map (λ (e : Kind × Wait). e.0)) at
-
-  -- entries of one kind are one
-  one_place : (i j : ℕ) (a b : Kind) → slice_get (keys_of rows.entries) i ≡ Some a
-      → slice_get (keys_of rows.entries) j ≡ Some b → same_kind a b ≡ true → i ≡ j
-  one_place i j a b p q so = elim (cases_lt i j) [
-    | inl less ↦ absurd (clash (sym so ∙ unlike i j a b less p q))
-    | inr other ↦
-        elim (cases_lt j i) [
-          | inl less ↦
-              absurd (clash (sym (same_kind_equiv.symm b a ∙ so) ∙ unlike j i b a less q p))
-          | inr same ↦ omega (arith, other, same)
-        ]
-  ]
-    where
-      clash : true ≡ false → ⊥
-      clash e = cc
-
-      unlike : (i j : ℕ) (a b : Kind) → i < j → slice_get (keys_of rows.entries) i ≡ Some a
-          → slice_get (keys_of rows.entries) j ≡ Some b → same_kind a b ≡ false
-      unlike i j a b less p q =
-          sym (ap (λ (k : Kind). same_kind k b) (get_or_from_slice_get (keys_of rows.entries) i a a p))
-          ∙ sym (ap (λ (k : Kind). same_kind (get_or (keys_of rows.entries) i a) k)
-          (get_or_from_slice_get (keys_of rows.entries) j b a q))
-          ∙ apart_from_distinct same_kind (keys_of rows.entries) i j a are.apart less
-          (slice_get_within (keys_of rows.entries) j b q)
 
   sum_of : (row : Wait) → Contains (values_of rows.entries) row
       → IsSumOf times angle (map seen_visit walk) row
@@ -284,7 +238,7 @@ module _ {S : Type 0} (times : Op → Entry) (angle : ℕ) (walk : List Visit) (
             same_kind_equiv.symm (kind_of one) (kind_of visit) ∙ head.passes,
           )
 
-  pub dearest_first : AreDearest (values_of rows.entries)
+  pub dearest_first : AreDearest time_in begun_in (values_of rows.entries)
       → AreDearestFirst (map seen_visit walk) (map first_of (values_of rows.entries))
   dearest_first sorted = record {
     first = λ one has.
@@ -306,7 +260,8 @@ module _ {S : Type 0} (times : Op → Entry) (angle : ℕ) (walk : List Visit) (
         let other = entry_is j second.0 second.1 in
         let alike : same_kind (kind_of first.0.first) (kind_of second.0.first) ≡ true =
         ap (λ (hop : Visited). is_alike hop (first_of second.0)) first.2 ∙ ap (is_alike a) second.2 ∙ so in
-        one_place i j one.0 other.0 (key_at i one.0 first.0 one.1) (key_at j other.0 second.0 other.1)
+        one_place rows are.apart i j one.0 other.0 (key_at rows.entries i one.0 first.0 one.1)
+        (key_at rows.entries j other.0 second.0 other.1)
         (same_kind_equiv.congr one.0 (kind_of first.0.first) other.0 one.2.head.passes
         ∙ same_kind_equiv.symm (kind_of first.0.first) other.0
         ∙ same_kind_equiv.congr other.0 (kind_of second.0.first) (kind_of first.0.first) other.2.head.passes
@@ -337,66 +292,6 @@ module _ {S : Type 0} (times : Op → Entry) (angle : ℕ) (walk : List Visit) (
       comes_before a b took takes begins later p q r s (inl less) = inl (omega (arith, p, q, less))
       comes_before a b took takes begins later p q r s (inr same) =
           inr (sym p ∙ same.0 ∙ q, omega (arith, r, s, same.1))
-
--- ---- the order in which they are sorted
-
-pub not_below : (a a' b b' : ℕ) → is_lt (ordering_then (nat_cmp a a') (nat_cmp b b')) ≡ false
-    → (a' < a) ⊎ ((a ≡ a') × (b' ≤ b))
-not_below a a' b b' = go (nat_lt a a') (a == a') (nat_lt b b') (b == b') refl refl refl
-  where
-    go : (p q r s : Bool) → nat_lt a a' ≡ p → (a == a') ≡ q → nat_lt b b' ≡ r
-        → is_lt (ordering_then (cond p Less (cond q Equal Greater)) (cond r Less (cond s Equal Greater)))
-        ≡ false
-        → (a' < a) ⊎ ((a ≡ a') × (b' ≤ b))
-    go true q r s less same below so = absurd (cc)
-    go false true true s less same below so = absurd (cc)
-    go false true false s less same below so = inr (eqb-true a a' same, ltb-false b b' below)
-    go false false r s less same below so = elim (cases_lt a' a) [
-      | inl greater ↦ inl greater
-      | inr other ↦
-          let equal : a ≡ a' = omega (arith, other, ltb-false a a' less) in
-          absurd (clash (sym same ∙ eq-eqb a a' equal))
-    ]
-      where
-        clash : false ≡ true → ⊥
-        clash e = cc
-
--- what the sort sorts by
-abbrev pub sort_key : Kind × Wait → ℕ × ℕ
-sort_key entry = (340282366920938463463374607431768211455 - entry.1.sums.time, entry.1.first.begun)
-
-pub dearest_sorted : (entries : List (Kind × Wait))
-    → ((row : Wait) → Contains (values_of entries) row → row.sums.time < 2 ^ 50)
-    → ((k : ℕ) (d : Kind × Wait) → 0 ≤ k → k + 1 < length entries
-    → is_lt (ordering_then
-    (nat_cmp (sort_key (get_or entries (k + 1) d)).0 (sort_key (get_or entries k d)).0)
-    (nat_cmp (sort_key (get_or entries (k + 1) d)).1 (sort_key (get_or entries k d)).1)) ≡ false)
-    → AreDearest (values_of entries)
-dearest_sorted entries short sorted k a b p q =
-    let first = entry_of entries k a p in
-    let second = entry_of entries (suc k) b q in
-    let one : Kind × Wait = (first.0, a) in
-    let other : Kind × Wait = (second.0, b) in
-    let here : get_or entries k one ≡ one = get_or_from_slice_get entries k one one first.1 in
-    let next : suc k ≡ k + 1 = omega arith in
-    let there : get_or entries (k + 1) one ≡ other =
-    ap (λ (n : ℕ). get_or entries n one) (sym next)
-    ∙ get_or_from_slice_get entries (suc k) other one second.1 in
-    let within : k + 1 < length entries = omega (arith, slice_get_within entries (suc k) other second.1) in
-    let so : is_lt (ordering_then (nat_cmp (sort_key other).0 (sort_key one).0)
-    (nat_cmp (sort_key other).1 (sort_key one).1)) ≡ false =
-    subst (λ (x : Kind × Wait). is_lt (ordering_then (nat_cmp (sort_key other).0 (sort_key x).0)
-    (nat_cmp (sort_key other).1 (sort_key x).1)) ≡ false) here
-    (subst (λ (x : Kind × Wait). is_lt (ordering_then
-    (nat_cmp (sort_key x).0 (sort_key (get_or entries k one)).0)
-    (nat_cmp (sort_key x).1 (sort_key (get_or entries k one)).1)) ≡ false) there
-    (sorted k one (omega arith) within)) in
-    let low : a.sums.time < 2 ^ 50 = short a (contains_from_get (values_of entries) k a p) in
-    let short_too : b.sums.time < 2 ^ 50 = short b (contains_from_get (values_of entries) (suc k) b q) in
-    elim (not_below (sort_key other).0 (sort_key one).0 (sort_key other).1 (sort_key one).1 so) [
-      | inl less ↦ inl (omega (arith, less, low, short_too))
-      | inr same ↦ inr (omega (arith, same.0, low, short_too), same.1)
-    ]
 
 -- ---- how long a walk takes
 
@@ -433,7 +328,7 @@ module _ {S : Type 0} (times : Op → Entry) (angle : ℕ) (walk : List Visit) (
       )
 
   rows_are : (waits : Waits) → waits.by_kind.entries ≡ rows.entries
-      → AreDearest (values_of rows.entries) → AreWaits times angle (map seen_visit walk) waits
+      → AreDearest time_in begun_in (values_of rows.entries) → AreWaits times angle (map seen_visit walk) waits
   rows_are waits same sorted = record {
     rows = λ row has.
         sum_of times angle walk rows are row
@@ -446,7 +341,7 @@ module _ {S : Type 0} (times : Op → Entry) (angle : ℕ) (walk : List Visit) (
   -- The rows, sorted, are the waits of the visits that are seen so.
   pub are_waits : (start : ℕ) (visits : List Visited) → angle ≡ start → map seen_visit walk ≡ visits
       → (waits : Waits) → waits.by_kind.entries ≡ rows.entries
-      → AreDearest (values_of rows.entries) → AreWaits times start visits waits
+      → AreDearest time_in begun_in (values_of rows.entries) → AreWaits times start visits waits
   are_waits start visits at seen waits same sorted =
       subst (λ (hops : List Visited). AreWaits times start hops waits) seen
       (subst (λ (a : ℕ). AreWaits times a (map seen_visit walk) waits) at (rows_are waits same sorted))

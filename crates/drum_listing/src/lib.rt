@@ -18,7 +18,8 @@
 //! kind. `laws` has laws of the definitions.
 //!
 //! A crate above writes lines of its own hops by `send_hop`, `send_times_later` and `send_kind`,
-//! whose numbers may be as large as a u128, and gathers them by `pass_line`.
+//! whose numbers may be as large as a u128, and gathers them by `pass_line`; by `Kind`, `Spent` and
+//! `Sums` it adds up what its own hops take.
 //!
 //! Definitions, in the order to read them: `Moments`, `MomentsText`, `WalkText`, `HeldText` (what a
 //! machine holds after a step), `TraceText`, `Waits`, `WaitsText`, `TableText`. The others say what
@@ -28,10 +29,12 @@
 //!
 //! Proofs. `Lines` puts lines together of their pieces, `Gathers` has lines that go out many at a
 //! time, and `Strides` what a step's answer tells of its stride. `Checks` and `WaitChecks` evaluate
-//! the definitions. Of the waits: `SameKinds` (`==` of kinds), `Waiting` (how long a hop waits at
-//! most), `WaitRows` (rows with a hop more), `WaitsFound` (rows, sorted, are the waits),
-//! `WaitLines`; and for their laws `AddingUp`, `OneListing`, `DataAngles` and `NextAngles`. Of the
-//! table: `TableRows` (rows that are sorted are in order) and `TableLines`.
+//! the definitions. Of the waits: `SameKinds` (`==` of kinds), `KindRows` (where a map has a kind's
+//! row, and how rows are sorted), `Waiting` (how long a hop waits at most), `WaitRows` (rows with a
+//! hop more), `WaitsFound` (rows, sorted, are the waits), `WaitLines`; and for their laws
+//! `AddingUp`, `OneListing`, `DataAngles` and `NextAngles`. `LaterMoments` has a hop's moments as
+//! they are at its angle. Of the table: `TableRows` (rows that are sorted are in order) and
+//! `TableLines`.
 #![tactic(auto)]
 
 mod acted;
@@ -60,5 +63,5 @@ pub use passing::pass_line;
 pub use step_page::pass_step;
 pub use table::{Table, list_table};
 pub use told::Told;
-pub use waits::{Sums, Waits, list_waits, send_kind};
+pub use waits::{Kind, Spent, Sums, Waits, list_waits, send_kind};
 pub use walk::list_walk;

@@ -7,8 +7,8 @@ ghost use Rattle.drum_listing.specs.Told.{seen_told};
 use drum_bound::{Visit, Way};
 use drum_core::{Instruction, Location};
 
-/// A hop as its line tells it: of a walk, or of a step that is handed in. A step may end at any
-/// moment, so it is no [`Visit`].
+/// A hop as its line tells it: of a walk, of a step that is handed in, or of a piece. A step may
+/// end at any moment, so it is no [`Visit`].
 #[derive(Clone, Copy, Debug, PartialEq, Eq)]
 pub struct Told {
     /// Where it begins.

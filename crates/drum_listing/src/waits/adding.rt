@@ -1,19 +1,32 @@
 //! What the hops of each kind take in all.
 
-ghost use Rattle.std.specs.Prelude.{◌^◌, ◌<◌, ◌≤◌, IfOk, length, map, sum_by};
+ghost use Rattle.std.specs.Prelude.{◌≡◌, ◌^◌, ◌<◌, ◌≤◌, IfOk, length, map, sum_by};
 ghost use Rattle.drum_times.specs.Entries.{entry_in};
 ghost use Rattle.drum_bound.specs.Visited.{seen_visit};
-ghost use Rattle.drum_listing.specs.Waits.{time_of};
+ghost use Rattle.drum_listing.specs.Waits.{for_data, for_instruction, time_of};
 ghost use Rattle.drum_listing.specs.WaitsOf.{AreRows};
 
 use super::kind::Kind;
 use super::spent::Spent;
 use super::sums::Sums;
 use super::wait::Wait;
+use crate::told::Told;
 use drum_bound::Visit;
 use drum_times::Times;
 use indexmap::IndexMap;
 use std::alloc::{AllocError, Global};
+
+/// What one hop takes.
+fn spent_by(visit: &Visit, times: &Times, angle: u8) -> Sums
+    ensures visits { result.visits ≡ 1 }
+    ensures time { result.time ≡ time_of (seen_visit visit.now) }
+    ensures instruction { result.instruction
+        ≡ for_instruction (entry_in times.now) angle (seen_visit visit.now) }
+    ensures operand { result.operand
+        ≡ for_data (entry_in times.now) angle (seen_visit visit.now) }
+{
+    Sums::of(&Spent::of(&Told::of(visit), times, angle), 1)
+}
 
 /// What the hops of each kind take in all, in the order in which the walk comes to the kinds, on a
 /// drum with this angle at time 0.
@@ -30,15 +43,15 @@ pub fn by_kind(
     let mut waits: IndexMap<Kind, Wait> = IndexMap::new(alloc);
     for visit in walk {
         let kind = Kind::of(visit);
-        let spent = Spent::of(visit, times, angle);
+        let sums = spent_by(visit, times, angle);
         let wait = match waits.get(&kind) {
             Some(wait) => Wait {
                 first: wait.first,
-                sums: wait.sums.with(&spent),
+                sums: wait.sums.plus(&sums),
             },
             None => Wait {
                 first: *visit,
-                sums: Sums::of(&spent),
+                sums,
             },
         };
         waits.insert(kind, wait)?;

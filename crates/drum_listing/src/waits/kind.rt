@@ -1,12 +1,15 @@
 use drum_bound::{Visit, Way};
 use drum_core::{Instruction, Location};
 
-/// What makes hops be of one kind: where they begin, their instruction, and how they end.
+/// What the hops of one kind have in common: where they begin, their instruction, and how they end.
 #[derive(Clone, Copy, Debug, PartialEq, Eq, Hash)]
 pub struct Kind {
-    place: Location,
-    instruction: Instruction,
-    way: Way,
+    /// Where they begin.
+    pub place: Location,
+    /// Their instruction.
+    pub instruction: Instruction,
+    /// How they end.
+    pub way: Way,
 }
 
 impl Kind {
@@ -14,7 +17,7 @@ impl Kind {
     ghost use Rattle.drum_listing.specs.WaitsOf.{kind_of};
 
     /// The kind of a hop.
-    pub fn of(visit: &Visit) -> Kind
+    pub(crate) fn of(visit: &Visit) -> Kind
         ensures { result ≡ kind_of visit.now }
     {
         Kind {

@@ -1,6 +1,5 @@
 use crate::moments::Moments;
 use crate::told::Told;
-use drum_bound::Visit;
 use drum_times::Times;
 
 /// What a hop takes, in word times.
@@ -15,28 +14,28 @@ pub struct Spent {
 }
 
 impl Spent {
-    ghost use Rattle.std.specs.Prelude.{◌≡◌};
+    ghost use Rattle.std.specs.Prelude.{◌≡◌, ◌^◌, ◌≤◌};
     ghost use Rattle.drum_times.specs.Entries.{entry_in};
-    ghost use Rattle.drum_bound.specs.Visited.{seen_visit};
+    ghost use Rattle.drum_listing.specs.Told.{seen_told};
     ghost use Rattle.drum_listing.specs.Waits.{for_data, for_instruction, time_of};
 
     /// What a hop takes, on a drum with this angle at time 0.
-    pub fn of(visit: &Visit, times: &Times, angle: u8) -> Spent
-        ensures time { result.time ≡ time_of (seen_visit visit.now) }
+    pub fn of(told: &Told, times: &Times, angle: u8) -> Spent
+        requires { told.now.begun ≤ 2 ^ 62 }
+        ensures time { result.time ≡ time_of (seen_told told.now) }
         ensures instruction { result.instruction
-            ≡ for_instruction (entry_in times.now) angle (seen_visit visit.now) }
+            ≡ for_instruction (entry_in times.now) angle (seen_told told.now) }
         ensures operand { result.operand
-            ≡ for_data (entry_in times.now) angle (seen_visit visit.now) }
+            ≡ for_data (entry_in times.now) angle (seen_told told.now) }
     {
-        let told = Told::of(visit);
-        let moments = Moments::of(&told, times, angle);
+        let moments = Moments::of(told, times, angle);
         let operand = match (moments.ready, moments.operand) {
             (Some(ready), Some(operand)) => operand - ready,
             _ => 0,
         };
         Spent {
-            time: u64::from(visit.took),
-            instruction: moments.found - visit.begun,
+            time: told.ended.saturating_sub(told.begun),
+            instruction: moments.found - told.begun,
             operand,
         }
     }

@@ -14,44 +14,48 @@ pub struct Sums {
 }
 
 impl Sums {
-    ghost use Rattle.std.specs.Prelude.{◌≡◌, ◌+◌, ◌-◌, ◌^◌, ◌<◌};
+    ghost use Rattle.std.specs.Prelude.{◌≡◌, ◌+◌, ◌-◌, ◌*◌, ◌^◌, ◌<◌};
 
-    /// What one hop takes.
-    pub(crate) fn of(spent: &Spent) -> Sums
-        ensures visits { result.visits ≡ 1 }
-        ensures time { result.time ≡ spent.now.time }
-        ensures instruction { result.instruction ≡ spent.now.instruction }
-        ensures operand { result.operand ≡ spent.now.operand }
+    /// What so many hops take, each of which takes this.
+    pub fn of(spent: &Spent, often: u128) -> Sums
+        requires time { often * spent.now.time < 2 ^ 128 }
+        requires instruction { often * spent.now.instruction < 2 ^ 128 }
+        requires operand { often * spent.now.operand < 2 ^ 128 }
+        ensures visits { result.visits ≡ often }
+        ensures time { result.time ≡ often * spent.now.time }
+        ensures instruction { result.instruction ≡ often * spent.now.instruction }
+        ensures operand { result.operand ≡ often * spent.now.operand }
     {
         Sums {
-            visits: 1,
-            time: u128::from(spent.time),
-            instruction: u128::from(spent.instruction),
-            operand: u128::from(spent.operand),
+            visits: often,
+            time: often * u128::from(spent.time),
+            instruction: often * u128::from(spent.instruction),
+            operand: often * u128::from(spent.operand),
         }
     }
 
-    /// With a hop more.
-    pub(crate) fn with(&self, spent: &Spent) -> Sums
-        requires visits { self.now.visits + 1 < 2 ^ 128 }
-        requires time { self.now.time + spent.now.time < 2 ^ 128 }
-        requires instruction { self.now.instruction + spent.now.instruction < 2 ^ 128 }
-        requires operand { self.now.operand + spent.now.operand < 2 ^ 128 }
-        ensures visits { result.visits ≡ self.now.visits + 1 }
-        ensures time { result.time ≡ self.now.time + spent.now.time }
+    /// The sum of both.
+    pub fn plus(&self, other: &Sums) -> Sums
+        requires visits { self.now.visits + other.now.visits < 2 ^ 128 }
+        requires time { self.now.time + other.now.time < 2 ^ 128 }
+        requires instruction { self.now.instruction + other.now.instruction < 2 ^ 128 }
+        requires operand { self.now.operand + other.now.operand < 2 ^ 128 }
+        ensures visits { result.visits ≡ self.now.visits + other.now.visits }
+        ensures time { result.time ≡ self.now.time + other.now.time }
         ensures instruction { result.instruction
-            ≡ self.now.instruction + spent.now.instruction }
-        ensures operand { result.operand ≡ self.now.operand + spent.now.operand }
+            ≡ self.now.instruction + other.now.instruction }
+        ensures operand { result.operand ≡ self.now.operand + other.now.operand }
     {
         Sums {
-            visits: self.visits + 1,
-            time: self.time + u128::from(spent.time),
-            instruction: self.instruction + u128::from(spent.instruction),
-            operand: self.operand + u128::from(spent.operand),
+            visits: self.visits + other.visits,
+            time: self.time + other.time,
+            instruction: self.instruction + other.instruction,
+            operand: self.operand + other.operand,
         }
     }
 
-    /// The word times that are left beside those that are waited: the operations' own.
+    /// The rest: what the operations take themselves, with their waits for a parity and for the
+    /// card machine.
     pub fn work(&self) -> u128
         ensures { result ≡ self.now.time - self.now.instruction - self.now.operand }
     {

@@ -9,7 +9,8 @@ use Rattle.drum_bound.specs.Visited.{seen_visit}
 use Rattle.drum_listing.specs.Waits.{time_of}
 use Rattle.drum_listing.specs.WaitsOf.{AreRows}
 use Rattle.drum_listing.proofs.SameKinds.{reordered_same, unique_same}
-use Rattle.drum_listing.proofs.WaitsFound.{are_waits, dearest_sorted, row_short, sort_key, spends}
+use Rattle.drum_listing.proofs.KindRows.{dearest_sorted, sort_key}
+use Rattle.drum_listing.proofs.WaitsFound.{are_waits, begun_in, row_short, spends, time_in}
 use Rattle.drum_listing.proofs.waits.Waits.of.Goals as goal
 
 pub by_kind-requires-clause-short : goal.by_kind-requires-clause-short
@@ -43,7 +44,7 @@ returns c =
     ) in
     are_waits times c.angle.result walk rows are (angle_of analysis) (visits_of analysis) c.angle.ensures
     c.walk.ensures.told _ refl
-    (dearest_sorted rows.entries
+    (dearest_sorted time_in begun_in rows.entries
     (λ row has. omega (arith, row_short times c.angle.result walk rows are row has, short))
-    (c.in_ok-sort_by_key.ensures.sorted sort_key
+    (c.in_ok-sort_by_key.ensures.sorted (sort_key time_in begun_in)
     (answers_always _ _ _ (λ f a r g h. search rules))))

@@ -15,24 +15,24 @@ use Rattle.drum_listing.proofs.waits.adding.by_kind.Goals as goal
 use Rattle.drum_listing.proofs.waits.adding.by_kind.Goals.{in-Some, in-None}
 
 -- the sums that are there leave room for the hop at hand
-room : (c : goal.After-spent-1) → HasRoom (entry_in c.args.times.now) c.args.angle c.visit-item.result c.in-Some.wait.now
+room : (c : goal.After-sums-1) → HasRoom (entry_in c.args.times.now) c.args.angle c.visit-item.result c.in-Some.wait.now
 room c =
     has_room (entry_in c.args.times.now) c.args.angle c.of-kind.result c.args.walk.now c.loop-visit.visit-index
     c.visit-item.result c.in-Some.wait.now c.loop-visit-test.true c.visit-item.is c.requires.few c.requires.short
     (get_same c.loop-visit.waits c.of-kind.result (Some c.in-Some.wait.now) c.in-Some.ensures.value
     ∙ c.loop-visit.invariant.found c.of-kind.result)
 
-pub with-requires-clause-visits : goal.with-requires-clause-visits
-with-requires-clause-visits c = (room c).visits
+pub plus-requires-clause-visits : goal.plus-requires-clause-visits
+plus-requires-clause-visits c = omega (arith, (room c).visits, c.spent_by-sums.ensures.visits)
 
-pub with-requires-clause-time : goal.with-requires-clause-time
-with-requires-clause-time c = omega (arith, (room c).time, c.of-spent.ensures.time)
+pub plus-requires-clause-time : goal.plus-requires-clause-time
+plus-requires-clause-time c = omega (arith, (room c).time, c.spent_by-sums.ensures.time)
 
-pub with-requires-clause-instruction : goal.with-requires-clause-instruction
-with-requires-clause-instruction c = omega (arith, (room c).instruction, c.of-spent.ensures.instruction)
+pub plus-requires-clause-instruction : goal.plus-requires-clause-instruction
+plus-requires-clause-instruction c = omega (arith, (room c).instruction, c.spent_by-sums.ensures.instruction)
 
-pub with-requires-clause-operand : goal.with-requires-clause-operand
-with-requires-clause-operand c = omega (arith, (room c).had, c.of-spent.ensures.operand)
+pub plus-requires-clause-operand : goal.plus-requires-clause-operand
+plus-requires-clause-operand c = omega (arith, (room c).had, c.spent_by-sums.ensures.operand)
 
 -- no more rows than hops, with one hop more
 one_more : (there : Bool) (walk : List Visit) (i before after : ℕ) → i < length walk
@@ -69,21 +69,19 @@ loop-visit-preserved c =
     elim c.match-get.branch [
       | in-Some w ↦
           let before = w.in-Some.wait.now in
-          row_more times angle hops visit before (record { first = before.first; sums = w.with.result })
+          row_more times angle hops visit before (record { first = before.first; sums = w.plus.result })
           (at (Some before) (get_same old kind (Some before) w.in-Some.ensures.value))
-          refl w.with.ensures.visits
-          (w.with.ensures.time ∙ ap (λ (n : ℕ). before.sums.time + n) c.of-spent.ensures.time)
-          (w.with.ensures.instruction
-          ∙ ap (λ (n : ℕ). before.sums.instruction + n) c.of-spent.ensures.instruction)
-          (w.with.ensures.operand ∙ ap (λ (n : ℕ). before.sums.operand + n) c.of-spent.ensures.operand)
+          refl (w.plus.ensures.visits ∙ ap (λ (n : ℕ). before.sums.visits + n) c.spent_by-sums.ensures.visits)
+          (w.plus.ensures.time ∙ ap (λ (n : ℕ). before.sums.time + n) c.spent_by-sums.ensures.time)
+          (w.plus.ensures.instruction
+          ∙ ap (λ (n : ℕ). before.sums.instruction + n) c.spent_by-sums.ensures.instruction)
+          (w.plus.ensures.operand ∙ ap (λ (n : ℕ). before.sums.operand + n) c.spent_by-sums.ensures.operand)
           ∙ ap (λ (wait : Wait). Some wait) (sym w.wait-is)
       | in-None w ↦
-          row_begun times angle hops visit (record { first = visit; sums = w.of.result })
+          row_begun times angle hops visit (record { first = visit; sums = c.spent_by-sums.result })
           (at None (get_same old kind None w.in-None.ensures.value))
-          refl w.of.ensures.visits
-          (w.of.ensures.time ∙ c.of-spent.ensures.time)
-          (w.of.ensures.instruction ∙ c.of-spent.ensures.instruction)
-          (w.of.ensures.operand ∙ c.of-spent.ensures.operand)
+          refl c.spent_by-sums.ensures.visits c.spent_by-sums.ensures.time c.spent_by-sums.ensures.instruction
+          c.spent_by-sums.ensures.operand
           ∙ ap (λ (wait : Wait). Some wait) (sym w.wait-is)
     ] in
     record {

@@ -1,6 +1,5 @@
 use Rattle.std.proofs.Common.{◌≡◌, ap, sym, ◌∙◌, arith}
 use Rattle.drum_times.specs.Entries.{entry_in}
-use Rattle.drum_bound.specs.Visited.{Visited}
 use Rattle.drum_listing.specs.declared.moments.Moments.{Moments}
 use Rattle.drum_listing.specs.Told.{seen_told}
 use Rattle.drum_listing.specs.Waits.{moments_at}
@@ -10,7 +9,7 @@ use Rattle.drum_listing.proofs.waits.spent.Spent.of.Goals as goal
 pub overflow_sub-operand : goal.overflow_sub-operand
 overflow_sub-operand c =
     let times = entry_in c.args.times.now in
-    let told = seen_told c.of-told.result in
+    let told = seen_told c.args.told.now in
     data_after times c.args.angle told c.in-Some-Some.ready c.in-Some-Some.operand
     (ap (λ (m : Moments). m.ready) (sym c.of-moments.ensures) ∙ c.in-Some-Some.is-0)
     (ap (λ (m : Moments). m.operand) (sym c.of-moments.ensures) ∙ c.in-Some-Some.is-1)
@@ -18,8 +17,7 @@ overflow_sub-operand c =
 pub overflow_sub-result : goal.overflow_sub-result
 overflow_sub-result c =
     let times = entry_in c.args.times.now in
-    let told = seen_told c.of-told.result in
-    let begins : told.begun ≡ c.args.visit.now.begun = ap (λ (v : Visited). v.begun) c.of-told.ensures.same in
+    let told = seen_told c.args.told.now in
     let found : c.of-moments.result.found ≡ (moments_at times c.args.angle told).found =
     ap (λ (m : Moments). m.found) c.of-moments.ensures in
-    omega (arith, instruction_after times c.args.angle told, begins, found)
+    omega (arith, instruction_after times c.args.angle told, found)
