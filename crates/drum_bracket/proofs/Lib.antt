@@ -1,11 +1,19 @@
 mod Checks
 pub mod EndLaws
+pub mod FirstComings
+pub mod FirstVisits
+pub mod KindSums
+pub mod Laid
 pub mod LineCounts
 pub mod LineSums
+pub mod LinesTold
 pub mod Lists
 pub mod Passing
 pub mod PriceText
 pub mod RoundsLines
+pub mod RoundsWaitsFound
+pub mod RowRoom
+pub mod RowSteps
 pub mod Starts
 pub mod Tellings
 pub mod Totals

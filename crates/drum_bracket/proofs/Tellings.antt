@@ -170,13 +170,36 @@ some_same : {x y : Telling} → Some x ≡ Some y → x ≡ y
 some_same e = cc
 
 -- a telling takes so long
-abbrev Lasts : Telling → ℕ → Type 0
+abbrev pub Lasts : Telling → ℕ → Type 0
 Lasts tell time = (told : Told) → (tell told).1.time ≡ told.time + time
 
 -- each takes as long as what its piece spells out
-record AreLasting (times : Op → Entry) (before : List Telling) (spells : List (List PlacedHop)) : Type 0 where
-  each : length before ≡ length spells
-  lasts : (k : ℕ) (tell : Telling) → slice_get before k ≡ Some tell → Lasts tell (sum_by (takes times) (spelled_at spells k))
+pub record AreLasting (times : Op → Entry) (before : List Telling) (spells : List (List PlacedHop)) : Type 0 where
+  pub each : length before ≡ length spells
+  pub lasts : (k : ℕ) (tell : Telling) → slice_get before k ≡ Some tell → Lasts tell (sum_by (takes times) (spelled_at spells k))
+
+-- what is so of each telling beside what its piece spells out, where it is so of one behind them
+pub one_more_has : (P : Telling → List PlacedHop → Type 0) (before : List Telling) (spells : List (List PlacedHop))
+    → length before ≡ length spells
+    → ((k : ℕ) (tell : Telling) → slice_get before k ≡ Some tell → P tell (spelled_at spells k))
+    → (last : Telling) (hops : List PlacedHop) → P last hops
+    → (k : ℕ) (tell : Telling) → slice_get (before ++ last ∷ []) k ≡ Some tell → P tell (spelled_at (spells ++ hops ∷ []) k)
+one_more_has P before spells each has last hops its k tell at =
+    elim (cases_lt k (length before)) [
+      | inl less ↦
+          subst (P tell) (sym (spelled_before spells hops k (omega (arith, each, less))))
+          (has k tell (sym (at_before before last k less) ∙ at))
+      | inr other ↦
+          let within = slice_get_within (before ++ last ∷ []) k tell at in
+          let here : k ≡ length before = omega (arith, other, within, length-append before (last ∷ [])) in
+          let there : k ≡ length spells = omega (arith, here, each) in
+          let found : slice_get (before ++ last ∷ []) k ≡ Some last =
+          ap (slice_get (before ++ last ∷ [])) here ∙ at_last before last in
+          let is : last ≡ tell = some_same (sym found ∙ at) in
+          let spelled : spelled_at (spells ++ hops ∷ []) k ≡ hops =
+          ap (spelled_at (spells ++ hops ∷ [])) there ∙ spelled_last spells hops in
+          subst (λ (t : Telling). P t (spelled_at (spells ++ hops ∷ []) k)) is (subst (P last) (sym spelled) its)
+    ]
 
 module _ (times : Op → Entry) (pieces : List Piece) where
   one_lasts : (part : Bool) (number time : ℕ) (o : Option Telling)
@@ -190,7 +213,7 @@ module _ (times : Op → Entry) (pieces : List Piece) where
       part_lasts None = some tell refl (one_more number told)
       part_lasts (Some part) = some tell refl told
 
-  named_lasts : (before : List Telling) (spells : List (List PlacedHop)) → AreLasting times before spells → (number : ℕ)
+  pub named_lasts : (before : List Telling) (spells : List (List PlacedHop)) → AreLasting times before spells → (number : ℕ)
       → Lasts (tell_named pieces before number) (sum_by (takes times) (spelled_at spells number))
   named_lasts before spells are number =
       one_lasts (is_part pieces number) number (sum_by (takes times) (spelled_at spells number)) (slice_get before number)
@@ -221,7 +244,7 @@ module _ (times : Op → Entry) (pieces : List Piece) where
         suc-mul count (sum_by (takes times) hops),
       )
 
-  by_lasts : (before : List Telling) (spells : List (List PlacedHop)) → AreLasting times before spells → (one : Piece)
+  pub by_lasts : (before : List Telling) (spells : List (List PlacedHop)) → AreLasting times before spells → (one : Piece)
       → Lasts (tell_by times pieces before one) (sum_by (takes times) (spelled_by spells one))
   by_lasts before spells are (piece.Hop one) told = omega (arith, sum_by-cons (takes times) (seen_placed one) [])
   by_lasts before spells are (piece.Row numbers) told =
@@ -233,7 +256,7 @@ module _ (times : Op → Entry) (pieces : List Piece) where
       ap (λ (n : ℕ). told.time + rounds.times * n) each
       ∙ ap (λ (n : ℕ). told.time + n) (sym (sum_repeated rounds.times (spelled_at spells rounds.piece)))
 
-  more_last : (before : List Telling) (spells : List (List PlacedHop)) → AreLasting times before spells → (one : Piece)
+  pub more_last : (before : List Telling) (spells : List (List PlacedHop)) → AreLasting times before spells → (one : Piece)
       → AreLasting times (before ++ tell_by times pieces before one ∷ []) (spells ++ spelled_by spells one ∷ [])
   more_last before spells are one = record {
     each =
@@ -243,33 +266,12 @@ module _ (times : Op → Entry) (pieces : List Piece) where
           length-append before (tell_by times pieces before one ∷ []),
           length-append spells (spelled_by spells one ∷ []),
         );
-    lasts = λ k tell at.
-        elim (cases_lt k (length before)) [
-          | inl less ↦
-              subst (λ (hops : List PlacedHop). Lasts tell (sum_by (takes times) hops))
-              (sym (spelled_before spells (spelled_by spells one) k (omega (arith, are.each, less))))
-              (are.lasts k tell (sym (at_before before (tell_by times pieces before one) k less) ∙ at))
-          | inr other ↦
-              let within = slice_get_within (before ++ tell_by times pieces before one ∷ []) k tell at in
-              let here : k ≡ length before =
-              omega (arith, other, within, length-append before (tell_by times pieces before one ∷ [])) in
-              let there : k ≡ length spells = omega (arith, here, are.each) in
-              let found : slice_get (before ++ tell_by times pieces before one ∷ []) k
-              ≡ Some (tell_by times pieces before one) =
-              ap (slice_get (before ++ tell_by times pieces before one ∷ [])) here
-              ∙ at_last before (tell_by times pieces before one) in
-              let is : tell_by times pieces before one ≡ tell = some_same (sym found ∙ at) in
-              let spelled : spelled_at (spells ++ spelled_by spells one ∷ []) k ≡ spelled_by spells one =
-              ap (spelled_at (spells ++ spelled_by spells one ∷ [])) there
-              ∙ spelled_last spells (spelled_by spells one) in
-              subst (λ (t : Telling). Lasts t (sum_by (takes times) (spelled_at (spells ++ spelled_by spells one ∷ []) k)))
-              is
-              (subst (λ (hops : List PlacedHop). Lasts (tell_by times pieces before one) (sum_by (takes times) hops))
-              (sym spelled) (by_lasts before spells are one))
-        ];
+    lasts =
+        one_more_has (λ (tell : Telling) (hops : List PlacedHop). Lasts tell (sum_by (takes times) hops)) before spells
+        are.each are.lasts (tell_by times pieces before one) (spelled_by spells one) (by_lasts before spells are one);
   }
 
-  behind_lasts : (before : List Telling) (spells : List (List PlacedHop)) → AreLasting times before spells
+  pub behind_lasts : (before : List Telling) (spells : List (List PlacedHop)) → AreLasting times before spells
       → (others : List Piece)
       → AreLasting times (tell_behind times pieces before others) (spelled_behind spells others)
   behind_lasts before spells are [] = are
@@ -278,7 +280,7 @@ module _ (times : Op → Entry) (pieces : List Piece) where
       (more_last before spells are one) others
 
 -- none of either
-none_last : (times : Op → Entry) → AreLasting times [] []
+pub none_last : (times : Op → Entry) → AreLasting times [] []
 none_last times = record { each = refl; lasts = λ k tell at. absurd (cc) }
 
 module _ (t : Teller) where

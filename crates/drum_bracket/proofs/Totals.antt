@@ -28,7 +28,7 @@ longest_rounds times place ins way clock (suc count) =
     ∙ omega (arith, longest_rounds times place ins way clock count)
 
 -- a hop takes what it takes at its angle
-hop_takes : (times : Op → Entry) (angle : ℕ) (hop : Taken)
+pub hop_takes : (times : Op → Entry) (angle : ℕ) (hop : Taken)
     → angle + hop.ended ≡ longest times hop.place hop.ins hop.way (angle + hop.begun)
     → hop.begun + takes times (placed angle hop) ≡ hop.ended
 hop_takes times angle hop is =

@@ -29,8 +29,12 @@ abbrev pub total_lines : ℕ → ℕ → List ℕ
 total_lines reached total =
     codes "reached " ++ decimal reached ++ codes "\nceiling " ++ decimal total ++ codes "\n"
 
+-- those of a ceiling and the walk beside it
+abbrev pub bracket_lines : Bracket → List ℕ
+bracket_lines bracket = total_lines (walks.total_of bracket.walk) (total_of bracket.ceiling)
+
 -- The ceiling with its walk: a line for each mark of the notes, in their order, and the two totals.
 abbrev pub ceiling_text : Notes → Bracket → List ℕ
 ceiling_text notes bracket =
     flat_map (price_line_at bracket) (enumerate_from 0 notes.marks)
-    ++ total_lines (walks.total_of bracket.walk) (total_of bracket.ceiling)
+    ++ bracket_lines bracket

@@ -5,4 +5,8 @@ pub mod OutlineOf
 pub mod PartLine
 pub mod ProgressOf
 pub mod RoundsText
+pub mod RoundsWaits
+pub mod RoundsWaitsOf
+pub mod SpelledOut
 pub mod TellerOf
+pub mod TellsOf

@@ -9,7 +9,6 @@ use Rattle.drum_core.specs.declared.op.Op.{Op}
 use Rattle.drum_core.specs.Numeral.{digits_of}
 use Rattle.drum_times.specs.declared.entry.Entry.{Entry}
 use Rattle.drum_bound.specs.Visited.{Visited}
-use Rattle.drum_ceiling.specs.CeilingOf.{total_of}
 use Rattle.drum_rounds.specs.declared.bracket.Bracket.{Bracket}
 use Rattle.drum_rounds.specs.declared.piece.Piece.{Piece}
 use Rattle.drum_rounds.specs.declared.piece.Piece.TheVariants as piece
@@ -19,7 +18,7 @@ use Rattle.drum_rounds.specs.Pieces.{named, seen_placed, spelled_of, PlacedHop}
 use Rattle.drum_listing.specs.Moments.{later, moments_of}
 use Rattle.drum_listing.specs.MomentsText.{moments_text}
 use Rattle.drum_listing.specs.WalkText.{hop_text}
-use Rattle.drum_bracket.specs.CeilingText.{total_lines}
+use Rattle.drum_bracket.specs.CeilingText.{bracket_lines}
 
 -- ---- a hop
 
@@ -199,4 +198,4 @@ joined lines = flat_map (λ line. line) lines
 abbrev pub rounds_text : (Op → Entry) → Bracket → List ℕ
 rounds_text times bracket =
     joined (tell times (walks.pieces_of bracket.walk)).0
-    ++ total_lines (walks.total_of bracket.walk) (total_of bracket.ceiling)
+    ++ bracket_lines bracket

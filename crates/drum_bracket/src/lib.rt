@@ -1,28 +1,38 @@
-//! What is written of a ceiling with its walk in rounds: mark by mark, and the walk itself, part by
-//! part.
+//! What is written of a ceiling with its walk in rounds: mark by mark, the walk itself, part by
+//! part, and where its word times go.
 //!
 //! Code, from the bottom up. `prices` has `report_ceiling`, with a line for each mark. Of a walk:
 //! `hop_line` is the line of a hop, and `part_line` are the others. `progress` is how far a walk is
 //! told, with the lines that are gathered. `ends` is where the hops of pieces begin, and `counts`
 //! how often pieces are named; `outline` has both, worked out before the first line goes out.
 //! `teller` has what is known of a walk, and tells one hop, or that a part comes again; `telling`
-//! tells its pieces, by the numbers of those that they name. `rounds` has `list_rounds`.
+//! tells its pieces, by the numbers of those that they name. `rounds` has `list_rounds`. `waits`
+//! has where the word times of a walk go: `waits/adding` goes over its pieces once and adds up, by
+//! kind, what their hops take (`waits/kind_row`); `waits/listing` writes the lines. `laws` has a
+//! law of the definitions.
 //!
 //! Definitions, in the order to read them: `CeilingText` is the text of a ceiling, mark by mark,
-//! and `RoundsText` that of its walk. The others say what the code means by these: `PartLine` (the
-//! lines that are no hop's), `ProgressOf` (how far a walk is told, and what has gone out),
-//! `EndsOf`, `CountsOf`, `OutlineOf`, `TellerOf`.
+//! and `RoundsText` that of its walk. `SpelledOut` is that walk hop by hop, `TellsOf` when what a
+//! line tells is so of it, and `RoundsWaits` the text of where its word times go. The others say
+//! what the code means by these: `PartLine` (the lines that are no hop's), `ProgressOf` (how far a
+//! walk is told, and what has gone out), `EndsOf`, `CountsOf`, `OutlineOf`, `TellerOf`,
+//! `RoundsWaitsOf` (the waits, as they are reckoned).
 //!
 //! Proofs. `PriceText` is a mark's line, and `RoundsLines` are a walk's, of their pieces. `Lists`
 //! has what stands where in a list, and `EndLaws` where hops begin. `Passing` has lines that are
 //! told one after the other, and what room they take; `Tellings` how pieces are told, and how long
 //! they take; `Totals` that the whole takes the walk's time; `LineCounts`, by `LineSums`, how many
-//! lines there are at most; `Starts` a walk from its beginning. `Checks` evaluates the definitions.
+//! lines there are at most; `Starts` a walk from its beginning. `Laid` puts a walk's hops beside
+//! those of its pieces, and `LinesTold` goes through the lines for the law. Of the waits:
+//! `RowSteps` (the rows of kinds, with a piece more), `RowRoom` (no sum is too large), `KindSums`
+//! (what is added up over a walk's hops is added up over pieces), `FirstComings` and `FirstVisits`
+//! (what comes first), and by these `RoundsWaitsFound`. `Checks` evaluates the definitions.
 #![tactic(auto)]
 
 mod counts;
 mod ends;
 mod hop_line;
+pub mod laws;
 mod outline;
 mod part_line;
 mod prices;
@@ -30,7 +40,9 @@ mod progress;
 mod rounds;
 mod teller;
 mod telling;
+mod waits;
 
 pub use outline::Outline;
 pub use prices::report_ceiling;
 pub use rounds::list_rounds;
+pub use waits::{WaitsInRounds, list_rounds_waits};

@@ -1,0 +1,151 @@
+-- What the waits of a walk in rounds are, as the code has them.
+use Rattle.std.specs.Prelude.{◌≡◌, ℕ, ◌*◌, ◌<◌, ◌≤◌, Bool, true, false, if◌then◌else◌, List, ◌++◌, take}
+use Rattle.std.specs.Prelude.{flat_map, slice_get, slice_index, Option, Some, None}
+use Rattle.std.specs.Map.{values_of}
+use Rattle.indexmap.specs.IndexMap.{IndexMap, IsUnique, get, index_map_len}
+use Rattle.drum_core.specs.declared.op.Op.{Op}
+use Rattle.drum_times.specs.declared.entry.Entry.{Entry}
+use Rattle.drum_machine.specs.WaysLeft.{seen_way}
+use Rattle.drum_flow.specs.Walk.{Setting}
+use Rattle.drum_bound.specs.Visited.{Visited}
+use Rattle.drum_rounds.specs.declared.bracket.Bracket.{Bracket}
+use Rattle.drum_rounds.specs.declared.in_rounds.InRounds.{InRounds}
+use Rattle.drum_rounds.specs.declared.piece.Piece.{Piece}
+use Rattle.drum_rounds.specs.declared.piece.Piece.TheVariants as piece
+use Rattle.drum_rounds.specs.declared.piece.Placed.{Placed}
+use Rattle.drum_rounds.specs.InRounds as walks
+use Rattle.drum_rounds.specs.InRounds.{summed, takes}
+use Rattle.drum_rounds.specs.Pieces.{seen_placed, PlacedHop}
+use Rattle.drum_listing.specs.declared.waits.kind.Kind.{Kind}
+use Rattle.drum_listing.specs.declared.waits.sums.Sums.{Sums}
+use Rattle.drum_listing.specs.Told.{seen_told}
+use Rattle.drum_listing.specs.Waits.{for_data, for_instruction, is_alike, AreDearestFirst}
+use Rattle.drum_listing.specs.WaitsOf.{same_kind}
+use Rattle.drum_listing.specs.WaitsText.{kind_line, wait_line}
+use Rattle.drum_bracket.specs.declared.waits.WaitsInRounds.{WaitsInRounds}
+use Rattle.drum_bracket.specs.declared.waits.kind_row.KindRow.{KindRow}
+use Rattle.drum_bracket.specs.CeilingText.{bracket_lines}
+use Rattle.drum_bracket.specs.RoundsText.{from_to}
+use Rattle.drum_bracket.specs.SpelledOut.{AreSpelledOut}
+
+-- ---- hops of a kind
+
+-- the kind of a hop of a piece
+abbrev pub kind_of : Placed → Kind
+kind_of one =
+    record { place = one.location; instruction = one.hop.instruction; way = one.hop.way }
+
+-- what hops of a kind have in common
+abbrev pub seen_kind : Kind → Visited
+seen_kind kind = record {
+  place = kind.place.number;
+  ins = kind.instruction;
+  way = seen_way kind.way;
+  begun = 0;
+  ended = 0;
+}
+
+-- the hop is of this kind
+abbrev pub is_of : Kind → PlacedHop → Bool
+is_of kind one = is_alike (seen_kind kind) (from_to 0 0 one)
+
+-- a hop alone, begun at time 0 on a drum with its angle
+abbrev pub alone : (Op → Entry) → PlacedHop → Visited
+alone times one = from_to 0 (takes times one) one
+
+-- how long it waits for its instruction
+abbrev pub waits_instruction : (Op → Entry) → PlacedHop → ℕ
+waits_instruction times one = for_instruction times one.angle (alone times one)
+
+-- and for its data
+abbrev pub waits_data : (Op → Entry) → PlacedHop → ℕ
+waits_data times one = for_data times one.angle (alone times one)
+
+-- a number of each hop that passes a test, and 0 of the others
+abbrev pub of_those : (PlacedHop → Bool) → (PlacedHop → ℕ) → PlacedHop → ℕ
+of_those is what one = if is one then what one else 0
+
+-- what those hops take that are these pieces, each as often as it comes
+abbrev pub sums_over : (Op → Entry) → (PlacedHop → Bool) → List Piece → List ℕ → Sums
+sums_over times is pieces often = record {
+  visits = summed (of_those is (λ _. 1)) pieces often;
+  time = summed (of_those is (takes times)) pieces often;
+  instruction = summed (of_those is (waits_instruction times)) pieces often;
+  operand = summed (of_those is (waits_data times)) pieces often;
+}
+
+-- the hop that a piece is, if it is one
+abbrev pub hop_in : Piece → Option Placed
+hop_in (piece.Hop one) = Some one
+hop_in (piece.Row pieces) = None
+hop_in (piece.Rounds rounds) = None
+
+-- ---- rows
+
+-- no piece with a number below this is one of those hops
+abbrev pub AreNoneBelow : (PlacedHop → Bool) → List Piece → ℕ → Type 0
+AreNoneBelow is pieces limit = (number : ℕ) (one : Placed) → number < limit
+    → slice_get pieces number ≡ Some (piece.Hop one) → is (seen_placed one) ≡ false
+
+-- A row of some hops has the first piece that is one of them, its hop alone, and what those take
+-- that are pieces below a limit.
+pub record IsRow (times : Op → Entry) (pieces : List Piece) (often : List ℕ) (limit : ℕ)
+    (is : PlacedHop → Bool) (row : KindRow) : Type 0 where
+  pub one : Placed
+  pub here : slice_get pieces row.number ≡ Some (piece.Hop one)
+  pub has : is (seen_placed one) ≡ true
+  pub first : AreNoneBelow is pieces row.number
+  pub told : seen_told row.told ≡ alone times (seen_placed one)
+  pub angle : row.angle ≡ one.angle
+  pub sums : row.sums ≡ sums_over times is (take limit pieces) (take limit often)
+
+-- the row of some hops; none, where no such piece is one of them
+abbrev pub IsRowOf : (Op → Entry) → List Piece → List ℕ → ℕ → (PlacedHop → Bool)
+    → Option KindRow → Type 0
+IsRowOf times pieces often limit is None = AreNoneBelow is pieces limit
+IsRowOf times pieces often limit is (Some row) = IsRow times pieces often limit is row
+
+-- A map has the row of each kind, and no kind twice, so no more than pieces.
+pub record AreRows {S : Type 0} (times : Op → Entry) (pieces : List Piece) (often : List ℕ)
+    (limit : ℕ) (rows : IndexMap Kind KindRow S) : Type 0 where
+  pub found : (kind : Kind)
+      → IsRowOf times pieces often limit (is_of kind) (get same_kind rows kind)
+  pub apart : IsUnique same_kind rows
+  pub few : index_map_len rows ≤ limit
+
+-- the row of one piece, as often as its hop comes
+pub record IsOfPiece (times : Op → Entry) (often : List ℕ) (at : ℕ) (one : Placed)
+    (row : KindRow) : Type 0 where
+  pub number : row.number ≡ at
+  pub told : seen_told row.told ≡ alone times (seen_placed one)
+  pub angle : row.angle ≡ one.angle
+  pub visits : row.sums.visits ≡ slice_index often at
+  pub time : row.sums.time ≡ slice_index often at * takes times (seen_placed one)
+  pub instruction : row.sums.instruction
+      ≡ slice_index often at * waits_instruction times (seen_placed one)
+  pub operand : row.sums.operand
+      ≡ slice_index often at * waits_data times (seen_placed one)
+
+-- ---- the text of rows
+
+abbrev pub row_text : (Op → Entry) → KindRow → List ℕ
+row_text times row =
+    kind_line times row.angle (seen_told row.told) row.sums.visits row.sums.time
+    row.sums.instruction row.sums.operand
+
+abbrev pub rows_in : WaitsInRounds → List KindRow
+rows_in waits = values_of waits.by_kind.entries
+
+-- the lines of all rows, of what the walk takes and of the ceiling
+abbrev pub listed : (Op → Entry) → WaitsInRounds → Bracket → List ℕ
+listed times waits bracket =
+    flat_map (row_text times) (rows_in waits)
+    ++ bracket_lines bracket
+
+-- The lines are those of the kinds of a walk in rounds, the dearest first.
+abbrev pub AreWaitsOf : (Op → Entry) → InRounds → WaitsInRounds → Type 0
+AreWaitsOf times walk waits = (g : Setting) (visits : List Visited) → g.times ≡ times
+    → AreSpelledOut g walk visits
+    → (firsts : List Visited) × AreDearestFirst visits firsts
+    × (flat_map (row_text times) (rows_in waits)
+    ≡ flat_map (wait_line times (walks.angle_of walk) visits) firsts)
