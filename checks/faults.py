@@ -5,7 +5,6 @@ import re
 from collections import namedtuple
 
 from damage import FILES
-from marks import are_short, marks_of
 from results import NUMBER, PLACE
 from toml_text import document_of
 
@@ -19,7 +18,6 @@ LINES = 4000
 
 # What stands behind the words of a fault's line: nothing, a number or locations, or a key.
 FORMS = dict.fromkeys(["nothing", "nopart", "open", "fail", "toml", "nostart", "toolong"], "")
-FORMS["longnotes"] = ""
 FORMS.update(dict.fromkeys(["noline", "pastdrum", "repeated", "start", "product"], NUMBER))
 FORMS.update(dict.fromkeys(["twice", "loaded", "notloaded", "location"], PLACE))
 FORMS.update(dict.fromkeys(["missing", "known", "unknown"], "(?s:(.*))"))
@@ -45,7 +43,6 @@ FAULTS = [
     ("34 alters ", "analysis", "locations"),
     ("35 unbounded ", "analysis", "cycle"),
     ("36 toolarge ", "analysis", "product"),
-    ("38 longnotes", "analysis", "longnotes"),
     ("41 inputs read", "inputs", "fail"),
     ("42 inputs memory", "inputs", "fail"),
     ("43 inputs line ", "inputs", "noline"),
@@ -229,7 +226,6 @@ def names_what_is_there(fault, files):
         "operation": lambda: not re.fullmatch(OP, "op." + rest[-2:]),
         "cycle": lambda: is_cycle(rest),
         "product": lambda: int(rest) > KEYS,
-        "longnotes": lambda: not are_short(marks_of(document_of(files["notes"]))),
         "toml": lambda: not is_document(text),
         "nostart": lambda: not any(line.startswith(b"START ") for line in lines_of(text)),
         "toolong": lambda: is_too_long(about, text),

@@ -20,7 +20,7 @@ from results import (
     waits_of_walk,
     walked_bound,
 )
-from rounds import passes_of, rounded
+from rounds import passes_of, rounded, waited_in_rounds, waits_in_rounds
 from tables import graphed, tabled
 from text_faults import listed_faults
 from toml_text import document_of
@@ -36,8 +36,8 @@ Told = namedtuple("Told", "kind bound used fault by", defaults=[None, None, None
 WALKED = ["walk", "report", "waits"]
 # Those that read long notes, and of these the ones that go by the bound all the same.
 OF_LONG = [*CHECKS, "graph", "ceiling", "walk", "waits", "draw", "trace"]
-# Of these: by the bound alone, and past it by the walk beside a ceiling.
-BY_BOUND, PAST_BOUND = ["waits"], ["walk", "draw"]
+# Of these, past the bound, by the walk beside a ceiling.
+PAST_BOUND = ["walk", "waits", "draw"]
 
 # From so many word times on no trace goes by a ceiling.
 LONGEST = 2**50
@@ -78,10 +78,19 @@ def faults_of_notes(asked):
     return notes_faults(files["notes"], command in OF_LONG)
 
 
+def is_by_bound(text):
+    """Whether the last line of a result is a bound."""
+    return text.endswith("\n") and text.rsplit("\n", 2)[-2].startswith("bound ")
+
+
 def walked(text, files):
     """What a walk takes, where its lines are in order, by the bound or in rounds."""
-    is_bound = text.endswith("\n") and text.rsplit("\n", 2)[-2].startswith("bound ")
-    return walked_bound(text, files) if is_bound else rounded(text, files)
+    return walked_bound(text, files) if is_by_bound(text) else rounded(text, files)
+
+
+def waited(text):
+    """The same of where its word times go."""
+    return waited_bound(text) if is_by_bound(text) else waited_in_rounds(text)
 
 
 def result_of(asked, status, text):
@@ -101,7 +110,7 @@ def result_of(asked, status, text):
     kinds = {
         "report": ("report", lambda: reported_bound(text, files)),
         "walk": ("walk", lambda: walked(text, files)),
-        "waits": ("waits", lambda: waited_bound(text)),
+        "waits": ("waits", lambda: waited(text)),
         "table": ("table", lambda: tabled(text, files)),
         "graph": ("graph", lambda: graphed(text, files)),
         "draw": ("picture", lambda: pictured_bound(text)),
@@ -247,8 +256,9 @@ def is_as_of_short(asked, ran, told, run):
 
 
 def goes_with_ceiling(asked, ran, told, run):
-    """Whether a walk, or a picture of one, is that which stands beside the ceiling: it takes what is
-    reached and passes each mark as often; or both have one fault."""
+    """Whether a walk, its waits, or a picture of one, is that which stands beside the ceiling: it
+    takes what is reached and passes each mark as often, and its waits are what its visits add up to;
+    or both have one fault."""
     command, files = asked
     ceiling = run(words_of("ceiling"), files, b"")
     if ceiling.status != DONE:
@@ -259,8 +269,13 @@ def goes_with_ceiling(asked, ran, told, run):
     if command == "draw":
         return True
     totals = b"".join(ceiling.out.splitlines(keepends=True)[-2:])
-    passes = passes_of(ran.out.decode(), files)
-    return ran.out.endswith(totals) and passes in (None, beside.passes)
+    if not ran.out.endswith(totals):
+        return False
+    if command == "waits":
+        walk = run(words_of("walk"), files, b"")
+        waits = waits_in_rounds(walk.out.decode(), files)
+        return walk.status == DONE and waits in (None, ran.out.decode())
+    return passes_of(ran.out.decode(), files) in (None, beside.passes)
 
 
 def agrees_of_long(asked, ran, told, run):
@@ -276,8 +291,6 @@ def agrees_of_long(asked, ran, told, run):
             return False
     if command == "graph":
         return told.fault is None
-    if command in BY_BOUND:
-        return told.fault is not None and told.fault.ending == "longnotes"
     if command in PAST_BOUND:
         return goes_with_ceiling(asked, ran, told, run)
     if command == "ceiling":
@@ -321,11 +334,11 @@ def agrees(asked, ran, told, run):
     if command in PAST_BOUND and past.fault and past.fault.ending == "product":
         return goes_with_ceiling(asked, ran, told, run)
     if command in WALKED:
+        if past.fault and past.fault.ending == "product":
+            return ends_alike(ran, bound)
         all_three = [ran if name == command else other(name) for name in WALKED]
-        are_past = past.fault and past.fault.ending == "product"
-        long = [one for name, one in zip(WALKED, all_three) if not are_past or name != "walk"]
-        is_one = all(ends_alike(one, bound) for one in long)
-        return is_one and (are_past or are_counted(*all_three, files))
+        is_one = all(ends_alike(one, bound) for one in all_three)
+        return is_one and are_counted(*all_three, files)
     if command in CHECKS:
         if command == CHECKS[1] and told.fault:
             replay = told_of(("replay", files), other("replay"))

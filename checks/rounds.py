@@ -5,7 +5,7 @@ import re
 from collections import namedtuple
 
 from marks import is_inside, marks_of, place_on
-from results import NUMBER, PLACE, VISIT, number_of, walked_bound
+from results import NUMBER, PLACE, VISIT, number_of, waited_bound, waits_of_walk, walked_bound
 from toml_text import document_of
 
 FIRST = re.compile("part %s" % NUMBER)
@@ -195,3 +195,25 @@ def passes_of(text, files):
         return Rounds(text).passes(files)
     except OverflowError:
         return None
+
+
+# Waits.
+
+
+def waited_in_rounds(text):
+    """What a walk takes to which the times of its waits add up, where these are in order."""
+    totals = TOTALS.search(text)
+    if not totals or not text.endswith(totals.group(0)):
+        return None
+    kinds = text[: -len(totals.group(0))]
+    return waited_bound("%sbound %s\n" % (kinds, totals.group(1)))
+
+
+def waits_in_rounds(walk, files):
+    """The waits that are counted from the visits of a walk in rounds; None where these are many."""
+    try:
+        told = Rounds(walk)
+    except OverflowError:
+        return None
+    kinds = "".join(waits_of_walk(told.walk(), files).splitlines(keepends=True)[:-1])
+    return kinds + "reached %d\nceiling %d\n" % (told.reached, told.ceiling)

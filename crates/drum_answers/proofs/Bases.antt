@@ -24,4 +24,3 @@ no_basis documents (faults.Times fault) other is = absurd is
 no_basis documents (faults.Notes fault) other is = absurd is
 no_basis documents (faults.Inputs fault) other is = absurd is
 no_basis documents (faults.Loaded location) other is = absurd is
-no_basis documents faults.LongNotes other is = absurd is

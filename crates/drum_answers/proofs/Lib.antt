@@ -1,2 +1,3 @@
 pub mod Bases
+pub mod Early
 mod Soundly

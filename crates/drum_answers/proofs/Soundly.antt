@@ -74,4 +74,3 @@ only_memory texts faults.Memory times notes never is_times no_times is_notes no_
 only_memory texts (faults.Inputs one) times notes never is_times no_times is_notes no_notes none = absurd none
 only_memory texts (faults.Refused refusal) times notes never is_times no_times is_notes no_notes none = absurd none
 only_memory texts (faults.Loaded location) times notes never is_times no_times is_notes no_notes none = absurd none
-only_memory texts faults.LongNotes times notes never is_times no_times is_notes no_notes none = absurd none

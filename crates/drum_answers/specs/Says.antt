@@ -20,6 +20,8 @@ use Rattle.drum_lines.specs.FaultStatus.{IsWanting}
 use Rattle.drum_lines.specs.Reply.{Reply, bound_reply, lists, says}
 use Rattle.drum_bracket.specs.CeilingText.{ceiling_text}
 use Rattle.drum_bracket.specs.RoundsText.{rounds_text}
+use Rattle.drum_bracket.specs.RoundsWaits.{rounds_waits_text}
+use Rattle.drum_bracket.specs.SpelledOut.{AreSpelledOut}
 use Rattle.drum_rounds.specs.declared.bracket.Bracket.{Bracket}
 use Rattle.drum_report.specs.Report.{report_text}
 use Rattle.drum_graph.specs.Graph.{AreNodes, Node}
@@ -31,13 +33,13 @@ use Rattle.drum_listing.specs.WalkText.{walk_text}
 use Rattle.drum_documents.specs.declared.documents.Documents.{Documents}
 use Rattle.drum_documents.specs.Documents.{Say, Texts, setting_of}
 use Rattle.drum_documents.specs.Limits.{AreShort, HaveNoBound, IsAnalysisFault, IsBound, IsBracket}
-use Rattle.drum_documents.specs.Limits.{IsCeilingFault, IsShortFault, IsWorstWalk}
+use Rattle.drum_documents.specs.Limits.{IsCeilingFault, IsWorstWalk}
 use Rattle.drum_toml.specs.declared.notes.notes_read.NotesRead.TheVariants.{Long}
 
 -- ---- what is said
 
--- a report of a walk, a walk from an angle, one in rounds, the kinds of a walk's hops, a table, a
--- flow graph, a picture, and a ceiling
+-- a report of a walk, a walk from an angle, one in rounds, the kinds of the hops of each, a table,
+-- a flow graph, a picture, and a ceiling
 abbrev pub report_reply : Documents → List Visited → Reply
 report_reply documents walk = says (report_text documents.deck documents.notes walk) Done
 
@@ -51,6 +53,10 @@ rounds_reply documents bracket = says (rounds_text (entry_in documents.times) br
 abbrev pub waits_reply : Documents → ℕ → List Visited → List Visited → ℕ → Reply
 waits_reply documents angle walk firsts bound =
     says (waits_text (entry_in documents.times) angle walk firsts bound) Done
+
+abbrev pub rounds_waits_reply : Documents → Bracket → List Visited → List Visited → Reply
+rounds_waits_reply documents bracket visits firsts =
+    says (rounds_waits_text (entry_in documents.times) bracket visits firsts) Done
 
 abbrev pub table_reply : Documents → List Row → Reply
 table_reply documents rows = says (table_text documents.notes.marks rows) Done
@@ -105,6 +111,14 @@ SaysWaits documents reply =
     × (firsts : List Visited) × AreDearestFirst walk firsts
     × (reply ≡ waits_reply documents angle walk firsts bound)
 
+-- and where there is none, where those of a walk in rounds go: the same of the hops that its pieces
+-- spell out
+abbrev pub SaysRoundsWaits : Documents → Bracket → Reply → Type 0
+SaysRoundsWaits documents bracket reply =
+    (visits : List Visited) × AreSpelledOut (setting_of documents) bracket.walk visits
+    × (firsts : List Visited) × AreDearestFirst visits firsts
+    × (reply ≡ rounds_waits_reply documents bracket visits firsts)
+
 -- the table of worst times, in order
 abbrev pub SaysTable : Documents → Reply → Type 0
 SaysTable documents reply =
@@ -140,10 +154,6 @@ SaysFindings documents reply =
     × AreFindings (loads_in documents.deck) documents.notes (start_in documents.deck) findings
     × (reply ≡ findings_reply documents findings)
 
--- what is said of documents with short notes, which go by the bound
-abbrev pub OfShort : (Documents → Reply → Type 0) → Documents → Reply → Type 0
-OfShort Says documents reply = AreShort documents × Says documents reply
-
 -- What is said by the bound, where the notes are short and there is one; in every other case by a
 -- ceiling with a walk in rounds.
 abbrev pub ByEither : (Documents → Reply → Type 0) → (Documents → Bracket → Reply → Type 0)
@@ -158,20 +168,19 @@ abbrev pub Says : Question → Documents → Reply → Type 0
 Says Bound = SaysBound
 Says Report = SaysReport
 Says Walk = ByEither SaysWalk SaysRounds
-Says Waits = OfShort SaysWaits
+Says Waits = ByEither SaysWaits SaysRoundsWaits
 Says Table = SaysTable
 Says Graph = SaysGraph
 Says Draw = ByEither SaysPicture SaysPictureInRounds
 Says Ceiling = SaysCeiling
 
--- why nothing is said of them: the deck with its notes is refused, or, where the bound is gone by,
--- has long notes; of the flow graph, which any deck has, that the program is out of memory, and
--- nothing else
+-- why nothing is said of them: the deck with its notes is refused; of the flow graph, which any
+-- deck has, that the program is out of memory, and nothing else
 abbrev pub Refuses : Question → Documents → Fault → Type 0
 Refuses Bound = IsAnalysisFault
 Refuses Report = IsAnalysisFault
 Refuses Walk = IsCeilingFault
-Refuses Waits = IsShortFault
+Refuses Waits = IsCeilingFault
 Refuses Table = IsAnalysisFault
 Refuses Graph = λ documents. IsWanting
 Refuses Draw = IsCeilingFault

@@ -2,25 +2,29 @@
 
 ghost use Rattle.std.specs.Prelude.{◌≡◌, ◌^◌, ◌≤◌, IfOk, IfErr};
 ghost use Rattle.drum_documents.specs.Limits.{HaveNoBound, IsAnalysisFault, IsBracket};
-ghost use Rattle.drum_documents.specs.Limits.{IsCeilingFault, IsShortFault};
+ghost use Rattle.drum_documents.specs.Limits.{IsCeilingFault};
 ghost use Rattle.drum_lines.specs.Does.{Does};
 ghost use Rattle.drum_lines.specs.Output.{Device, device};
 ghost use Rattle.drum_lines.specs.FaultStatus.{IsWanting};
-ghost use Rattle.drum_answers.specs.Says.{ByEither, OfShort, Refuses, Says, SaysBound};
+ghost use Rattle.drum_answers.specs.Basis.{IsBasis};
+ghost use Rattle.drum_answers.specs.declared.basis.Basis.TheVariants as bases;
+ghost use Rattle.drum_answers.specs.Says.{ByEither, Refuses, Says, SaysBound};
 ghost use Rattle.drum_answers.specs.Says.{SaysCeiling, SaysGraph, SaysPicture};
 ghost use Rattle.drum_answers.specs.Says.{SaysPictureInRounds, SaysReport, SaysRounds};
+ghost use Rattle.drum_answers.specs.Says.{SaysRoundsWaits};
 ghost use Rattle.drum_answers.specs.Says.{SaysTable, SaysWaits, SaysWalk};
 
 use crate::analysis::analysis_of;
 use crate::basis::{Basis, basis_of};
 use crate::telling::{
-    tell_ceiling, tell_graph, tell_report, tell_rounds, tell_table, tell_waits, tell_walk,
+    tell_ceiling, tell_graph, tell_report, tell_rounds, tell_rounds_waits, tell_table, tell_waits,
+    tell_walk,
 };
-use drum_bound::Refusal;
-use drum_bracket::Outline;
+use drum_bound::{Analysis, Refusal};
+use drum_bracket::{Outline, WaitsInRounds};
 use drum_command::Question;
 use drum_core::Output;
-use drum_documents::{Documents, bound_of, bracket_of, only_short};
+use drum_documents::{Documents, bound_of, bracket_of};
 use drum_graph::Graph;
 use drum_lines::{Fault, Status, tell_bound, tell_text};
 use drum_listing::{Table, Waits};
@@ -91,19 +95,59 @@ fn say_walk<O: Output>(alloc: Global, documents: &Documents, out: &mut O) -> Res
     }
 }
 
-/// Writes where the word times of a worst walk go.
-fn say_waits<O: Output>(alloc: Global, documents: &Documents, out: &mut O) -> Result<Status, Fault>
-    requires { O.called out.old ≤ 2 ^ 62 }
-    ensures does { (err : Device)
-        → Does (OfShort SaysWaits documents.now) (IsShortFault documents.now)
+/// Writes where the word times of the walk beside a ceiling go.
+fn say_rounds_waits<O: Output>(
+    alloc: Global,
+    documents: &Documents,
+    bracket: &Bracket,
+    out: &mut O,
+) -> Result<Status, Fault>
+    requires called { O.called out.old ≤ 2 ^ 62 }
+    requires none { HaveNoBound documents.now }
+    requires right { IsBracket documents.now bracket.now }
+    ensures does { (err : Device) → Does (ByEither SaysWaits SaysRoundsWaits documents.now)
+        (IsCeilingFault documents.now)
         (device (O.written out.old) (O.failed out.old))
         (device (O.written out.new) (O.failed out.new)) err err result }
     ensures spared { IfErr result (λ _. out.new ≡ out.old) }
 {
-    only_short(documents)?;
-    let analysis = analysis_of(alloc, documents)?;
-    let waits = Waits::of(alloc, &analysis, &documents.times)?;
-    Ok(tell_waits(out, documents, &analysis, &waits))
+    let waits = WaitsInRounds::of(alloc, &bracket.walk, &documents.times)?;
+    Ok(tell_rounds_waits(out, documents, bracket, &waits))
+}
+
+/// Writes where the word times of the walk of an analysis go.
+fn say_bound_waits<O: Output>(
+    alloc: Global,
+    documents: &Documents,
+    analysis: &Analysis,
+    out: &mut O,
+) -> Result<Status, Fault>
+    requires called { O.called out.old ≤ 2 ^ 62 }
+    requires right { IsBasis documents.now (bases.Bound analysis.now) }
+    ensures does { (err : Device) → Does (ByEither SaysWaits SaysRoundsWaits documents.now)
+        (IsCeilingFault documents.now)
+        (device (O.written out.old) (O.failed out.old))
+        (device (O.written out.new) (O.failed out.new)) err err result }
+    ensures spared { IfErr result (λ _. out.new ≡ out.old) }
+{
+    let waits = Waits::of(alloc, analysis, &documents.times)?;
+    Ok(tell_waits(out, documents, analysis, &waits))
+}
+
+/// Writes where the word times of a worst walk go.
+fn say_waits<O: Output>(alloc: Global, documents: &Documents, out: &mut O) -> Result<Status, Fault>
+    requires { O.called out.old ≤ 2 ^ 62 }
+    ensures does { (err : Device) → Does (ByEither SaysWaits SaysRoundsWaits documents.now)
+        (IsCeilingFault documents.now)
+        (device (O.written out.old) (O.failed out.old))
+        (device (O.written out.new) (O.failed out.new)) err err result }
+    ensures spared { IfErr result (λ _. out.new ≡ out.old) }
+{
+    let basis = basis_of(alloc, documents)?;
+    match basis {
+        Basis::Bound(analysis) => say_bound_waits(alloc, documents, &analysis, out),
+        Basis::Ceiling(bracket) => say_rounds_waits(alloc, documents, &bracket, out),
+    }
 }
 
 /// Writes the table of worst times.
@@ -182,9 +226,8 @@ fn say_ceiling<O: Output>(
 ///
 /// # Errors
 ///
-/// Why there is none: the deck with its notes is refused, or has long notes where the bound is gone
-/// by, or the program is out of memory. Nothing has been written then. (A write that fails is no
-/// error here: the status tells it.)
+/// Why there is none: the deck with its notes is refused, or the program is out of memory. Nothing
+/// has been written then. (A write that fails is no error here: the status tells it.)
 pub fn answer<O: Output>(
     alloc: Global,
     question: Question,

@@ -19,10 +19,11 @@ ghost use Rattle.drum_answers.specs.Says.{status_after_check};
 ghost use Rattle.drum_bracket.specs.CeilingText.{ceiling_text};
 ghost use Rattle.drum_bracket.specs.OutlineOf.{IsOutlineOf};
 ghost use Rattle.drum_bracket.specs.RoundsText.{rounds_text};
+ghost use Rattle.drum_bracket.specs.RoundsWaitsOf.{listed};
 ghost use Rattle.drum_report.specs.Report.{report_text};
 
 use drum_bound::Analysis;
-use drum_bracket::{Outline, list_rounds, report_ceiling};
+use drum_bracket::{Outline, WaitsInRounds, list_rounds, list_rounds_waits, report_ceiling};
 use drum_check::{Findings, Lacking, list_findings};
 use drum_core::Output;
 use drum_documents::Documents;
@@ -94,6 +95,24 @@ pub fn tell_waits<O: Output>(
 {
     ended(
         list_waits(waits, analysis, &documents.times, out),
+        Status::Done,
+    )
+}
+
+/// Writes where the word times of the walk beside a ceiling go.
+pub fn tell_rounds_waits<O: Output>(
+    out: &mut O,
+    documents: &Documents,
+    bracket: &Bracket,
+    waits: &WaitsInRounds,
+) -> Status
+    requires { O.called out.old ≤ 2 ^ 62 }
+    ensures { GetsResult (device (O.written out.old) (O.failed out.old))
+        (device (O.written out.new) (O.failed out.new))
+        (listed (entry_in documents.now.times) waits.now bracket.now) Status.Done result }
+{
+    ended(
+        list_rounds_waits(waits, bracket, &documents.times, out),
         Status::Done,
     )
 }

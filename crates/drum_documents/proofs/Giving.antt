@@ -5,7 +5,7 @@ use Rattle.drum_core.specs.declared.deck.fault.DeckFault.TheVariants as deck
 use Rattle.drum_documents.specs.declared.documents.Documents.{Documents}
 use Rattle.drum_lines.specs.declared.fault.Fault.{Fault}
 use Rattle.drum_lines.specs.declared.fault.Fault.TheVariants.{NoPart, Part, Memory, Deck, Times, Notes, Inputs, Refused}
-use Rattle.drum_lines.specs.declared.fault.Fault.TheVariants.{Loaded, LongNotes}
+use Rattle.drum_lines.specs.declared.fault.Fault.TheVariants.{Loaded}
 use Rattle.drum_lines.specs.FaultStatus.{failed_by, reads_failed}
 use Rattle.drum_documents.specs.Joined.{Gives, GivesNone, Joins, JoinsNone}
 
@@ -19,7 +19,6 @@ given_none bytes (Notes fault) short is = (short, is)
 given_none bytes (Inputs fault) short is = (short, is)
 given_none bytes (Refused fault) short is = (short, is)
 given_none bytes (Loaded location) short is = (short, is)
-given_none bytes LongNotes short is = (short, is)
 
 -- all bytes of an input join no documents, where these are known
 pub known_none : (left : Option (List ℕ)) (text : List ℕ) (fault : Fault) → IfSome left (λ bytes. text ≡ bytes)
@@ -54,7 +53,6 @@ unread text (Notes fault) is = refl
 unread text (Inputs fault) is = absurd is.2
 unread text (Refused fault) is = refl
 unread text (Loaded location) is = refl
-unread text LongNotes is = refl
 
 pub joined_unread : {A : Type 0} (text : List ℕ) (result : Result A Fault) → IfErr result (JoinsNone text)
     → failed_by result ≡ 0

@@ -17,4 +17,3 @@ joins_none text parts (faults.Times fault) are none = (parts, are, none)
 joins_none text parts (faults.Notes fault) are none = (parts, are, none)
 joins_none text parts (faults.Inputs fault) are none = absurd none
 joins_none text parts (faults.Loaded location) are none = absurd none
-joins_none text parts faults.LongNotes are none = absurd none

@@ -34,7 +34,6 @@ no_limit documents (faults.Times fault) other is = absurd is
 no_limit documents (faults.Notes fault) other is = absurd is
 no_limit documents (faults.Inputs fault) other is = absurd is
 no_limit documents (faults.Loaded location) other is = absurd is
-no_limit documents faults.LongNotes other is = absurd is
 
 -- and so is why there is no ceiling
 pub no_ceiling : (documents : Documents) (fault : Fault) → HaveNoBound documents
@@ -61,7 +60,6 @@ no_ceiling documents (faults.Times fault) none is = absurd is
 no_ceiling documents (faults.Notes fault) none is = absurd is
 no_ceiling documents (faults.Inputs fault) none is = absurd is
 no_ceiling documents (faults.Loaded location) none is = absurd is
-no_ceiling documents faults.LongNotes none is = absurd is
 
 -- a ceiling that comes to so much
 pub too_dear : (documents : Documents) (ceiling : Ceiling) (least : ℕ) → IsCeiling documents ceiling

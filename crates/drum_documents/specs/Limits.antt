@@ -69,12 +69,6 @@ AreShort documents = IsTrue (is_short documents.notes)
 abbrev pub AreLong : Documents → Type 0
 AreLong documents = IsTrue (not (is_short documents.notes))
 
--- why nothing goes by their bound: their notes are long, or they have none
-abbrev pub IsShortFault : Documents → Fault → Type 0
-IsShortFault documents one =
-    ((one ≡ fault.LongNotes) × AreLong documents)
-    ⊎ (AreShort documents × IsAnalysisFault documents one)
-
 -- they are too large for a bound, or have long notes, which go by none
 abbrev pub HaveNoBound : Documents → Type 0
 HaveNoBound documents =

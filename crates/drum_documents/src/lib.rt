@@ -30,6 +30,6 @@ mod texts;
 pub use documents::Documents;
 pub use files::{documents_in, documents_with_inputs};
 pub use joined_input::documents_of;
-pub use limits::{bound_of, bracket_of, ceiling_of, limit_of, only_short};
+pub use limits::{bound_of, bracket_of, ceiling_of, limit_of};
 pub use source::Source;
 pub use texts::{Texts, texts_with_inputs};

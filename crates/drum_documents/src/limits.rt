@@ -1,7 +1,7 @@
 //! What documents have as a bound, as a ceiling with a walk, and what limits a run of theirs.
 
 ghost use Rattle.std.specs.Prelude.{◌≡◌, ◌^◌, ◌<◌, IfOk, IfErr};
-ghost use Rattle.drum_documents.specs.Limits.{AreLong, AreShort, HaveNoBound, IsAnalysisFault};
+ghost use Rattle.drum_documents.specs.Limits.{HaveNoBound, IsAnalysisFault};
 ghost use Rattle.drum_documents.specs.Limits.{IsBound, IsBracket, IsCeiling, IsCeilingFault};
 ghost use Rattle.drum_documents.specs.Limits.{IsLimit, IsLimitFault, IsProduct};
 
@@ -43,7 +43,7 @@ pub fn ceiling_of(alloc: Global, documents: &Documents) -> Result<Ceiling, Fault
     Ok(ceiling(alloc, &documents.deck, &documents.times, &documents.notes)?)
 }
 
-/// A ceiling of documents, with a walk that takes as long, or as long as one was found.
+/// A ceiling of documents, with a walk beside it.
 ///
 /// # Errors
 ///
@@ -53,22 +53,6 @@ pub fn bracket_of(alloc: Global, documents: &Documents) -> Result<Bracket, Fault
     ensures fault { IfErr result (IsCeilingFault documents.now) }
 {
     Ok(reached(alloc, &documents.deck, &documents.times, &documents.notes)?)
-}
-
-/// Refuses documents with long notes, where what is asked for goes by the bound.
-///
-/// # Errors
-///
-/// [`Fault::LongNotes`] where the notes are long.
-pub fn only_short(documents: &Documents) -> Result<(), Fault>
-    ensures short { IfOk result (λ _. AreShort documents.now) }
-    ensures long { IfErr result (λ fault. (fault ≡ Fault.LongNotes) × AreLong documents.now) }
-{
-    if documents.notes.is_short() {
-        Ok(())
-    } else {
-        Err(Fault::LongNotes)
-    }
 }
 
 /// What a run of documents that keeps to the notes uses at most, in word times, and how that is

@@ -11,7 +11,7 @@ use Rattle.drum_times.specs.declared.fault.NoteFault.{NoteFault}
 use Rattle.drum_times.specs.declared.fault.NoteFault.TheVariants as note
 use Rattle.drum_lines.specs.declared.fault.Fault.{Fault}
 use Rattle.drum_lines.specs.declared.fault.Fault.TheVariants.{NoPart, Part, Memory, Deck, Times}
-use Rattle.drum_lines.specs.declared.fault.Fault.TheVariants.{Notes, Inputs, Refused, Loaded, LongNotes}
+use Rattle.drum_lines.specs.declared.fault.Fault.TheVariants.{Notes, Inputs, Refused, Loaded}
 use Rattle.drum_lines.specs.declared.part.PartFault.TheVariants as what
 use Rattle.drum_lines.specs.declared.status.Status as status
 use Rattle.drum_lines.specs.declared.status.Status.TheVariants as ends
@@ -56,7 +56,6 @@ status_after (Notes fault) = after_note fault
 status_after (Inputs fault) = after_input fault
 status_after (Refused fault) = after_refusal fault
 status_after (Loaded location) = ends.Refused
-status_after LongNotes = ends.Refused
 
 -- the program is out of memory (which is tested, not stated)
 abbrev pub IsWanting : Fault → Type 0

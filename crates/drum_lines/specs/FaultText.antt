@@ -13,7 +13,7 @@ use Rattle.drum_times.specs.declared.fault.NoteFault.{NoteFault}
 use Rattle.drum_times.specs.declared.fault.NoteFault.TheVariants as note
 use Rattle.drum_lines.specs.declared.fault.Fault.{Fault}
 use Rattle.drum_lines.specs.declared.fault.Fault.TheVariants.{NoPart, Part, Memory, Deck, Times}
-use Rattle.drum_lines.specs.declared.fault.Fault.TheVariants.{Notes, Inputs, Refused, Loaded, LongNotes}
+use Rattle.drum_lines.specs.declared.fault.Fault.TheVariants.{Notes, Inputs, Refused, Loaded}
 use Rattle.drum_lines.specs.declared.part.Part as parts
 use Rattle.drum_lines.specs.declared.part.Part.TheVariants as part
 use Rattle.drum_lines.specs.declared.part.PartFault.{PartFault}
@@ -101,7 +101,6 @@ fault_text (Refused refusal) = refusal_text refusal
 fault_text (Inputs fault) = input_text fault
 fault_text (Loaded location) =
     codes "fault 47 inputs loaded " ++ digits_of 4 location.number ++ codes "\n"
-fault_text LongNotes = codes "fault 38 longnotes\n"
 fault_text NoPart = codes "fault 51 nopart\n"
 fault_text (Part part fault) = part_text (part_name part) fault
 fault_text Memory = codes "fault 53 memory\n"

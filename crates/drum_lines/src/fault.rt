@@ -31,8 +31,6 @@ pub enum Fault {
     Refused(Refusal),
     /// The inputs give a word to a location that the deck loads too.
     Loaded(Location),
-    /// The notes are long, and what is asked for goes by the bound, which only short notes have.
-    LongNotes,
 }
 
 impl Fault {

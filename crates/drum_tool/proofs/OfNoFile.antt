@@ -1,6 +1,6 @@
 -- Faults of no file: the refusal of a deck with its notes, that of a run, and lack of memory. None
 -- of them says that a read failed.
-use Rattle.std.proofs.Common.{◌≡◌, ℕ, None, Result, Ok, Err, IfErr, refl, sym, subst, inl, inr}
+use Rattle.std.proofs.Common.{◌≡◌, ℕ, None, Result, Ok, Err, IfErr, refl}
 use Rattle.drum_command.specs.declared.command.Question.{Question}
 use Rattle.drum_command.specs.declared.command.Question.TheVariants.{Bound, Report, Walk, Waits, Table, Graph, Draw, Ceiling}
 use Rattle.drum_flow.specs.declared.refusal.Refusal.{Refusal}
@@ -13,7 +13,7 @@ use Rattle.drum_lines.specs.declared.limit.Limit.{Limit}
 use Rattle.drum_lines.specs.FaultStatus.{failed_by}
 use Rattle.drum_documents.specs.declared.documents.Documents.{Documents}
 use Rattle.drum_documents.specs.Asked.{part_of}
-use Rattle.drum_documents.specs.Limits.{IsLimit, IsLimitRefusal, IsRefusedFor, IsShortFault}
+use Rattle.drum_documents.specs.Limits.{IsLimit, IsLimitRefusal, IsRefusedFor}
 use Rattle.drum_documents.specs.Documents.{setting_of}
 use Rattle.drum_tool.specs.DoesCommand.{IsOfNoFile}
 use Rattle.drum_replay.specs.Replay.{Given, IsReplayFault, IsRunFault, IsTraceFault}
@@ -30,7 +30,6 @@ refused_of_none Is (faults.Times fault) is = absurd is
 refused_of_none Is (faults.Notes fault) is = absurd is
 refused_of_none Is (faults.Inputs fault) is = absurd is
 refused_of_none Is (faults.Loaded location) is = absurd is
-refused_of_none Is faults.LongNotes is = absurd is
 
 pub wanting_of_none : (fault : Fault) → IsWanting fault → IsOfNoFile fault
 wanting_of_none (faults.Refused refusal) is = record { part = refl; reads = refl }
@@ -42,7 +41,6 @@ wanting_of_none (faults.Times fault) is = absurd is
 wanting_of_none (faults.Notes fault) is = absurd is
 wanting_of_none (faults.Inputs fault) is = absurd is
 wanting_of_none (faults.Loaded location) is = absurd is
-wanting_of_none faults.LongNotes is = absurd is
 
 run_of_none : (g : Setting) (given : Given) (Refuses : Refusal → Type 0) (IsLimited : Type 0) (fault : Fault)
     → IsRunFault g given Refuses IsLimited fault → IsOfNoFile fault
@@ -55,7 +53,6 @@ run_of_none g given Refuses IsLimited (faults.Times fault) is = absurd is
 run_of_none g given Refuses IsLimited (faults.Notes fault) is = absurd is
 run_of_none g given Refuses IsLimited (faults.Inputs fault) is = absurd is
 run_of_none g given Refuses IsLimited (faults.Loaded location) is = record { part = refl; reads = refl }
-run_of_none g given Refuses IsLimited faults.LongNotes is = absurd is
 
 pub replay_of_none : (g : Setting) (given : Given) (fault : Fault) → IsReplayFault g given fault → IsOfNoFile fault
 replay_of_none g given fault is =
@@ -67,16 +64,12 @@ trace_of_none documents given fault is =
     run_of_none (setting_of documents) given (IsLimitRefusal documents)
     ((limit : Limit) × (most : ℕ) × IsLimit documents limit most) fault is
 
-short_of_none : (documents : Documents) (fault : Fault) → IsShortFault documents fault → IsOfNoFile fault
-short_of_none documents fault (inl long) = subst IsOfNoFile (sym long.0) (record { part = refl; reads = refl })
-short_of_none documents fault (inr short) = refused_of_none _ fault short.1
-
 pub question_of_none : (question : Question) (documents : Documents) (fault : Fault) → Refuses question documents fault
     → IsOfNoFile fault
 question_of_none Bound documents fault is = refused_of_none _ fault is
 question_of_none Report documents fault is = refused_of_none _ fault is
 question_of_none Walk documents fault is = refused_of_none _ fault is
-question_of_none Waits documents fault is = short_of_none documents fault is
+question_of_none Waits documents fault is = refused_of_none _ fault is
 question_of_none Table documents fault is = refused_of_none _ fault is
 question_of_none Graph documents fault is = wanting_of_none fault is
 question_of_none Draw documents fault is = refused_of_none _ fault is

@@ -119,7 +119,6 @@ after_fault (faults.Notes fault) = after_note_fault fault
 after_fault (faults.Inputs fault) = after_input_fault fault
 after_fault (faults.Refused refused) = after_refusal_fault refused
 after_fault (faults.Loaded location) = inl refl
-after_fault faults.LongNotes = inl refl
 
 -- which is neither as where the words are wrong, nor as after a result that is done
 no_usage : (ends : statuses.Status) → IsBad ends → ends ≢ status.Usage

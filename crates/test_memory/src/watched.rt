@@ -220,6 +220,17 @@ fn of_the_program(rt: HostRuntime) -> Result<(), Fail> {
     Ok(())
 }
 
+/// Of long notes, which have no bound.
+#[test]
+fn of_the_program_past_the_limit(rt: HostRuntime) -> Result<(), Fail> {
+    let notes = format!(in rt.alloc(); "{NOTES}{BACK}name = \"back\"\n")?;
+    let files = files(BRANCH_BACK, &notes, "ANGLE 01\n");
+    for command in ["ceiling", "walk", "waits"] {
+        holds(&rt, Call::Run(&[command, "deck", "times", "notes"], &files))?;
+    }
+    Ok(())
+}
+
 #[test]
 fn of_the_program_that_refuses(rt: HostRuntime) -> Result<(), Fail> {
     let notes = format!(in rt.alloc(); "{NOTES}{BACK}")?;

@@ -30,6 +30,5 @@ pub fn write_fault<O: Output>(output: &mut O, fault: &Fault) -> Result<(), Write
         Fault::Inputs(fault) => write_input_fault(output, fault),
         Fault::Refused(refusal) => write_refusal(output, refusal),
         Fault::Loaded(location) => write_located(output, b"fault 47 inputs loaded ", *location),
-        Fault::LongNotes => write_text(output, b"fault 38 longnotes\n"),
     }
 }
