@@ -155,8 +155,8 @@ pub fn tell_ceiling<O: Output>(out: &mut O, documents: &Documents, bracket: &Bra
     ended(report_ceiling(bracket, &documents.notes, out), Status::Done)
 }
 
-/// How the program ends after what was found: a mark that doesn't say that it stands inside another
-/// one may be meant so.
+/// How the program ends after what was found: a word that nothing comes to may be meant so, and a
+/// mark that doesn't say that it stands inside another one.
 fn status_of(findings: &Findings) -> Status
     ensures { result ≡ status_after_check (found_in findings.now) }
 {

@@ -20,6 +20,12 @@ among_found xs x (Some index) at none = sym (contains_any xs x (contains_from_ge
 among_found xs x None at none =
     one_answer false (is_among xs x) (λ e. cc) (λ e. absurd (none (any_contains xs x e)))
 
+-- an answer that goes together with that it is among them
+pub among_told : (xs : List ℕ) (x : ℕ) (answer : Bool) → (answer ≡ true → Contains xs x) → (Contains xs x → answer ≡ true)
+    → answer ≡ is_among xs x
+among_told xs x answer there back =
+    one_answer answer (is_among xs x) (λ e. contains_any xs x (there e)) (λ e. back (any_contains xs x e))
+
 -- the same among those that were added to none
 pub among_new : (xs : List ℕ) (x : ℕ) → is_among (with_new [] xs) x ≡ is_among xs x
 among_new xs x =

@@ -8,6 +8,8 @@ pub mod Fixeds
 pub mod Heads
 pub mod Lacks
 pub mod Marked
+pub mod NamedFlags
+pub mod Namings
 pub mod Nothing
 pub mod Numbered
 pub mod Ones

@@ -17,6 +17,7 @@ use Rattle.drum_flow.proofs.Lists.{contains_here, contains_none}
 use Rattle.drum_loops.specs.Loops.{IsFreeBeside}
 use Rattle.drum_check.specs.Findings.{AreFindings, Finding, not_loaded, not_in_profile, alters}
 use Rattle.drum_check.specs.Findings.{altered, altered_by, altering, is_fixed, not_there, operations_outside}
+use Rattle.drum_check.specs.Idle.{idle_words}
 use Rattle.drum_check.specs.Kept.{kept_of}
 use Rattle.drum_check.specs.Findings.{outside, too_many, unfit, unused, inside_at, AreLooseEnds, IsUnsaid, pairs_of}
 use Rattle.drum_check.proofs.Fixeds.{fixed_so}
@@ -65,7 +66,8 @@ pub one_loose : (loads : ℕ → Option Word) (notes : Notes) (start : ℕ) (exe
     → AreLooseEnds loads notes start executed some → AreLooseEnds loads notes start executed others → some ≡ others
 one_loose loads notes start executed some others one other =
     one.all
-    ∙ ap (λ (pairs : List (ℕ × ℕ)). unused loads notes executed ++ map (inside_at notes.marks) pairs)
+    ∙ ap (λ (pairs : List (ℕ × ℕ)). unused loads notes executed ++ idle_words loads notes executed
+    ++ map (inside_at notes.marks) pairs)
     (those_one (IsUnsaid loads notes start executed) (pairs_of notes.marks) one.pairs other.pairs one.unsaid other.unsaid)
     ∙ sym other.all
 

@@ -1,7 +1,9 @@
 -- All the findings, put together.
 use Rattle.std.proofs.Common.{◌≡◌, List, [], ◌++◌, refl, ap, ◌∙◌}
 use Rattle.std.specs.List.{range_with_len}
+use Rattle.std.proofs.lemmas.List.{append_assoc}
 use Rattle.drum_check.specs.Findings.{Finding, all_locations}
+use Rattle.drum_check.specs.Idle.{drum_locations}
 
 -- five lists that were added in turn to none
 pub in_turn : (none first second third fourth fifth vs ws xs ys zs : List Finding) → none ≡ [] → first ≡ none ++ vs
@@ -13,7 +15,20 @@ in_turn none first second third fourth fifth vs ws xs ys zs empty v w x y z =
     (x ∙ ap (λ (all : List Finding). all ++ xs)
     (w ∙ ap (λ (all : List Finding). all ++ ws) (v ∙ ap (λ (all : List Finding). all ++ vs) empty))))
 
+-- three lists that were added in turn
+pub loose_in_turn : (before first second third xs ys zs : List Finding) → first ≡ before ++ xs → second ≡ first ++ ys
+    → third ≡ second ++ zs → third ≡ before ++ (xs ++ ys ++ zs)
+loose_in_turn before first second third xs ys zs x y z =
+    z ∙ ap (λ (all : List Finding). all ++ zs)
+    (y ∙ ap (λ (all : List Finding). all ++ ys) x ∙ append_assoc before xs ys)
+    ∙ append_assoc before (xs ++ ys) zs
+
 -- All locations, in their two parts.
 pub two_parts : all_locations ≡ range_with_len 0 2000 ++ range_with_len 8000 4
 unfolding all_locations
 two_parts = refl
+
+-- The locations on the drum.
+pub on_drum : drum_locations ≡ range_with_len 0 2000
+unfolding drum_locations
+on_drum = refl

@@ -14,4 +14,5 @@ pub data Finding : Type 0 where
   closes : ℕ × ℕ → Within → Finding
   unused_mark : ℕ × ℕ → Finding
   unused_list : ℕ → Finding
+  idle : ℕ → Finding
   inside : ℕ × ℕ → ℕ × ℕ → Finding

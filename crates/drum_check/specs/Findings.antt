@@ -1,4 +1,4 @@
--- All that keeps a deck from having a bound under its notes, and the loose ends of the notes.
+-- All that keeps a deck from having a bound under its notes, and the loose ends of both.
 -- `loads` says which word the deck loads into a location.
 use Rattle.std.specs.Prelude.{◌≡◌, ◌≢◌, ◌≤◌, ℕ, nat_lt, if◌then◌else◌, ◌||◌, ◌&&◌, not, Bool}
 use Rattle.std.specs.Prelude.{true, false, List, [], ◌∷◌, ◌++◌, map, filter, flat_map, length}
@@ -19,7 +19,8 @@ use Rattle.drum_flow.specs.Flow.{AreFound}
 use Rattle.drum_loops.specs.Loops.{AreClosing}
 pub use Rattle.drum_check.specs.Among.{is_among, has_edge, AreThose}
 pub use Rattle.drum_check.specs.Finding.{Finding, not_loaded, not_in_profile, alters, too_large}
-pub use Rattle.drum_check.specs.Finding.{closes, unused_mark, unused_list, inside}
+pub use Rattle.drum_check.specs.Finding.{closes, unused_mark, unused_list, idle, inside}
+use Rattle.drum_check.specs.Idle.{idle_words}
 use Rattle.drum_check.specs.Insides.{AreLoops, HasSeveralWays, IsMarkRound, IsRound, StandsInside}
 use Rattle.drum_check.specs.Insides.{marked_edges, marks_of}
 use Rattle.drum_check.specs.Kept.{kept_of}
@@ -82,8 +83,8 @@ abbrev pub astray : (ℕ → Option Word) → Notes → List ℕ → Mark → Li
 astray loads notes executed mark = flat_map (missing loads notes executed) (edges_of mark)
 
 -- a list for a location that isn't executed
-abbrev pub idle : Notes → List ℕ → ℕ → List Finding
-idle notes executed place =
+abbrev pub unused_list_at : Notes → List ℕ → ℕ → List Finding
+unused_list_at notes executed place =
     if is_listed notes place && not (is_among executed place) then unused_list place ∷ [] else []
 
 -- All locations: those on the drum, and those beside it.
@@ -95,7 +96,7 @@ all_locations = range_with_len 0 2000 ++ range_with_len 8000 4
 abbrev pub unused : (ℕ → Option Word) → Notes → List ℕ → List Finding
 unused loads notes executed =
     flat_map (astray loads notes executed) notes.marks
-    ++ flat_map (idle notes executed) all_locations
+    ++ flat_map (unused_list_at notes executed) all_locations
 
 -- the first edge of the mark with this index
 abbrev pub edge_at : List Mark → ℕ → ℕ × ℕ
@@ -138,23 +139,27 @@ pairs_of marks =
 abbrev pub inside_at : List Mark → ℕ × ℕ → Finding
 inside_at marks pair = inside (edge_at marks pair.0) (edge_at marks pair.1)
 
--- The loose ends of the notes: the marks' edges and the lists that are unused, and each pair of
--- marks whose loops stand one inside the other where the notes don't say so.
+-- The loose ends of a deck and its notes: the marks' edges and the lists that are unused, the words
+-- that nothing comes to, and each pair of marks whose loops stand one inside the other where the
+-- notes don't say so.
 pub record AreLooseEnds (loads : ℕ → Option Word) (notes : Notes) (start : ℕ)
     (executed : List ℕ) (loose : List Finding) : Type 0 where
   pub pairs : List (ℕ × ℕ)
   pub unsaid : AreThose (IsUnsaid loads notes start executed) (pairs_of notes.marks) pairs
-  pub all : loose ≡ unused loads notes executed ++ map (inside_at notes.marks) pairs
+  pub all : loose ≡ unused loads notes executed ++ idle_words loads notes executed
+      ++ map (inside_at notes.marks) pairs
 
--- Something that may be meant as it is: that a mark's loop stands inside another one's, and the
--- notes don't say so. The mark may count the whole run.
+-- Something that may be meant as it is: a word that nothing comes to may be kept for later; and
+-- where a mark's loop stands inside another one's, and the notes don't say so, the mark may count
+-- the whole run.
 abbrev pub may_be_meant : Finding → Bool
+may_be_meant (idle place) = true
 may_be_meant (inside inner outer) = true
 may_be_meant _ = false
 
 -- These are all the findings: of each executed location, in the order of discovery, what is wrong
 -- with it, then what each alters, then the size, the loops of the edges that close them, and last
--- the loose ends of the notes.
+-- the loose ends.
 pub record AreFindings (loads : ℕ → Option Word) (notes : Notes) (start : ℕ)
     (findings : List Finding) : Type 0 where
   pub executed : List ℕ

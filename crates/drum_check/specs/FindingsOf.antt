@@ -9,7 +9,7 @@ use Rattle.drum_check.specs.declared.finding.Finding as held
 use Rattle.drum_check.specs.declared.finding.Finding.TheVariants as finding
 use Rattle.drum_check.specs.declared.findings.Findings.{Findings}
 use Rattle.drum_check.specs.Findings.{Finding, not_loaded, not_in_profile, alters, too_large}
-use Rattle.drum_check.specs.Findings.{closes, unused_mark, unused_list, inside}
+use Rattle.drum_check.specs.Findings.{closes, unused_mark, unused_list, idle, inside}
 use Rattle.drum_check.specs.Insides.{StandsInside}
 
 -- a finding by its numbers
@@ -21,6 +21,7 @@ seen (finding.TooLarge product) = too_large product
 seen (finding.Loop edge within) = closes (edge_of edge) within
 seen (finding.UnusedMark edge) = unused_mark (edge_of edge)
 seen (finding.UnusedList location) = unused_list location.number
+seen (finding.Idle location) = idle location.number
 seen (finding.Inside inner outer) = inside (edge_of inner) (edge_of outer)
 
 -- all of them, in order

@@ -4,9 +4,11 @@ pub mod Findings
 pub mod FindingsOf
 pub mod FindingsText
 pub mod First
+pub mod Idle
 pub mod Insides
 pub mod Kept
 pub mod KnownInside
 pub mod Lacking
 pub mod LackingOf
+pub mod NamedOf
 pub mod Shared

@@ -3,7 +3,7 @@ use crate::within::Within;
 use drum_core::Location;
 use drum_times::Edge;
 
-/// Something that keeps a deck from having a bound under its notes, or a loose end of the notes.
+/// Something that keeps a deck from having a bound under its notes, or a loose end of the two.
 #[derive(Clone, Copy, Debug, PartialEq, Eq)]
 pub enum Finding {
     /// This executed location is neither loaded nor listed.
@@ -31,6 +31,9 @@ pub enum Finding {
     UnusedMark(Edge),
     /// A location that isn't executed has a list.
     UnusedList(Location),
+    /// The deck loads a word here that is neither executed nor named as data by an instruction that
+    /// is allowed at an executed location.
+    Idle(Location),
     /// The loop that an edge of a mark closes stands inside the one that an edge of another mark
     /// closes, and the notes don't say that the one mark stands inside the other. These are the
     /// marks' first edges.
@@ -42,6 +45,7 @@ pub enum Finding {
 
 impl Finding {
     ghost use Rattle.std.specs.Prelude.{◌≡◌, is_some, option_map};
+    ghost use Rattle.std.specs.List.{list_all};
     ghost use Rattle.drum_check.specs.Findings as said;
     ghost use Rattle.drum_check.specs.FindingsOf.{seen};
     ghost use Rattle.drum_check.specs.Shared as shared;
@@ -90,11 +94,19 @@ impl Finding {
         self.shared_onto(head).is_some()
     }
 
-    /// Whether it may be meant as it is: a mark that doesn't say inside which other one it stands
-    /// may be one whose passes are counted over the whole run.
+    /// Whether it may be meant as it is: a word that nothing comes to may be kept for later, and a
+    /// mark that doesn't say inside which other one it stands may be one whose passes are counted
+    /// over the whole run.
     pub(crate) fn may_be_meant(&self) -> bool
         ensures { result ≡ said.may_be_meant (seen self.now) }
     {
-        matches!(self, Finding::Inside { .. })
+        matches!(self, Finding::Idle(_) | Finding::Inside { .. })
+    }
+
+    /// Whether all of these may be meant as they are.
+    pub(crate) fn may_all_be_meant(findings: &[Finding]) -> bool
+        ensures { result ≡ list_all (λ finding. said.may_be_meant (seen finding)) findings.now }
+    {
+        findings.iter().all(|finding| finding.may_be_meant())
     }
 }

@@ -3,11 +3,12 @@ ghost use Rattle.std.specs.Prelude.{◌≤◌, vec_len};
 use crate::altered::altered_at;
 use crate::edges::{has_edge, is_executed};
 use crate::finding::Finding;
+use crate::idle::idle_words;
 use crate::kept::Kept;
 use crate::lengths::are_long;
 use crate::loops::unmarked_loops;
 use crate::operations::operations_outside;
-use crate::unsaid::{are_unsaid, unsaid_marks};
+use crate::unsaid::unsaid_marks;
 use drum_core::{Deck, Location};
 use drum_flow::counts::product_of;
 use drum_flow::fixed::Fixed;
@@ -23,7 +24,7 @@ const LIMIT: usize = 1 << 24;
 /// The most that executed words times counts may be.
 const PRODUCT_LIMIT: u128 = 4_000_000;
 
-/// All that keeps a deck from having a bound under its notes, and the loose ends of the notes.
+/// All that keeps a deck from having a bound under its notes, and the loose ends of both.
 #[derive(Debug, Drop)]
 pub struct Findings {
     pub(crate) all: Vec<Finding>,
@@ -42,7 +43,8 @@ impl Findings {
     ghost use Rattle.drum_flow.specs.Flow.{executed_in, of_flow, AreFound};
     ghost use Rattle.drum_times.specs.EdgeOf.{edge_of};
     ghost use Rattle.drum_check.specs.Findings.{not_there, unfit, altering, too_many};
-    ghost use Rattle.drum_check.specs.Findings.{astray, idle, may_be_meant, missing, unused};
+    ghost use Rattle.drum_check.specs.Findings.{astray, may_be_meant, missing, unused};
+    ghost use Rattle.drum_check.specs.Findings.{unused_list_at};
     ghost use Rattle.drum_check.specs.Findings.{not_in_profile, alters, AreFindings};
     ghost use Rattle.drum_check.specs.FindingsOf.{AreFixed, seen, found_in, is_long_in};
     ghost use Rattle.drum_check.specs.Kept.{kept_of};
@@ -257,9 +259,9 @@ impl Findings {
     }
 
     /// Adds that a location which isn't executed has a list, if it is so.
-    fn add_idle(&mut self, flow: &Flow<'_>, location: Location) -> Result<(), AllocError>
+    fn add_unused_list(&mut self, flow: &Flow<'_>, location: Location) -> Result<(), AllocError>
         ensures { OnOk result (found_in self.new ≡ found_in self.old
-            ++ idle flow.now.notes.now (executed_in flow.now) location.number) }
+            ++ unused_list_at flow.now.notes.now (executed_in flow.now) location.number) }
     {
         if !is_listed(flow.notes(), location) {
             return Ok(());
@@ -272,17 +274,22 @@ impl Findings {
 
     /// Adds each of these locations, from a number on and below another one, that has a list and
     /// isn't executed.
-    fn add_all_idle(&mut self, flow: &Flow<'_>, from: u16, below: u16) -> Result<(), AllocError>
+    fn add_all_unused_lists(
+        &mut self,
+        flow: &Flow<'_>,
+        from: u16,
+        below: u16,
+    ) -> Result<(), AllocError>
         requires locations { (n : ℕ) → from ≤ n → n < below → IsLocation n }
         ensures { OnOk result (found_in self.new ≡ found_in self.old
-            ++ flat_map (idle flow.now.notes.now (executed_in flow.now))
+            ++ flat_map (unused_list_at flow.now.notes.now (executed_in flow.now))
             (range_with_len from (below - from))) }
     {
         for number in from..below {
             let Some(location) = Location::new(number) else {
                 unreachable!()
             };
-            self.add_idle(flow, location)?;
+            self.add_unused_list(flow, location)?;
         }
         Ok(())
     }
@@ -293,17 +300,18 @@ impl Findings {
             ++ unused (loads_in flow.now.deck.now) flow.now.notes.now (executed_in flow.now)) }
     {
         self.add_all_astray(alloc, flow)?;
-        self.add_all_idle(flow, 0, Location::DRUM)?;
-        self.add_all_idle(flow, 8000, 8004)
+        self.add_all_unused_lists(flow, 0, Location::DRUM)?;
+        self.add_all_unused_lists(flow, 8000, 8004)
     }
 
-    /// All that keeps the deck from having a bound under these notes, and the loose ends of the
-    /// notes: first what is wrong with each executed location by itself, in the order of discovery,
+    /// All that keeps the deck from having a bound under these notes, and the loose ends of both:
+    /// first what is wrong with each executed location by itself, in the order of discovery,
     /// then what the instructions of each alter, then the size, where the notes are short, and then
     /// the edges that close loops, those first whose loop stands inside the fewest others (in any
-    /// order, where they and the marks' edges are more than 64); and last the loose ends of the
-    /// notes: the marks' edges and the lists that are unused, each edge in order and each list by
-    /// its location, and the marks that don't say inside which other one they stand.
+    /// order, where they and the marks' edges are more than 64); and last the loose ends: the
+    /// marks' edges and the lists that are unused, each edge in order and each list by its
+    /// location, the words that nothing comes to, by their locations, and the marks that don't say
+    /// inside which other one they stand.
     ///
     /// # Errors
     ///
@@ -317,6 +325,7 @@ impl Findings {
         let flow = discover(alloc, deck, notes)?;
         let fixed = Fixed::of(alloc, flow.executed(), notes)?;
         let loops = unmarked_loops(alloc, &flow)?;
+        let idle = idle_words(alloc, &flow)?;
         let unsaid = unsaid_marks(alloc, &flow)?;
         let mut findings = Findings::none(alloc);
         findings.add_all_unfit(alloc, &flow)?;
@@ -324,6 +333,7 @@ impl Findings {
         findings.add_size(&flow)?;
         findings.add_all(&loops)?;
         findings.add_unused(alloc, &flow)?;
+        findings.add_all(&idle)?;
         findings.add_all(&unsaid)?;
         findings.long = are_long(notes, &findings.all);
         Ok(findings)
@@ -336,12 +346,12 @@ impl Findings {
         self.all.is_empty()
     }
 
-    /// Whether all that was found may be meant as it is: marks alone that don't say inside which
-    /// other one they stand.
+    /// Whether all that was found may be meant as it is: words alone that nothing comes to, and
+    /// marks that don't say inside which other one they stand.
     pub fn may_be_meant(&self) -> bool
         ensures { result ≡ list_all may_be_meant (found_in self.now) }
     {
-        are_unsaid(&self.all)
+        Finding::may_all_be_meant(&self.all)
     }
 
     /// What was found, in order.

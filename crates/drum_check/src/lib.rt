@@ -1,6 +1,6 @@
 //! All that keeps a deck from having a bound under its notes, at once, where an analysis tells the
-//! first of it alone; and the loose ends of the notes: marks' edges and lists that are unused, and
-//! marks that don't say inside which other one they stand.
+//! first of it alone; and the loose ends of both: marks' edges and lists that are unused, words of
+//! the deck that nothing comes to, and marks that don't say inside which other one they stand.
 //!
 //! Code, from the bottom up. A `finding` is one of these things. `operations` are those of a
 //! location that are outside the profile. `altered` are the words that its instructions alter, and
@@ -11,21 +11,24 @@
 //! `sharing` finds which edges share a mark, and `within` is inside which other mark a mark is to
 //! stand. `loops` finds the loops that lack a mark, and puts them in order, with the mark inside
 //! which one on each is to stand; `unsaid` finds the marks that don't say inside which other they
-//! stand. `lengths` tells whether the notes are long once the marks that are lacking stand in them.
+//! stand. `naming` is which words an operation names as data, a `stretch` those that instructions of
+//! a pattern name, and `named` those that all executed ones do; `idle` finds the words that are
+//! neither these nor executed. `lengths` tells whether the notes are long once the marks that are
+//! lacking stand in them.
 //! `findings` gathers what is found. `listing` writes a line for each. `lacking` are the words that
 //! lack a list. `marking` and `pasting` write the notes that are lacking behind the lines, the
 //! first its marks. `laws` has laws of the definitions.
 //!
 //! Definitions, in the order to read them: `Finding` is what may be found, `Findings` all that is
 //! found, and `First` what is found first of a deck that is refused. `Among` is what is among
-//! executed locations, and `Insides` in which order loops are told, which of their edges share a
+//! executed locations, `Idle` which words nothing comes to, and `Insides` in which order loops are told, which of their edges share a
 //! mark, and inside which mark each is to stand. `FindingsText` is the lines. `Lacking` are the
 //! notes that are lacking, with `Shared`, which findings ask for a mark and which share one, and
-//! `Kept`, what a writer keeps of a word that it alters. `FindingsOf`, `KnownInside` and
-//! `LackingOf` say what the code's types mean by these.
+//! `Kept`, what a writer keeps of a word that it alters. `FindingsOf`, `KnownInside`, `LackingOf`
+//! and `NamedOf` say what the code's types mean by these.
 //!
-//! Proofs. There is a file for each part of what is found (`Unsaids` on pairs of marks), and
-//! `Whole` puts them together. `Silent` and `Accepting` show where nothing is in the way of a
+//! Proofs. There is a file for each part of what is found (`Unsaids` on pairs of marks, `Namings`
+//! and `NamedFlags` on words that are named), and `Whole` puts them together. `Silent` and `Accepting` show where nothing is in the way of a
 //! bound, and `Firsts` what is found first. Of the loops `Numbered` counts and finds the last one
 //! round another, `Ones` finds one of many, `Ways` where those round it go back to, `Heads` where
 //! edges share a mark, `Marked` the edges of a mark, `Rearranged` takes edges in another order, and
@@ -36,6 +39,7 @@ mod altered;
 mod edges;
 mod finding;
 mod findings;
+mod idle;
 mod kept;
 mod lacking;
 pub mod laws;
@@ -43,12 +47,15 @@ mod lengths;
 mod listing;
 mod loops;
 mod marking;
+mod named;
+mod naming;
 mod nested;
 mod nesting;
 mod operations;
 mod pasting;
 mod several;
 mod sharing;
+mod stretch;
 mod unsaid;
 mod within;
 

@@ -153,6 +153,7 @@ fn send_finding<O: Output>(
             send_behind(writer, sent, b"unused mark ", edge.from, &digits)
         }
         Finding::UnusedList(location) => send_location(writer, sent, b"unused list ", location),
+        Finding::Idle(location) => send_location(writer, sent, b"idle ", location),
         Finding::Inside { inner, outer } => send_edges(writer, sent, b"inside ", inner, outer),
     }
 }

@@ -2,11 +2,11 @@
 
 ghost use Rattle.std.specs.Prelude.{◌≡◌, ◌++◌, ◌↔◌, ◌<◌, ◌≤◌, ℕ, List, IsTrue, IfOk, OnOk, map};
 ghost use Rattle.std.specs.Prelude.{length};
-ghost use Rattle.std.specs.List.{list_all, range_with_len};
+ghost use Rattle.std.specs.List.{range_with_len};
 ghost use Rattle.drum_core.specs.Loads.{loads_in, start_in};
 ghost use Rattle.drum_flow.specs.Flow.{executed_in};
 ghost use Rattle.drum_times.specs.EdgeOf.{edge_of};
-ghost use Rattle.drum_check.specs.Findings.{edge_at, edges_at, inside_at, may_be_meant, pairs_of};
+ghost use Rattle.drum_check.specs.Findings.{edge_at, edges_at, inside_at, pairs_of};
 ghost use Rattle.drum_check.specs.Findings.{AreThose, IsUnsaid};
 ghost use Rattle.drum_check.specs.FindingsOf.{seen, IsInsideIn};
 ghost use Rattle.drum_check.specs.KnownInside.{AreKnown};
@@ -160,11 +160,4 @@ pub fn unsaid_marks(alloc: Global, flow: &Flow<'_>) -> Result<Vec<Finding>, Allo
     let nesting = Nesting::of(alloc, flow, &marked, &marked)?;
     let marks = marks_of(alloc, flow)?;
     unsaid_of(alloc, &nesting, &marks)
-}
-
-/// Whether all that was found are such pairs.
-pub fn are_unsaid(findings: &[Finding]) -> bool
-    ensures { result ≡ list_all (λ finding. may_be_meant (seen finding)) findings.now }
-{
-    findings.iter().all(|finding| finding.may_be_meant())
 }

@@ -36,5 +36,8 @@ returns-in-UnusedMark-clause-sent g c =
 pub returns-in-UnusedList-clause-sent : goal.returns-in-UnusedList-clause-sent
 returns-in-UnusedList-clause-sent g c = rw c.in-UnusedList.is c.send_location-in-UnusedList.ensures.sent
 
+pub returns-in-Idle-clause-sent : goal.returns-in-Idle-clause-sent
+returns-in-Idle-clause-sent g c = rw c.in-Idle.is c.send_location-in-Idle.ensures.sent
+
 pub returns-in-Inside-clause-sent : goal.returns-in-Inside-clause-sent
 returns-in-Inside-clause-sent g c = rw c.in-Inside.is c.send_edges.ensures.sent

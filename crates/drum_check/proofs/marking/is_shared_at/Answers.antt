@@ -2,11 +2,10 @@
 use Rattle.std.proofs.Common.{◌≡◌, ℕ, Bool, true, false, ◌||◌, List, [], ◌∷◌, map, refl, ap, sym, ◌∙◌}
 use Rattle.std.specs.Prelude.{is_some, ◌==◌, ◌&&◌, if◌then◌else◌, Some, None}
 use Rattle.std.specs.List.{list_any}
-use Rattle.drum_check.specs.declared.within.Within.{Within}
 use Rattle.drum_check.specs.Finding.{Finding, not_loaded, not_in_profile, alters, too_large, closes, unused_mark}
-use Rattle.drum_check.specs.Finding.{unused_list, inside}
+use Rattle.drum_check.specs.Finding.{unused_list, idle, inside}
 use Rattle.drum_check.specs.FindingsOf.{seen}
-use Rattle.drum_check.specs.Shared.{asks_to_share, is_shared, shared_onto}
+use Rattle.drum_check.specs.Shared.{asks_to_share, shared_onto}
 use Rattle.drum_check.proofs.marking.is_shared_at.Goals as goal
 
 one_alike : (head : ℕ) (finding : Finding) → asks_to_share finding ≡ false → is_some (shared_onto head finding) ≡ false
@@ -17,6 +16,7 @@ one_alike head (alters writer word kept) none = refl
 one_alike head (too_large product) none = refl
 one_alike head (unused_mark edge) none = refl
 one_alike head (unused_list place) none = refl
+one_alike head (idle place) none = refl
 one_alike head (inside inner outer) none = refl
 
 none_left : (a b : Bool) → (a || b) ≡ false → a ≡ false

@@ -4,7 +4,7 @@ use Rattle.std.proofs.lemmas.Grind.{flat_map-append}
 use Rattle.std.proofs.lemmas.Result.{err_from_is_err_and, on_ok_weaker}
 use Rattle.drum_core.specs.Loads.{loads_in}
 use Rattle.drum_flow.specs.Flow.{executed_in}
-use Rattle.drum_check.specs.Findings.{Finding, all_locations, astray, idle}
+use Rattle.drum_check.specs.Findings.{Finding, all_locations, astray, unused_list_at}
 use Rattle.drum_check.specs.FindingsOf.{found_in}
 use Rattle.drum_check.proofs.Adding.{added_both}
 use Rattle.drum_check.proofs.Whole.{two_parts}
@@ -15,26 +15,26 @@ returns-in_err-add_all_astray c =
     let p = err_from_is_err_and c.from_residual.result c.from_residual.ensures.1 in
     rw p.1 tt
 
-pub returns-in_err-add_all_idle : goal.returns-in_err-add_all_idle
-returns-in_err-add_all_idle c =
-    let p = err_from_is_err_and c.from_residual-in_err-add_all_idle.result
-    c.from_residual-in_err-add_all_idle.ensures.1 in
+pub returns-in_err-add_all_unused_lists : goal.returns-in_err-add_all_unused_lists
+returns-in_err-add_all_unused_lists c =
+    let p = err_from_is_err_and c.from_residual-in_err-add_all_unused_lists.result
+    c.from_residual-in_err-add_all_unused_lists.ensures.1 in
     rw p.1 tt
 
 pub returns : goal.returns
 returns c =
     let flow = c.args.flow.now in
-    let f : ℕ → List Finding = idle flow.notes.now (executed_in flow) in
+    let f : ℕ → List Finding = unused_list_at flow.notes.now (executed_in flow) in
     let first = range_with_len 0 2000 in
     let last = range_with_len 8000 4 in
     let marks : List Finding = flat_map (astray (loads_in flow.deck.now) flow.notes.now (executed_in flow)) flow.notes.now.marks in
     let old = found_in c.args.self.now in
     let mid = found_in c.add_all_astray.new.self in
-    let more = found_in c.add_all_idle.new.self in
+    let more = found_in c.add_all_unused_lists.new.self in
     let all : flat_map f first ++ flat_map f last ≡ flat_map f all_locations =
     sym (ap (flat_map f) two_parts ∙ flat_map-append f first last) in
-    on_ok_weaker c.add_all_idle-2.result (λ added.
-    added_both old mid (found_in c.add_all_idle-2.new.self) marks (flat_map f all_locations)
+    on_ok_weaker c.add_all_unused_lists-2.result (λ added.
+    added_both old mid (found_in c.add_all_unused_lists-2.new.self) marks (flat_map f all_locations)
     c.in_ok-add_all_astray.ensures
-    (added_both mid more (found_in c.add_all_idle-2.new.self) (flat_map f first) (flat_map f last)
-    c.in_ok-add_all_idle.ensures added ∙ ap (λ (xs : List Finding). mid ++ xs) all)) c.add_all_idle-2.ensures
+    (added_both mid more (found_in c.add_all_unused_lists-2.new.self) (flat_map f first) (flat_map f last)
+    c.in_ok-add_all_unused_lists.ensures added ∙ ap (λ (xs : List Finding). mid ++ xs) all)) c.add_all_unused_lists-2.ensures

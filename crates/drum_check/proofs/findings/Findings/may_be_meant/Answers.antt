@@ -8,6 +8,6 @@ use Rattle.drum_check.proofs.findings.Findings.may_be_meant.Goals as goal
 
 pub returns : goal.returns
 returns c =
-    c.are_unsaid.ensures
+    c.may_all_be_meant.ensures
     ∙ ap (λ (items : List Finding). list_all (λ (finding : Finding). may_be_meant (seen finding)) items)
     c.deref.ensures.value ∙ sym (list_all-map may_be_meant seen c.args.self.now.all.items)

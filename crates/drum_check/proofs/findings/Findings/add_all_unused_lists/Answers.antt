@@ -2,18 +2,18 @@ use Rattle.std.proofs.Common.{◌≡◌, ℕ, true, false, ◌++◌, List, Optio
 use Rattle.std.specs.Prelude.{is_some}
 use Rattle.drum_core.specs.declared.location.Location.{Location}
 use Rattle.drum_flow.specs.Flow.{executed_in}
-use Rattle.drum_check.specs.Findings.{Finding, idle}
+use Rattle.drum_check.specs.Findings.{Finding, unused_list_at}
 use Rattle.drum_check.specs.FindingsOf.{found_in}
 use Rattle.drum_check.proofs.Adding.{added_all, added_next}
-use Rattle.drum_check.proofs.findings.Findings.add_all_idle.Goals as goal
+use Rattle.drum_check.proofs.findings.Findings.add_all_unused_lists.Goals as goal
 
 pub loop-number-preserved : goal.loop-number-preserved
 loop-number-preserved c =
     let flow = c.args.flow.now in
-    let f : ℕ → List Finding = idle flow.notes.now (executed_in flow) in
+    let f : ℕ → List Finding = unused_list_at flow.notes.now (executed_in flow) in
     let before = found_in c.loop-number.self in
-    added_next f before (found_in c.add_idle.new.self) c.loop-number.number c.args.below c.loop-number-test.true
-    (c.in_ok-add_idle.ensures ∙ ap (λ (n : ℕ). before ++ f n) c.in-Some.ensures.value) ∙ c.loop-number.invariant
+    added_next f before (found_in c.add_unused_list.new.self) c.loop-number.number c.args.below c.loop-number-test.true
+    (c.in_ok-add_unused_list.ensures ∙ ap (λ (n : ℕ). before ++ f n) c.in-Some.ensures.value) ∙ c.loop-number.invariant
 
 pub unreachable-requires : goal.unreachable-requires
 unreachable-requires c =
@@ -25,5 +25,5 @@ unreachable-requires c =
 pub returns : goal.returns
 returns c =
     let flow = c.args.flow.now in
-    sym (added_all (idle flow.notes.now (executed_in flow)) (found_in c.loop-number.self) c.loop-number.number
+    sym (added_all (unused_list_at flow.notes.now (executed_in flow)) (found_in c.loop-number.self) c.loop-number.number
     c.args.below c.loop-number-test.false) ∙ c.loop-number.invariant

@@ -1,13 +1,13 @@
 use Rattle.std.proofs.Common.{◌≡◌, ◌++◌, ◌-◌, flat_map}
 use Rattle.std.specs.List.{range_with_len}
 use Rattle.drum_flow.specs.Flow.{executed_in}
-use Rattle.drum_check.specs.Findings.{idle}
+use Rattle.drum_check.specs.Findings.{unused_list_at}
 use Rattle.drum_check.specs.FindingsOf.{found_in}
-use Rattle.drum_check.proofs.findings.Findings.add_all_idle.Given as goal
+use Rattle.drum_check.proofs.findings.Findings.add_all_unused_lists.Given as goal
 
 -- what was found, and what the numbers that are left will add, is what all of them add
 abbrev pub invariant-loop-number : goal.invariant-loop-number
 invariant-loop-number l = found_in l.self
-    ++ flat_map (idle l.flow.notes.now (executed_in l.flow)) (range_with_len l.number (l.below - l.number))
+    ++ flat_map (unused_list_at l.flow.notes.now (executed_in l.flow)) (range_with_len l.number (l.below - l.number))
     ≡ found_in l.fn.self
-    ++ flat_map (idle l.flow.notes.now (executed_in l.flow)) (range_with_len l.fn.from (l.fn.below - l.fn.from))
+    ++ flat_map (unused_list_at l.flow.notes.now (executed_in l.flow)) (range_with_len l.fn.from (l.fn.below - l.fn.from))
