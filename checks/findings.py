@@ -14,6 +14,8 @@ from toml_text import document_of
 # other.
 KEYS = 4_000_000
 EDGES = 64
+# The operations that have their data address for a word on the drum.
+DATA = {10, 11, *range(14, 20), *range(20, 25), 60, 61, *range(64, 70)}
 # What stands behind the `inside` of a mark that is lacking, what in place of it where there are
 # several, and what stands before marks that make long notes.
 RUN = " # without this line, most is of the whole run"
@@ -96,6 +98,17 @@ class Flow:
                     yield "unused mark %04d %04d" % edge
         for place in sorted(set(self.lists) - set(self.order)):
             yield "unused list %04d" % place
+
+    def idle(self):
+        """Loaded words that are neither executed nor named as data by an executed instruction."""
+        named = {
+            word
+            for place in self.order
+            for op, d, _ in set(self.instructions(place))
+            for word in names(op, d)
+        }
+        for place in sorted(set(self.words) - set(self.order) - named):
+            yield "idle %04d" % place
 
     def reached_past(self, head, place):
         """The locations that edges lead to from one, none of them onto the head."""
@@ -254,6 +267,15 @@ def writes(op, d):
     return [d] if 20 <= op <= 24 else range(band + 1, band + 11) if op == 70 else []
 
 
+def names(op, d):
+    """The drum words that an instruction names as data: those that 71 punches, those that 70 reads
+    a card into, and D for each other operation that has to have it on the drum or beside it."""
+    if op in (70, 71):
+        first = d // 50 * 50 + {70: 1, 71: 27}[op]
+        return range(first, first + 10) if d < 2000 else []
+    return [d] if op in DATA and d < 2000 else []
+
+
 def reached(edges, place):
     """The locations that edges lead to from one."""
     onward = {}
@@ -285,13 +307,13 @@ def is_check(text, files):
     loops = re.findall("^loop ([0-9]{4}) ([0-9]{4})$", text, re.M)
     told = [tuple(map(int, edge)) for edge in loops]
     lines = flow.lines() + ["loop %04d %04d" % edge for edge in told]
-    lines += [*flow.unused(), *flow.unsaid(), *flow.lacking(told)]
+    lines += [*flow.unused(), *flow.idle(), *flow.unsaid(), *flow.lacking(told)]
     is_one = text == "".join(line + "\n" for line in lines)
     return is_one and are_closing(told, flow)
 
 
 def is_loose_end(line):
-    return line.startswith(("unused ", "inside "))
+    return line.startswith(("unused ", "idle ", "inside "))
 
 
 def is_first_of(line, told):

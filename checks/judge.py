@@ -66,9 +66,10 @@ def verdict_of(line, status):
 
 
 def status_of_check(text):
-    """A mark that doesn't say that it stands inside another one may be meant so."""
-    are_asked = all(line.startswith("inside ") for line in text.splitlines())
-    return DONE if are_asked else REFUSED
+    """A word that nothing comes to may be meant so, and a mark that doesn't say that it stands inside
+    another one."""
+    may_be_meant = all(line.startswith(("idle ", "inside ")) for line in text.splitlines())
+    return DONE if may_be_meant else REFUSED
 
 
 def faults_of_notes(asked):
@@ -208,7 +209,7 @@ def is_no_lower(told, bound, files):
 
 def is_said_first(ran, told, limit, other):
     """Whether a check goes with what `bound` gives, or under long notes `ceiling`, which ran so and
-    told this: it tells of unused notes at most where there is a limit (or a ceiling past all
+    told this: it tells of loose ends at most where there is a limit (or a ceiling past all
     numbers), else its first line is that of the analysis's fault; a fault of a text is the same."""
     if other is None or told.fault:
         return other is not None and told.fault == other.fault
