@@ -66,8 +66,8 @@ def verdict_of(line, status):
 
 
 def status_of_check(text):
-    """A word that nothing comes to may be meant so, and a mark that doesn't say that it stands inside
-    another one."""
+    """A word that nothing comes to may be meant so, and a mark that doesn't say that it stands
+    inside another one."""
     may_be_meant = all(line.startswith(("idle ", "inside ")) for line in text.splitlines())
     return DONE if may_be_meant else REFUSED
 
