@@ -5,13 +5,15 @@
 //! longest ways free of marks from where one begins, and `search/sources` those from the start and
 //! from behind each pass. `search/walks` holds what walks are put together from, `search/table` the
 //! longest walks from each source to each, and `search/loops` joins them mark by mark, the inner
-//! ones first. `search/laying` makes pieces of hops, each hop once at each angle, and
-//! `search/building` of whole walks; `search/numbering` puts them in order.
+//! ones first; `search/mixed` tries loops among what is inside of another one's mark.
+//! `search/laying` makes pieces of hops, each hop once at each angle, and `search/building` of
+//! whole walks; `search/numbering` puts them in order.
 
 mod building;
 mod free;
 mod laying;
 mod loops;
+mod mixed;
 mod numbering;
 mod passings;
 mod sources;

@@ -1,6 +1,7 @@
 //! Loops: the longest walks by passes of a mark and of those inside of it, the inner marks first.
 
 use super::free::{Last, Step};
+use super::mixed::{Parts, Standing};
 use super::passings::{Passing, Passings};
 use super::sources::Sources;
 use super::table::{Cell, Table, longer};
@@ -11,15 +12,17 @@ use std::alloc::{AllocError, Global};
 /// The loops of the marks, as long as the mark around hasn't taken them.
 #[derive(Debug, Drop)]
 pub struct Loops<'a> {
-    alloc: Global,
-    marks: &'a [Mark],
-    passings: &'a Passings,
-    sources: &'a Sources,
+    pub(super) alloc: Global,
+    pub(super) marks: &'a [Mark],
+    pub(super) passings: &'a Passings,
+    pub(super) sources: &'a Sources,
     /// The marks in the order of the flow.
-    order: Vec<usize>,
+    pub(super) order: Vec<usize>,
     /// How many sources there are, and with them the end.
-    size: usize,
+    pub(super) size: usize,
     loops: Vec<Option<Table>>,
+    /// Of each mark in whose loop another one stands that isn't inside of it: its parts.
+    pub(super) parts: Vec<Option<Parts>>,
 }
 
 impl<'a> Loops<'a> {
@@ -31,8 +34,10 @@ impl<'a> Loops<'a> {
         sources: &'a Sources,
     ) -> Result<Loops<'a>, AllocError> {
         let mut loops = Vec::new(alloc);
+        let mut parts = Vec::new(alloc);
         for _ in marks {
             loops.push(None)?;
+            parts.push(None)?;
         }
         Ok(Loops {
             alloc,
@@ -42,6 +47,7 @@ impl<'a> Loops<'a> {
             order: passings.order(alloc, marks.len())?,
             size: sources.free.len().saturating_add(1),
             loops,
+            parts,
         })
     }
 
@@ -78,29 +84,39 @@ impl<'a> Loops<'a> {
     /// the order of the flow and against it.
     fn group(&mut self, around: Option<usize>, walks: &mut Walks) -> Result<Table, AllocError> {
         let inner = self.all_taken(around)?;
+        self.inside(&inner, walks)
+    }
+
+    /// The same of these loops.
+    fn grouped(&self, inner: &[Standing], walks: &mut Walks) -> Result<Table, AllocError> {
         let mut group = Table::one(self.alloc, self.size)?;
-        for one in &inner {
-            self.put(&mut group, one, walks)?;
+        for one in inner {
+            self.put(&mut group, &one.table, walks)?;
         }
         if inner.len() < 2 {
             return Ok(group);
         }
-        let backward = self.backward(&inner, walks)?;
+        let backward = self.backward(inner, walks)?;
         group.raise(&backward)?;
         Ok(group)
     }
 
     /// The same against the order of the flow.
-    fn backward(&self, inner: &[Table], walks: &mut Walks) -> Result<Table, AllocError> {
+    fn backward(&self, inner: &[Standing], walks: &mut Walks) -> Result<Table, AllocError> {
         let mut group = Table::one(self.alloc, self.size)?;
         for one in inner.iter().rev() {
-            self.put(&mut group, one, walks)?;
+            self.put(&mut group, &one.table, walks)?;
         }
         Ok(group)
     }
 
     /// Puts a loop behind walks and before them, as long as there is room.
-    fn put(&self, group: &mut Table, one: &Table, walks: &mut Walks) -> Result<(), AllocError> {
+    pub(super) fn put(
+        &self,
+        group: &mut Table,
+        one: &Table,
+        walks: &mut Walks,
+    ) -> Result<(), AllocError> {
         if walks.is_full() {
             return Ok(());
         }
@@ -112,11 +128,11 @@ impl<'a> Loops<'a> {
 
     /// The loops of the marks that stand right inside of one, or inside of none, in the order of
     /// the flow.
-    fn all_taken(&mut self, around: Option<usize>) -> Result<Vec<Table>, AllocError> {
+    fn all_taken(&mut self, around: Option<usize>) -> Result<Vec<Standing>, AllocError> {
         let mut inner = Vec::new(self.alloc);
-        for index in 0..self.order.len() {
-            if let Some(one) = self.taken(index, around) {
-                inner.push(one)?;
+        for place in 0..self.order.len() {
+            if let Some(table) = self.taken(place, around) {
+                inner.push(Standing { place, table })?;
             }
         }
         Ok(inner)
@@ -131,15 +147,39 @@ impl<'a> Loops<'a> {
         self.loops.get_mut(mark)?.take()
     }
 
+    /// What is inside of a mark, each loop at most once.
+    fn inside(&mut self, inner: &[Standing], walks: &mut Walks) -> Result<Table, AllocError> {
+        let mut group = self.grouped(inner, walks)?;
+        for one in inner {
+            if let Some(mixed) = self.mixed(one.place, inner, walks)? {
+                group.raise(&mixed)?;
+            }
+        }
+        Ok(group)
+    }
+
     /// The loop of a mark.
     fn around(&mut self, mark: usize, walks: &mut Walks) -> Result<Table, AllocError> {
-        let inside = self.group(Some(mark), walks)?;
+        let inner = self.all_taken(Some(mark))?;
+        let inside = self.inside(&inner, walks)?;
         let most = self.marks.get(mark).map_or(0, |mark| mark.most);
         if most == 0 || walks.is_full() {
             return Ok(inside);
         }
         let passes = self.passes(mark, walks)?;
         let body = inside.join(self.alloc, &passes, walks)?;
+        if self.has_another(mark) {
+            let rounds = self.rounds(&body, most.saturating_sub(1), walks)?;
+            let behind = rounds.join(self.alloc, &inside, walks)?;
+            let parts = Parts {
+                inner,
+                passed: body.join(self.alloc, &rounds, walks)?,
+                onward: passes.join(self.alloc, &behind, walks)?,
+            };
+            if let Some(entry) = self.parts.get_mut(mark) {
+                *entry = Some(parts);
+            }
+        }
         self.in_rounds(most, inside, &body, walks)
     }
 
