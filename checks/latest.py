@@ -16,7 +16,7 @@ MANY = "more than one"
 Hop = namedtuple("Hop", "place op d i way begun found ready data ended")
 # What the hops of one kind take in all, the moment at which the first of them begins, and the
 # angles at which that one would wait for nothing.
-Row = namedtuple("Row", "visits time instruction data begun data_at next_at")
+Row = namedtuple("Row", "visits time instruction data cards begun data_at next_at")
 
 
 class Cards:
@@ -73,26 +73,30 @@ class Tally:
 
 class Kinds:
     """What the hops of a walk take in all, by where they begin, their instruction and how they
-    end."""
+    end. What each operation waits for the card machine is its longest wait."""
 
-    def __init__(self, rows):
-        self.rows = rows
+    def __init__(self, rows, waits):
+        self.rows, self.waits = rows, waits
 
     def after(self, hop):
         """The kinds with one more hop."""
         kind = hop.place, hop.op, hop.d, hop.i, hop.way
-        row = self.rows.get(kind) or Row(0, 0, 0, 0, hop.begun, *angles_of(hop))
+        row = self.rows.get(kind) or Row(0, 0, 0, 0, 0, hop.begun, *angles_of(hop))
         data = 0 if hop.data is None else hop.data - hop.ready
-        spent = 1, hop.ended - hop.begun, hop.found - hop.begun, data
+        cards = 0 if hop.way == "early" else self.waits.get(hop.op, 0)
+        spent = 1, hop.ended - hop.begun, hop.found - hop.begun, data, cards
         sums = [one + more for one, more in zip(row, spent)]
-        return Kinds({**self.rows, kind: Row(*sums, *row[len(sums) :])})
+        return Kinds({**self.rows, kind: Row(*sums, *row[len(sums) :])}, self.waits)
 
     def __eq__(self, other):
         return other is not MANY and self.rows == other.rows
 
     def text(self):
         rows = sorted(self.rows.items(), key=lambda one: (-one[1].time, one[1].begun))
-        return [row_line(kind, row) for kind, row in rows]
+        _, time, instruction, data, cards, *_ = map(sum, zip(*(row[:5] for _, row in rows)))
+        told = time - instruction - data - cards, instruction, data, cards
+        total = "total work %d instruction %d data %d cards %d" % told
+        return [row_line(kind, row) for kind, row in rows] + [total]
 
 
 def angles_of(hop):
@@ -196,7 +200,8 @@ def report(walks, deck):
 
 def waits(walks):
     """The lines of where the word times go; None where the longest walks have more than one."""
-    return Latest(walks, Kinds({})).lines()
+    waits = {op: entry["wait_max"] for op, entry in walks.times.items() if "wait_max" in entry}
+    return Latest(walks, Kinds({}, waits)).lines()
 
 
 class Uncounted:

@@ -35,6 +35,9 @@ WAIT = re.compile(
     HOP + " visits {0} time {0} instruction {0} data {0} work {0}".format(NUMBER)
     + "(?: data-at {0})?(?: next-at {0})?".format(ANGLE)
 )
+TOTAL = re.compile("total work {0} instruction {0} data {0} cards {0}".format(NUMBER))
+# The operations that may wait for the card machine.
+OF_CARDS = (70, 71)
 # The operations whose units a walk reckons at their most.
 COUNTING = (14, 19, 64)
 
@@ -232,11 +235,12 @@ def walked_bound(text, files):
 
 
 def waited_bound(text):
-    """The bound that ends the waits, to which their times add up: each time is its three parts, the
-    dearest come first, and no kind comes twice."""
-    *lines, last = text.splitlines(keepends=True) or [""]
-    waits = [WAIT.fullmatch(line[:-1]) for line in lines]
-    if not all(waits):
+    """The bound that ends the waits, to which their times add up, and so do the parts of the line
+    of all: each time is its three parts, the dearest come first, and no kind comes twice."""
+    *lines, all_spent, last = ["", *text.splitlines(keepends=True)]
+    waits = [WAIT.fullmatch(line[:-1]) for line in lines[1:]]
+    total = TOTAL.fullmatch(all_spent[:-1])
+    if not all(waits) or total is None:
         return None
     spent = [tuple(map(int, wait.group(8, 9, 10, 11, 12))) for wait in waits]
     times = [time for _, time, *_ in spent]
@@ -245,7 +249,10 @@ def waited_bound(text):
     in_order = are_apart and times == sorted(times, reverse=True)
     bound = bound_of(last)
     is_all = in_order and sum(times) == bound and all(is_spent(*one[:2]) for one in spent)
-    return bound if are_parts and is_all else None
+    work, instruction, data, cards = map(int, total.groups())
+    parts = [sum(one[part] for one in spent) for part in (2, 3, 4)]
+    is_total = [instruction, data, work + cards] == parts
+    return bound if are_parts and is_all and is_total else None
 
 
 def angles_of(visit, angle):
@@ -264,9 +271,12 @@ def angles_of(visit, angle):
 def waits_of_walk(walk, files):
     """The waits that are counted from the lines of a walk."""
     *lines, last = walk.splitlines()
-    angle, kinds = start_of(files["deck"]) + 1, {}
+    angle, kinds, cards = start_of(files["deck"]) + 1, {}, 0
     for line in lines:
         visit = VISIT.fullmatch(line)
+        op = int(visit.group(2))
+        if op in OF_CARDS and not visit.group(7):
+            cards += entries_of(files["times"])[op]["wait_max"]
         begun, at, ready, data, ended = [number_of(visit.group(part)) for part in range(8, 13)]
         kind = line.partition(" begun ")[0]
         sums, angles = kinds.setdefault(kind, ([0, 0, 0, 0], angles_of(visit, angle)))
@@ -278,6 +288,9 @@ def waits_of_walk(walk, files):
         visits, time, instruction, waited = sums
         told = kind, visits, time, instruction, waited, time - instruction - waited, angles
         text.append("%s visits %d time %d instruction %d data %d work %d%s" % told)
+    _, time, instruction, data = map(sum, zip(*(sums for sums, _ in kinds.values())))
+    told = time - instruction - data - cards, instruction, data, cards
+    text.append("total work %d instruction %d data %d cards %d" % told)
     return "\n".join(text + [last]) + "\n"
 
 

@@ -1,20 +1,22 @@
 -- What the hops of a walk take that are of one kind, by the pieces that spell them out.
-use Rattle.std.proofs.Common.{◌≡◌, ℕ, suc, ◌+◌, ◌-◌, ◌%◌, ◌<◌, ◌≤◌, ◌⊎◌, inl, inr, Bool, true, false, cond, List, [], ◌∷◌, ◌++◌}
+use Rattle.std.proofs.Common.{◌≡◌, ℕ, ◌+◌, ◌-◌, ◌%◌, ◌≤◌, inl, inr, Bool, true, false, cond, List, [], ◌∷◌}
 use Rattle.std.proofs.Common.{filter, length, refl, ap, sym, ◌∙◌, subst, arith}
 use Rattle.std.specs.Prelude.{if◌then◌else◌, sum_by, Contains}
 use Rattle.std.proofs.lemmas.List.Sums.{sum_by-cons}
 use Rattle.drum_core.specs.declared.op.Op.{Op}
+use Rattle.drum_core.specs.Op.{op_of}
 use Rattle.drum_times.specs.declared.entry.Entry.{Entry}
 use Rattle.drum_flow.proofs.Lists.{contains_cases, contains_here, contains_none, contains_there}
 use Rattle.drum_bound.specs.Visited.{Visited}
 use Rattle.drum_rounds.specs.InRounds.{takes}
 use Rattle.drum_rounds.specs.Pieces.{PlacedHop}
-use Rattle.drum_listing.specs.declared.waits.kind.Kind.{Kind}
-use Rattle.drum_listing.specs.Waits.{alike, for_data, for_instruction, is_alike, time_of}
+use Rattle.drum_listing.specs.Moments.{is_early}
+use Rattle.drum_listing.specs.Waits.{for_cards, for_data, for_instruction, is_alike, longest_wait, time_of}
 use Rattle.drum_listing.proofs.LaterMoments.{at_once, data_once, instruction_once}
-use Rattle.drum_listing.proofs.SameKinds.{alike_equiv}
+use Rattle.drum_listing.proofs.WholeFits.{hop_whole}
 use Rattle.drum_bracket.specs.RoundsText.{from_to}
-use Rattle.drum_bracket.specs.RoundsWaitsOf.{alone, is_of, of_those, seen_kind, waits_data, waits_instruction}
+use Rattle.drum_bracket.specs.RoundsWaitsOf.{alone, of_those, waits_cards, waits_data}
+use Rattle.drum_bracket.specs.RoundsWaitsOf.{waits_instruction}
 use Rattle.drum_bracket.proofs.Laid.{AreLaid, IsLaid}
 
 -- ---- what a visit takes is what its hop takes
@@ -49,6 +51,9 @@ module _ (times : Op → Entry) (angle time : ℕ) (visit : Visited) (one : Plac
   same_data =
       data_once times angle one.angle visit at_angle ∙ ap (for_data times one.angle) once_alone
 
+  pub same_cards : for_cards times visit ≡ waits_cards times one
+  same_cards = λ j. if is_early (laid.way j) then 0 else longest_wait times (op_of (laid.ins j).op)
+
   -- it is of the kinds that the hop is of
   pub same_kinds : (seen : Visited) → is_alike seen visit ≡ is_alike seen (from_to 0 0 one)
   same_kinds seen = λ j. is_alike seen (record {
@@ -62,6 +67,18 @@ module _ (times : Op → Entry) (angle time : ℕ) (visit : Visited) (one : Plac
   -- what it waits is part of what it takes
   pub waits_fit : waits_instruction times one + waits_data times one ≤ takes times one
   waits_fit = omega (arith, laid.fits, same_time, same_instruction, same_data)
+
+  -- and so is that with what it waits for the card machine
+  pub waits_whole : waits_instruction times one + waits_data times one + waits_cards times one ≤ takes times one
+  waits_whole =
+      omega (
+        arith,
+        hop_whole times angle visit laid.op laid.known laid.longest laid.fits,
+        same_time,
+        same_instruction,
+        same_data,
+        same_cards,
+      )
 
 -- ---- hops that are laid
 
@@ -121,6 +138,24 @@ module _ (times : Op → Entry) (angle : ℕ) where
       go false false same rest = omega (arith, rest)
       go true false same rest = absurd (cc)
       go false true same rest = absurd (cc)
+
+  -- so it is over all of them
+  pub all_laid : (f : Visited → ℕ) (what : PlacedHop → ℕ)
+      → ((at : ℕ) (visit : Visited) (one : PlacedHop) → IsLaid times angle at visit one → f visit ≡ what one)
+      → (time : ℕ) (visits : List Visited) (hops : List PlacedHop) → AreLaid times angle time visits hops
+      → sum_by f visits ≡ sum_by what hops
+  unfolding AreLaid
+  all_laid f what sums time [] [] laid = refl
+  all_laid f what sums time [] (hop ∷ hops) laid = absurd laid
+  all_laid f what sums time (visit ∷ visits) [] laid = absurd laid
+  all_laid f what sums time (visit ∷ visits) (hop ∷ hops) laid =
+      omega (
+        arith,
+        sums time visit hop laid.0,
+        all_laid f what sums visit.ended visits hops laid.1,
+        sum_by-cons f visit visits,
+        sum_by-cons what hop hops,
+      )
 
 -- ---- sums over some hops
 

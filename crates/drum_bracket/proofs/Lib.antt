@@ -17,3 +17,5 @@ pub mod RowSteps
 pub mod Starts
 pub mod Tellings
 pub mod Totals
+mod WholeWaits
+mod PieceAt

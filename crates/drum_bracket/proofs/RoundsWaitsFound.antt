@@ -1,7 +1,7 @@
 -- That the rows of all kinds, sorted, are the waits of a walk in rounds.
 use Rattle.std.proofs.Common.{◌≡◌, ℕ, zero, suc, ◌+◌, ◌-◌, ◌%◌, ◌<◌, ◌≤◌, ◌⊎◌, inl, inr, Bool, true, false, List, [], ◌∷◌, ◌++◌}
 use Rattle.std.proofs.Common.{filter, flat_map, length, map, take, refl, ap, sym, ◌∙◌, subst, arith, Option, Some, None}
-use Rattle.std.specs.Map.{keys_of, values_of}
+use Rattle.std.specs.Map.{values_of}
 use Rattle.std.specs.Prelude.{codes, decimal, option_map, slice_get, sum_by, Contains}
 use Rattle.std.proofs.lemmas.List.{take_all}
 use Rattle.std.proofs.lemmas.Bool.{cases_lt}
@@ -39,7 +39,7 @@ use Rattle.drum_listing.proofs.SameKinds.{alike_equiv, in_common, same_kind_equi
 use Rattle.drum_listing.proofs.WaitLines.{same_texts}
 use Rattle.drum_bracket.specs.declared.waits.kind_row.KindRow.{KindRow}
 use Rattle.drum_bracket.specs.RoundsText.{from_to}
-use Rattle.drum_bracket.specs.RoundsWaitsOf.{alone, is_of, kind_of, of_those, row_text, seen_kind, sums_over}
+use Rattle.drum_bracket.specs.RoundsWaitsOf.{is_of, kind_of, of_those, row_text, seen_kind}
 use Rattle.drum_bracket.specs.RoundsWaitsOf.{waits_data, waits_instruction, AreRows, IsRow, IsRowOf}
 use Rattle.drum_bracket.proofs.FirstComings.{comes, comes_before, of_piece}
 use Rattle.drum_bracket.proofs.FirstVisits.{first_of, head_is, head_within, parted, IsHead}

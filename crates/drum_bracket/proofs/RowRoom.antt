@@ -1,6 +1,6 @@
 -- That what is added up over the hops of a kind has room.
-use Rattle.std.proofs.Common.{◌≡◌, ℕ, suc, ◌+◌, ◌-◌, ◌*◌, ◌^◌, ◌<◌, ◌≤◌, Bool, true, List, [], ◌∷◌, length, map, take}
-use Rattle.std.proofs.Common.{get_or, refl, ap, sym, ◌∙◌, subst, arith, Some}
+use Rattle.std.proofs.Common.{◌≡◌, ℕ, ◌+◌, ◌*◌, ◌^◌, ◌<◌, ◌≤◌, Bool, true, List, [], ◌∷◌, length, map, take}
+use Rattle.std.proofs.Common.{refl, ap, ◌∙◌, arith, Some}
 use Rattle.std.specs.Prelude.{slice_get, slice_index, sum_by, Contains}
 use Rattle.std.proofs.lemmas.List.Sums.{sum_by-cons}
 use Rattle.std.proofs.lemmas.Option.{get_or_from_slice_get, slice_get_within}
@@ -15,7 +15,6 @@ use Rattle.drum_flow.specs.Walk.{Taken}
 use Rattle.drum_flow.proofs.LongestLaws.{longest_near}
 use Rattle.drum_bound.specs.Visited.{visited, Visited}
 use Rattle.drum_rounds.specs.declared.in_rounds.InRounds.{InRounds}
-use Rattle.drum_rounds.specs.declared.piece.Piece.{Piece}
 use Rattle.drum_rounds.specs.declared.piece.Piece.TheVariants as piece
 use Rattle.drum_rounds.specs.declared.piece.Placed.{Placed}
 use Rattle.drum_rounds.specs.InRounds.{angle_of, lasting_of, often_of, pieces_of, passes_in, summed, takes, total_of}
@@ -23,12 +22,14 @@ use Rattle.drum_rounds.specs.InRounds.{IsInRoundsOf}
 use Rattle.drum_rounds.specs.Pieces.{placed, seen_placed, spelled, spelled_behind, spelled_by, spelled_of, PlacedHop}
 use Rattle.drum_rounds.proofs.OftenLaws.{all_ones, own}
 use Rattle.drum_rounds.proofs.SpelledLaws.{spelled_piece}
+use Rattle.drum_listing.specs.declared.waits.spent.Spent.{Spent}
 use Rattle.drum_listing.specs.declared.waits.sums.Sums.{Sums}
+use Rattle.drum_listing.specs.declared.waits.waited.Waited.{Waited}
 use Rattle.drum_bracket.specs.declared.waits.kind_row.KindRow.{KindRow}
-use Rattle.drum_bracket.specs.RoundsWaitsOf.{of_those, waits_data, waits_instruction, IsOfPiece, IsRow}
+use Rattle.drum_bracket.specs.RoundsWaitsOf.{of_those, waited_over, waits_cards, waits_data, waits_instruction, IsOfPiece, IsRow}
 use Rattle.drum_bracket.specs.SpelledOut.{placed_visit, AreSpelledOut}
 use Rattle.drum_bracket.proofs.FirstComings.{comes}
-use Rattle.drum_bracket.proofs.KindSums.{laid_hop, sum_at_most, those_at_most, waits_fit}
+use Rattle.drum_bracket.proofs.KindSums.{laid_hop, sum_at_most, those_at_most, waits_whole}
 use Rattle.drum_bracket.proofs.Laid.{are_laid, AreLaid}
 use Rattle.drum_bracket.proofs.RowSteps.{one_own, summed_next, summed_part}
 use Rattle.drum_bracket.proofs.Totals.{whole_takes}
@@ -39,6 +40,12 @@ pub record HasRoom (before alone : KindRow) : Type 0 where
   pub time : before.sums.time + alone.sums.time < 2 ^ 128
   pub instruction : before.sums.instruction + alone.sums.instruction < 2 ^ 128
   pub operand : before.sums.operand + alone.sums.operand < 2 ^ 128
+
+-- What all hops wait so far leaves room for a hop that comes so often.
+pub record HasWholeRoom (waited : Waited) (spent : Spent) (often : ℕ) : Type 0 where
+  pub instruction : waited.instruction + often * spent.instruction < 2 ^ 128
+  pub operand : waited.operand + often * spent.operand < 2 ^ 128
+  pub cards : waited.cards + often * spent.cards < 2 ^ 128
 
 placed_seen : (angle : ℕ) (hops : List Taken)
     → map (placed_visit angle) (map visited hops) ≡ map (placed angle) hops
@@ -68,10 +75,10 @@ module _ (deck : Deck) (times : Times) (notes : Notes) (walk : InRounds) (right 
 
   -- what a hop waits is part of what it takes
   hop_waits : (one : PlacedHop) → Contains (spelled (pieces_of walk)) one
-      → waits_instruction entries one + waits_data entries one ≤ takes entries one
+      → waits_instruction entries one + waits_data entries one + waits_cards entries one ≤ takes entries one
   hop_waits one has =
       let its = laid_hop entries (angle_of walk) 0 hops_seen (spelled (pieces_of walk)) hops_laid one has in
-      waits_fit entries (angle_of walk) its.2.0 its.0 one its.2.1
+      waits_whole entries (angle_of walk) its.2.0 its.0 one its.2.1
 
   -- sums over the walk
   instruction_all : sum_by (waits_instruction entries) (spelled (pieces_of walk)) ≤ total_of walk
@@ -89,6 +96,15 @@ module _ (deck : Deck) (times : Times) (notes : Notes) (walk : InRounds) (right 
         arith,
         whole,
         sum_at_most (waits_data entries) (takes entries) (spelled (pieces_of walk))
+            (λ hop has. omega (arith, hop_waits hop has)),
+      )
+
+  cards_all : sum_by (waits_cards entries) (spelled (pieces_of walk)) ≤ total_of walk
+  cards_all =
+      omega (
+        arith,
+        whole,
+        sum_at_most (waits_cards entries) (takes entries) (spelled (pieces_of walk))
             (λ hop has. omega (arith, hop_waits hop has)),
       )
 
@@ -122,7 +138,7 @@ module _ (deck : Deck) (times : Times) (notes : Notes) (walk : InRounds) (right 
 
     pub waits_in : waits_instruction entries (seen_placed one) + waits_data entries (seen_placed one)
         ≤ takes entries (seen_placed one)
-    waits_in = hop_waits (seen_placed one) (comes (pieces_of walk) right.0.order number one here)
+    waits_in = omega (arith, hop_waits (seen_placed one) (comes (pieces_of walk) right.0.order number one here))
 
     abbrev times_it : ℕ
     times_it = slice_index (often_of walk) number
@@ -141,6 +157,42 @@ module _ (deck : Deck) (times : Times) (notes : Notes) (walk : InRounds) (right 
 
     pub all_short : times_it * takes entries (seen_placed one) ≤ total_of walk
     all_short = omega (arith, part_of (takes entries), whole)
+
+    -- no sum over all hops is too large with this piece
+    pub has_whole_room : (waited : Waited) (spent : Spent) → total_of walk < 2 ^ 127
+        → waited ≡ waited_over entries (take number (pieces_of walk)) (take number (often_of walk))
+        → spent.instruction ≡ waits_instruction entries (seen_placed one)
+        → spent.operand ≡ waits_data entries (seen_placed one)
+        → spent.cards ≡ waits_cards entries (seen_placed one) → HasWholeRoom waited spent times_it
+    has_whole_room waited spent early is instruction operand cards = record {
+      instruction =
+          omega (
+            arith,
+            ap (λ (w : Waited). w.instruction) is,
+            ap (λ (n : ℕ). times_it * n) instruction,
+            early,
+            part_of (waits_instruction entries),
+            instruction_all,
+          );
+      operand =
+          omega (
+            arith,
+            ap (λ (w : Waited). w.operand) is,
+            ap (λ (n : ℕ). times_it * n) operand,
+            early,
+            part_of (waits_data entries),
+            data_all,
+          );
+      cards =
+          omega (
+            arith,
+            ap (λ (w : Waited). w.cards) is,
+            ap (λ (n : ℕ). times_it * n) cards,
+            early,
+            part_of (waits_cards entries),
+            cards_all,
+          );
+    }
 
     -- of the hops of a kind
     module _ (is : PlacedHop → Bool) (so : is (seen_placed one) ≡ true) where

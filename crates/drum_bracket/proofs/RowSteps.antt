@@ -1,12 +1,11 @@
 -- The rows of kinds, with one piece more.
 use Rattle.std.proofs.Common.{◌≡◌, ℕ, zero, suc, ◌+◌, ◌*◌, ◌<◌, ◌≤◌, Bool, true, false, List, [], ◌∷◌, ◌++◌, length, take}
-use Rattle.std.proofs.Common.{get_or, refl, ap, sym, ◌∙◌, subst, arith, Option, Some, None, inl, inr}
+use Rattle.std.proofs.Common.{refl, ap, sym, ◌∙◌, subst, arith, Option, Some, None, inl, inr}
 use Rattle.std.specs.Prelude.{if◌then◌else◌, cond, slice_get, slice_index}
 use Rattle.std.proofs.Math.Nat.{mul-zero}
 use Rattle.std.proofs.lemmas.Bool.{cases_lt}
 use Rattle.std.proofs.lemmas.List.{length-take, take_more}
 use Rattle.std.proofs.lemmas.Option.{get_or_from_slice_get, slice_get_within}
-use Rattle.indexmap.specs.IndexMap.{IndexMap, get}
 use Rattle.drum_core.specs.declared.op.Op.{Op}
 use Rattle.drum_times.specs.declared.entry.Entry.{Entry}
 use Rattle.drum_rounds.specs.declared.piece.Piece.{Piece}
@@ -22,8 +21,8 @@ use Rattle.drum_listing.specs.WaitsOf.{same_kind}
 use Rattle.drum_listing.proofs.SameKinds.{alike_equiv, same_kind_equiv}
 use Rattle.drum_bracket.specs.declared.waits.kind_row.KindRow.{KindRow}
 use Rattle.drum_bracket.specs.RoundsText.{from_to}
-use Rattle.drum_bracket.specs.RoundsWaitsOf.{alone, is_of, kind_of, of_those, seen_kind, sums_over, waits_data}
-use Rattle.drum_bracket.specs.RoundsWaitsOf.{waits_instruction, AreNoneBelow, AreRows, IsOfPiece, IsRow, IsRowOf}
+use Rattle.drum_bracket.specs.RoundsWaitsOf.{is_of, kind_of, of_those, seen_kind, waits_data}
+use Rattle.drum_bracket.specs.RoundsWaitsOf.{waits_instruction, AreNoneBelow, IsOfPiece, IsRow, IsRowOf}
 
 -- ---- sums with one piece more
 

@@ -5,12 +5,13 @@ use Rattle.drum_times.specs.declared.entry.Entry.{Entry}
 use Rattle.drum_bound.specs.Visited.{Visited}
 use Rattle.drum_rounds.specs.declared.bracket.Bracket.{Bracket}
 use Rattle.drum_rounds.specs.InRounds as walks
-use Rattle.drum_listing.specs.WaitsText.{wait_line}
+use Rattle.drum_listing.specs.WaitsText.{wait_line, walk_line}
 use Rattle.drum_bracket.specs.CeilingText.{bracket_lines}
 
--- The lines of all kinds of hops of the walk beside a ceiling, each by its first, and the lines of
--- what the walk takes and of the ceiling.
+-- The lines of all kinds of hops of the walk beside a ceiling, each by its first, the line of all
+-- its hops, and the lines of what it takes and of the ceiling.
 abbrev pub rounds_waits_text : (Op → Entry) → Bracket → List Visited → List Visited → List ℕ
 rounds_waits_text times bracket visits firsts =
     flat_map (wait_line times (walks.angle_of bracket.walk) visits) firsts
+    ++ walk_line times (walks.angle_of bracket.walk) visits (walks.total_of bracket.walk)
     ++ bracket_lines bracket

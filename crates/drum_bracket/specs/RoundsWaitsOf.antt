@@ -1,6 +1,6 @@
 -- What the waits of a walk in rounds are, as the code has them.
-use Rattle.std.specs.Prelude.{◌≡◌, ℕ, ◌*◌, ◌<◌, ◌≤◌, Bool, true, false, if◌then◌else◌, List, ◌++◌, take}
-use Rattle.std.specs.Prelude.{flat_map, slice_get, slice_index, Option, Some, None}
+use Rattle.std.specs.Prelude.{◌≡◌, ℕ, ◌*◌, ◌<◌, ◌≤◌, Bool, true, false, if◌then◌else◌, List, ◌++◌}
+use Rattle.std.specs.Prelude.{flat_map, slice_get, slice_index, take, Option, Some, None}
 use Rattle.std.specs.Map.{values_of}
 use Rattle.indexmap.specs.IndexMap.{IndexMap, IsUnique, get, index_map_len}
 use Rattle.drum_core.specs.declared.op.Op.{Op}
@@ -18,9 +18,11 @@ use Rattle.drum_rounds.specs.InRounds.{summed, takes}
 use Rattle.drum_rounds.specs.Pieces.{seen_placed, PlacedHop}
 use Rattle.drum_listing.specs.declared.waits.kind.Kind.{Kind}
 use Rattle.drum_listing.specs.declared.waits.sums.Sums.{Sums}
+use Rattle.drum_listing.specs.declared.waits.waited.Waited.{Waited}
 use Rattle.drum_listing.specs.Told.{seen_told}
-use Rattle.drum_listing.specs.Waits.{for_data, for_instruction, is_alike, AreDearestFirst}
-use Rattle.drum_listing.specs.WaitsOf.{same_kind}
+use Rattle.drum_listing.specs.Waits.{for_cards, for_data, for_instruction, is_alike}
+use Rattle.drum_listing.specs.Waits.{AreDearestFirst}
+use Rattle.drum_listing.specs.WaitsOf.{same_kind, waited_line, waited_of}
 use Rattle.drum_listing.specs.WaitsText.{kind_line, wait_line}
 use Rattle.drum_bracket.specs.declared.waits.WaitsInRounds.{WaitsInRounds}
 use Rattle.drum_bracket.specs.declared.waits.kind_row.KindRow.{KindRow}
@@ -60,6 +62,10 @@ waits_instruction times one = for_instruction times one.angle (alone times one)
 -- and for its data
 abbrev pub waits_data : (Op → Entry) → PlacedHop → ℕ
 waits_data times one = for_data times one.angle (alone times one)
+
+-- and for the card machine
+abbrev pub waits_cards : (Op → Entry) → PlacedHop → ℕ
+waits_cards times one = for_cards times (alone times one)
 
 -- a number of each hop that passes a test, and 0 of the others
 abbrev pub of_those : (PlacedHop → Bool) → (PlacedHop → ℕ) → PlacedHop → ℕ
@@ -126,26 +132,39 @@ pub record IsOfPiece (times : Op → Entry) (often : List ℕ) (at : ℕ) (one :
   pub operand : row.sums.operand
       ≡ slice_index often at * waits_data times (seen_placed one)
 
+-- what all hops wait, by the pieces, each as often as it comes
+abbrev pub waited_over : (Op → Entry) → List Piece → List ℕ → Waited
+waited_over times pieces often = record {
+  instruction = summed (waits_instruction times) pieces often;
+  operand = summed (waits_data times) pieces often;
+  cards = summed (waits_cards times) pieces often;
+}
+
 -- ---- the text of rows
 
+-- the line of a row
 abbrev pub row_text : (Op → Entry) → KindRow → List ℕ
 row_text times row =
     kind_line times row.angle (seen_told row.told) row.sums.visits row.sums.time
     row.sums.instruction row.sums.operand
 
+-- the rows, in their order
 abbrev pub rows_in : WaitsInRounds → List KindRow
 rows_in waits = values_of waits.by_kind.entries
 
--- the lines of all rows, of what the walk takes and of the ceiling
+-- the lines of all rows, of all hops, of what the walk takes and of the ceiling
 abbrev pub listed : (Op → Entry) → WaitsInRounds → Bracket → List ℕ
 listed times waits bracket =
     flat_map (row_text times) (rows_in waits)
+    ++ waited_line (walks.total_of bracket.walk) waits.waited
     ++ bracket_lines bracket
 
--- The lines are those of the kinds of a walk in rounds, the dearest first.
+-- The lines are those of the kinds of a walk in rounds, the dearest first, and beside them is what
+-- all its hops wait.
 abbrev pub AreWaitsOf : (Op → Entry) → InRounds → WaitsInRounds → Type 0
 AreWaitsOf times walk waits = (g : Setting) (visits : List Visited) → g.times ≡ times
     → AreSpelledOut g walk visits
     → (firsts : List Visited) × AreDearestFirst visits firsts
     × (flat_map (row_text times) (rows_in waits)
     ≡ flat_map (wait_line times (walks.angle_of walk) visits) firsts)
+    × (waits.waited ≡ waited_of times (walks.angle_of walk) visits)

@@ -7,9 +7,9 @@
 //! how often pieces are named; `outline` has both, worked out before the first line goes out.
 //! `teller` has what is known of a walk, and tells one hop, or that a part comes again; `telling`
 //! tells its pieces, by the numbers of those that they name. `rounds` has `list_rounds`. `waits`
-//! has where the word times of a walk go: `waits/adding` goes over its pieces once and adds up, by
-//! kind, what their hops take (`waits/kind_row`); `waits/listing` writes the lines. `laws` has a
-//! law of the definitions.
+//! has where the word times of a walk go: `waits/adding` goes over its pieces and adds up, by kind,
+//! what their hops take (`waits/kind_row`), and what all of them wait; `waits/listing` writes the
+//! lines. `laws` has laws of the definitions.
 //!
 //! Definitions, in the order to read them: `CeilingText` is the text of a ceiling, mark by mark,
 //! and `RoundsText` that of its walk. `SpelledOut` is that walk hop by hop, `TellsOf` when what a
@@ -25,8 +25,9 @@
 //! lines there are at most; `Starts` a walk from its beginning. `Laid` puts a walk's hops beside
 //! those of its pieces, and `LinesTold` goes through the lines for the law. Of the waits:
 //! `RowSteps` (the rows of kinds, with a piece more), `RowRoom` (no sum is too large), `KindSums`
-//! (what is added up over a walk's hops is added up over pieces), `FirstComings` and `FirstVisits`
-//! (what comes first), and by these `RoundsWaitsFound`. `Checks` evaluates the definitions.
+//! (what is added up over a walk's hops is added up over pieces), `PieceAt` (the piece that a loop
+//! is at), `FirstComings` and `FirstVisits` (what comes first), and by these `RoundsWaitsFound`;
+//! `WholeWaits` (what all hops wait). `Checks` evaluates the definitions.
 #![tactic(auto)]
 
 mod counts;

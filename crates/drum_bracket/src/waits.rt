@@ -4,11 +4,12 @@ ghost use Rattle.std.specs.Prelude.{◌^◌, ◌≤◌};
 ghost use Rattle.indexmap.specs.IndexMap.{index_map_len};
 
 mod adding;
+mod alone;
 mod kind_row;
 mod listing;
 
-use adding::by_kind;
-use drum_listing::Kind;
+use adding::{by_kind, waited};
+use drum_listing::{Kind, Waited};
 use drum_rounds::InRounds;
 use drum_times::Times;
 use indexmap::IndexMap;
@@ -17,11 +18,12 @@ pub use listing::list_rounds_waits;
 use std::alloc::{AllocError, Global};
 
 /// Where the word times of a walk in rounds go: what its hops of each kind take in all, the dearest
-/// kind first. Hops are of one kind that begin at one location, with one instruction, and end in
-/// one way.
+/// kind first, and what all its hops wait. Hops are of one kind that begin at one location, with
+/// one instruction, and end in one way.
 #[derive(Debug, Drop)]
 pub struct WaitsInRounds {
     by_kind: IndexMap<Kind, KindRow>,
+    waited: Waited,
     /// There are no more kinds than pieces, and no more than 2^32 of those.
     ghost few: { index_map_len by_kind ≤ 2 ^ 32 },
 }
@@ -46,7 +48,8 @@ impl WaitsInRounds {
     {
         let mut by_kind = by_kind(alloc, walk, times)?;
         by_kind.sort_by_key(|_, row| (u128::MAX - row.sums.time, row.number))?;
-        Ok(WaitsInRounds { by_kind })
+        let waited = waited(walk, times);
+        Ok(WaitsInRounds { by_kind, waited })
     }
 
     /// The rows, the dearest first.

@@ -144,7 +144,7 @@ ends_later times angle hop (Some op) timed =
     omega (arith, timed.2, end_later (times op) op hop.ins.d hop.place hop.units hop.wait hop.way (angle + hop.begun))
 
 -- the hops of a walk take all of its time
-walk_takes : (g : Setting) (angle place time : ℕ) (counts : List ℕ) (hops : List Taken)
+pub walk_takes : (g : Setting) (angle place time : ℕ) (counts : List ℕ) (hops : List Taken)
     → IsWalkFrom g angle place time counts hops
     → time + sum_by time_of (map visited hops) ≡ time_from time hops
 walk_takes g angle place time counts [] walk = omega arith

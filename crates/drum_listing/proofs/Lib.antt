@@ -16,3 +16,4 @@ pub mod WaitLines
 pub mod WaitRows
 pub mod Waiting
 pub mod WaitsFound
+pub mod WholeFits

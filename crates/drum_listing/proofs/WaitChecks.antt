@@ -56,6 +56,6 @@ wait_lines : waits_text times 1 (stop ∷ load ∷ again ∷ last ∷ []) (load 
     ≡ codes "0100 69 0102 0100 to 0100 visits 2 time 198 instruction 88 data 98 work 12 data-at 3 next-at 5\n"
     ++ codes "8001 69 0102 0100 late visits 1 time 50 instruction 0 data 44 work 6\n"
     ++ codes "0106 01 0000 0100 to 0100 visits 1 time 6 instruction 5 data 0 work 1 next-at 7\n"
-    ++ codes "bound 254\n"
+    ++ codes "total work 19 instruction 93 data 142 cards 0\n" ++ codes "bound 254\n"
 unfolding first digits
 wait_lines = refl

@@ -17,10 +17,11 @@ use Rattle.drum_listing.specs.declared.moments.Moments.{Moments}
 use Rattle.drum_listing.specs.declared.waits.Waits.{Waits}
 use Rattle.drum_listing.specs.declared.waits.sums.Sums.{Sums}
 use Rattle.drum_listing.specs.declared.waits.wait.Wait.{Wait}
+use Rattle.drum_listing.specs.declared.waits.waited.Waited.{Waited}
 use Rattle.drum_listing.specs.MomentsText.{moment_text}
 use Rattle.drum_listing.specs.Pieces.{angles_text, digits_with, name_with, sums_text}
 use Rattle.drum_listing.specs.Waits.{data_angle, data_at, moments_at, next_at, on_drum}
-use Rattle.drum_listing.specs.WaitsOf.{AreWaits, IsSumOf, first_of, firsts_of, row_text}
+use Rattle.drum_listing.specs.WaitsOf.{AreWaits, IsSumOf, first_of, firsts_of, row_text, waited_line}
 use Rattle.drum_listing.specs.WaitsText.{kind_line, wait_line}
 use Rattle.drum_listing.proofs.Lines.{flat_map_map}
 use Rattle.drum_listing.specs.WalkText.{hop_text}
@@ -33,6 +34,15 @@ pub sums_told : (sums : Sums) (time instruction had work : List ℕ) → time �
     ++ (codes " data " ++ (had ++ (codes " work " ++ (work ++ [])))))))
     ≡ sums_text sums
 sums_told sums time instruction had work p q r s = rw (p, q, r, s) (simp (append_assoc, append-nil))
+
+-- the line of all hops
+pub total_told : (time : ℕ) (waited : Waited) (work instruction had cards : List ℕ)
+    → work ≡ decimal (time - waited.instruction - waited.operand - waited.cards)
+    → instruction ≡ decimal waited.instruction → had ≡ decimal waited.operand → cards ≡ decimal waited.cards
+    → codes "total work " ++ (work ++ (codes " instruction " ++ (instruction
+    ++ (codes " data " ++ (had ++ (codes " cards " ++ (cards ++ (codes "\n" ++ []))))))))
+    ≡ waited_line time waited
+total_told time waited work instruction had cards p q r s = rw (p, q, r, s) (simp (append_assoc, append-nil))
 
 -- an angle is its two pieces
 angle_pieces : (name : List ℕ) (angle : Option ℕ)

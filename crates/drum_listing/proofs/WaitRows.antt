@@ -28,7 +28,7 @@ same_wait a b p q r s t =
 
 -- ---- sums over hops with one more
 
-sum_more : (f : Visited → ℕ) (hops : List Visit) (visit : Visit)
+pub sum_more : (f : Visited → ℕ) (hops : List Visit) (visit : Visit)
     → sum_by f (map seen_visit (hops ++ visit ∷ []))
     ≡ sum_by f (map seen_visit hops) + f (seen_visit visit)
 sum_more f hops visit =

@@ -20,7 +20,7 @@ use Rattle.drum_listing.specs.declared.waits.kind.Kind.{Kind}
 use Rattle.drum_listing.specs.declared.waits.sums.Sums.{Sums}
 use Rattle.drum_listing.specs.declared.waits.wait.Wait.{Wait}
 use Rattle.drum_listing.specs.Waits.{AreDearestFirst, ComesBefore, IsFirst, alike, is_alike, time_alike, time_of}
-use Rattle.drum_listing.specs.WaitsOf.{AreRows, AreWaits, IsSumOf, first_of, kind_of, of_kind, row_of, same_kind, sums_of}
+use Rattle.drum_listing.specs.WaitsOf.{AreRows, AreWaits, IsSumOf, first_of, kind_of, of_kind, row_of, same_kind, sums_of, waited_of}
 use Rattle.drum_listing.proofs.KindRows.{entry_of, key_at, one_place, AreDearest}
 use Rattle.drum_listing.proofs.SameKinds.{same_kind_equiv}
 use Rattle.drum_listing.proofs.WaitRows.{of_same, part_le}
@@ -328,20 +328,23 @@ module _ {S : Type 0} (times : Op → Entry) (angle : ℕ) (walk : List Visit) (
       )
 
   rows_are : (waits : Waits) → waits.by_kind.entries ≡ rows.entries
+      → waits.waited ≡ waited_of times angle (map seen_visit walk)
       → AreDearest time_in begun_in (values_of rows.entries) → AreWaits times angle (map seen_visit walk) waits
-  rows_are waits same sorted = record {
+  rows_are waits same all sorted = record {
     rows = λ row has.
         sum_of times angle walk rows are row
         (subst (λ (es : List (Kind × Wait)). Contains (values_of es) row) same has);
     firsts =
         subst (λ (es : List (Kind × Wait)). AreDearestFirst (map seen_visit walk) (map first_of (values_of es)))
         (sym same) (dearest_first times angle walk rows are sorted);
+    waited = all;
   }
 
   -- The rows, sorted, are the waits of the visits that are seen so.
   pub are_waits : (start : ℕ) (visits : List Visited) → angle ≡ start → map seen_visit walk ≡ visits
       → (waits : Waits) → waits.by_kind.entries ≡ rows.entries
+      → waits.waited ≡ waited_of times angle (map seen_visit walk)
       → AreDearest time_in begun_in (values_of rows.entries) → AreWaits times start visits waits
-  are_waits start visits at seen waits same sorted =
+  are_waits start visits at seen waits same all sorted =
       subst (λ (hops : List Visited). AreWaits times start hops waits) seen
-      (subst (λ (a : ℕ). AreWaits times a (map seen_visit walk) waits) at (rows_are waits same sorted))
+      (subst (λ (a : ℕ). AreWaits times a (map seen_visit walk) waits) at (rows_are waits same all sorted))

@@ -12,9 +12,10 @@ use Rattle.drum_listing.specs.declared.waits.Waits.{Waits}
 use Rattle.drum_listing.specs.declared.waits.kind.Kind.{Kind}
 use Rattle.drum_listing.specs.declared.waits.sums.Sums.{Sums}
 use Rattle.drum_listing.specs.declared.waits.wait.Wait.{Wait}
-use Rattle.drum_listing.specs.Waits.{AreDearestFirst, alike, for_data, for_instruction}
+use Rattle.drum_listing.specs.declared.waits.waited.Waited.{Waited}
+use Rattle.drum_listing.specs.Waits.{AreDearestFirst, alike, for_cards, for_data, for_instruction}
 use Rattle.drum_listing.specs.Waits.{is_same_way, time_of}
-use Rattle.drum_listing.specs.WaitsText.{kind_line}
+use Rattle.drum_listing.specs.WaitsText.{kind_line, total_line}
 
 -- ---- kinds
 
@@ -68,12 +69,27 @@ firsts_of waits = map first_of (values_of waits.by_kind.entries)
 abbrev pub IsSumOf : (Op → Entry) → ℕ → List Visited → Wait → Type 0
 IsSumOf times angle walk wait = wait.sums ≡ sums_of times angle (alike (first_of wait) walk)
 
--- The rows are those of a walk, the dearest first.
+-- ---- all hops
+
+-- what the hops of a walk wait
+abbrev pub waited_of : (Op → Entry) → ℕ → List Visited → Waited
+waited_of times angle walk = record {
+  instruction = sum_by (for_instruction times angle) walk;
+  operand = sum_by (for_data times angle) walk;
+  cards = sum_by (for_cards times) walk;
+}
+
+-- the line of that, where they take so many word times
+abbrev pub waited_line : ℕ → Waited → List ℕ
+waited_line time waited = total_line time waited.instruction waited.operand waited.cards
+
+-- The rows are those of a walk, the dearest first, and beside them is what all its hops wait.
 pub record AreWaits (times : Op → Entry) (angle : ℕ) (walk : List Visited) (waits : Waits) : Type 0
   where
     pub rows : (wait : Wait) → Contains (values_of waits.by_kind.entries) wait
         → IsSumOf times angle walk wait
     pub firsts : AreDearestFirst walk (firsts_of waits)
+    pub waited : waits.waited ≡ waited_of times angle walk
 
 -- ---- the text of a row
 

@@ -6,7 +6,8 @@ use Rattle.drum_times.specs.declared.entry.Entry.{Entry}
 use Rattle.drum_bound.specs.Visited.{Visited}
 use Rattle.drum_lines.specs.BoundText.{bound_text}
 use Rattle.drum_listing.specs.MomentsText.{moment_text}
-use Rattle.drum_listing.specs.Waits.{alike, data_at, for_data, for_instruction, next_at, time_alike}
+use Rattle.drum_listing.specs.Waits.{alike, data_at, for_cards, for_data, for_instruction, next_at}
+use Rattle.drum_listing.specs.Waits.{time_alike}
 use Rattle.drum_listing.specs.WalkText.{hop_text}
 
 -- The line of the hops of a kind, by one of them, by how many they are, and by the word times that
@@ -26,7 +27,22 @@ wait_line times angle walk first =
     kind_line times angle first (length hops) (time_alike walk first)
     (sum_by (for_instruction times angle) hops) (sum_by (for_data times angle) hops)
 
--- the lines of all kinds, and the time of the walk
+-- The line of all hops of a walk, by the word times that they take, that they wait for their
+-- instructions, that they wait for their data, and that they wait for the card machine.
+abbrev pub total_line : ℕ → ℕ → ℕ → ℕ → List ℕ
+total_line time instruction operand cards =
+    codes "total work " ++ decimal (time - instruction - operand - cards)
+    ++ codes " instruction " ++ decimal instruction ++ codes " data " ++ decimal operand
+    ++ codes " cards " ++ decimal cards ++ codes "\n"
+
+-- that of a walk, which takes so many word times
+abbrev pub walk_line : (Op → Entry) → ℕ → List Visited → ℕ → List ℕ
+walk_line times angle walk time =
+    total_line time (sum_by (for_instruction times angle) walk)
+    (sum_by (for_data times angle) walk) (sum_by (for_cards times) walk)
+
+-- the lines of all kinds, of all hops, and of the time of the walk
 abbrev pub waits_text : (Op → Entry) → ℕ → List Visited → List Visited → ℕ → List ℕ
 waits_text times angle walk firsts bound =
-    flat_map (wait_line times angle walk) firsts ++ bound_text bound
+    flat_map (wait_line times angle walk) firsts ++ walk_line times angle walk bound
+    ++ bound_text bound

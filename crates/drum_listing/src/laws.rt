@@ -5,12 +5,13 @@ ghost use Rattle.drum_core.specs.declared.op.Op.{Op};
 ghost use Rattle.drum_core.specs.Op.{op_of};
 ghost use Rattle.drum_times.specs.declared.entry.Entry.{Entry};
 ghost use Rattle.drum_flow.specs.Walk.{Setting};
-ghost use Rattle.drum_bound.specs.Visited.{IsLongest, IsWalkOf, Visited};
-ghost use Rattle.drum_listing.specs.Waits.{AreDearestFirst, alike, data_at, for_data};
+ghost use Rattle.drum_bound.specs.Visited.{AreLongest, IsLongest, IsWalkOf, Visited};
+ghost use Rattle.drum_listing.specs.Waits.{AreDearestFirst, alike, data_at, for_cards, for_data};
 ghost use Rattle.drum_listing.specs.Waits.{for_instruction, is_alike, next_at, time_alike};
 
 /// The times of all kinds of a walk add up to the time of the walk, and what the hops of a kind
-/// wait is part of their time: so the columns of a line add up.
+/// wait is part of their time: so the columns of a line add up. So do those of the line of all
+/// hops, where each takes as long as it can.
 pub fn waits_add_up()
     ensures times { (g : Setting) (angle used : ℕ) (walk firsts : List Visited)
         → IsWalkOf g angle used walk → AreDearestFirst walk firsts
@@ -19,6 +20,10 @@ pub fn waits_add_up()
         → IsWalkOf g angle used walk
         → sum_by (for_instruction g.times angle) (alike one walk)
         + sum_by (for_data g.times angle) (alike one walk) ≤ time_alike walk one }
+    ensures whole { (g : Setting) (angle used : ℕ) (walk : List Visited)
+        → IsWalkOf g angle used walk → AreLongest g angle walk
+        → sum_by (for_instruction g.times angle) walk + sum_by (for_data g.times angle) walk
+        + sum_by (for_cards g.times) walk ≤ used }
 {}
 
 /// A walk has one list of its kinds, the dearest first: what is listed of it is settled.

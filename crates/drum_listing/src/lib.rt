@@ -14,12 +14,13 @@
 //! other. `table` has the table, sorted, with `table/line` and `table/listing`. `waits` has where
 //! the word times of a walk go. `waits/adding` goes over the walk once. For each kind of hops
 //! (`waits/kind`) it adds up what they have spent (`waits/spent`, `waits/sums`), beside the first
-//! of them, in a `waits/wait`. `waits/listing` has `list_waits`, and `waits/line` the line of a
-//! kind. `laws` has laws of the definitions.
+//! of them, in a `waits/wait`; and of all hops what they wait (`waits/waited`). `waits/listing` has
+//! `list_waits`, `waits/line` the line of a kind, and `waits/total` that of all hops. `laws` has
+//! laws of the definitions.
 //!
-//! A crate above writes lines of its own hops by `send_hop`, `send_times_later` and `send_kind`,
-//! whose numbers may be as large as a u128, and gathers them by `pass_line`; by `Kind`, `Spent` and
-//! `Sums` it adds up what its own hops take.
+//! A crate above writes lines of its own hops by `send_hop`, `send_times_later`, `send_kind` and
+//! `send_total`, whose numbers may be as large as a u128, and gathers them by `pass_line`; by
+//! `Kind`, `Spent`, `Sums` and `Waited` it adds up what its own hops take.
 //!
 //! Definitions, in the order to read them: `Moments`, `MomentsText`, `WalkText`, `HeldText` (what a
 //! machine holds after a step), `TraceText`, `Waits`, `WaitsText`, `TableText`. The others say what
@@ -32,9 +33,9 @@
 //! the definitions. Of the waits: `SameKinds` (`==` of kinds), `KindRows` (where a map has a kind's
 //! row, and how rows are sorted), `Waiting` (how long a hop waits at most), `WaitRows` (rows with a
 //! hop more), `WaitsFound` (rows, sorted, are the waits), `WaitLines`; and for their laws
-//! `AddingUp`, `OneListing`, `DataAngles` and `NextAngles`. `LaterMoments` has a hop's moments as
-//! they are at its angle. Of the table: `TableRows` (rows that are sorted are in order) and
-//! `TableLines`.
+//! `AddingUp`, `WholeFits`, `OneListing`, `DataAngles` and `NextAngles`. `LaterMoments` has a hop's
+//! moments as they are at its angle. Of the table: `TableRows` (rows that are sorted are in order)
+//! and `TableLines`.
 #![tactic(auto)]
 
 mod acted;
@@ -63,5 +64,5 @@ pub use passing::pass_line;
 pub use step_page::pass_step;
 pub use table::{Table, list_table};
 pub use told::Told;
-pub use waits::{Kind, Spent, Sums, Waits, list_waits, send_kind};
+pub use waits::{Kind, Spent, Sums, Waited, Waits, list_waits, send_kind, send_total};
 pub use walk::list_walk;

@@ -9,9 +9,11 @@ mod line;
 mod listing;
 mod spent;
 mod sums;
+mod total;
 mod wait;
+mod waited;
 
-use adding::by_kind;
+use adding::{by_kind, waited};
 use drum_bound::Analysis;
 use drum_times::Times;
 use indexmap::IndexMap;
@@ -21,14 +23,17 @@ pub use listing::list_waits;
 pub use spent::Spent;
 use std::alloc::{AllocError, Global};
 pub use sums::Sums;
+pub use total::send_total;
 use wait::Wait;
+pub use waited::Waited;
 
 /// Where the word times of a walk go: what the hops of each kind take in all, the dearest kind
-/// first. Hops are of one kind that begin at one location, with one instruction, and end in one
-/// way.
+/// first, and what all hops wait. Hops are of one kind that begin at one location, with one
+/// instruction, and end in one way.
 #[derive(Debug, Drop)]
 pub struct Waits {
     by_kind: IndexMap<Kind, Wait>,
+    waited: Waited,
     /// There are no more kinds than hops.
     ghost few: { index_map_len by_kind ≤ 4000000 },
 }
@@ -50,9 +55,11 @@ impl Waits {
         ensures { IfOk result (AreWaits (entry_in times.now) (angle_of analysis.now)
             (visits_of analysis.now)) }
     {
-        let mut by_kind = by_kind(alloc, analysis.walk(), times, analysis.angle())?;
+        let (walk, angle) = (analysis.walk(), analysis.angle());
+        let mut by_kind = by_kind(alloc, walk, times, angle)?;
         by_kind.sort_by_key(|_, wait| (u128::MAX - wait.sums.time, wait.first.begun))?;
-        Ok(Waits { by_kind })
+        let waited = waited(walk, times, angle);
+        Ok(Waits { by_kind, waited })
     }
 
     /// The rows, the dearest first.

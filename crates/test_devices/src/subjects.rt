@@ -32,6 +32,7 @@ const ROUND: &str = "0100 +0000000106\n0106 +0000000100\nSTART 0100\n";
 const WAITS: &str = "\
 0100 69 0103 0106 to 0106 visits 1 time 55 instruction 49 data 0 work 6 data-at 3 next-at 6\n\
 0106 01 0000 0106 late visits 1 time 1 instruction 0 data 0 work 1\n\
+total work 7 instruction 49 data 0 cards 0\n\
 bound 56\n\
 ";
 

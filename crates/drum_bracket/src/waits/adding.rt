@@ -1,14 +1,18 @@
-//! What the hops of each kind take in all.
+//! What the hops of each kind take in all, and what all hops wait.
 
 ghost use Rattle.std.specs.Prelude.{◌≡◌, ◌^◌, ◌<◌, IfOk, Some, length, slice_get};
 ghost use Rattle.drum_times.specs.Entries.{entry_in};
 ghost use Rattle.drum_rounds.specs.InRounds.{often_of, pieces_of, total_of};
 ghost use Rattle.drum_rounds.specs.declared.piece.Piece.TheVariants as pieces;
 ghost use Rattle.drum_bracket.specs.OutlineOf.{IsWalkWith};
-ghost use Rattle.drum_bracket.specs.RoundsWaitsOf.{hop_in, kind_of, AreRows, IsOfPiece};
+ghost use Rattle.drum_rounds.specs.Pieces.{seen_placed};
+ghost use Rattle.drum_bracket.specs.RoundsWaitsOf.{hop_in, kind_of, waited_over, waits_cards};
+ghost use Rattle.drum_bracket.specs.RoundsWaitsOf.{waits_data, waits_instruction, AreRows};
+ghost use Rattle.drum_bracket.specs.RoundsWaitsOf.{IsOfPiece};
 
+use super::alone::alone;
 use super::kind_row::KindRow;
-use drum_listing::Kind;
+use drum_listing::{Kind, Spent, Waited};
 use drum_rounds::{InRounds, Piece, Placed};
 use drum_times::Times;
 use indexmap::IndexMap;
@@ -71,4 +75,34 @@ pub fn by_kind(
         rows.insert(kind, row)?;
     }
     Ok(rows)
+}
+
+/// What the piece with this number takes, which is a hop.
+fn spent_by(walk: &InRounds, number: usize, one: Placed, times: &Times) -> Spent
+    requires right { IsWalkWith times.now walk.now }
+    requires here { slice_get (pieces_of walk.now) number ≡ Some (pieces.Hop one) }
+    ensures instruction { result.instruction
+        ≡ waits_instruction (entry_in times.now) (seen_placed one) }
+    ensures operand { result.operand ≡ waits_data (entry_in times.now) (seen_placed one) }
+    ensures cards { result.cards ≡ waits_cards (entry_in times.now) (seen_placed one) }
+{
+    let took = walk.lasting(number) as u64;
+    Spent::of(&alone(one, took), times, one.angle as u8)
+}
+
+/// What all hops of a walk wait.
+pub fn waited(walk: &InRounds, times: &Times) -> Waited
+    requires right { IsWalkWith times.now walk.now }
+    requires early { total_of walk.now < 2 ^ 127 }
+    ensures { result ≡ waited_over (entry_in times.now) (pieces_of walk.now) (often_of walk.now) }
+{
+    let mut waited = Waited::none();
+    for (number, piece) in walk.pieces().iter().enumerate() {
+        let Some(one) = hop_in(piece) else {
+            continue;
+        };
+        let spent = spent_by(walk, number, one, times);
+        waited = waited.with(&spent, walk.often(number));
+    }
+    waited
 }

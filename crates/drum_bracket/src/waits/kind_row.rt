@@ -2,6 +2,7 @@
 
 ghost use Rattle.std.specs.Prelude.{◌≡◌};
 
+use super::alone::alone;
 use drum_listing::{Spent, Sums, Told};
 use drum_rounds::Placed;
 use drum_times::Times;
@@ -44,13 +45,7 @@ impl KindRow {
         ensures operand { result.sums.operand
             ≡ often * waits_data (entry_in times.now) (seen_placed one) }
     {
-        let told = Told {
-            place: one.location,
-            instruction: one.hop.instruction,
-            way: one.hop.way,
-            begun: 0,
-            ended: took,
-        };
+        let told = alone(one, took);
         let angle = one.angle as u8;
         KindRow {
             number,

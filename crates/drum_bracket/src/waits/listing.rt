@@ -10,7 +10,7 @@ use super::kind_row::KindRow;
 use crate::prices::send_totals;
 use drum_core::Output;
 use drum_lines::WriteFault;
-use drum_listing::send_kind;
+use drum_listing::{send_kind, send_total};
 use drum_rounds::Bracket;
 use drum_times::Times;
 
@@ -35,9 +35,9 @@ fn send_rows<O: Output>(
     Ok(sent)
 }
 
-/// Writes where the word times of the walk beside a ceiling go, a line for each kind of hops, then
-/// what the walk takes, and the ceiling. To mean anything the waits have to be those of that walk,
-/// and the timing table the one with which it was found. It takes no memory.
+/// Writes where the word times of the walk beside a ceiling go, a line for each kind of hops and
+/// one for all, then what the walk takes, and the ceiling. To mean anything the waits have to be
+/// those of that walk, and the timing table the one with which it was found. It takes no memory.
 ///
 /// # Errors
 ///
@@ -55,6 +55,7 @@ pub fn list_rounds_waits<O: Output>(
     ensures failures { O.failed writer.new ≡ O.failed writer.old + fails_by result }
 {
     let sent = send_rows(writer, waits.rows(), times)?;
+    let sent = send_total(writer, sent, bracket.walk.total(), &waits.waited)?;
     send_totals(writer, sent, bracket.walk.total(), bracket.ceiling.total())?;
     Ok(())
 }

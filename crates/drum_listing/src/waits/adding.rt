@@ -4,12 +4,13 @@ ghost use Rattle.std.specs.Prelude.{◌≡◌, ◌^◌, ◌<◌, ◌≤◌, IfOk
 ghost use Rattle.drum_times.specs.Entries.{entry_in};
 ghost use Rattle.drum_bound.specs.Visited.{seen_visit};
 ghost use Rattle.drum_listing.specs.Waits.{for_data, for_instruction, time_of};
-ghost use Rattle.drum_listing.specs.WaitsOf.{AreRows};
+ghost use Rattle.drum_listing.specs.WaitsOf.{AreRows, waited_of};
 
 use super::kind::Kind;
 use super::spent::Spent;
 use super::sums::Sums;
 use super::wait::Wait;
+use super::waited::Waited;
 use crate::told::Told;
 use drum_bound::Visit;
 use drum_times::Times;
@@ -57,4 +58,16 @@ pub fn by_kind(
         waits.insert(kind, wait)?;
     }
     Ok(waits)
+}
+
+/// What all hops of a walk wait, on a drum with this angle at time 0.
+pub fn waited(walk: &[Visit], times: &Times, angle: u8) -> Waited
+    requires few { length walk.now ≤ 4000000 }
+    ensures { result ≡ waited_of (entry_in times.now) angle (map seen_visit walk.now) }
+{
+    let mut waited = Waited::none();
+    for visit in walk {
+        waited = waited.with(&Spent::of(&Told::of(visit), times, angle), 1);
+    }
+    waited
 }

@@ -9,6 +9,7 @@ ghost use Rattle.drum_listing.specs.WaitsText.{waits_text};
 
 use super::Waits;
 use super::line::send_kind;
+use super::total::send_total;
 use super::wait::Wait;
 use crate::told::Told;
 use drum_bound::Analysis;
@@ -39,9 +40,9 @@ fn send_waits<O: Output>(
     Ok(sent)
 }
 
-/// Writes where the word times of the worst walk of an analysis go, a line for each kind of hops,
-/// and the bound. The waits and the timing table have to be those of the analysis. It takes no
-/// memory.
+/// Writes where the word times of the worst walk of an analysis go, a line for each kind of hops
+/// and one for all, and the bound. The waits and the timing table have to be those of the analysis.
+/// It takes no memory.
 ///
 /// # Errors
 ///
@@ -63,6 +64,7 @@ pub fn list_waits<O: Output>(
 {
     let bound = analysis.bound();
     let sent = send_waits(writer, waits.rows(), times, analysis.angle())?;
+    let sent = send_total(writer, sent, u128::from(bound), &waits.waited)?;
     send_bound(writer, sent, bound)?;
     Ok(())
 }

@@ -1,6 +1,32 @@
+//! What one hop takes.
+
+ghost use Rattle.std.specs.Prelude.{◌≡◌};
+ghost use Rattle.drum_times.specs.Entries.{entry_in};
+ghost use Rattle.drum_listing.specs.Told.{seen_told};
+ghost use Rattle.drum_listing.specs.Waits.{for_cards};
+
 use crate::moments::Moments;
 use crate::told::Told;
+use drum_bound::Way;
+use drum_core::Op;
 use drum_times::Times;
+
+/// How long a hop waits for the card machine, in word times: as long as its operation may have to,
+/// unless the step stops before it acts.
+fn longest_wait(told: &Told, times: &Times) -> u32
+    ensures { result ≡ for_cards (entry_in times.now) (seen_told told.now) }
+{
+    if matches!(told.way, Way::Early) {
+        return 0;
+    }
+    let Some(op) = Op::of(told.instruction.op()) else {
+        return 0;
+    };
+    match op {
+        Op::Read | Op::Punch => times.entry(op).wait_max,
+        _ => 0,
+    }
+}
 
 /// What a hop takes, in word times.
 #[derive(Clone, Copy, Debug, PartialEq, Eq)]
@@ -11,12 +37,12 @@ pub struct Spent {
     pub instruction: u64,
     /// From where its operation can begin until it has its data.
     pub operand: u64,
+    /// For the card machine, as long as its operation may have to.
+    pub cards: u64,
 }
 
 impl Spent {
-    ghost use Rattle.std.specs.Prelude.{◌≡◌, ◌^◌, ◌≤◌};
-    ghost use Rattle.drum_times.specs.Entries.{entry_in};
-    ghost use Rattle.drum_listing.specs.Told.{seen_told};
+    ghost use Rattle.std.specs.Prelude.{◌^◌, ◌≤◌};
     ghost use Rattle.drum_listing.specs.Waits.{for_data, for_instruction, time_of};
 
     /// What a hop takes, on a drum with this angle at time 0.
@@ -27,6 +53,7 @@ impl Spent {
             ≡ for_instruction (entry_in times.now) angle (seen_told told.now) }
         ensures operand { result.operand
             ≡ for_data (entry_in times.now) angle (seen_told told.now) }
+        ensures cards { result.cards ≡ for_cards (entry_in times.now) (seen_told told.now) }
     {
         let moments = Moments::of(told, times, angle);
         let operand = match (moments.ready, moments.operand) {
@@ -37,6 +64,7 @@ impl Spent {
             time: told.ended.saturating_sub(told.begun),
             instruction: moments.found - told.begun,
             operand,
+            cards: u64::from(longest_wait(told, times)),
         }
     }
 }

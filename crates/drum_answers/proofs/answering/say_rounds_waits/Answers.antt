@@ -1,4 +1,4 @@
-use Rattle.std.proofs.Common.{List, ◌++◌, ℕ, inr, refl, ap, subst}
+use Rattle.std.proofs.Common.{List, ◌++◌, ◌∙◌, ℕ, flat_map, inr, refl, ap, subst}
 use Rattle.drum_times.specs.Entries.{entry_in}
 use Rattle.drum_ceiling.specs.CeilingOf.{total_of}
 use Rattle.drum_rounds.specs.InRounds as walks
@@ -10,6 +10,9 @@ use Rattle.drum_bracket.proofs.RowRoom.{hops_seen, spelled_out}
 use Rattle.drum_documents.specs.Documents.{setting_of}
 use Rattle.drum_answers.specs.Says.{rounds_waits_reply}
 use Rattle.drum_lines.proofs.NoLine.{no_line}
+use Rattle.drum_listing.specs.declared.waits.waited.Waited.{Waited}
+use Rattle.drum_listing.specs.WaitsOf.{waited_line}
+use Rattle.drum_listing.specs.WaitsText.{wait_line}
 use Rattle.drum_answers.proofs.answering.say_rounds_waits.Goals as goal
 
 pub of-requires-clause-right : goal.of-requires-clause-right
@@ -27,7 +30,9 @@ returns-clause-does g c err =
     let visits = hops_seen documents.deck documents.times documents.notes bracket.walk right in
     let out = spelled_out documents.deck documents.times documents.notes bracket.walk right in
     let waits = c.in_ok-waits.ensures (setting_of documents) visits refl out in
-    let totals = total_lines (walks.total_of bracket.walk) (total_of bracket.ceiling) in (
+    let reached = walks.total_of bracket.walk in
+    let totals = total_lines reached (total_of bracket.ceiling) in
+    let kinds = flat_map (wait_line (entry_in documents.times) (walks.angle_of bracket.walk) visits) waits.0 in (
       rounds_waits_reply documents bracket visits waits.0,
       inr (c.requires.none, bracket, c.requires.right, (visits, out, waits.0, waits.1, refl)),
       no_line _ _,
@@ -35,7 +40,9 @@ returns-clause-does g c err =
         subst (λ (text : List ℕ). GetsResult (device (g.O.Output.written c.args.out.now) (g.O.Output.failed c.args.out.now))
             (device (g.O.Output.written c.tell_rounds_waits.new.out) (g.O.Output.failed c.tell_rounds_waits.new.out))
             text Done c.tell_rounds_waits.result)
-            (ap (λ (lines : List ℕ). lines ++ totals) waits.2) c.tell_rounds_waits.ensures,
+            (ap (λ (lines : List ℕ). lines ++ waited_line reached c.in_ok-waits.waits.waited ++ totals) waits.2
+            ∙ ap (λ (waited : Waited). kinds ++ waited_line reached waited ++ totals) waits.3)
+            c.tell_rounds_waits.ensures,
         refl,
       ),
     )

@@ -1,4 +1,5 @@
 use Rattle.drum_listing.proofs.AddingUp.{kind_fits, kinds_add_up}
+use Rattle.drum_listing.proofs.WholeFits.{whole_fits}
 use Rattle.drum_listing.proofs.laws.waits_add_up.Goals as goal
 
 pub returns-clause-times : goal.returns-clause-times
@@ -6,3 +7,6 @@ returns-clause-times c = λ g angle used walk firsts. kinds_add_up g angle used 
 
 pub returns-clause-columns : goal.returns-clause-columns
 returns-clause-columns c = λ g angle used walk one. kind_fits g angle used walk one
+
+pub returns-clause-whole : goal.returns-clause-whole
+returns-clause-whole c = λ g angle used walk. whole_fits g angle used walk

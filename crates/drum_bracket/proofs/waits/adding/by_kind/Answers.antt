@@ -1,12 +1,9 @@
 -- Of by_kind: each kind that a piece so far is of has the sums over these pieces, and no other has
 -- any. The walk's hops are few and its time is short, so the sums have room.
-use Rattle.std.proofs.Common.{◌≡◌, ◌+◌, ◌∙◌, ◌<◌, ◌≤◌, ℕ, Bool, true, false, List, Option, Some, None, ap, arith, is_some, length, get_or, refl, subst, sym}
-use Rattle.std.specs.Prelude.{cond, if◌then◌else◌, slice_get}
-use Rattle.std.proofs.lemmas.Option.{slice_get-get_or}
+use Rattle.std.proofs.Common.{◌≡◌, ◌+◌, ◌∙◌, ◌≤◌, ℕ, Bool, true, false, Option, Some, None, ap, arith, is_some, subst, sym}
+use Rattle.std.specs.Prelude.{cond, if◌then◌else◌}
 use Rattle.indexmap.specs.IndexMap.{get, index_map_len}
 use Rattle.drum_times.specs.Entries.{entry_in}
-use Rattle.drum_rounds.specs.declared.piece.Piece.{Piece}
-use Rattle.drum_rounds.specs.declared.piece.Piece.TheVariants as piece
 use Rattle.drum_rounds.specs.declared.piece.Placed.{Placed}
 use Rattle.drum_rounds.specs.InRounds.{often_of, pieces_of}
 use Rattle.drum_rounds.specs.Pieces.{seen_placed}
@@ -14,28 +11,12 @@ use Rattle.drum_listing.specs.declared.waits.kind.Kind.{Kind}
 use Rattle.drum_listing.specs.WaitsOf.{same_kind}
 use Rattle.drum_listing.proofs.SameKinds.{get_same, same_kind_equiv, unique_same, update_same}
 use Rattle.drum_bracket.specs.declared.waits.kind_row.KindRow.{KindRow}
-use Rattle.drum_bracket.specs.RoundsWaitsOf.{hop_in, is_of, kind_of, IsRow, IsRowOf}
+use Rattle.drum_bracket.specs.RoundsWaitsOf.{is_of, kind_of, IsRow, IsRowOf}
+use Rattle.drum_bracket.proofs.PieceAt.{at_here, hop_here, no_hop}
 use Rattle.drum_bracket.proofs.RowRoom.{has_room, HasRoom}
 use Rattle.drum_bracket.proofs.RowSteps.{row_begun, row_joined, rows_kept, rows_more}
 use Rattle.drum_bracket.proofs.waits.adding.by_kind.Goals as goal
 use Rattle.drum_bracket.proofs.waits.adding.by_kind.Goals.{in-Some-get, in-None}
-
--- ---- the piece at hand
-
-at_here : (items pieces : List Piece) (n : ℕ) (one : Piece) → items ≡ pieces → n < length items
-    → one ≡ get_or items n one → slice_get pieces n ≡ Some one
-at_here items pieces n one same less is =
-    ap (λ (ps : List Piece). slice_get ps n) (sym same) ∙ slice_get-get_or items n one less
-    ∙ ap (λ (p : Piece). Some p) (sym is)
-
-hop_is : (one : Piece) (hop : Placed) → Some hop ≡ hop_in one → one ≡ piece.Hop hop
-hop_is (piece.Hop other) hop is = let same : hop ≡ other = cc in ap piece.Hop (sym same)
-hop_is (piece.Row names) hop is = absurd (cc)
-hop_is (piece.Rounds rounds) hop is = absurd (cc)
-
-no_hop : (one : Piece) → None ≡ hop_in one → (other : Placed) → one ≡ piece.Hop other → ⊥
-no_hop one none other is =
-    let both : None ≡ Some other = none ∙ ap hop_in is in cc
 
 more_rows : (there : Bool) (before after n : ℕ) → before ≤ n → after ≡ before + (if there then 0 else 1)
     → after ≤ n + 1
@@ -58,12 +39,6 @@ loop-number-preserved-in_default c =
     }
 
 -- ---- where it is a hop
-
-hop_here : (items pieces : List Piece) (n : ℕ) (one : Piece) (hop : Placed) (found : Option Placed) → items ≡ pieces
-    → n < length items → one ≡ get_or items n one → found ≡ Some hop → found ≡ hop_in one
-    → slice_get pieces n ≡ Some (piece.Hop hop)
-hop_here items pieces n one hop found same less is some its =
-    at_here items pieces n one same less is ∙ ap (λ (p : Piece). Some p) (hop_is one hop (sym some ∙ its))
 
 pub row_of_piece-alone-requires-clause-here : goal.row_of_piece-alone-requires-clause-here
 row_of_piece-alone-requires-clause-here c =

@@ -17,8 +17,8 @@ pub by_kind-requires-clause-short : goal.by_kind-requires-clause-short
 by_kind-requires-clause-short c =
     omega (
       arith,
-      ap (sum_by time_of) c.walk.ensures.told,
-      spends (visits_of c.args.analysis.now) (bound_of c.args.analysis.now) c.walk.ensures.in_time,
+      ap (sum_by time_of) c.walk-walk.ensures.told,
+      spends (visits_of c.args.analysis.now) (bound_of c.args.analysis.now) c.walk-walk.ensures.in_time,
       c.args.analysis.now.below,
     )
 
@@ -26,10 +26,10 @@ pub returns : goal.returns
 returns c =
     let times = entry_in c.args.times.now in
     let analysis = c.args.analysis.now in
-    let walk = c.walk.result.now in
+    let walk = c.walk-walk.result.now in
     let rows = c.sort_by_key.new.self in
     let before = c.in_ok-by_kind.ensures in
-    let are : AreRows times c.angle.result walk rows = record {
+    let are : AreRows times c.angle-angle.result walk rows = record {
       found = λ kind.
           reordered_same c.in_ok-by_kind.by_kind rows c.sort_by_key.ensures.reordered.2 kind ∙ before.found kind;
       apart = unique_same rows c.sort_by_key.ensures.unique;
@@ -38,13 +38,13 @@ returns c =
     let short : sum_by time_of (map seen_visit walk) < 2 ^ 50 =
     omega (
       arith,
-      ap (sum_by time_of) c.walk.ensures.told,
-      spends (visits_of analysis) (bound_of analysis) c.walk.ensures.in_time,
+      ap (sum_by time_of) c.walk-walk.ensures.told,
+      spends (visits_of analysis) (bound_of analysis) c.walk-walk.ensures.in_time,
       analysis.below,
     ) in
-    are_waits times c.angle.result walk rows are (angle_of analysis) (visits_of analysis) c.angle.ensures
-    c.walk.ensures.told _ refl
+    are_waits times c.angle-angle.result walk rows are (angle_of analysis) (visits_of analysis) c.angle-angle.ensures
+    c.walk-walk.ensures.told _ refl c.waited-waited.ensures
     (dearest_sorted time_in begun_in rows.entries
-    (λ row has. omega (arith, row_short times c.angle.result walk rows are row has, short))
+    (λ row has. omega (arith, row_short times c.angle-angle.result walk rows are row has, short))
     (c.in_ok-sort_by_key.ensures.sorted (sort_key time_in begun_in)
     (answers_always _ _ _ (λ f a r g h. search rules))))

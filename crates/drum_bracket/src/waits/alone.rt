@@ -1,0 +1,23 @@
+//! A hop of a piece, as it is told alone.
+
+ghost use Rattle.std.specs.Prelude.{◌≡◌};
+ghost use Rattle.drum_rounds.specs.Pieces.{seen_placed};
+ghost use Rattle.drum_listing.specs.Told.{seen_told};
+ghost use Rattle.drum_bracket.specs.RoundsText.{from_to};
+
+use drum_listing::Told;
+use drum_rounds::Placed;
+
+/// A hop of a piece, begun at time 0, that takes so many word times.
+pub fn alone(one: Placed, took: u64) -> Told
+    ensures told { seen_told result ≡ from_to 0 took (seen_placed one) }
+    ensures at_once { result.begun ≡ 0 }
+{
+    Told {
+        place: one.location,
+        instruction: one.hop.instruction,
+        way: one.hop.way,
+        begun: 0,
+        ended: took,
+    }
+}
