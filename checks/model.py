@@ -9,6 +9,7 @@ import sys
 import tomllib
 from math import prod
 
+from coverage import Coverage
 from marks import is_inside, marks_of, place_on
 
 HALF = 10**10
@@ -408,7 +409,7 @@ def walks_of(deck, times, notes):
 def traced(machine, walks, limit):
     """The lines of a run's trace, one by one. The last one is the verdict, which tells this limit of
     a run that keeps to the notes."""
-    counts = (0,) * len(walks.marks)
+    counts, coverage = (0,) * len(walks.marks), Coverage(walks.marks, walks.lists)
     if not walks.is_set(machine):
         yield "left switch step 0 used 0"
         return
@@ -417,11 +418,13 @@ def traced(machine, walks, limit):
         word = machine.word(place)
         why = machine.step()
         yield from machine.step_lines(step, place, word)
+        coverage.see(place, word, None if why else machine.sought)
         if not walks.allows(place, word):
             left = "unlisted %04d %s" % (place, word_text(word))
         elif machine.has_read_load and not walks.has_load_cards:
             left = "loadcard"
         elif why:
+            yield from coverage.lines()
             yield "kept used %d %s stop %s" % (machine.used, limit, why)
             return
         else:
@@ -429,6 +432,7 @@ def traced(machine, walks, limit):
             counts = walks.passed(counts, place, machine.sought)
             if counts is not None:
                 continue
+        yield from coverage.lines()
         yield "left %s step %d used %d" % (left, step, before)
         return
 

@@ -57,7 +57,7 @@ pub use feed::Feed;
 pub use left::Left;
 pub use machine::Machine;
 pub use memory::Memory;
-pub use passes::is_inside;
+pub use passes::{count_pass, is_inside};
 pub use setup::Setup;
 pub use step::Step;
 pub use ways::{Way, Ways};

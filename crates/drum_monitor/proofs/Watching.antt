@@ -13,11 +13,11 @@ use Rattle.drum_monitor.specs.Monitor.{counts_in, HasSeenKept}
 use Rattle.drum_machine.specs.Keeps.{counts_over}
 use Rattle.drum_machine.specs.Run.{Stride}
 
-zeros_within : (marks : List Mark) → AreWithin marks (no_counts marks)
+pub zeros_within : (marks : List Mark) → AreWithin marks (no_counts marks)
 zeros_within [] = tt
 zeros_within (mark ∷ marks) = (omega arith, zeros_within marks)
 
-kept_within : (loads : ℕ → Option Word) (notes : Notes) (counts : List ℕ) (strides : List Stride)
+pub kept_within : (loads : ℕ → Option Word) (notes : Notes) (counts : List ℕ) (strides : List Stride)
     → AreKept loads notes counts strides → AreWithin notes.marks counts
     → AreWithin notes.marks (counts_over notes counts strides)
 kept_within loads notes counts [] kept within = within
@@ -31,7 +31,7 @@ kept_more loads notes counts [] stride kept one = (one, tt)
 kept_more loads notes counts (first ∷ strides) stride kept one =
     (kept.0, kept_more loads notes (counts_after notes counts first) strides stride kept.1 one)
 
-over_more : (notes : Notes) (counts : List ℕ) (strides : List Stride) (stride : Stride)
+pub over_more : (notes : Notes) (counts : List ℕ) (strides : List Stride) (stride : Stride)
     → counts_over notes counts (strides ++ stride ∷ []) ≡ counts_after notes (counts_over notes counts strides) stride
 over_more notes counts [] stride = refl
 over_more notes counts (first ∷ strides) stride = over_more notes (counts_after notes counts first) strides stride

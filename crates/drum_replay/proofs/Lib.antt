@@ -1,8 +1,12 @@
 mod Beginning
+mod FewLists
+mod Flags
 mod Followed
 mod Leading
+mod LineTexts
 pub mod NoLine
 mod OneRun
 mod OneVerdict
+mod Seen
 mod TraceBegun
 mod Traced

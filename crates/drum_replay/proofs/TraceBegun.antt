@@ -1,6 +1,5 @@
 -- How a trace begins.
-use Rattle.std.proofs.Common.{◌≡◌, ℕ, sym, subst, Result, Ok, Err, IfOk}
-use Rattle.drum_lines.specs.declared.fault.Fault.{Fault}
+use Rattle.std.proofs.Common.{◌≡◌, ℕ, [], sym, subst}
 use Rattle.drum_lines.specs.declared.limit.Limit as limits
 use Rattle.drum_times.specs.declared.times.Times.{Times}
 use Rattle.drum_flow.specs.SettingOf.{setting}
@@ -9,21 +8,24 @@ use Rattle.drum_documents.specs.declared.documents.Documents.{Documents}
 use Rattle.drum_documents.specs.Documents.{setting_of}
 use Rattle.drum_documents.specs.Limits.{IsLimit}
 use Rattle.drum_documents.proofs.Limiting.{bounded_by}
+use Rattle.drum_replay.specs.declared.coverage.Coverage.{Coverage}
 use Rattle.drum_replay.specs.declared.replaying.Begun.{Begun}
 use Rattle.drum_replay.specs.Begun.{IsBegun, IsTraceBegun}
+use Rattle.drum_replay.specs.CoverageOf.{HasSeen}
 use Rattle.drum_replay.specs.Replay.{Given, HasOwnWords}
 
 -- a trace begins, whatever limits its run
-pub trace_begun : (documents : Documents) (given : Given) (by : limits.Limit) (most : ℕ) (result : Result Begun Fault)
-    → HasOwnWords (setting_of documents) given → IsLimit documents by most
-    → IfOk result (λ begun. (times : Times) → IsBounded (setting documents.deck times documents.notes) most
+pub trace_begun : (documents : Documents) (given : Given) (by : limits.Limit) (most : ℕ) (begun : Begun)
+    (coverage : Coverage) → HasOwnWords (setting_of documents) given → IsLimit documents by most
+    → ((times : Times) → IsBounded (setting documents.deck times documents.notes) most
     → IsBegun (setting documents.deck times documents.notes) given begun)
-    → IfOk result (λ begun. (begun.limit ≡ by) × (begun.most ≡ most)) → IfOk result (IsTraceBegun documents given)
-trace_begun documents given by most (Ok begun) own is begins same = record {
+    → (begun.limit ≡ by) × (begun.most ≡ most) → HasSeen documents.notes [] coverage
+    → IsTraceBegun documents given (record { begun = begun; coverage = coverage })
+trace_begun documents given by most begun coverage own is begins same fresh = record {
   begun_of = begins documents.times (bounded_by documents by most is);
   own_words = own;
   limited =
       subst (λ (one : limits.Limit). IsLimit documents one begun.most) (sym same.0)
       (subst (λ (n : ℕ). IsLimit documents by n) (sym same.1) is);
+  fresh = fresh;
 }
-trace_begun documents given by most (Err fault) own is begins same = tt

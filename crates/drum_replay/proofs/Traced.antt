@@ -1,8 +1,10 @@
 -- The lines of a run's steps, and the verdict behind them.
-use Rattle.std.proofs.Common.{◌≡◌, ℕ, suc, ◌+◌, ◌-◌, Bool, true, false, not, List, [], ◌∷◌, ◌++◌, length, take, ap, sym}
+use Rattle.std.proofs.Common.{◌≡◌, ℕ, suc, ◌+◌, ◌-◌, Bool, true, false, not, List, [], ◌∷◌, ◌++◌, length, take, ap, sym, ◌<◌}
 use Rattle.std.proofs.Common.{subst, ◌∙◌, arith, append_assoc, append-nil, length-append, inl, inr, Option, Some, None}
 use Rattle.std.proofs.Common.{Result, Ok, Err}
-use Rattle.std.specs.Prelude.{MatchResult, if◌then◌else◌}
+use Rattle.std.proofs.Common.{refl}
+use Rattle.std.proofs.lemmas.List.{take-append-le}
+use Rattle.std.specs.Prelude.{MatchResult, OnOk, if◌then◌else◌}
 use Rattle.std.specs.Io.KnownBytes.{Appends}
 use Rattle.drum_core.proofs.Bytes.{Appends-then, take_behind}
 use Rattle.drum_core.specs.declared.op.Op.{Op}
@@ -17,11 +19,14 @@ use Rattle.drum_machine.specs.Timing.{ended, ready, units_of}
 use Rattle.drum_core.specs.Location.{is_location}
 use Rattle.drum_core.specs.Op.{op_of, operand_of, is_operand}
 use Rattle.drum_flow.specs.Walk.{Setting}
+use Rattle.drum_times.specs.Allowed.{Notes}
 use Rattle.drum_lines.specs.declared.status.Status.{Status}
+use Rattle.drum_lines.specs.declared.status.Status.TheVariants.{Failed}
 use Rattle.drum_lines.specs.declared.verdict.Verdict.{Verdict}
 use Rattle.drum_listing.specs.TraceText.{stride_line, stride_lines}
 use Rattle.drum_replay.specs.declared.replaying.Begun.{Begun}
 use Rattle.drum_replay.specs.Begun.{IsBegun}
+use Rattle.drum_replay.specs.Coverage.{comes_at_once, coverage_lines, coverage_text}
 use Rattle.drum_replay.specs.Following.{Goes, IsFollowed, Lead, state_of, waits_of}
 use Rattle.drum_lines.specs.Output.{Device, GetsAll, GetsResult}
 use Rattle.drum_replay.specs.Replay.{Given, IsTraced}
@@ -125,6 +130,10 @@ pub either_map : {A E : Type 0} {P P' : A → Type 0} {Q Q' : E → Type 0} (res
 either_map (Ok a) p f h = f a p
 either_map (Err e) q f h = h e q
 
+pub ok_map : {A E : Type 0} {P P' : Type 0} (result : Result A E) → OnOk result P → (P → P') → OnOk result P'
+ok_map (Ok a) p f = f p
+ok_map (Err e) p f = tt
+
 -- ---- what goes out
 
 -- a text that goes out whole, and another behind it
@@ -144,3 +153,27 @@ gets_behind old mid new prefix text ending status all (inr (rest, is)) =
       ),
       is,
     )
+
+-- a text that is cut before another behind it
+pub gets_cut : (old new : Device) (count : ℕ) (prefix text : List ℕ) (ending : Status) → count < length prefix
+    → Appends old.written new.written (take count prefix) → new.failures ≡ old.failures + 1
+    → GetsResult old new (prefix ++ text) ending Failed
+gets_cut old new count prefix text ending short gone failed =
+    inr (
+      (
+        count,
+        omega (arith, short, length-append prefix text),
+        subst (Appends old.written new.written) (sym (take-append-le count prefix text (omega (arith, short)))) gone,
+        failed,
+      ),
+      refl,
+    )
+
+-- what is told of the notes: nothing before any step
+pub none_told : (notes : Notes) (strides : List Stride) (verdict : Verdict) → comes_at_once verdict ≡ true
+    → coverage_lines notes strides verdict ≡ []
+none_told notes strides verdict is = ap (λ (b : Bool). if b then [] else coverage_text notes strides) is
+
+pub all_told : (notes : Notes) (strides : List Stride) (verdict : Verdict) → comes_at_once verdict ≡ false
+    → coverage_lines notes strides verdict ≡ coverage_text notes strides
+all_told notes strides verdict is = ap (λ (b : Bool). if b then [] else coverage_text notes strides) is

@@ -7,10 +7,12 @@ use Rattle.drum_flow.specs.Walk.{Setting}
 use Rattle.drum_lines.specs.declared.verdict.Verdict.{Verdict}
 use Rattle.drum_lines.specs.declared.verdict.Verdict.TheVariants.{Left}
 use Rattle.drum_replay.specs.declared.replaying.Begun.{Begun}
+use Rattle.drum_replay.specs.declared.replaying.BegunTrace.{BegunTrace}
 use Rattle.drum_documents.specs.declared.documents.Documents.{Documents}
 use Rattle.drum_flow.specs.Bounded.{IsBounded}
 use Rattle.drum_documents.specs.Limits.{IsLimit}
 use Rattle.drum_documents.specs.Documents.{setting_of}
+use Rattle.drum_replay.specs.CoverageOf.{HasSeen}
 use Rattle.drum_replay.specs.Following.{AreGiven, CanBegin, IsFollowing, state_of, waits_of}
 use Rattle.drum_replay.specs.Replay.{Given, HasOwnWords}
 
@@ -38,8 +40,10 @@ pub record IsBegun (g : Setting) (given : Given) (begun : Begun) : Type 0 where
       → (verdict ≡ left_before left.Switch)
       × ¬ IsAsDeclared g.notes.programmed given.setup.programmed
 
--- It is that of what is given, and what limits it is that of the documents.
-pub record IsTraceBegun (documents : Documents) (given : Given) (begun : Begun) : Type 0 where
-  pub begun_of : IsBegun (setting_of documents) given begun
+-- It is that of what is given, what limits it is that of the documents, and nothing was seen of it
+-- yet.
+pub record IsTraceBegun (documents : Documents) (given : Given) (trace : BegunTrace) : Type 0 where
+  pub begun_of : IsBegun (setting_of documents) given trace.begun
   pub own_words : HasOwnWords (setting_of documents) given
-  pub limited : IsLimit documents begun.limit begun.most
+  pub limited : IsLimit documents trace.begun.limit trace.begun.most
+  pub fresh : HasSeen documents.notes [] trace.coverage

@@ -12,15 +12,18 @@ use Rattle.drum_listing.specs.TraceText.{stride_lines}
 use Rattle.drum_documents.specs.declared.documents.Documents.{Documents}
 use Rattle.drum_documents.specs.Documents.{setting_of}
 use Rattle.drum_documents.specs.Limits.{IsLimit}
+use Rattle.drum_replay.specs.Coverage.{coverage_lines}
 use Rattle.drum_replay.specs.Replay.{Given, HasOwnWords, IsReplay, IsTraced, IsTracedInPart}
 
--- a verdict, with the strides of its run before it, and strides alone, on which a write fails
+-- a verdict; the strides of its run, what these came to of the notes, and the verdict; and strides
+-- alone, on which a write fails
 abbrev pub verdict_reply : Verdict → Reply
 verdict_reply verdict = says (verdict_text limit.Bound verdict) (status_of verdict)
 
 abbrev pub trace_reply : Setting → limits.Limit → List Stride → Verdict → Reply
 trace_reply g by strides verdict =
-    says (stride_lines g.times 1 strides ++ verdict_text by verdict) (status_of verdict)
+    says (stride_lines g.times 1 strides ++ coverage_lines g.notes strides verdict
+    ++ verdict_text by verdict) (status_of verdict)
 
 abbrev pub cut_reply : Setting → List Stride → Reply
 cut_reply g strides = breaks_off (stride_lines g.times 1 strides)

@@ -7,6 +7,7 @@ ghost use Rattle.drum_flow.specs.Bounded.{IsBounded};
 ghost use Rattle.drum_replay.specs.Given.{given};
 ghost use Rattle.drum_replay.specs.Replay.{IsReplay, IsReplayFault, IsTraceFault};
 
+use crate::coverage::Coverage;
 use crate::following::{Following, follow};
 use drum_bound::bound;
 use drum_core::Deck;
@@ -30,6 +31,13 @@ pub struct Begun {
     pub most: u64,
     /// The verdict, where it comes before any step.
     pub verdict: Option<Verdict>,
+}
+
+/// A trace before its first step.
+#[derive(Debug, Drop)]
+pub struct BegunTrace {
+    pub begun: Begun,
+    pub coverage: Coverage,
 }
 
 /// The verdict on a run that has left the notes before its first step.
@@ -130,8 +138,13 @@ pub fn replay(
 ///
 /// [`Fault::Loaded`] for the first location of the inputs' words that the deck loads too; else
 /// [`Fault::Refused`] where there is neither a bound nor a ceiling to go by, or no memory to find
-/// one ([`limit_of`]); else [`Fault::Memory`] where there is no memory for the machine.
-pub fn begin_trace(alloc: Global, documents: &Documents, inputs: Inputs) -> Result<Begun, Fault>
+/// one ([`limit_of`]); else [`Fault::Memory`] where there is no memory for the machine, or for a
+/// flag for each pattern of the notes.
+pub fn begin_trace(
+    alloc: Global,
+    documents: &Documents,
+    inputs: Inputs,
+) -> Result<BegunTrace, Fault>
     ensures begun { IfOk result (IsTraceBegun documents.now (given inputs)) }
     ensures refused { IfErr result (IsTraceFault documents.now (given inputs)) }
 {
@@ -139,12 +152,16 @@ pub fn begin_trace(alloc: Global, documents: &Documents, inputs: Inputs) -> Resu
         return Err(Fault::Loaded(location));
     }
     let (limit, most) = limit_of(alloc, documents)?;
-    begin(
+    let Ok(coverage) = Coverage::of(alloc, &documents.notes) else {
+        return Err(Fault::Memory);
+    };
+    let begun = begin(
         alloc,
         &documents.deck,
         &documents.notes,
         inputs,
         limit,
         most,
-    )
+    )?;
+    Ok(BegunTrace { begun, coverage })
 }

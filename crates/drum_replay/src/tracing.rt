@@ -1,14 +1,19 @@
 //! A run that is followed with a line for each of its steps, and its verdict behind them.
 
-ghost use Rattle.std.specs.Prelude.{◌≡◌, ◌+◌, ◌^◌, ◌<◌, ◌≤◌, List, MatchResult, []};
+ghost use Rattle.std.specs.Prelude.{◌≡◌, ◌+◌, ◌^◌, ◌<◌, ◌≤◌, ◌++◌, List, MatchResult, OnOk, []};
+ghost use Rattle.std.specs.Prelude.{length};
 ghost use Rattle.drum_times.specs.Entries.{entry_in};
 ghost use Rattle.drum_machine.specs.Run.{Stride};
 ghost use Rattle.drum_flow.specs.SettingOf.{setting};
 ghost use Rattle.drum_lines.specs.Sent.{IsWritten, fails_by};
-ghost use Rattle.drum_listing.specs.TraceText.{stride_lines};
-ghost use Rattle.drum_lines.specs.Output.{Device, Tells, device};
+ghost use Rattle.drum_lines.specs.Output.{Device, GetsResult, Tells, device};
 ghost use Rattle.drum_lines.specs.Reply.{Reply};
+ghost use Rattle.drum_lines.specs.Status.{status_of};
+ghost use Rattle.drum_lines.specs.VerdictText.{verdict_text};
+ghost use Rattle.drum_listing.specs.TraceText.{stride_lines};
 ghost use Rattle.drum_replay.specs.Begun.{IsBegun, IsReady, IsTraceBegun};
+ghost use Rattle.drum_replay.specs.Coverage.{comes_at_once as is_at_once, coverage_lines};
+ghost use Rattle.drum_replay.specs.CoverageOf.{HasSeen};
 ghost use Rattle.drum_replay.specs.RunReply.{SaysTrace};
 ghost use Rattle.drum_flow.specs.Bounded.{IsBounded};
 ghost use Rattle.drum_documents.specs.Documents.{setting_of};
@@ -16,12 +21,15 @@ ghost use Rattle.drum_replay.specs.Following.{AreUnderWay, CanBegin, IsFollowed,
 ghost use Rattle.drum_replay.specs.Following.{state_of, waits_of};
 ghost use Rattle.drum_replay.specs.Replay.{Given, IsTraced, IsTracedInPart};
 
+use crate::coverage::Coverage;
+use crate::coverage_lines::send_coverage;
 use crate::following::Following;
-use crate::replaying::Begun;
+use crate::replaying::{Begun, BegunTrace};
 use drum_core::{Deck, Output};
 use drum_documents::Documents;
-use drum_lines::{Status, Verdict, WriteFault, send, tell_verdict};
+use drum_lines::{Limit, Status, Verdict, WriteFault, send, tell_verdict};
 use drum_listing::{Page, pass_step};
+use drum_machine::Left;
 use drum_times::{Notes, Times};
 
 /// Follows a run and writes a line for each of its steps, many at a time, up to the one with which
@@ -33,9 +41,11 @@ fn send_steps<O: Output>(
     mut following: Following,
     most: u64,
     angle: u8,
+    coverage: &mut Coverage,
     out: &mut O,
 ) -> Result<Verdict, WriteFault>
     requires called { O.called out.old ≤ 2 ^ 62 }
+    requires fresh { HasSeen notes.now [] coverage.old }
     requires below { most < 2 ^ 50 }
     requires bounded { IsBounded (setting deck.now times.now notes.now) most }
     requires angle { (state_of following).first_angle ≡ angle }
@@ -49,15 +59,17 @@ fn send_steps<O: Output>(
         (λ _. AreUnderWay (setting deck.now times.now notes.now) (state_of following)
         (waits_of following) strides)
         × IsWritten (O.written out.old) (O.written out.new) result
-        (stride_lines (entry_in times.now) 1 strides) }
+        (stride_lines (entry_in times.now) 1 strides)
+        × OnOk result (HasSeen notes.now strides coverage.new) }
     ensures failures { O.failed out.new ≡ O.failed out.old + fails_by result }
-    ensures calls { O.called out.new ≤ O.called out.old + 2 ^ 60 }
+    ensures calls { O.called out.new + 2 ^ 41 ≤ O.called out.old + 2 ^ 60 }
 {
     let mut sent = 0;
     let mut page = Page::new();
     loop {
         let before = following.used();
         let (step, verdict) = following.advance(deck, times, notes, most);
+        coverage.see(notes, &step);
         let (number, machine) = (following.steps, &following.machine);
         sent = pass_step(
             out, sent, &mut page, times, angle, number, before, &step, machine,
@@ -75,17 +87,26 @@ fn send_steps<O: Output>(
 /// # Errors
 ///
 /// Where a write fails: then a prefix of the lines has gone out.
-fn trace<O: Output>(documents: &Documents, begun: Begun, out: &mut O) -> Result<Verdict, WriteFault>
+fn send_trace<O: Output>(
+    documents: &Documents,
+    begun: Begun,
+    coverage: &mut Coverage,
+    out: &mut O,
+) -> Result<Verdict, WriteFault>
     requires called { O.called out.old ≤ 2 ^ 62 }
     requires ready { IsReady (setting_of documents.now) begun }
+    requires fresh { HasSeen documents.now.notes [] coverage.old }
     ensures written { (given : Given) → IsBegun (setting_of documents.now) given begun
         → (strides : List Stride)
         × MatchResult result (IsTraced (setting_of documents.now) given begun.most strides)
         (λ _. IsTracedInPart (setting_of documents.now) given strides)
         × IsWritten (O.written out.old) (O.written out.new) result
-        (stride_lines (entry_in documents.now.times) 1 strides) }
+        (stride_lines (entry_in documents.now.times) 1 strides)
+        × OnOk result (HasSeen documents.now.notes strides coverage.new) }
     ensures failures { O.failed out.new ≡ O.failed out.old + fails_by result }
-    ensures calls { O.called out.new ≤ O.called out.old + 2 ^ 60 }
+    ensures calls { O.called out.new + 2 ^ 41 ≤ O.called out.old + 2 ^ 60 }
+    ensures sized { OnOk result
+        (length coverage.new.met.items ≡ length documents.now.notes.lists) }
 {
     let Begun {
         following,
@@ -103,23 +124,86 @@ fn trace<O: Output>(documents: &Documents, begun: Begun, out: &mut O) -> Result<
             following,
             most,
             angle,
+            coverage,
             out,
         ),
     }
 }
 
-/// Writes the steps of a run and its verdict.
-pub fn tell_trace<O: Output>(out: &mut O, documents: &Documents, begun: Begun) -> Status
+/// Whether the verdict comes before any step.
+fn comes_at_once(verdict: &Verdict) -> bool
+    ensures { result ≡ is_at_once verdict.now }
+{
+    matches!(
+        verdict,
+        Verdict::Left {
+            what: Left::Switch,
+            ..
+        }
+    )
+}
+
+/// Writes how much of its notes a run with this verdict has come to, nothing where the verdict
+/// comes before any step.
+fn send_needed<O: Output>(
+    out: &mut O,
+    notes: &Notes,
+    coverage: &Coverage,
+    verdict: &Verdict,
+) -> Result<(), WriteFault>
+    requires called { O.called out.old + 2 ^ 40 ≤ 2 ^ 62 + 2 ^ 60 }
+    requires sized { length coverage.now.met.items ≡ length notes.now.lists }
+    ensures written { (strides : List Stride) → HasSeen notes.now strides coverage.now
+        → IsWritten (O.written out.old) (O.written out.new) result
+        (coverage_lines notes.now strides verdict.now) }
+    ensures failures { O.failed out.new ≡ O.failed out.old + fails_by result }
+    ensures calls { O.called out.new ≤ O.called out.old + 2 ^ 40 }
+{
+    if comes_at_once(verdict) {
+        return Ok(());
+    }
+    send_coverage(out, notes, coverage)
+}
+
+/// Writes how much of its notes a run has come to, and its verdict.
+fn tell_end<O: Output>(
+    out: &mut O,
+    limit: Limit,
+    notes: &Notes,
+    coverage: &Coverage,
+    verdict: &Verdict,
+) -> Status
+    requires called { O.called out.old + 2 ^ 40 ≤ 2 ^ 62 + 2 ^ 60 }
+    requires sized { length coverage.now.met.items ≡ length notes.now.lists }
+    ensures { (strides : List Stride) → HasSeen notes.now strides coverage.now
+        → GetsResult (device (O.written out.old) (O.failed out.old))
+        (device (O.written out.new) (O.failed out.new))
+        (coverage_lines notes.now strides verdict.now ++ verdict_text limit verdict.now)
+        (status_of verdict.now) result }
+{
+    match send_needed(out, notes, coverage, verdict) {
+        Ok(()) => tell_verdict(out, limit, verdict),
+        Err(_) => Status::Failed,
+    }
+}
+
+/// Writes the steps of a run, how much of its notes these come to, and its verdict.
+pub fn tell_trace<O: Output>(out: &mut O, documents: &Documents, trace: BegunTrace) -> Status
     requires called { O.called out.old ≤ 2 ^ 62 }
-    requires ready { IsReady (setting_of documents.now) begun }
-    ensures { (given : Given) → IsTraceBegun documents.now given begun
+    requires ready { IsReady (setting_of documents.now) trace.begun }
+    requires fresh { HasSeen documents.now.notes [] trace.coverage }
+    ensures { (given : Given) → IsTraceBegun documents.now given trace
         → (reply : Reply) × SaysTrace documents.now given reply
         × ((err : Device) → Tells reply (device (O.written out.old) (O.failed out.old))
         (device (O.written out.new) (O.failed out.new)) err err result) }
 {
+    let BegunTrace {
+        begun,
+        mut coverage,
+    } = trace;
     let limit = begun.limit;
-    match trace(documents, begun, out) {
-        Ok(verdict) => tell_verdict(out, limit, &verdict),
+    match send_trace(documents, begun, &mut coverage, out) {
+        Ok(verdict) => tell_end(out, limit, &documents.notes, &coverage, &verdict),
         Err(_) => Status::Failed,
     }
 }

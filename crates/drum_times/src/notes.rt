@@ -1,9 +1,9 @@
 //! What the notes say of a program: where the programmed switch stands, whether load cards are
 //! read, how often edges are passed, and what an altered word may become.
-ghost use Rattle.std.specs.Prelude.{◌≡◌, option_map};
+ghost use Rattle.std.specs.Prelude.{◌≡◌, map, option_map};
 ghost use Rattle.std.specs.List.{list_all};
 ghost use Rattle.drum_times.specs.Allowed as said;
-ghost use Rattle.drum_times.specs.Listed.{notes_of};
+ghost use Rattle.drum_times.specs.Listed.{listed, notes_of};
 ghost use Rattle.drum_times.specs.Short.{is_plain, is_short};
 
 pub mod edge;
@@ -81,6 +81,14 @@ impl Notes {
         ensures sound { said.AreSound self.now }
     {
         &self.marks
+    }
+
+    /// The lists, in order. No two are for one location.
+    pub fn lists(&self) -> &[Listing]
+        ensures all { map listed result.now ≡ self.now.lists }
+        ensures sound { said.AreSound self.now }
+    {
+        &self.lists
     }
 
     /// Whether they are short: there are 8 marks at most, each with one edge and no name.

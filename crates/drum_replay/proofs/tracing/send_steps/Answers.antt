@@ -1,13 +1,17 @@
 -- Of send_steps: what has gone out and what is gathered on the page are together the lines of the
 -- strides so far, which keep to the notes. With the verdict's step the page goes out too; each step
 -- that goes on uses some time, and the limit bounds it, so the loop ends.
-use Rattle.std.proofs.Common.{◌≡◌, ℕ, ◌+◌, List, [], ◌∷◌, ◌++◌, length, refl, ap, sym, subst, ◌∙◌, arith, append_assoc, Option, Ok, Err}
+use Rattle.std.proofs.Common.{◌≡◌, ℕ, ◌+◌, List, [], ◌∷◌, ◌++◌, length, refl, ap, sym, subst, ◌∙◌, arith, append_assoc, Bool, Option, Ok, Err}
 use Rattle.std.specs.Prelude.{MatchOption}
 use Rattle.std.proofs.KnownBytes.{Appends-nil}
 use Rattle.std.proofs.lemmas.List.{append-nil}
 use Rattle.std.proofs.lemmas.Result.{err_from_is_err_and}
 use Rattle.drum_core.specs.declared.op.Op.{Op}
+use Rattle.drum_core.specs.Loads.{loads_in}
 use Rattle.drum_times.specs.declared.entry.Entry.{Entry}
+use Rattle.drum_times.specs.declared.notes.pattern.Pattern.{Pattern}
+use Rattle.drum_times.specs.Allowed.{Listed}
+use Rattle.drum_machine.specs.Counts.{AreWithin, no_counts}
 use Rattle.drum_machine.specs.Feed.{cards_left}
 use Rattle.drum_machine.specs.Run.{Stride}
 use Rattle.drum_flow.specs.SettingOf.{setting}
@@ -17,6 +21,8 @@ use Rattle.drum_lines.proofs.Sending.{IsSent-then, written_cut, written_whole}
 use Rattle.drum_listing.specs.Page.{text_of}
 use Rattle.drum_listing.specs.StepOf.{IsStepOf}
 use Rattle.drum_listing.specs.TraceText.{stride_line, stride_lines}
+use Rattle.drum_monitor.proofs.Watching.{kept_within, zeros_within}
+use Rattle.drum_replay.specs.Coverage.{is_met}
 use Rattle.drum_replay.specs.Following.{IsFollowed, IsFollowing, state_of, stride_of, waits_of}
 use Rattle.drum_replay.proofs.Followed.{as_declared}
 use Rattle.drum_replay.proofs.Traced.{lead_start, lines_more}
@@ -31,6 +37,20 @@ behind times strides stride number gone held is so_far =
     ∙ sym (append_assoc gone held (stride_line times (1 + length strides) stride))
     ∙ ap (λ (xs : List ℕ). xs ++ stride_line times (1 + length strides) stride) so_far
     ∙ sym (lines_more times 1 strides stride)
+
+pub see-requires-clause-within : goal.see-requires-clause-within
+see-requires-clause-within g c =
+    let notes = c.args.notes.now in
+    let marks = notes.marks in
+    let so_far = c.loop-following.invariant.so_far in
+    subst (AreWithin marks) (sym c.loop-following.invariant.seen.counts)
+    (kept_within (loads_in c.args.deck.now) notes (no_counts marks) c.loop-following.invariant.strides so_far.seen.kept
+    (zeros_within marks))
+
+pub see-requires-clause-flags : goal.see-requires-clause-flags
+see-requires-clause-flags g c =
+    let flag : Listed → Pattern → Bool = λ list pattern. is_met c.loop-following.invariant.strides list.location pattern in
+    (flag, c.loop-following.invariant.seen.met)
 
 pub pass_step-requires-clause-told : goal.pass_step-requires-clause-told
 pass_step-requires-clause-told g c =
@@ -54,6 +74,7 @@ pub loop-following-init : goal.loop-following-init
 loop-following-init g c = record {
   strides = [];
   so_far = c.requires.follows;
+  seen = c.requires.fresh;
   gone = [];
   sent = (refl, Appends-nil (g.O.Output.written c.args.out.now));
   lines = c.new-page.ensures.empty;
@@ -108,6 +129,7 @@ returns-in_err-sent-clause-written g c =
         },
       ),
       written_cut old between fault (stride_lines all.times 1 more) here,
+      tt,
     )
 
 pub returns-in_err-send-clause-written : goal.returns-in_err-send-clause-written
@@ -159,6 +181,7 @@ returns-in_err-send-clause-written g c =
         },
       ),
       written_cut old new fault (stride_lines all.times 1 more) here,
+      tt,
     )
 
 pub returns-in-Some-clause-written : goal.returns-in-Some-clause-written
@@ -201,6 +224,8 @@ returns-in-Some-clause-written g c =
           (IsFollowed all s waits c.args.most more))
           c.in-Some.is (c.advance-step.ensures.advanced s waits strides c.requires.begins c.requires.bounded so_far),
       written_whole old new total (stride_lines all.times 1 more) here,
+      c.see.ensures all.times strides stride c.loop-following.invariant.seen
+      (c.advance-step.ensures.told so_far.goes),
     )
 
 pub loop-following-preserved : goal.loop-following-preserved
@@ -238,6 +263,9 @@ loop-following-preserved g c =
           (IsFollowing all s waits c.args.most more c.advance-step.new.self)
           (IsFollowed all s waits c.args.most more))
           c.in_default.is (c.advance-step.ensures.advanced s waits strides c.requires.begins c.requires.bounded so_far);
+      seen =
+          c.see.ensures all.times strides stride c.loop-following.invariant.seen
+          (c.advance-step.ensures.told so_far.goes);
       gone = passed.0;
       sent = passed.1;
       lines = passed.2 ∙ lines;

@@ -5,6 +5,7 @@ use Rattle.drum_flow.specs.SettingOf.{setting}
 use Rattle.drum_lines.specs.Sent.{IsSent}
 use Rattle.drum_listing.specs.Page.{text_of}
 use Rattle.drum_listing.specs.TraceText.{stride_lines}
+use Rattle.drum_replay.specs.CoverageOf.{HasSeen}
 use Rattle.drum_replay.specs.Following.{IsFollowing, state_of, used_so_far, waits_of}
 use Rattle.drum_replay.proofs.tracing.send_steps.Given as goal
 
@@ -14,6 +15,7 @@ invariant-loop-following g l = record {
   strides : List Stride;
   so_far : IsFollowing (setting l.deck l.times l.notes) (state_of l.fn.following) (waits_of l.fn.following) l.most
       strides l.following;
+  seen : HasSeen l.notes strides l.coverage;
   gone : List ℕ;
   sent : IsSent (g.O.Output.written l.fn.out) (g.O.Output.written l.out) 0 (Ok l.sent) gone;
   lines : gone ++ text_of l.page ≡ stride_lines (entry_in l.times) 1 strides;

@@ -1,0 +1,14 @@
+use Rattle.std.proofs.Common.{◌≡◌, ℕ, ◌≤◌, length, sym, subst, arith}
+use Rattle.std.specs.Prelude.{slice_index}
+use Rattle.std.proofs.lemmas.List.{get_or-take}
+use Rattle.drum_machine.specs.CountsIn.{counts_in}
+use Rattle.drum_replay.proofs.Seen.{within_short}
+use Rattle.drum_replay.proofs.coverage.Coverage.pass.Goals as goal
+
+pub count_pass-requires-clause-short : goal.count_pass-requires-clause-short
+count_pass-requires-clause-short c =
+    let marks = c.args.marks.now in
+    let place = c.in-Some.place in
+    subst (λ (n : ℕ). n ≤ 9999)
+    (get_or-take (length marks) c.args.self.now.counts.passes place 0 c.in-Some.ensures.inside)
+    (within_short marks (counts_in c.args.self.now.counts marks) place c.requires.within)

@@ -1,0 +1,16 @@
+use Rattle.std.proofs.Common.{◌≡◌, ◌+◌, ◌*◌, ◌≤◌, flat_map, take, Ok}
+use Rattle.std.specs.List.{enumerate_from}
+use Rattle.drum_lines.specs.Sent.{IsSent}
+use Rattle.drum_replay.specs.Coverage.{mark_line_at}
+use Rattle.drum_replay.specs.CoverageOf.{passed_at}
+use Rattle.drum_replay.proofs.coverage_lines.send_marks.Given as goal
+
+-- the lines so far have gone out
+abbrev pub invariant-loop-place : goal.invariant-loop-place
+invariant-loop-place g l = record {
+  so_far : IsSent (g.O.Output.written l.fn.writer) (g.O.Output.written l.writer) 0 (Ok l.sent)
+      (flat_map (mark_line_at (passed_at l.coverage)) (take l.place (enumerate_from 0 l.marks)));
+  few : l.sent ≤ 170 * l.place;
+  calls : g.O.Output.called l.writer ≤ g.O.Output.called l.fn.writer + 170 * l.place;
+  failures : g.O.Output.failed l.writer ≡ g.O.Output.failed l.fn.writer;
+}
