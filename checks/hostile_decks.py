@@ -101,7 +101,7 @@ ROUNDS = 2001
 
 def counting(command, **more):
     """A replay or a trace of the ring that counts, from angle 0: 1998 steps a round, and the stop.
-    None moves a card, so that a trace has one line for each."""
+    None moves a card, so that a trace has one line for each, and one for the mark."""
     notes, inputs = NOTES + marks([(1997, 0, ROUNDS - 1, 0)]), b"ACCUMULATOR +%020d\n" % ROUNDS
     used = 2050 * ROUNDS + 48 + 1
     line = b"kept used %d bound %d stop programmed\n" % (used, 49 + used)
@@ -195,7 +195,7 @@ def of_results():
     last = ring(1999).line
     yield ring(1999, "report", holds=has_lines(2000 + 3, last))
     yield ring(1999, "walk", holds=has_lines(KEYS, last))
-    yield ring(1999, "waits", holds=has_lines(2000 + 1, last))
+    yield ring(1999, "waits", holds=has_lines(2000 + 2, last))
     yield ring(1999, "draw", holds=is_picture(49 + KEYS - 1))
     # The last word is come to for the last time, of 2000, as the bound is reached.
     last = b"1999 angle 49 counts 1999 time %d\n" % (49 + KEYS - 1)
@@ -204,12 +204,12 @@ def of_results():
     yield everywhere()
     deck, notes = ring_deck(), ring_notes(1999)
     left = b"left toooften 1999 0000 step 4000000 used 3999999\n"
-    for command, holds in [("replay", None), ("trace", has_lines(KEYS + 1, left))]:
+    for command, holds in [("replay", None), ("trace", has_lines(KEYS + 2, left))]:
         name = "%s of 4,000,000 steps that leaves the notes" % command
         yield Case(name, left, command, deck=deck, notes=notes, holds=holds)
     kept = counting("replay")
     yield kept
-    yield counting("trace", holds=has_lines(1998 * ROUNDS + 2, kept.line))
+    yield counting("trace", holds=has_lines(1998 * ROUNDS + 3, kept.line))
 
 
 def ceiling(case, marks_in_it, total):
@@ -239,7 +239,7 @@ def of_ceilings():
     traced = counting("trace")
     parts = dict(traced.parts, notes=traced.parts["notes"] + marks([(0, 0, 9, 0)]))
     line = traced.line.replace(b"bound", b"ceiling")
-    holds = has_lines(1998 * ROUNDS + 2, line)
+    holds = has_lines(1998 * ROUNDS + 4, line)
     yield Case("%s by its ceiling" % traced.name, line, "trace", holds=holds, **parts)
     # Nobody passes a mark of these.
     notes = NOTES + marks_of_many()

@@ -1,8 +1,7 @@
 -- What a coverage has seen, one stride later.
 use Rattle.std.proofs.Common.{◌≡◌, ℕ, zero, suc, ◌<◌, ◌≤◌, Bool, true, false, List, [], ◌∷◌, ◌++◌, length, take, map, arith, inl, inr}
 use Rattle.std.proofs.Common.{refl, ap, sym, subst, ◌∙◌, max}
-use Rattle.std.specs.Prelude.{◌==◌, ◌&&◌, ◌||◌, nat_le, slice_index, IsTrue, ◌↔◌, Option}
-use Rattle.std.specs.List.{list_any}
+use Rattle.std.specs.Prelude.{◌==◌, ◌&&◌, ◌||◌, slice_index, IsTrue, ◌↔◌, Option}
 use Rattle.std.specs.Bool.{one_answer}
 use Rattle.std.proofs.lemmas.Bool.{cases_lt}
 use Rattle.std.proofs.lemmas.Bool.Decides.{nat_tests}
@@ -31,7 +30,7 @@ use Rattle.drum_monitor.proofs.Watching.{over_more}
 use Rattle.drum_replay.specs.declared.coverage.Coverage.{Coverage}
 use Rattle.drum_replay.specs.CoverageOf.{HasSeen, counts_of, flags_of, passed_at}
 use Rattle.drum_replay.proofs.Flags.{map_same}
-use Rattle.drum_replay.specs.Coverage.{highest_from, is_match, is_met, meets, most_passed}
+use Rattle.drum_replay.specs.Coverage.{highest_from, is_match, is_met, meets}
 
 -- ---- counts
 
@@ -119,14 +118,14 @@ meeting location pattern stride =
     let sought = stride.origin.sought in
     let ins = instruction_in stride.origin in (
       (λ is.
-        let there : (sought == location) ≡ true = both_left (sought == location) (is_match pattern ins) is in (
-          grind (arith, nat_tests),
-          matched pattern ins (both_right (sought == location) (is_match pattern ins) is),
-        )),
+          let there : (sought == location) ≡ true = both_left (sought == location) (is_match pattern ins) is in (
+            grind (arith, nat_tests),
+            matched pattern ins (both_right (sought == location) (is_match pattern ins) is),
+          )),
       (λ both.
-        let same : sought ≡ location = both.0 in
-        let there : (sought == location) ≡ true = grind (arith, nat_tests) in
-        ap (λ (b : Bool). b && is_match pattern ins) there ∙ matching pattern ins both.1),
+          let same : sought ≡ location = both.0 in
+          let there : (sought == location) ≡ true = grind (arith, nat_tests) in
+          ap (λ (b : Bool). b && is_match pattern ins) there ∙ matching pattern ins both.1),
     )
 
 pub match_is : (b : Bool) (pattern : Pattern) (ins : Instruction) → IsTrue b ↔ Matches pattern ins → b ≡ is_match pattern ins

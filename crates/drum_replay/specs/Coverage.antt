@@ -1,8 +1,8 @@
 -- How much of what its notes allow a run comes to: how often it passes each mark at most, and which
 -- patterns of each list it meets. A location has four digits, and other numbers are plain decimal.
-use Rattle.std.specs.Prelude.{ℕ, max, Bool, true, false, ◌==◌, ◌&&◌, nat_le, if◌then◌else◌, List, []}
-use Rattle.std.specs.Prelude.{◌∷◌, ◌++◌, length, count_by, flat_map, slice_index, codes, decimal}
-use Rattle.std.specs.Prelude.{take}
+use Rattle.std.specs.Prelude.{ℕ, max, Bool, true, false, ◌==◌, ◌&&◌, nat_le, if◌then◌else◌, List}
+use Rattle.std.specs.Prelude.{[], ◌∷◌, ◌++◌, length, take, count_by, flat_map, slice_index, codes}
+use Rattle.std.specs.Prelude.{decimal}
 use Rattle.std.specs.List.{enumerate_from, list_any}
 use Rattle.drum_core.specs.declared.instruction.Instruction.{Instruction}
 use Rattle.drum_core.specs.Numeral.{digits_of}

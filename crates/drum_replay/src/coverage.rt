@@ -121,7 +121,10 @@ impl Coverage {
                 self.meet(notes.lists(), *origin, Instruction::of(*word));
             }
             Step::Went {
-                origin, word, next, ..
+                origin,
+                word,
+                next,
+                ..
             } => {
                 self.meet(notes.lists(), *origin, Instruction::of(*word));
                 self.pass(notes.marks(), *origin, *next);

@@ -20,8 +20,8 @@ pub fn one_run()
         → IsReplayed g given strides → IsReplayed g given (take n strides) }
 {}
 
-/// The test of a pattern is what it is for a pattern to match, and so a pattern is met where a stride
-/// fetches at its list's location an instruction that it matches.
+/// The test of a pattern is what it is for a pattern to match, and so a pattern is met where a
+/// stride fetches at its list's location an instruction that it matches.
 pub fn meets_what_matches()
     ensures { (location : ℕ) (pattern : Pattern) (stride : Stride)
         → IsTrue (meets location pattern stride) ↔ (stride.origin.sought ≡ location)

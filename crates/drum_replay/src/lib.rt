@@ -4,13 +4,13 @@
 //! Code, from the bottom up. `following` is a run that is followed step by step. `met` is which
 //! patterns of a list were met, and `coverage` how much of its notes a run has come to, with
 //! `coverage_lines`, its lines. `replaying` begins a run, of a replay or of a trace, and has
-//! `replay`. `tracing` writes the steps of a trace, what they come to of the notes, and its verdict.
-//! `laws` has laws of the definitions.
+//! `replay`. `tracing` writes the steps of a trace, what they come to of the notes, and its
+//! verdict. `laws` has laws of the definitions.
 //!
 //! Definitions, in the order to read them: `Replay` is the verdict on a run, and its trace, with
 //! `Given`, what inputs give to it, `Coverage` how much of its notes it comes to, and `RunReply`
-//! what is said of it. The others say what the code means by these: `Following` of a run on its way,
-//! `CoverageOf` of a coverage, and `Begun` of a run before its first step.
+//! what is said of it. The others say what the code means by these: `Following` of a run on its
+//! way, `CoverageOf` of a coverage, and `Begun` of a run before its first step.
 //!
 //! Proofs. `Beginning`, `TraceBegun`, `Followed` and `Leading` have how a run begins and is
 //! followed, and `Traced` the lines of its steps. `Flags`, `Seen` and `LineTexts` have what a

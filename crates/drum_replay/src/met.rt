@@ -37,7 +37,8 @@ impl Met {
     fn meet(&mut self, patterns: &[Pattern], instruction: Instruction)
         requires { length self.old ≡ length patterns.now }
         ensures { (flag : PatternType → Bool) → self.old ≡ map flag patterns.now
-            → self.new ≡ map (λ pattern. flag pattern || is_match pattern instruction) patterns.now }
+            → self.new
+            ≡ map (λ pattern. flag pattern || is_match pattern instruction) patterns.now }
     {
         for place in 0..patterns.len() {
             self.flags[place] |= patterns[place].matches(instruction);

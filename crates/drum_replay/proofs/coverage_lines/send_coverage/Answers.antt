@@ -1,9 +1,9 @@
 -- Of send_coverage: the lines of the marks go out first and those of the lists behind them; where a
 -- write fails, a prefix of both has gone out.
-use Rattle.std.proofs.Common.{ℕ, List, ◌∙◌, Ok, Err, flat_map, sym, subst, arith}
+use Rattle.std.proofs.Common.{ℕ, List, Ok, Err, flat_map, sym, subst, arith}
 use Rattle.std.proofs.lemmas.Result.{err_from_is_err_and}
 use Rattle.std.specs.List.{enumerate_from}
-use Rattle.drum_times.specs.Allowed.{HaveOwnLocations, Listed}
+use Rattle.drum_times.specs.Allowed.{HaveOwnLocations}
 use Rattle.drum_lines.specs.Sent.{IsSent}
 use Rattle.drum_lines.proofs.Sending.{IsSent-cut, IsSent-then, written_cut, written_whole}
 use Rattle.drum_replay.specs.Coverage.{coverage_text, list_line, mark_line_at, most_passed, patterns_met}

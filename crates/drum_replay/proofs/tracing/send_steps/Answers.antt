@@ -225,7 +225,7 @@ returns-in-Some-clause-written g c =
           c.in-Some.is (c.advance-step.ensures.advanced s waits strides c.requires.begins c.requires.bounded so_far),
       written_whole old new total (stride_lines all.times 1 more) here,
       c.see.ensures all.times strides stride c.loop-following.invariant.seen
-      (c.advance-step.ensures.told so_far.goes),
+          (c.advance-step.ensures.told so_far.goes),
     )
 
 pub loop-following-preserved : goal.loop-following-preserved

@@ -9,7 +9,6 @@ use Rattle.drum_documents.specs.Documents.{setting_of}
 use Rattle.drum_lines.specs.Output.{GetsResult, device}
 use Rattle.drum_replay.specs.Coverage.{coverage_lines}
 use Rattle.drum_replay.specs.RunReply.{cut_reply, trace_reply}
-use Rattle.drum_replay.proofs.Seen.{seen_size}
 use Rattle.drum_replay.proofs.Traced.{gets_behind}
 use Rattle.drum_replay.proofs.tracing.tell_trace.Goals as goal
 

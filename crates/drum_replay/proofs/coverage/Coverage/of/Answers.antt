@@ -1,4 +1,4 @@
-use Rattle.std.proofs.Common.{◌≡◌, ◌∙◌, ℕ, Bool, List, [], length, ap, sym, arith}
+use Rattle.std.proofs.Common.{◌∙◌, ℕ, Bool, List, [], length, ap, sym}
 use Rattle.std.specs.Prelude.{slice_index}
 use Rattle.std.proofs.lemmas.List.{get_or-take}
 use Rattle.drum_times.specs.declared.notes.pattern.Pattern.{Pattern}

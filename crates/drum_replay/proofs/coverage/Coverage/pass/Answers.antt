@@ -1,5 +1,4 @@
-use Rattle.std.proofs.Common.{◌≡◌, ℕ, ◌≤◌, length, sym, subst, arith}
-use Rattle.std.specs.Prelude.{slice_index}
+use Rattle.std.proofs.Common.{ℕ, ◌≤◌, length, subst}
 use Rattle.std.proofs.lemmas.List.{get_or-take}
 use Rattle.drum_machine.specs.CountsIn.{counts_in}
 use Rattle.drum_replay.proofs.Seen.{within_short}

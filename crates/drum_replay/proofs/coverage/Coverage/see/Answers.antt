@@ -1,13 +1,10 @@
 -- Of see: the word that was fetched sets flags of its location's list, and a step that goes on is
 -- counted, so that one stride more is seen.
-use Rattle.std.proofs.Common.{◌≡◌, ◌∙◌, ℕ, Bool, List, ◌<◌, ◌≤◌, length, ap, sym, subst, refl, arith, max}
+use Rattle.std.proofs.Common.{◌≡◌, ◌∙◌, ℕ, List, ◌<◌, ◌≤◌, length, ap, sym, subst, arith, max}
 use Rattle.std.proofs.Common.{Global, Vec}
 use Rattle.std.specs.Prelude.{slice_index}
 use Rattle.drum_core.specs.declared.location.Location.{Location}
-use Rattle.drum_core.specs.declared.word.Word.{Word}
 use Rattle.drum_times.specs.declared.notes.mark.Mark.{Mark}
-use Rattle.drum_times.specs.declared.notes.pattern.Pattern.{Pattern}
-use Rattle.drum_times.specs.Allowed.{Listed}
 use Rattle.drum_machine.specs.declared.counts.Counts.{Counts}
 use Rattle.drum_machine.specs.declared.step.Step.{Step}
 use Rattle.drum_machine.specs.Counts.{after_pass}
@@ -78,11 +75,11 @@ returns-in-Went c times strides stride seen told =
     ∙ sym (went_counts notes (counts_in old.counts notes.marks) stride.origin.sought stride.outcome told.origin
     (fetched stride.origin) (reads_load stride.origin) told.punched w.origin w.word w.next w.used w.load w.punched tells))
     (λ place inside.
-      let high = ap (λ (held : Counts). slice_index held.passes place) c.meet-in-Went.ensures.highest in
-      let count =
-      ap (λ (held : Counts). slice_index (counts_in held notes.marks) place) c.meet-in-Went.ensures.counts in
-      let so_far = below notes strides stride old new seen place inside in
-      omega (arith, raised place inside (omega (arith, high, count, so_far)), high))
+    let high = ap (λ (held : Counts). slice_index held.passes place) c.meet-in-Went.ensures.highest in
+    let count =
+    ap (λ (held : Counts). slice_index (counts_in held notes.marks) place) c.meet-in-Went.ensures.counts in
+    let so_far = below notes strides stride old new seen place inside in
+    omega (arith, raised place inside (omega (arith, high, count, so_far)), high))
     (λ flag was. ap (λ (met : Vec Met Global). met.items) c.pass.ensures.met
     ∙ met_there notes stride old.met.items mid.met.items w.origin w.word c.of-in-Went.result c.lists-in-Went.result.now
     sought began.1 c.of-in-Went.ensures.is c.lists-in-Went.ensures.all c.meet-in-Went.ensures.met flag was)

@@ -1,7 +1,7 @@
 use Rattle.std.proofs.Common.{◌||◌, Bool, ap, ◌∙◌, arith, length-set}
 use Rattle.drum_times.specs.declared.notes.pattern.Pattern.{Pattern}
 use Rattle.drum_replay.specs.Coverage.{is_match}
-use Rattle.drum_replay.proofs.Flags.{held_at, mixed_all, set_at}
+use Rattle.drum_replay.proofs.Flags.{held_at, set_at}
 use Rattle.drum_replay.proofs.Seen.{match_is}
 use Rattle.drum_replay.proofs.met.Met.meet.Goals as goal
 
