@@ -62,6 +62,7 @@ notes = record {
   load_cards = false;
   marks = marks;
   lists = record { location = 110; patterns = subtracting ∷ [] } ∷ [];
+  calls = [];
 }
 
 abbrev nodes : List Node

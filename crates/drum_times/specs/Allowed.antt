@@ -7,6 +7,7 @@ use Rattle.drum_core.specs.declared.instruction.Instruction.{Instruction}
 use Rattle.drum_core.specs.declared.word.Word.{Word}
 use Rattle.drum_core.specs.Instruction.{instruction, instruction_of}
 use Rattle.drum_core.specs.Location.{is_location}
+use Rattle.drum_times.specs.declared.notes.call.Call.{Call}
 use Rattle.drum_times.specs.declared.notes.mark.Mark.{Mark}
 use Rattle.drum_times.specs.declared.notes.pattern.Pattern.{Pattern}
 use Rattle.drum_times.specs.declared.notes.programmed.Programmed.{Programmed}
@@ -24,6 +25,7 @@ pub record Notes : Type 0 where
   pub load_cards : Bool
   pub marks : List Mark
   pub lists : List Listed
+  pub calls : List Call
 
 -- no two lists are for one location
 abbrev pub HaveOwnLocations : List Listed → Type 0
@@ -43,7 +45,7 @@ StandInEarlier index (mark ∷ marks) = IsEarlier index mark.inside × StandInEa
 
 -- What holds of all notes. There are at most 64 marks; no edge is there twice among theirs, and
 -- each mark stands inside of an earlier one or of none. Each list is for a location, no two are for
--- the same one, and each has 1 to 64 patterns.
+-- the same one, and each has 1 to 64 patterns. There are at most 64 calls; as yet there are none.
 pub record AreSound (notes : Notes) : Type 0 where
   pub few_marks : length notes.marks ≤ 64
   pub own_edges : StandOnce (flat_map edges_of notes.marks)
@@ -52,6 +54,8 @@ pub record AreSound (notes : Notes) : Type 0 where
   pub locations : AllByRecursion (λ list. IsTrue (is_location list.location)) notes.lists
   pub patterns : AllByRecursion
       (λ list. (1 ≤ length list.patterns) × (length list.patterns ≤ 64)) notes.lists
+  pub few_calls : length notes.calls ≤ 64
+  pub without_calls : notes.calls ≡ []
 
 -- the instruction has the pattern's operation and I, and its D is within the pattern's range
 pub record Matches (pattern : Pattern) (ins : Instruction) : Type 0 where

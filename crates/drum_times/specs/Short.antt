@@ -8,6 +8,7 @@ use Rattle.drum_times.specs.Allowed.{Notes}
 abbrev pub is_plain : Mark → Bool
 is_plain mark = length mark.others == 0 && is_none mark.name
 
--- there are 8 marks at most, and all are such
+-- there are 8 marks at most, all are such, and there are no calls
 abbrev pub is_short : Notes → Bool
-is_short notes = nat_le (length notes.marks) 8 && list_all is_plain notes.marks
+is_short notes =
+    nat_le (length notes.marks) 8 && list_all is_plain notes.marks && length notes.calls == 0

@@ -4,8 +4,8 @@
 //! Code, from the bottom up. `entry` is a row of the timing table, and `times` the table. `notes`
 //! is what notes answer. Its folder has the types that they are made of: `notes/edge`,
 //! `notes/edges` and `notes/name`, which are parts of `notes/mark` (it knows on which edges it
-//! stands, which of some marks stands on one, and how many there may be), `notes/listing`,
-//! `notes/pattern` and `notes/programmed`. `fault` is why a document is neither, and `key_path` how
+//! stands, which of some marks stands on one, and how many there may be), `notes/call`,
+//! `notes/listing`, `notes/pattern` and `notes/programmed`. `fault` is why a document is neither, and `key_path` how
 //! a fault names a key. `laws` has a law of the definitions.
 //!
 //! Definitions, in the order to read them: `Edges` says what leads from one location onto another,
@@ -28,6 +28,7 @@ pub use entry::Entry;
 pub use fault::NoteFault;
 pub use key_path::KeyPath;
 pub use notes::Notes;
+pub use notes::call::Call;
 pub use notes::edge::Edge;
 pub use notes::edges::Edges;
 pub use notes::listing::Listing;

@@ -1,11 +1,13 @@
 //! What the notes say of a program: where the programmed switch stands, whether load cards are
-//! read, how often edges are passed, and what an altered word may become.
+//! read, how often edges are passed, what an altered word may become, and where the exits of
+//! subroutines go back to.
 ghost use Rattle.std.specs.Prelude.{◌≡◌, map, option_map};
 ghost use Rattle.std.specs.List.{list_all};
 ghost use Rattle.drum_times.specs.Allowed as said;
 ghost use Rattle.drum_times.specs.Listed.{listed, notes_of};
 ghost use Rattle.drum_times.specs.Short.{is_plain, is_short};
 
+pub mod call;
 pub mod edge;
 pub mod edges;
 pub mod listing;
@@ -14,6 +16,7 @@ pub mod name;
 pub mod pattern;
 pub mod programmed;
 
+use call::Call;
 use drum_core::Location;
 use listing::Listing;
 use mark::Mark;
@@ -28,15 +31,18 @@ pub struct Notes {
     load_cards: bool,
     marks: Vec<Mark>,
     lists: Vec<Listing>,
+    calls: Vec<Call>,
 }
 
 impl Model for Notes {
     ghost Value = { said.Notes };
 
-    ghost view = { λ n. notes_of n.programmed n.load_cards n.marks.items n.lists.items };
+    ghost view = { λ n.
+        notes_of n.programmed n.load_cards n.marks.items n.lists.items n.calls.items };
 
     ghost invariant = { λ n.
-        said.AreSound (notes_of n.programmed n.load_cards n.marks.items n.lists.items) };
+        said.AreSound
+        (notes_of n.programmed n.load_cards n.marks.items n.lists.items n.calls.items) };
 }
 
 /// Whether each of these marks has one edge, and no name.
@@ -48,22 +54,25 @@ fn are_plain(marks: &[Mark]) -> bool
 
 impl Notes {
     /// The notes that say this: where the programmed switch stands, whether load cards are read,
-    /// the marks, at most 64, no edge there twice, each inside of an earlier one or of none, and
-    /// the lists, no two for one location.
+    /// the marks, at most 64, no edge there twice, each inside of an earlier one or of none, the
+    /// lists, no two for one location, and the calls, at most 64.
     pub fn new(
         programmed: Programmed,
         load_cards: bool,
         marks: Vec<Mark>,
         lists: Vec<Listing>,
+        calls: Vec<Call>,
     ) -> Notes
-        requires { said.AreSound (notes_of programmed load_cards marks.items lists.items) }
-        ensures { result ≡ notes_of programmed load_cards marks.items lists.items }
+        requires { said.AreSound
+            (notes_of programmed load_cards marks.items lists.items calls.items) }
+        ensures { result ≡ notes_of programmed load_cards marks.items lists.items calls.items }
     {
         Notes {
             programmed,
             load_cards,
             marks,
             lists,
+            calls,
         }
     }
 
@@ -91,11 +100,20 @@ impl Notes {
         &self.lists
     }
 
-    /// Whether they are short: there are 8 marks at most, each with one edge and no name.
+    /// The calls, at most 64, in order.
+    pub fn calls(&self) -> &[Call]
+        ensures all { result.now ≡ self.now.calls }
+        ensures sound { said.AreSound self.now }
+    {
+        &self.calls
+    }
+
+    /// Whether they are short: there are 8 marks at most, each with one edge and no name, and no
+    /// calls.
     pub fn is_short(&self) -> bool
         ensures { result ≡ is_short self.now }
     {
-        self.marks.len() <= Mark::MOST_SHORT && are_plain(&self.marks)
+        self.marks.len() <= Mark::MOST_SHORT && are_plain(&self.marks) && self.calls.is_empty()
     }
 
     /// Where the notes say that the programmed switch stands.

@@ -292,7 +292,7 @@ long_notes_said D none =
     (codes "mark") (get_member (codes "mark") D) each.1.1.1.1.0 in
     let lists = array_said (λ place fields listed. said.IsListed fields listed) IsFine said.list_faults list_said 0 None
     (codes "list") (get_member (codes "list") D) each.1.1.1.1.1.0 in (
-      record { programmed = programmed.0; load_cards = load_cards.0; marks = marks.0; lists = lists.0 },
+      record { programmed = programmed.0; load_cards = load_cards.0; marks = marks.0; lists = lists.0; calls = [] },
       record {
         only = each.0;
         programmed = programmed.1;
@@ -308,6 +308,8 @@ long_notes_said D none =
               ∙ each.1.1.1.1.1.1.1.0);
           locations = fine_places lists.0 lists.3;
           patterns = fine_patterns lists.0 lists.3;
+          few_calls = omega arith;
+          without_calls = refl;
         };
       },
     )

@@ -7,7 +7,8 @@ use Rattle.drum_times.specs.declared.notes.listing.Listing.{Listing}
 use Rattle.drum_times.specs.declared.notes.mark.Mark.{Mark}
 use Rattle.drum_times.specs.declared.notes.programmed.Programmed.{Programmed}
 use Rattle.drum_times.specs.Allowed.{IsEarlier, StandInEarlier, AreSound}
-use Rattle.drum_times.specs.Listed.{listed}
+use Rattle.drum_times.specs.declared.notes.call.Call.{Call}
+use Rattle.drum_times.specs.Listed.{notes_of}
 use Rattle.drum_times.specs.Marks.{edges_of}
 use Rattle.drum_toml.specs.declared.notes.long_mark.LongMark.{LongMark}
 use Rattle.drum_toml.specs.LongNotes.{AreEdges, HasEdges, IsLongMark, StandsIn, edge_of_value, edges_by, edges_found}
@@ -115,14 +116,16 @@ pub sound_long : (document : Members) (programmed : Programmed) (load_cards : Bo
     (lists : List Listing) → said.HasTables (IsLongMark document) document (codes "mark") marks → length marks ≤ 64
     → said.edge_faults [] (flat_map edges_of marks) ≡ []
     → said.location_faults [] (map (λ list. list.location.number) lists) ≡ []
-    → AreSound (record { programmed = programmed; load_cards = load_cards; marks = marks; lists = map listed lists })
-sound_long document programmed load_cards marks lists has few no_edge no_location = record {
+    → (calls : List Call) → calls ≡ [] → AreSound (notes_of programmed load_cards marks lists calls)
+sound_long document programmed load_cards marks lists has few no_edge no_location calls none = record {
   few_marks = few;
   own_edges = own_edges [] (flat_map edges_of marks) no_edge;
   nested = long_nested document document marks has;
   own_locations = own_places lists no_location;
   locations = on_locations lists;
   patterns = some_patterns lists;
+  few_calls = omega (arith, ap length none);
+  without_calls = none;
 }
 
 -- the same of marks as they were read
@@ -133,8 +136,8 @@ pub sound_marks : (document : Members) (programmed : Programmed) (load_cards : B
     → marks ≡ map mark_in longs
     → said.edge_faults [] (flat_map edges_of marks) ≡ []
     → said.location_faults [] (map (λ list. list.location.number) lists) ≡ []
-    → AreSound (record { programmed = programmed; load_cards = load_cards; marks = marks; lists = map listed lists })
-sound_marks document programmed load_cards longs marks lists has count are no_edge no_location =
+    → (calls : List Call) → calls ≡ [] → AreSound (notes_of programmed load_cards marks lists calls)
+sound_marks document programmed load_cards longs marks lists has count are no_edge no_location calls none =
     sound_long document programmed load_cards marks lists
     (subst (said.HasTables (IsLongMark document) document (codes "mark")) (sym are) (long_said document document longs has))
     (omega (
@@ -143,4 +146,4 @@ sound_marks document programmed load_cards longs marks lists has count are no_ed
       length-map longs mark_in,
       few_found (SaysLong document) 64 (get_member (codes "mark") document) longs has count,
     ))
-    no_edge no_location
+    no_edge no_location calls none

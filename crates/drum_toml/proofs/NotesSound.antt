@@ -12,7 +12,8 @@ use Rattle.drum_times.specs.Allowed.{Listed, HaveOwnLocations, IsEarlier, StandI
 use Rattle.drum_times.specs.Edges.{StandOnce}
 use Rattle.drum_times.specs.Marks.{edges_of}
 use Rattle.drum_toml.specs.Document.{Fault, two_marks, two_lists, is_count}
-use Rattle.drum_times.specs.Listed.{listed}
+use Rattle.drum_times.specs.declared.notes.call.Call.{Call}
+use Rattle.drum_times.specs.Listed.{listed, notes_of}
 use Rattle.drum_toml.specs.NotesDocument as said
 use Rattle.drum_toml.proofs.NotesFaults.{is_location_true}
 use Rattle.drum_toml.proofs.Sequences.{none_behind}
@@ -166,12 +167,14 @@ pub sound_notes : (fields : Members) (programmed : Programmed) (load_cards : Boo
     → (IsSome (get_member (codes "mark") fields) → is_count 0 (Some 8) (length marks) ≡ true)
     → said.edge_faults [] (flat_map edges_of marks) ≡ []
     → said.location_faults [] (map (λ list. list.location.number) lists) ≡ []
-    → AreSound (record { programmed = programmed; load_cards = load_cards; marks = marks; lists = map listed lists })
-sound_notes fields programmed load_cards marks lists has count no_edge no_location = record {
+    → (calls : List Call) → calls ≡ [] → AreSound (notes_of programmed load_cards marks lists calls)
+sound_notes fields programmed load_cards marks lists has count no_edge no_location calls none = record {
   few_marks = omega (arith, few_marks fields marks has count);
   own_edges = own_edges [] (flat_map edges_of marks) no_edge;
   nested = nested fields marks has;
   own_locations = own_places lists no_location;
   locations = on_locations lists;
   patterns = some_patterns lists;
+  few_calls = omega (arith, ap length none);
+  without_calls = none;
 }

@@ -63,5 +63,6 @@ fn read_table(alloc: Global, table: &Table) -> Result<Notes, NoteFault>
     if let Some(location) = repeated_location(&lists) {
         return Err(NoteFault::TwoLists(location));
     }
-    Ok(Notes::new(programmed, load_cards, marks, lists))
+    let calls = Vec::new(alloc);
+    Ok(Notes::new(programmed, load_cards, marks, lists, calls))
 }

@@ -165,7 +165,7 @@ new-requires c =
     (ap (map edge_of) c.deref-2.ensures.value ∙ c.in_ok-edges.ensures ∙ ap (flat_map edges_of) c.deref.ensures.value)
     c.in_default.ensures.none)
     (subst (λ (lists : List Listing). said.location_faults [] (map location_of lists) ≡ []) c.deref-3.ensures.value
-    c.in_default-repeated_location.ensures.none)
+    c.in_default-repeated_location.ensures.none) c.new-calls.result.items c.new-calls.ensures.items
 
 pub returns-clause-said : goal.returns-clause-said
 returns-clause-said c =
@@ -186,5 +186,5 @@ returns-clause-said c =
           ∙ ap (flat_map edges_of) c.deref.ensures.value)
           c.in_default.ensures.none)
           (subst (λ (lists : List Listing). said.location_faults [] (map location_of lists) ≡ []) c.deref-3.ensures.value
-          c.in_default-repeated_location.ensures.none);
+          c.in_default-repeated_location.ensures.none) c.new-calls.result.items c.new-calls.ensures.items;
     })
