@@ -4,7 +4,8 @@ use Rattle.std.proofs.Common.{subst, Option, Some, arith}
 use Rattle.std.specs.Prelude.{Contains}
 use Rattle.drum_times.specs.declared.notes.mark.Mark.{Mark}
 use Rattle.drum_flow.specs.Graph.{AreDifferent}
-use Rattle.drum_flow.specs.Walk.{Setting}
+use Rattle.drum_machine.proofs.Returning.{none_to_keep}
+use Rattle.drum_flow.specs.Walk.{Setting, edges_taken}
 use Rattle.drum_bound.specs.declared.latest.Latest.{Latest}
 use Rattle.drum_bound.proofs.DigitsLaws.{number_injective}
 use Rattle.drum_bound.specs.Keys.{keys_of, place_at, counts_at, IsOrdered}
@@ -74,7 +75,11 @@ module _ (g : Setting) (order : List ℕ) (cells : List (Option Latest)) (last :
       let comes = comes_from_start g order cells last ordered starts s key kept there [] tt in
       record {
         hops = comes.0;
-        walk = record { on_drum = omega arith; from_start = comes.1 };
+        walk = record {
+          on_drum = omega arith;
+          from_start = comes.1;
+          back = none_to_keep g.notes.calls _ (edges_taken comes.0) ordered.sound.without_calls;
+        };
         passes = counts_at g.notes.marks order key;
         number = refl;
         arrives = comes.3 (place_at order key) (kept.clock - start_angle g.start) (counts_at g.notes.marks order key)

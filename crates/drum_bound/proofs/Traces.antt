@@ -7,7 +7,8 @@ use Rattle.drum_times.specs.declared.notes.mark.Mark.{Mark}
 use Rattle.drum_machine.specs.Counts.{no_counts}
 use Rattle.drum_machine.specs.WaysLeft.{seen_way}
 use Rattle.drum_flow.specs.Hops.{Hop}
-use Rattle.drum_flow.specs.Walk.{Setting, Taken, IsWalkFrom, IsWalk, passes_by, time_from, time_of}
+use Rattle.drum_machine.proofs.Returning.{none_to_keep}
+use Rattle.drum_flow.specs.Walk.{Setting, Taken, IsWalkFrom, IsWalk, edges_taken, passes_by, time_from, time_of}
 use Rattle.drum_bound.specs.declared.latest.Latest.{Latest}
 use Rattle.drum_bound.specs.declared.key_hop.KeyHop.{KeyHop}
 use Rattle.drum_bound.specs.declared.visit.Visit.{Visit}
@@ -227,6 +228,7 @@ module _ (g : Setting) (order : List ℕ) (cells : List (Option Latest)) (last :
         record {
           on_drum = omega arith;
           from_start = subst (IsWalkFrom g (start_angle g.start) g.start 0 (no_counts g.notes.marks)) (sym is.1) tt;
+          back = none_to_keep g.notes.calls _ (edges_taken hops) ordered.sound.without_calls;
         },
         ap time_of is.1 ∙ omega (arith, now, ap (λ (one : Latest). one.clock) is.0),
       )
@@ -245,6 +247,7 @@ module _ (g : Setting) (order : List ℕ) (cells : List (Option Latest)) (last :
           on_drum = omega arith;
           from_start =
               subst (λ (time : ℕ). IsWalkFrom g angle g.start time (no_counts g.notes.marks) hops) nothing unpassed;
+          back = none_to_keep g.notes.calls _ (edges_taken hops) ordered.sound.without_calls;
         },
         ap (λ (time : ℕ). time_from time hops) (sym nothing) ∙ is.time,
       )

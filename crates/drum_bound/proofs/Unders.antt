@@ -11,7 +11,8 @@ use Rattle.drum_machine.specs.Step.{State, Stepped, on, stopped}
 use Rattle.drum_machine.specs.Ways.{Way, early, to, late}
 use Rattle.drum_flow.specs.Accepted.{IsAdmitted, IsFixed}
 use Rattle.drum_flow.specs.RunHops.{hop_of, hops_taken}
-use Rattle.drum_flow.specs.Walk.{Setting, Taken, IsProper, FollowHop, IsWalkFrom, IsWalk}
+use Rattle.drum_machine.proofs.Returning.{none_to_keep}
+use Rattle.drum_flow.specs.Walk.{Setting, Taken, IsProper, FollowHop, IsWalkFrom, IsWalk, edges_taken}
 use Rattle.drum_flow.proofs.KeptWalk.{kept_walk}
 use Rattle.drum_bound.specs.Table.{number_of, GoesOn, Arrive, IsReached, Row, IsTable}
 use Rattle.drum_bound.specs.Under.{IsUnder, ArriveUnder}
@@ -108,7 +109,8 @@ module _ (g : Setting) where
       go (to target) walks goes further = (walks.0, further target walks.1 goes)
       go late walks goes further = absurd goes
 
-  module _ (rows : List Row) (table : IsTable g rows) (angle : ℕ) (on_drum : angle < 50) where
+  module _ (rows : List Row) (table : IsTable g rows) (angle : ℕ) (on_drum : angle < 50)
+      (without : g.notes.calls ≡ []) where
     -- what is reached has an entry, of no smaller time
     reached_under : (place time : ℕ) (passes : List ℕ) → IsReached g angle place (number_of g.notes.marks passes) time
         → IsUnder g.notes.marks rows place passes time
@@ -136,6 +138,7 @@ module _ (g : Setting) where
             on_drum = on_drum;
             from_start =
                 walk_more angle prefix g.start 0 none from used passes hop walk arrives last;
+            back = none_to_keep g.notes.calls _ (edges_taken (prefix ++ hop ∷ [])) without;
           };
           passes = after from next passes;
           number = refl;
@@ -193,5 +196,5 @@ pub arrive_under : (g : Setting) (rows : List Row) (executed : List ℕ) (s : St
 arrive_under g rows executed s strides table proper accepted first is_run kept =
     let walk : IsWalk g s.first_angle (hops_taken strides) =
     (kept_walk g executed s strides proper accepted first is_run kept).0 in
-    turns_under g rows table s.first_angle walk.on_drum strides [] g.start 0 (no_counts g.notes.marks) tt (refl, refl, refl)
-    walk.from_start
+    turns_under g rows table s.first_angle walk.on_drum proper.notes.without_calls strides [] g.start 0
+    (no_counts g.notes.marks) tt (refl, refl, refl) walk.from_start

@@ -1,6 +1,7 @@
 -- The latest of all that a finished scan keeps is the bound.
 use Rattle.std.proofs.Common.{ℕ, ◌-◌, ◌<◌, ◌≤◌, List, [], ◌∷◌, Option, Some, None, arith}
-use Rattle.drum_flow.specs.Walk.{Setting, Taken, IsWalk, time_of}
+use Rattle.drum_machine.proofs.Returning.{none_to_keep}
+use Rattle.drum_flow.specs.Walk.{Setting, Taken, IsWalk, edges_taken, time_of}
 use Rattle.drum_bound.specs.declared.latest.Latest.{Latest}
 use Rattle.drum_bound.specs.declared.key_hop.KeyHop.{KeyHop}
 use Rattle.drum_bound.specs.Keys.{keys_of, IsOrdered}
@@ -27,7 +28,7 @@ module _ (g : Setting) (order : List ℕ) (cells : List (Option Latest)) (last :
       go None is = record {
         angle = start_angle g.start;
         hops = [];
-        walk = record { on_drum = omega arith; from_start = tt };
+        walk = record { on_drum = omega arith; from_start = tt; back = tt };
         time = omega (arith, is);
         most = bounded;
       }
@@ -40,7 +41,11 @@ module _ (g : Setting) (order : List ℕ) (cells : List (Option Latest)) (last :
           record {
             angle = angle;
             hops = comes.0;
-            walk = record { on_drum = omega arith; from_start = comes.1 };
+            walk = record {
+              on_drum = omega arith;
+              from_start = comes.1;
+              back = none_to_keep g.notes.calls _ (edges_taken comes.0) ordered.sound.without_calls;
+            };
             time =
                 comes.2;
             most = bounded;

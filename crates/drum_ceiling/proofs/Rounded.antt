@@ -12,7 +12,7 @@ use Rattle.drum_machine.specs.Since.{counts_along}
 use Rattle.drum_machine.specs.Timing.{found}
 use Rattle.drum_machine.specs.Ways.{Way, early, to, late}
 use Rattle.drum_machine.proofs.SinceLaws.{inside_iff, leads_earlier}
-use Rattle.drum_flow.specs.MostPasses.{edge_taken, edges_taken}
+use Rattle.drum_flow.specs.Walk.{edge_taken, edges_taken}
 use Rattle.drum_flow.specs.Walk.{FollowHop, IsProper, IsWalkFrom, Setting, Taken, time_from, time_of}
 use Rattle.drum_flow.proofs.FromAngles.{found_angle}
 use Rattle.drum_flow.proofs.PassLaws.{no_counts_within}

@@ -7,7 +7,7 @@ use Rattle.drum_machine.specs.Counts.{is_inside}
 use Rattle.drum_machine.specs.Since.{Edge}
 use Rattle.drum_machine.specs.Timing.{found}
 use Rattle.drum_machine.specs.Ways.{to}
-use Rattle.drum_flow.specs.MostPasses.{edges_taken}
+use Rattle.drum_flow.specs.Walk.{edges_taken}
 use Rattle.drum_flow.specs.Walk.{Setting, Taken, IsWalk, time_of}
 
 -- the last of these hops passes the mark with this index and goes on to the place

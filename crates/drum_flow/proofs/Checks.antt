@@ -20,7 +20,7 @@ abbrev loads : ℕ → Option Word
 loads n = if n == 100 then Some (word false 6901030106) else (if n == 106 then Some (word false 100000106) else None)
 
 abbrev notes : Notes
-notes = record { programmed = switch.Stop; load_cards = false; marks = []; lists = [] }
+notes = record { programmed = switch.Stop; load_cards = false; marks = []; lists = []; calls = [] }
 
 one_entry : (1 ≤ 3) × (3 ≤ 1000000) × (0 ≤ 1000000)
 one_entry = (omega arith, omega arith, omega arith)
@@ -110,4 +110,5 @@ is_walk = record {
     record { here = refl; allowed = (0, omega arith, refl); begins = refl; timed = (refl, refl, refl) },
     (tt, (record { here = refl; allowed = (0, omega arith, refl); begins = refl; timed = (refl, refl, refl) }, refl)),
   );
+  back = (tt, tt);
 }

@@ -19,6 +19,7 @@ use Rattle.drum_times.specs.declared.entry.Entry.{Entry}
 use Rattle.drum_times.specs.Allowed.{Notes, is_listed, allowed, loaded, listed, patterns_of}
 use Rattle.drum_machine.proofs.Alone.{writes_no_other, leaves_switch}
 use Rattle.drum_machine.specs.Contents.{Contents, word_at, upper}
+use Rattle.drum_machine.specs.Calls.{none_open, GoBack}
 use Rattle.drum_machine.specs.Counts.{after_pass, no_counts, AreWithin}
 use Rattle.drum_machine.specs.Effect.{is_too_large, quotient}
 use Rattle.drum_machine.specs.Ending.{ended_by, stops_by, clock_by}
@@ -26,6 +27,7 @@ use Rattle.drum_machine.proofs.Ends.{Ends, KeepsStart, step_ends}
 use Rattle.drum_machine.specs.Keeps.{IsAsDeclared, IsAllowed, counts_after, counts_by, IsKeptStride, AreKept, IsKept}
 use Rattle.drum_machine.specs.Run as run
 use Rattle.drum_machine.specs.Run.{Stride, IsStride, IsRun, IsFirstState, used_from}
+use Rattle.drum_machine.specs.Since.{Edge, edge_by, edges_of}
 use Rattle.drum_machine.specs.Step.{State, Stepped, on, stopped, contents_after, step, instruction_in, clock_of}
 use Rattle.drum_machine.specs.Step.{MayWait}
 use Rattle.drum_machine.specs.Timing.{ready, ended, units_of, digit_sum, IsWait}
@@ -37,6 +39,7 @@ use Rattle.drum_flow.specs.Accepted.{IsAdmitted, IsFixed, IsThere}
 use Rattle.drum_flow.specs.Hops.{Hop, hops_of, hops, IsEdge, Lead, IsExecuted}
 use Rattle.drum_flow.proofs.Lists.{contains_here, contains_there, contains_cases}
 use Rattle.drum_flow.specs.RunHops.{units_with, hop_of, hops_taken}
+use Rattle.drum_flow.specs.Walk.{edge_taken, edges_taken}
 use Rattle.drum_flow.specs.Walk.{Setting, IsProper, Taken, MayHaveUnits, end_by, IsTimed, IsHopAt, FollowHop}
 use Rattle.drum_flow.specs.Walk.{IsWalkFrom, IsWalk, time_from, time_of}
 
@@ -310,6 +313,29 @@ module _ (g : Setting) (executed : List ℕ) (angle : ℕ) (proper : IsProper g)
       walk_from strides next (after_pass g.notes.marks stride.origin.sought next.sought counts) next_stays_so runs
       (subst (λ (after : List ℕ). AreKept g.loads g.notes after strides) same kept.1)))
 
+-- a stop takes no edge
+no_edge : (from : ℕ) (because : whys.Why) → edge_taken from (stops_by because) ≡ []
+no_edge from why.Operation = refl
+no_edge from why.Operand = refl
+no_edge from why.Card = refl
+no_edge from why.Quotient = refl
+no_edge from why.Overflow = refl
+no_edge from why.Digit = refl
+no_edge from why.Programmed = refl
+no_edge from why.Next = refl
+
+-- the hops of strides take the edges that the strides take
+same_edge : (from : ℕ) (outcome : Stepped) → edge_taken from (ended_by outcome) ≡ edge_by from outcome
+same_edge from (on next) = refl
+same_edge from (stopped held because moment) = no_edge from because
+
+same_edges : (strides : List Stride) → edges_taken (hops_taken strides) ≡ edges_of strides
+same_edges [] = refl
+same_edges (stride ∷ strides) =
+    ap (λ (edges : List Edge). edges ++ edges_taken (hops_taken strides))
+    (same_edge stride.origin.sought stride.outcome)
+    ∙ ap (λ (edges : List Edge). edge_by stride.origin.sought stride.outcome ++ edges) (same_edges strides)
+
 -- A kept run of an admitted deck is a walk, from the same angle and of the same time.
 pub kept_walk : (g : Setting) (executed : List ℕ) (s : State) (strides : List Stride) → IsProper g
     → IsAdmitted g.loads g.notes g.start executed
@@ -326,5 +352,11 @@ kept_walk g executed s strides proper admitted first is_run kept =
     walks in
     let at_once : IsWalkFrom g s.first_angle g.start 0 (no_counts g.notes.marks) (hops_taken strides) =
     subst (λ (time : ℕ). IsWalkFrom g s.first_angle g.start time (no_counts g.notes.marks) (hops_taken strides)) first.at_once
-    seeking in
-    (record { on_drum = first.angle; from_start = at_once }, same_time 0 strides)
+    seeking in (
+      record {
+        on_drum = first.angle;
+        from_start = at_once;
+        back = subst (GoBack g.notes.calls (none_open g.notes.calls)) (sym (same_edges strides)) kept.back;
+      },
+      same_time 0 strides,
+    )

@@ -1,7 +1,7 @@
 -- With a timing table that is nowhere quicker each hop may end as late or later, and so some walk
 -- takes as long or longer.
 use Rattle.std.proofs.Common.{◌≡◌, ℕ, ◌+◌, ◌-◌, ◌≤◌, Bool, true, false, if◌then◌else◌, List, [], ◌∷◌, Option, Some}
-use Rattle.std.proofs.Common.{None, refl, sym, subst, inl, inr, ◌⊎◌, arith, mul_comm}
+use Rattle.std.proofs.Common.{None, ◌++◌, refl, sym, ap, ◌∙◌, subst, inl, inr, ◌⊎◌, arith, mul_comm}
 use Rattle.std.proofs.Math.Nat.{mul-le-mul_left}
 use Rattle.drum_core.specs.declared.op.Op.{Op}
 use Rattle.drum_core.specs.declared.op.Op.TheVariants.{Read, Punch}
@@ -13,6 +13,8 @@ use Rattle.drum_rotation.specs.Moment.{first}
 use Rattle.drum_rotation.specs.Recurs.{monotone, never_earlier}
 use Rattle.drum_rotation.specs.Waits.{parity_recurs}
 use Rattle.drum_times.specs.declared.entry.Entry.{Entry}
+use Rattle.drum_machine.specs.Calls.{none_open, GoBack}
+use Rattle.drum_machine.specs.Since.{Edge}
 use Rattle.drum_machine.specs.Counts.{after_pass, AreWithin}
 use Rattle.drum_machine.specs.Timing.{found, ready, waits_for_operand, reached, ended}
 use Rattle.drum_machine.specs.Ways.{Way, early, to, late}
@@ -20,7 +22,7 @@ use Rattle.drum_machine.proofs.Chained.{found_keeps_time}
 use Rattle.drum_flow.specs.Longest.{longest, most_units, most_wait}
 use Rattle.drum_flow.specs.Slower.{AreNoQuicker, IsNoQuicker, with_times}
 use Rattle.drum_flow.specs.Walk.{FollowHop, IsHopAt, IsTimed, IsWalk, IsWalkFrom, Setting, Taken, end_by, time_from}
-use Rattle.drum_flow.specs.Walk.{time_of}
+use Rattle.drum_flow.specs.Walk.{edge_taken, edges_taken, time_of}
 use Rattle.drum_flow.proofs.LongestLaws.{longest_is_timed, longest_of, units_at_most, wait_at_most}
 
 -- a wait for an operand that begins later ends no earlier
@@ -141,7 +143,7 @@ module _ (g : Setting) (slower : Op → Entry) (are : AreNoQuicker slower g.time
   HasSlower hops =
       (place time later : ℕ) (counts : List ℕ) → time ≤ later → IsWalkFrom g angle place time counts hops
       → (others : List Taken) × IsWalkFrom (with_times g slower) angle place later counts others
-      × (time_from time hops ≤ time_from later others)
+      × (time_from time hops ≤ time_from later others) × (edges_taken others ≡ edges_taken hops)
 
   -- what follows a hop
   abbrev Follows : Setting → ℕ → ℕ → List ℕ → List Taken → ℕ → Type 0
@@ -149,20 +151,30 @@ module _ (g : Setting) (slower : Op → Entry) (are : AreNoQuicker slower g.time
       let passed = after_pass one.notes.marks place next counts in
       AreWithin one.notes.marks passed × IsWalkFrom one angle next ended passed hops
 
+  -- as the edges of what follows, so those with the hop before
+  edges_behind : (hop other : Taken) (hops others : List Taken) → other.place ≡ hop.place → other.way ≡ hop.way
+      → edges_taken others ≡ edges_taken hops → edges_taken (other ∷ others) ≡ edges_taken (hop ∷ hops)
+  edges_behind hop other hops others here same behind =
+      ap (λ (place : ℕ). edge_taken place other.way ++ edges_taken others) here
+      ∙ ap (λ (way : Way). edge_taken hop.place way ++ edges_taken others) same
+      ∙ ap (λ (edges : List Edge). edge_taken hop.place hop.way ++ edges) behind
+
   slower_behind : (hop other : Taken) (hops : List Taken) (place later : ℕ) (counts : List ℕ)
-      → IsSlower hop other place later → HasSlower hops → (way : Way) → other.way ≡ way
+      → IsSlower hop other place later → other.place ≡ hop.place → HasSlower hops → (way : Way) → other.way ≡ way
       → FollowHop way (Follows g place hop.ended counts hops) hops
       → (others : List Taken) × IsWalkFrom (with_times g slower) angle place later counts others
       × (time_from hop.ended hops ≤ time_from later others)
-  slower_behind hop other hops place later counts one more early same none = (
+      × (edges_taken others ≡ edges_taken (hop ∷ hops))
+  slower_behind hop other hops place later counts one here more early same none = (
     other ∷ [],
     (
       one.at,
       subst (λ (w : Way). FollowHop w (Follows (with_times g slower) place other.ended counts []) []) (sym same) refl,
     ),
     subst (λ (all : List Taken). time_from hop.ended all ≤ other.ended) (sym none) one.ends,
+    edges_behind hop other hops [] here one.same (ap edges_taken (sym none)),
   )
-  slower_behind hop other hops place later counts one more (to next) same follows =
+  slower_behind hop other hops place later counts one here more (to next) same follows =
       let others = more next hop.ended other.ended (after_pass g.notes.marks place next counts) one.ends follows.1 in (
         other ∷ others.0,
         (
@@ -171,25 +183,36 @@ module _ (g : Setting) (slower : Op → Entry) (are : AreNoQuicker slower g.time
               (sym same) (follows.0, others.1),
         ),
         others.2,
+        edges_behind hop other hops others.0 here one.same others.3,
       )
-  slower_behind hop other hops place later counts one more late same none = (
+  slower_behind hop other hops place later counts one here more late same none = (
     other ∷ [],
     (
       one.at,
       subst (λ (w : Way). FollowHop w (Follows (with_times g slower) place other.ended counts []) []) (sym same) refl,
     ),
     subst (λ (all : List Taken). time_from hop.ended all ≤ other.ended) (sym none) one.ends,
+    edges_behind hop other hops [] here one.same (ap edges_taken (sym none)),
   )
 
   slower_from : (hops : List Taken) → HasSlower hops
-  slower_from [] place time later counts before walk = ([], tt, before)
+  slower_from [] place time later counts before walk = ([], tt, before, refl)
   slower_from (hop ∷ hops) place time later counts before walk =
       let one = slower_at hop place time later before walk.0 in
-      slower_behind hop one.0 hops place later counts one.1 (slower_from hops) hop.way one.1.same walk.1
+      slower_behind hop one.0 hops place later counts one.1 (one.1.at.here ∙ sym walk.0.here)
+      (slower_from hops) hop.way one.1.same walk.1
 
   -- so of the deck's walks
   pub slower_walk : (hops : List Taken) → IsWalk g angle hops
       → (others : List Taken) × IsWalk (with_times g slower) angle others × (time_of hops ≤ time_of others)
   slower_walk hops walk =
       let others = slower_from hops g.start 0 0 _ (omega arith) walk.from_start in
-      (others.0, record { on_drum = walk.on_drum; from_start = others.1 }, others.2)
+      let same : edges_taken others.0 ≡ edges_taken hops = others.3 in (
+        others.0,
+        record {
+          on_drum = walk.on_drum;
+          from_start = others.1;
+          back = subst (GoBack g.notes.calls (none_open g.notes.calls)) (sym same) walk.back;
+        },
+        others.2,
+      )

@@ -11,7 +11,8 @@ use Rattle.drum_times.specs.Marks.{mark_on}
 use Rattle.drum_machine.specs.Counts.{after_pass, AreWithin, is_inside, no_counts, passed_from}
 use Rattle.drum_machine.specs.Since.{Edge, passes_of}
 use Rattle.drum_machine.specs.Ways.{Way, early, to, late}
-use Rattle.drum_flow.specs.MostPasses.{edge_taken, edges_taken, most_passes}
+use Rattle.drum_flow.specs.MostPasses.{most_passes}
+use Rattle.drum_flow.specs.Walk.{edge_taken, edges_taken}
 use Rattle.drum_flow.specs.Walk.{FollowHop, IsWalk, IsWalkFrom, Setting, Taken}
 use Rattle.drum_flow.proofs.PassLaws.{no_counts_within, told, told_most, other_pass, outer_pass, own_pass}
 

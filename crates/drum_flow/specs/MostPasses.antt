@@ -1,10 +1,7 @@
 -- How often a walk can pass a mark at most.
-use Rattle.std.specs.Prelude.{ℕ, ◌+◌, ◌*◌, ◌==◌, if◌then◌else◌, List, [], ◌∷◌, flat_map}
+use Rattle.std.specs.Prelude.{ℕ, ◌+◌, ◌*◌, ◌==◌, if◌then◌else◌, List, [], ◌∷◌}
 use Rattle.drum_times.specs.declared.notes.mark.Mark.{Mark}
 use Rattle.drum_machine.specs.Counts.{is_inside}
-use Rattle.drum_machine.specs.Since.{Edge}
-use Rattle.drum_machine.specs.Ways.{Way, early, to, late}
-use Rattle.drum_flow.specs.Walk.{Taken}
 
 -- The factor of the mark with this index in the most passes of mark k. For k itself it is its most;
 -- for a mark that k stands inside of its most and one, since k's count begins anew with each of
@@ -22,13 +19,3 @@ passes_from all k index (mark ∷ marks) =
 -- how often a walk can pass mark k at most
 abbrev pub most_passes : List Mark → ℕ → ℕ
 most_passes marks k = passes_from marks k 0 marks
-
--- the edge that a hop takes, as a list of one, or of none where it stops
-abbrev pub edge_taken : ℕ → Way → List Edge
-edge_taken place early = []
-edge_taken place (to next) = record { from = place; onto = next } ∷ []
-edge_taken place late = []
-
--- the edges that hops take, in their order
-abbrev pub edges_taken : List Taken → List Edge
-edges_taken hops = flat_map (λ hop. edge_taken hop.place hop.way) hops

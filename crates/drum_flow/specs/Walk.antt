@@ -1,6 +1,6 @@
 -- Walks of the flow graph, with their times.
 use Rattle.std.specs.Prelude.{◌≡◌, ℕ, ◌+◌, ◌<◌, ◌≤◌, List, [], ◌∷◌, Option, Some, None, Contains}
-use Rattle.std.specs.Prelude.{if◌then◌else◌}
+use Rattle.std.specs.Prelude.{if◌then◌else◌, flat_map}
 use Rattle.drum_core.specs.declared.instruction.Instruction.{Instruction}
 use Rattle.drum_core.specs.declared.op.Op.{Op}
 use Rattle.drum_core.specs.declared.op.Op.TheVariants.{Divide, DivideReset, Multiply, Shift}
@@ -10,8 +10,10 @@ use Rattle.drum_times.specs.declared.entry.Entry.{Entry}
 use Rattle.drum_times.specs.declared.notes.mark.Mark.{Mark}
 use Rattle.drum_times.specs.Allowed.{Notes, AreSound}
 use Rattle.drum_times.specs.Marks.{is_on}
+use Rattle.drum_machine.specs.Calls.{none_open, GoBack}
 use Rattle.drum_machine.specs.Counts.{after_pass, no_counts, AreWithin}
 use Rattle.drum_machine.specs.Effect.{places}
+use Rattle.drum_machine.specs.Since.{Edge}
 use Rattle.drum_machine.specs.Timing.{ready, ended, IsWait}
 use Rattle.drum_machine.specs.Ways.{Way, early, to, late}
 use Rattle.drum_flow.specs.Hops.{hops}
@@ -91,11 +93,22 @@ IsWalkFrom g angle place time counts (hop ∷ hops) =
     let passed = after_pass g.notes.marks place next counts in
     AreWithin g.notes.marks passed × IsWalkFrom g angle next hop.ended passed hops) hops
 
--- A walk: from a start angle, at the deck's start, with nothing used and no mark passed. It may be
--- empty.
+-- the edge that a hop takes, as a list of one, or of none where it stops
+abbrev pub edge_taken : ℕ → Way → List Edge
+edge_taken place early = []
+edge_taken place (to next) = record { from = place; onto = next } ∷ []
+edge_taken place late = []
+
+-- the edges that hops take, in their order
+abbrev pub edges_taken : List Taken → List Edge
+edges_taken hops = flat_map (λ hop. edge_taken hop.place hop.way) hops
+
+-- A walk: from a start angle, at the deck's start, with nothing used, no mark passed and no exit
+-- open. From an exit it goes back to where the calls before have it. It may be empty.
 pub record IsWalk (g : Setting) (angle : ℕ) (hops : List Taken) : Type 0 where
   pub on_drum : angle < 50
   pub from_start : IsWalkFrom g angle g.start 0 (no_counts g.notes.marks) hops
+  pub back : GoBack g.notes.calls (none_open g.notes.calls) (edges_taken hops)
 
 -- the time of a walk that begins at a time: the end of its last hop
 abbrev pub time_from : ℕ → List Taken → ℕ

@@ -25,12 +25,12 @@ ghost use Rattle.drum_flow.specs.Accepted.{product_of, told, IsAccepted, IsAdmit
 ghost use Rattle.drum_flow.specs.Executed.{IsOrder};
 ghost use Rattle.drum_flow.specs.Graph.{AreDifferent};
 ghost use Rattle.drum_flow.specs.Hops.{IsExecuted};
-ghost use Rattle.drum_flow.specs.MostPasses.{edges_taken, most_passes};
+ghost use Rattle.drum_flow.specs.MostPasses.{most_passes};
 ghost use Rattle.drum_flow.specs.Passes.{leading};
 ghost use Rattle.drum_flow.specs.RunHops.{hops_taken};
 ghost use Rattle.drum_flow.specs.Slower.{AreNoQuicker, with_times};
 ghost use Rattle.drum_flow.specs.Walk.{Setting, IsProper, Taken, MayHaveUnits, IsWalk, end_by};
-ghost use Rattle.drum_flow.specs.Walk.{time_of};
+ghost use Rattle.drum_flow.specs.Walk.{edges_taken, time_of};
 ghost use Rattle.drum_flow.specs.WalkTime.{AreAlike};
 
 /// The order of discovery has each executed location once, and nothing else.

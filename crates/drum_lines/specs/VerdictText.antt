@@ -5,6 +5,7 @@ use Rattle.drum_core.specs.Numeral.{digits_of}
 use Rattle.drum_core.specs.Word.{spelling}
 use Rattle.drum_machine.specs.declared.left.Left.{Left}
 use Rattle.drum_machine.specs.declared.left.Left.TheVariants.{Unlisted, TooOften, Switch, LoadCard}
+use Rattle.drum_machine.specs.declared.left.Left.TheVariants.{NotBack}
 use Rattle.drum_machine.specs.declared.why.Why as whys
 use Rattle.drum_machine.specs.declared.why.Why.TheVariants as why
 use Rattle.drum_lines.specs.declared.limit.Limit.{Limit}
@@ -30,6 +31,9 @@ left_text (Unlisted location word) step used =
     ++ codes " step " ++ decimal step ++ codes " used " ++ decimal used ++ codes "\n"
 left_text (TooOften from onto) step used =
     codes "left toooften " ++ digits_of 4 from.number ++ codes " " ++ digits_of 4 onto.number
+    ++ codes " step " ++ decimal step ++ codes " used " ++ decimal used ++ codes "\n"
+left_text (NotBack exit onto) step used =
+    codes "left notback " ++ digits_of 4 exit.number ++ codes " " ++ digits_of 4 onto.number
     ++ codes " step " ++ decimal step ++ codes " used " ++ decimal used ++ codes "\n"
 left_text Switch step used =
     codes "left switch step " ++ decimal step ++ codes " used " ++ decimal used ++ codes "\n"

@@ -7,8 +7,10 @@ pub mod Prefixes
 pub mod Going
 pub mod Keeping
 mod Marks
+mod Opening
 pub mod OwnLocations
 pub mod Passing
+pub mod Returning
 mod Setting
 pub mod SinceLaws
 pub mod StepLaws

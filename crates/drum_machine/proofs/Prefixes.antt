@@ -5,10 +5,12 @@ use Rattle.drum_core.specs.declared.op.Op.{Op}
 use Rattle.drum_core.specs.declared.word.Word.{Word}
 use Rattle.drum_times.specs.declared.entry.Entry.{Entry}
 use Rattle.drum_times.specs.Allowed.{Notes}
+use Rattle.drum_machine.specs.Calls.{none_open}
 use Rattle.drum_machine.specs.Counts.{no_counts}
 use Rattle.drum_machine.specs.Keeps.{AreKept, IsKept, counts_after}
 use Rattle.drum_machine.specs.Run.{Stride, IsRun, FollowStep}
 use Rattle.drum_machine.specs.Step.{State, Stepped, on, stopped}
+use Rattle.drum_machine.proofs.Returning.{back_prefix}
 
 nothing_taken : (n : ℕ) → take {A = Stride} n [] ≡ []
 nothing_taken zero = refl
@@ -40,4 +42,8 @@ kept_from loads notes counts (stride ∷ strides) (suc n) kept =
 pub kept_prefix : (loads : ℕ → Option Word) (notes : Notes) (s : State) (strides : List Stride) (n : ℕ)
     → IsKept loads notes s strides → IsKept loads notes s (take n strides)
 kept_prefix loads notes s strides n kept =
-    record { declared = kept.declared; kept = kept_from loads notes (no_counts notes.marks) strides n kept.kept }
+    record {
+      declared = kept.declared;
+      kept = kept_from loads notes (no_counts notes.marks) strides n kept.kept;
+      back = back_prefix notes.calls (none_open notes.calls) strides n kept.back;
+    }

@@ -15,12 +15,15 @@ use Rattle.drum_core.specs.declared.word.Word.{Word}
 use Rattle.drum_times.specs.declared.notes.mark.Mark.{Mark}
 use Rattle.drum_times.specs.Allowed.{Notes, IsEarlier, StandInEarlier}
 use Rattle.drum_times.specs.Marks.{mark_on}
+use Rattle.drum_machine.specs.Calls.{none_open}
 use Rattle.drum_machine.specs.Counts.{outer_of, is_inside_by, is_inside, passed_from, after_pass, no_counts}
 use Rattle.drum_machine.specs.Keeps.{IsAsDeclared, counts_by, counts_after, IsKeptStride, AreKept, IsKept}
+use Rattle.drum_machine.specs.Keeps.{GoesBack, open_behind}
 use Rattle.drum_machine.specs.Run.{Stride}
 use Rattle.drum_machine.specs.Since.{Edge, counts_along, passes_of, LeadsOut, StandsInside, Restarts}
 use Rattle.drum_machine.specs.Since.{EndsIn, IsCountSince, edge_by, edges_of, counts_before}
 use Rattle.drum_machine.specs.Step.{State, Stepped, on, stopped}
+use Rattle.drum_machine.proofs.Returning.{each_back, all_back}
 
 -- a mark's outer one stands before it
 earlier_of : (place : ℕ) (marks : List Mark) → StandInEarlier place marks → (inner outer : ℕ)
@@ -317,18 +320,28 @@ all_kept loads notes counts (stride ∷ strides) each = (
       (each (suc n) other e)),
 )
 
--- A run keeps to the notes where each stride does, with the counts after the edges that the strides before it take.
+-- A run keeps to the notes where each stride does, with the counts after the edges that the strides before it take,
+-- and goes back as the calls on these have it.
 pub kept_iff : (loads : ℕ → Option Word) (notes : Notes) (s : State) (strides : List Stride)
     → IsKept loads notes s strides ↔ (IsAsDeclared notes.programmed s.contents.programmed_stops
     × ((n : ℕ) (stride : Stride) → slice_get strides n ≡ Some stride
-    → IsKeptStride loads notes (counts_before notes strides n) stride))
-kept_iff loads notes s strides = (
-  λ kept. (kept.declared, each_kept loads notes (no_counts notes.marks) strides kept.kept),
-  λ both. record {
-    declared = both.0;
-    kept = all_kept loads notes (no_counts notes.marks) strides both.1;
-  },
-)
+    → IsKeptStride loads notes (counts_before notes strides n) stride
+    × GoesBack notes (open_behind notes (take n strides)) stride))
+kept_iff loads notes s strides =
+    let none = none_open notes.calls in (
+      λ kept. (
+        kept.declared,
+        λ n stride e. (
+          each_kept loads notes (no_counts notes.marks) strides kept.kept n stride e,
+          each_back notes.calls none strides kept.back n stride e,
+        ),
+      ),
+      λ both. record {
+        declared = both.0;
+        kept = all_kept loads notes (no_counts notes.marks) strides (λ n stride e. (both.1 n stride e).0);
+        back = all_back notes.calls none strides (λ n stride e. (both.1 n stride e).1);
+      },
+    )
 
 -- a last edge that restarts the count isn't behind the split of the other
 no_later : (Such : Edge → Type 0) (before since before' since' : List Edge) → before ++ since ≡ before' ++ since'

@@ -45,4 +45,5 @@ own_notes s = record {
   load_cards = is_load s.contents.cards;
   marks = [];
   lists = [];
+  calls = [];
 }

@@ -10,8 +10,11 @@ use Rattle.drum_times.specs.Allowed.{Notes, is_listed, allowed}
 use Rattle.drum_machine.specs.declared.card.Card.{Card}
 use Rattle.drum_machine.specs.declared.left.Left.{Left}
 use Rattle.drum_machine.specs.declared.left.Left.TheVariants.{Unlisted, TooOften, Switch, LoadCard}
+use Rattle.drum_machine.specs.declared.left.Left.TheVariants.{NotBack}
+use Rattle.drum_machine.specs.Calls.{none_open, open_along, GoBack}
 use Rattle.drum_machine.specs.Counts.{after_pass, no_counts, AreWithin}
 use Rattle.drum_machine.specs.Run.{Stride}
+use Rattle.drum_machine.specs.Since.{edge_by, edges_of}
 use Rattle.drum_machine.specs.Step.{State, Stepped, on, stopped, fetched, instruction_in, is_read}
 
 -- the programmed switch is as declared
@@ -74,22 +77,47 @@ AreKept loads notes counts (stride ∷ strides) =
     IsKeptStride loads notes counts stride
     × AreKept loads notes (counts_after notes counts stride) strides
 
+-- what is open behind strides, at first nothing
+abbrev pub open_behind : Notes → List Stride → List (Option ℕ)
+open_behind notes strides = open_along notes.calls (none_open notes.calls) (edges_of strides)
+
+-- what is open behind a stride, where this is open before it
+abbrev pub ways_after : Notes → List (Option ℕ) → Stride → List (Option ℕ)
+ways_after notes ways stride =
+    open_along notes.calls ways (edge_by stride.origin.sought stride.outcome)
+
+-- the stride goes back, where it leaves an exit, to the way back that is open there
+abbrev pub GoesBack : Notes → List (Option ℕ) → Stride → Type 0
+GoesBack notes ways stride =
+    GoBack notes.calls ways (edge_by stride.origin.sought stride.outcome)
+
+-- the strides of a run do, with nothing open at first
+abbrev pub AllGoBack : Notes → List Stride → Type 0
+AllGoBack notes strides = GoBack notes.calls (none_open notes.calls) (edges_of strides)
+
 -- A run keeps to the notes.
 pub record IsKept (loads : ℕ → Option Word) (notes : Notes) (s : State)
     (strides : List Stride) : Type 0 where
   pub declared : IsAsDeclared notes.programmed s.contents.programmed_stops
   pub kept : AreKept loads notes (no_counts notes.marks) strides
+  pub back : AllGoBack notes strides
 
--- How a stride leaves the notes: the first cause in the order Unlisted, LoadCard, TooOften. (Switch
--- is decided before any stride.)
-abbrev pub Leaves : (ℕ → Option Word) → Notes → List ℕ → Stride → Left → Type 0
-Leaves loads notes counts stride (Unlisted location w) =
+-- How a stride leaves the notes, where the marks have these counts before it and this is open: the
+-- first cause in the order Unlisted, LoadCard, NotBack, TooOften. (Switch is decided before any
+-- stride.)
+abbrev pub Leaves : (ℕ → Option Word) → Notes → List ℕ → List (Option ℕ) → Stride → Left → Type 0
+Leaves loads notes counts ways stride (Unlisted location w) =
     (location.number ≡ stride.origin.sought) × (w ≡ fetched stride.origin)
     × ¬ IsAllowed loads notes stride.origin
-Leaves loads notes counts stride LoadCard =
+Leaves loads notes counts ways stride LoadCard =
     IsAllowed loads notes stride.origin × ¬ IsWithoutLoad notes stride.origin
-Leaves loads notes counts stride (TooOften from onto) =
+Leaves loads notes counts ways stride (NotBack exit onto) =
     IsAllowed loads notes stride.origin × IsWithoutLoad notes stride.origin
+    × ¬ GoesBack notes ways stride
+    × (exit.number ≡ stride.origin.sought) × GoesTo stride.outcome onto.number
+Leaves loads notes counts ways stride (TooOften from onto) =
+    IsAllowed loads notes stride.origin × IsWithoutLoad notes stride.origin
+    × GoesBack notes ways stride
     × ¬ AreWithin notes.marks (counts_after notes counts stride)
     × (from.number ≡ stride.origin.sought) × GoesTo stride.outcome onto.number
-Leaves loads notes counts stride Switch = ⊥
+Leaves loads notes counts ways stride Switch = ⊥

@@ -1,3 +1,4 @@
+pub mod Calls
 pub mod Contents
 pub mod Counts
 pub mod CountsIn
@@ -8,6 +9,7 @@ pub mod Feed
 pub mod FirstState
 pub mod Keeps
 pub mod Machine
+pub mod OpenIn
 pub mod Registers
 pub mod Run
 pub mod Setup

@@ -11,6 +11,7 @@ ghost use Rattle.drum_times.specs.Allowed.{Notes, StandInEarlier};
 ghost use Rattle.drum_machine.specs.Counts.{is_inside, no_counts};
 ghost use Rattle.drum_machine.specs.Ending.{ended_by, clock_by, own_notes};
 ghost use Rattle.drum_machine.specs.Keeps.{IsAsDeclared, IsKeptStride, IsKept};
+ghost use Rattle.drum_machine.specs.Keeps.{GoesBack, open_behind};
 ghost use Rattle.drum_machine.specs.Run.{Stride, IsRun, IsWhole, time_after};
 ghost use Rattle.drum_machine.specs.Since.{Edge, counts_along, StandsInside, IsCountSince};
 ghost use Rattle.drum_machine.specs.Since.{counts_before};
@@ -86,11 +87,13 @@ pub fn counts_are_since()
         → count ≡ other }
 {}
 
-/// A run keeps to the notes exactly where the programmed switch is as declared and each stride
-/// keeps to them with the counts after the edges that the strides before it take.
+/// A run keeps to the notes exactly where the programmed switch is as declared, each stride keeps to
+/// them with the counts after the edges that the strides before it take, and each goes back as the
+/// calls along these edges have it.
 pub fn kept_stride_by_stride()
     ensures { (loads : ℕ → Option Word) (notes : Notes) (s : State) (strides : List Stride)
         → IsKept loads notes s strides ↔ (IsAsDeclared notes.programmed s.contents.programmed_stops
         × ((place : ℕ) (stride : Stride) → slice_get strides place ≡ Some stride
-        → IsKeptStride loads notes (counts_before notes strides place) stride)) }
+        → IsKeptStride loads notes (counts_before notes strides place) stride
+        × GoesBack notes (open_behind notes (take place strides)) stride)) }
 {}

@@ -11,4 +11,7 @@ pub enum Left {
     Switch,
     /// A load card was read, though the notes say that none is.
     LoadCard,
+    /// From the exit of a call, which is the one location, the run went on to the other, which isn't
+    /// the way back that was open there.
+    NotBack(Location, Location),
 }

@@ -9,18 +9,20 @@
 //! has stopped, and `why` the reason. `memory` is that memory was wanted. `ways` has how a step of
 //! an instruction may end, and `written` which drum words it writes. `passes` is what the pass of a
 //! mark does to each count. `counts` is how often marks are passed (of as many as `Mark::MOST`
-//! says), and that a full mark isn't passed again; the analysis counts with it too. `left` is how a
-//! run left the notes. `laws` has laws of the definitions.
+//! says), and that a full mark isn't passed again; the analysis counts with it too. `open` is which
+//! exits of subroutines are open, and with which way back. `left` is how a run left the notes.
+//! `laws` has laws of the definitions.
 //!
 //! Definitions, in the order to read them: `Contents` (what a machine holds), `Effect` (what an
 //! operation does to it, and which stop it meets), `Timing` (the moments of a step: when its word
 //! is found, when it is ready, has its data and ends; and the units of its work), `Step`, `Run`.
 //! Then `Counts` (how often marks are passed), `Since` (what these counts are, over all edges of a
-//! run) and `Keeps` (when a run keeps to the notes, and which way of leaving them comes first).
+//! run), `Calls` (which exits calls open, and where these go back) and `Keeps` (when a run keeps to
+//! the notes, and which way of leaving them comes first).
 //! Then `Writes` and `Ways`, which the flow graph is made of, and `Ending`, by which way a step
 //! ended. Of a replay's run: `Setup` and `FirstState` (how it begins) and `Fed` (which cards and
 //! waits its steps take). The others say what the code's types mean by these: `Registers`, `Feed`,
-//! `Machine`, `CountsIn`, `WaysLeft`.
+//! `Machine`, `CountsIn`, `OpenIn`, `WaysLeft`.
 //!
 //! Proofs. `Checks` (single steps with their times), `Effects` and `Marks` evaluate the
 //! definitions. These have laws that other crates use: `Alone`, which drum words stay (it stands on
@@ -41,6 +43,7 @@ mod left;
 mod machine;
 mod memory;
 pub mod moments;
+mod open;
 mod passes;
 mod registers;
 mod setup;
@@ -57,6 +60,7 @@ pub use feed::Feed;
 pub use left::Left;
 pub use machine::Machine;
 pub use memory::Memory;
+pub use open::Open;
 pub use passes::{count_pass, is_inside};
 pub use setup::Setup;
 pub use step::Step;

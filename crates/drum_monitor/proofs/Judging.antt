@@ -18,11 +18,13 @@ use Rattle.drum_machine.specs.declared.left.Left.{Left}
 use Rattle.drum_machine.specs.declared.left.Left.TheVariants.{Unlisted}
 use Rattle.drum_machine.specs.declared.step.Step.TheVariants.{Went, Stopped}
 use Rattle.drum_machine.specs.declared.why.Why as whys
+use Rattle.drum_machine.specs.Calls.{open_along, GoBack}
 use Rattle.drum_machine.specs.Counts.{AreWithin}
 use Rattle.drum_machine.specs.Keeps.{IsAllowed, IsKeptStride, Leaves, counts_after, counts_by, reads_load, reads_with}
-use Rattle.drum_machine.specs.Keeps.{is_load}
+use Rattle.drum_machine.specs.Keeps.{is_load, GoesBack, ways_after}
 use Rattle.drum_machine.specs.Machine.{Tells}
 use Rattle.drum_machine.specs.Run.{Stride}
+use Rattle.drum_machine.specs.Since.{edge_by}
 use Rattle.drum_machine.specs.Step.{State, Stepped, on, stopped, step, step_of, step_with, fetched, instruction_in}
 use Rattle.drum_machine.specs.Step.{stepped_by, lacks_card, has_cards, clock_of}
 use Rattle.drum_core.specs.Location.{is_location}
@@ -56,12 +58,12 @@ allowed_there loads notes s number word numbers words h =
     subst (λ (n : ℕ). AllowedAt loads notes n (fetched s)) numbers
     (subst (λ (w : Word). AllowedAt loads notes number w) words h)
 
-pub unlisted_leaves : (loads : ℕ → Option Word) (notes : Notes) (counts : List ℕ) (stride : Stride) (location : Location)
-    (word : Word) (left : Left)
+pub unlisted_leaves : (loads : ℕ → Option Word) (notes : Notes) (counts : List ℕ) (ways : List (Option ℕ))
+    (stride : Stride) (location : Location) (word : Word) (left : Left)
     → location.number ≡ stride.origin.sought → word ≡ fetched stride.origin → left ≡ Unlisted location word
-    → ¬ AllowedAt loads notes location.number word → Leaves loads notes counts stride left
-unlisted_leaves loads notes counts stride location word left numbers words is other =
-    subst (Leaves loads notes counts stride) (sym is) (
+    → ¬ AllowedAt loads notes location.number word → Leaves loads notes counts ways stride left
+unlisted_leaves loads notes counts ways stride location word left numbers words is other =
+    subst (Leaves loads notes counts ways stride) (sym is) (
       numbers,
       words,
       λ h. other (λ listed.
@@ -137,22 +139,28 @@ stop_reads_none times s wait held why moment stops =
     stops_without_load times s wait held why moment (op_of (instruction_in s).op) stops
 
 -- a stride that stops is judged by its fetched word alone
-pub stop_judged : (loads : ℕ → Option Word) (notes : Notes) (counts : List ℕ) (stride : Stride) (location : Location)
-    (word : Word) (held : Contents) (why : whys.Why) (moment : ℕ) (left : Option Left)
+pub stop_judged : (loads : ℕ → Option Word) (notes : Notes) (counts : List ℕ) (ways : List (Option ℕ))
+    (stride : Stride) (location : Location) (word : Word) (held : Contents) (why : whys.Why) (moment : ℕ)
+    (left : Option Left)
     → location.number ≡ stride.origin.sought → word ≡ fetched stride.origin → stride.outcome ≡ stopped held why moment
     → reads_load stride.origin ≡ false
     → MatchOption left (AllowedAt loads notes location.number word)
     (λ l. (l ≡ Unlisted location word) × ¬ AllowedAt loads notes location.number word)
     → MatchOption left (AreWithin notes.marks counts → IsKeptStride loads notes counts stride
-    × (counts ≡ counts_after notes counts stride)) (λ l. Leaves loads notes counts stride l)
-stop_judged loads notes counts stride location word held why moment None numbers words stops unread listed = λ within.
-    let same : counts ≡ counts_after notes counts stride = sym (ap (counts_by notes counts stride.origin.sought) stops) in (
+    × (counts ≡ counts_after notes counts stride) × GoesBack notes ways stride × (ways ≡ ways_after notes ways stride))
+    (λ l. Leaves loads notes counts ways stride l)
+stop_judged loads notes counts ways stride location word held why moment None numbers words stops unread listed =
+    λ within.
+    let same : counts ≡ counts_after notes counts stride = sym (ap (counts_by notes counts stride.origin.sought) stops) in
+    let none : edge_by stride.origin.sought stride.outcome ≡ [] = ap (edge_by stride.origin.sought) stops in (
       record {
         listed = allowed_there loads notes stride.origin location.number word numbers words listed;
         cards = λ _. unread;
         marks = subst (AreWithin notes.marks) same within;
       },
       same,
+      subst (GoBack notes.calls ways) (sym none) tt,
+      sym (ap (open_along notes.calls ways) none),
     )
-stop_judged loads notes counts stride location word held why moment (Some left) numbers words stops unread other =
-    unlisted_leaves loads notes counts stride location word left numbers words other.0 other.1
+stop_judged loads notes counts ways stride location word held why moment (Some left) numbers words stops unread other =
+    unlisted_leaves loads notes counts ways stride location word left numbers words other.0 other.1

@@ -6,7 +6,8 @@ use Rattle.drum_machine.specs.declared.left.Left.{Left}
 use Rattle.drum_monitor.specs.declared.monitor.Monitor.{Monitor}
 use Rattle.drum_machine.specs.Counts.{no_counts}
 use Rattle.drum_machine.specs.CountsIn as held
-use Rattle.drum_machine.specs.Keeps.{AreKept, counts_over}
+use Rattle.drum_machine.specs.Keeps.{AreKept, AllGoBack, counts_over, open_behind}
+use Rattle.drum_machine.specs.OpenIn as ways
 use Rattle.drum_machine.specs.Run.{Stride}
 
 -- how the run left the notes, as a monitor knows it; none while it keeps to them
@@ -17,8 +18,15 @@ answer_of m = m.left
 abbrev pub counts_in : Monitor → Notes → List ℕ
 counts_in m notes = held.counts_in m.counts notes.marks
 
--- a monitor has seen these strides, all of which keep to the notes, and holds their counts
+-- what is open at the exits of the notes' calls, as a monitor holds it
+abbrev pub open_in : Monitor → Notes → List (Option ℕ)
+open_in m notes = ways.open_in m.exits notes.calls
+
+-- a monitor has seen these strides, all of which keep to the notes, and holds their counts and what
+-- is open behind them
 pub record HasSeenKept (loads : ℕ → Option Word) (notes : Notes) (m : Monitor)
     (strides : List Stride) : Type 0 where
   pub counts : counts_in m notes ≡ counts_over notes (no_counts notes.marks) strides
   pub kept : AreKept loads notes (no_counts notes.marks) strides
+  pub open_now : open_in m notes ≡ open_behind notes strides
+  pub back : AllGoBack notes strides

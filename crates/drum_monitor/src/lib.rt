@@ -1,8 +1,8 @@
 //! The monitor, which tells when the run of a machine leaves the notes: step by step, with the
-//! counts of the marks so far.
+//! counts of the marks so far, and with which exits of subroutines are open.
 //!
-//! Code. `monitor` judges the steps, by the counts of `drum_machine` and by `monitor/allowed`:
-//! whether a word is allowed at its location.
+//! Code. `monitor` judges the steps, by the counts and by what is open of `drum_machine`, and by
+//! `monitor/allowed`: whether a word is allowed at its location.
 //!
 //! Definitions. `Monitor` says what a monitor has seen of a run. When a run keeps to the notes, and
 //! which way of leaving them comes first, is said by `Keeps` of `drum_machine`.

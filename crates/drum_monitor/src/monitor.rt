@@ -1,5 +1,5 @@
 ghost use Rattle.std.specs.Prelude.{◌≡◌, ◌≤◌, ◌∷◌, [], ◌++◌, length, List, Some, None, MatchOption};
-ghost use Rattle.std.specs.Prelude.{MatchBool, IsTrue, Contains};
+ghost use Rattle.std.specs.Prelude.{MatchBool, IsTrue, Contains, ◌⊎◌};
 ghost use Rattle.drum_machine.specs.Keeps.{IsAsDeclared};
 ghost use Rattle.drum_core.specs.Instruction.{instruction_of};
 ghost use Rattle.drum_core.specs.Loads.{loads_in};
@@ -10,13 +10,14 @@ mod allowed;
 
 use allowed::is_allowed;
 use drum_core::{Deck, Instruction, Location, Word};
-use drum_machine::{Counts, Left, Setup, Step};
-use drum_times::{Mark, Notes, Programmed};
+use drum_machine::{Counts, Left, Open, Setup, Step};
+use drum_times::{Call, Mark, Notes, Programmed};
 
 /// Watches the steps of a run, and says whether and how the run leaves the notes.
 #[derive(Debug, Drop)]
 pub struct Monitor {
     counts: Counts,
+    exits: Open,
     left: Option<Left>,
 }
 
@@ -54,11 +55,13 @@ impl Monitor {
     ghost use Rattle.drum_core.specs.declared.word.Word.{Word};
     ghost use Rattle.drum_machine.specs.declared.left.Left.{Left as LeftType};
     ghost use Rattle.drum_times.specs.declared.entry.Entry.{Entry};
-    ghost use Rattle.drum_machine.specs.Keeps.{IsKeptStride, Leaves, counts_after};
+    ghost use Rattle.drum_machine.specs.Keeps.{IsKeptStride, Leaves, counts_after, open_behind};
+    ghost use Rattle.drum_machine.specs.Keeps.{GoesBack, ways_after};
+    ghost use Rattle.drum_machine.specs.Calls.{MayGo, open_after};
+    ghost use Rattle.drum_machine.specs.OpenIn.{between};
     ghost use Rattle.drum_machine.specs.Run.{Stride};
     ghost use Rattle.drum_machine.specs.Counts.{after_pass, no_counts, AreWithin};
-    ghost use Rattle.drum_machine.specs.CountsIn.{counts_in as counts_of};
-    ghost use Rattle.drum_monitor.specs.Monitor.{answer_of, counts_in, HasSeenKept};
+    ghost use Rattle.drum_monitor.specs.Monitor.{answer_of, counts_in, open_in, HasSeenKept};
     ghost use Rattle.drum_machine.specs.Keeps.{counts_over};
     ghost use Rattle.drum_machine.specs.Machine.{IsToldOf};
 
@@ -72,6 +75,7 @@ impl Monitor {
         ensures seen { (loads : ℕ → Option Word) → HasSeenKept loads notes.now result [] }
     {
         prove!(notes.marks().len() <= Mark::MOST);
+        prove!(notes.calls().len() <= Call::MOST);
         let left = if is_as_declared(notes.programmed(), setup.programmed) {
             None
         } else {
@@ -79,6 +83,7 @@ impl Monitor {
         };
         Monitor {
             counts: Counts::none(),
+            exits: Open::none(),
             left,
         }
     }
@@ -90,34 +95,45 @@ impl Monitor {
         self.left
     }
 
-    /// Counts a step from one location to another, where no count is above what its mark allows.
-    fn pass(&mut self, marks: &[Mark], from: Location, onto: Location) -> Option<Left>
-        requires { length marks.now ≤ 64 }
-        ensures { let counts = counts_of self.old.counts marks.now in
-            let passed = after_pass marks.now from.number onto.number counts in
+    /// Takes a step from one location to another into account, where it goes back as calls have it,
+    /// and no count is above what its mark allows.
+    fn pass(&mut self, notes: &Notes, from: Location, onto: Location) -> Option<Left>
+        ensures { let counts = counts_in self.old notes.now in
+            let ways = open_in self.old notes.now in
+            let passed = after_pass notes.now.marks from.number onto.number counts in
+            let may = MayGo notes.now.calls ways (between from onto) in
             MatchOption result
-            ((counts_of self.new.counts marks.now ≡ passed)
-            × (AreWithin marks.now counts → AreWithin marks.now passed))
-            (λ left. (left ≡ Left.TooOften from onto) × ¬ AreWithin marks.now passed) }
+            ((AreWithin notes.now.marks counts → AreWithin notes.now.marks passed)
+            × (counts_in self.new notes.now ≡ passed) × may
+            × (open_in self.new notes.now ≡ open_after notes.now.calls (between from onto) ways))
+            (λ left. ((left ≡ Left.NotBack from onto) × ¬ may)
+            ⊎ ((left ≡ Left.TooOften from onto) × may × ¬ AreWithin notes.now.marks passed)) }
     {
-        match self.counts.passed(marks, from, onto) {
+        if !self.exits.may_go(notes.calls(), from, onto) {
+            return Some(Left::NotBack(from, onto));
+        }
+        match self.counts.passed(notes.marks(), from, onto) {
             Some(counts) => {
                 self.counts = counts;
+                self.exits = self.exits.after(notes.calls(), from, onto);
                 None
             }
             None => Some(Left::TooOften(from, onto)),
         }
     }
 
-    /// How a step leaves the notes; where it doesn't, it is counted.
+    /// How a step leaves the notes; where it doesn't, it is taken into account.
     fn judge(&mut self, notes: &Notes, deck: &Deck, step: &Step) -> Option<Left>
         ensures { (times : Op → Entry) (stride : Stride) → IsToldOf times stride step.now
             → let counts = counts_in self.old notes.now in
+            let ways = open_in self.old notes.now in
             MatchOption result
             (AreWithin notes.now.marks counts
             → IsKeptStride (loads_in deck.now) notes.now counts stride
-            × (counts_in self.new notes.now ≡ counts_after notes.now counts stride))
-            (λ left. Leaves (loads_in deck.now) notes.now counts stride left) }
+            × (counts_in self.new notes.now ≡ counts_after notes.now counts stride)
+            × GoesBack notes.now ways stride
+            × (open_in self.new notes.now ≡ ways_after notes.now ways stride))
+            (λ left. Leaves (loads_in deck.now) notes.now counts ways stride left) }
     {
         match step {
             Step::Stopped { origin, word, .. } => unlisted(notes, deck, *origin, *word),
@@ -134,7 +150,7 @@ impl Monitor {
                 if *load && !notes.load_cards() {
                     return Some(Left::LoadCard);
                 }
-                self.pass(notes.marks(), *origin, *next)
+                self.pass(notes, *origin, *next)
             }
         }
     }
@@ -151,7 +167,8 @@ impl Monitor {
             → MatchOption result
             (HasSeenKept (loads_in deck.now) notes.now self.new (strides ++ stride ∷ []))
             (λ left. let counts = counts_over notes.now (no_counts notes.now.marks) strides in
-            Leaves (loads_in deck.now) notes.now counts stride left) }
+            Leaves (loads_in deck.now) notes.now counts (open_behind notes.now strides) stride
+            left) }
         ensures stays { (left : LeftType) → answer_of self.old ≡ Some left
             → (result ≡ Some left) × (self.new ≡ self.old) }
     {

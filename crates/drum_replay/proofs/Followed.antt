@@ -18,7 +18,7 @@ use Rattle.drum_machine.specs.Contents.{Contents}
 use Rattle.drum_machine.specs.Counts.{no_counts}
 use Rattle.drum_machine.specs.FirstState.{IsSetUp}
 use Rattle.drum_machine.specs.Feed.{cards_left, waits_left}
-use Rattle.drum_machine.specs.Keeps.{IsAsDeclared, Leaves, reads_load}
+use Rattle.drum_machine.specs.Keeps.{open_behind, IsAsDeclared, Leaves, reads_load}
 use Rattle.drum_machine.specs.Fed.{op_in}
 use Rattle.drum_machine.specs.Machine.{GoesOn, Tells, Becomes, TakesStep, state_in, used_by, sought_by}
 use Rattle.drum_machine.specs.Machine.{held_by, punched_with}
@@ -131,7 +131,7 @@ module _ (g : Setting) where
             subst (λ (used : ℕ). used ≤ bound) (used_more 0 strides stride)
             (bounded first more begins.first
             (lead_run g.times first waits strides now left_waits takes.may_wait following.lead)
-            (record { declared = begins.declared; kept = seen.kept }))
+            (record { declared = begins.declared; kept = seen.kept; back = seen.back }))
 
         -- and are the first of the run that is fixed by what is given
         pub replayed : AreOfRun g first waits more
@@ -150,6 +150,7 @@ module _ (g : Setting) where
           declared = as_declared given are;
           replayed = replayed given are;
           kept = following.seen.kept;
+          back = following.seen.back;
         }
 
         -- the run as it is followed further
@@ -214,6 +215,7 @@ module _ (g : Setting) where
                   last = stride;
                   replayed = replayed given are;
                   kept = seen.kept;
+                  back = seen.back;
                   held = contents_after stride.outcome;
                   stops = is;
                   number = length-append strides (stride ∷ []);
@@ -237,7 +239,7 @@ module _ (g : Setting) where
                 ∙ ap (stopped (contents_after stride.outcome) because) at
 
         -- A step that leaves the notes is the last.
-        pub leaves_here : (what : lefts.Left) → Leaves g.loads g.notes counts stride what
+        pub leaves_here : (what : lefts.Left) → Leaves g.loads g.notes counts (open_behind g.notes strides) stride what
             → IsFollowed g first waits bound more (Left what (before.steps + 1) (used_so_far before))
         leaves_here what leaves = record {
           says = λ given are. (number, go what given (at given are) leaves);
@@ -259,8 +261,9 @@ module _ (g : Setting) where
             }
 
             go : (way : lefts.Left) (given : Given) → LeavesAt g given (length more) (used_so_far before) way
-                → Leaves g.loads g.notes counts stride way → IsLeft g given (length more) (used_so_far before) way
+                → Leaves g.loads g.notes counts (open_behind g.notes strides) stride way → IsLeft g given (length more) (used_so_far before) way
             go (left.Unlisted location word) given is_at told_so = is_at
+            go (left.NotBack exit onto) given is_at told_so = is_at
             go (left.TooOften from onto) given is_at told_so = is_at
             go left.Switch given is_at told_so = absurd told_so
             go left.LoadCard given is_at told_so = is_at

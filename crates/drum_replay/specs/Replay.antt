@@ -10,7 +10,7 @@ use Rattle.drum_machine.specs.declared.why.Why.{Why}
 use Rattle.drum_machine.specs.Contents.{Contents}
 use Rattle.drum_machine.specs.Counts.{no_counts}
 use Rattle.drum_machine.specs.FirstState.{IsSetUp}
-use Rattle.drum_machine.specs.Keeps.{IsAsDeclared, AreKept, Leaves}
+use Rattle.drum_machine.specs.Keeps.{IsAsDeclared, AllGoBack, AreKept, Leaves, open_behind}
 use Rattle.drum_machine.specs.Fed.{op_in, wait_with, waits_with}
 use Rattle.drum_machine.specs.Keeps.{counts_over}
 use Rattle.drum_machine.specs.Run.{Stride, IsRun, used_from}
@@ -58,6 +58,7 @@ pub record IsUnderWay (g : Setting) (given : Given) (strides : List Stride)
   pub declared : IsAsDeclared g.notes.programmed given.setup.programmed
   pub replayed : IsReplayed g given (strides ++ last ∷ [])
   pub kept : AreKept g.loads g.notes (no_counts g.notes.marks) strides
+  pub back : AllGoBack g.notes strides
 
 -- The run keeps to the notes until it stops, at this step, for this reason, with `used` word times
 -- used.
@@ -67,6 +68,7 @@ pub record StopsAt (g : Setting) (given : Given) (step used : ℕ) (because : Wh
   pub last : Stride
   pub replayed : IsReplayed g given (strides ++ last ∷ [])
   pub kept : AreKept g.loads g.notes (no_counts g.notes.marks) (strides ++ last ∷ [])
+  pub back : AllGoBack g.notes (strides ++ last ∷ [])
   -- what the machine then holds
   pub held : Contents
   pub stops : last.outcome ≡ stopped held because used
@@ -79,7 +81,8 @@ pub record LeavesAt (g : Setting) (given : Given) (step used : ℕ) (what : left
   pub last : Stride
   pub under_way : IsUnderWay g given strides last
   pub leaves :
-      Leaves g.loads g.notes (counts_over g.notes (no_counts g.notes.marks) strides) last what
+      Leaves g.loads g.notes (counts_over g.notes (no_counts g.notes.marks) strides)
+      (open_behind g.notes strides) last what
   pub number : step ≡ length strides + 1
   pub time : used ≡ used_from 0 strides
 

@@ -18,7 +18,7 @@ use Rattle.drum_machine.specs.Since.{passes_of}
 use Rattle.drum_machine.specs.Ways.{Way, early, to, late}
 use Rattle.drum_flow.specs.Hops.{hops}
 use Rattle.drum_flow.specs.Longest.{longest}
-use Rattle.drum_flow.specs.MostPasses.{edge_taken}
+use Rattle.drum_flow.specs.Walk.{edge_taken}
 use Rattle.drum_flow.specs.Walk.{IsTimed, IsWalkFrom, Setting, Taken, time_from}
 use Rattle.drum_flow.proofs.FromAngles.{leap_time}
 use Rattle.drum_flow.proofs.LongestLaws.{longest_is_timed}

@@ -1,7 +1,7 @@
 -- Hops that are laid one after the other, each as long as it can be.
 use Rattle.std.proofs.Common.{◌≡◌, ℕ, ◌+◌, List, [], ◌∷◌, ◌++◌, map, refl, ap, arith}
 use Rattle.drum_machine.specs.Since.{Edge}
-use Rattle.drum_flow.specs.MostPasses.{edge_taken, edges_taken}
+use Rattle.drum_flow.specs.Walk.{edge_taken, edges_taken}
 use Rattle.drum_flow.specs.Walk.{Setting, Taken, time_from}
 use Rattle.drum_flow.proofs.LongestLaws.{longest_later}
 use Rattle.drum_bound.specs.Visited.{visited, AreLongest}

@@ -6,7 +6,8 @@ use Rattle.std.proofs.lemmas.Bool.{cases_lt}
 use Rattle.std.proofs.lemmas.List.{append-nil, length-append, length-map, take_more}
 use Rattle.drum_machine.specs.Counts.{no_counts}
 use Rattle.drum_machine.specs.Since.{passes_of}
-use Rattle.drum_flow.specs.Walk.{IsWalkFrom, Setting}
+use Rattle.drum_machine.proofs.Returning.{none_to_keep}
+use Rattle.drum_flow.specs.Walk.{IsWalkFrom, Setting, edges_taken}
 use Rattle.drum_rounds.specs.declared.piece.Piece.{Piece}
 use Rattle.drum_rounds.specs.declared.stretch.Stretch.{Stretch}
 use Rattle.drum_rounds.specs.Change.{counts_after, passes_by}
@@ -87,8 +88,9 @@ told_at {X = X} f (x ∷ xs) told first each (suc index) less =
 pub whole_walk : (g : Setting) (pieces : List Piece) (stretches : List Stretch) (whole : Stretch) (passes : List ℕ)
     → AreStretches g (spelled_behind [] pieces) stretches → slice_get stretches (length stretches - 1) ≡ Some whole
     → IsFromStart g (span_of whole) → passes ≡ map passes_by whole.changes.items → AreInOrder pieces
+    → g.notes.calls ≡ []
     → SpellOut g whole.angle pieces passes whole.time
-whole_walk g pieces stretches whole passes are last begins all order =
+whole_walk g pieces stretches whole passes are last begins all order without =
     let marks = g.notes.marks in
     let span = span_of whole in
     let hops = spelled pieces in
@@ -109,7 +111,11 @@ whole_walk g pieces stretches whole passes are last begins all order =
       order = order;
       hops = taken;
       same = come.placed angle 0 at;
-      walk = record { on_drum = begins.on_drum; from_start = walk };
+      walk = record {
+        on_drum = begins.on_drum;
+        from_start = walk;
+        back = none_to_keep g.notes.calls _ (edges_taken taken) without;
+      };
       longest = longest_laid g angle 0 hops;
       time = come.time angle 0 at ∙ omega arith;
       each = ap length all ∙ length-map whole.changes.items passes_by ∙ come.each;

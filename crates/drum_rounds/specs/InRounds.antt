@@ -9,7 +9,7 @@ use Rattle.drum_times.specs.Allowed.{Notes}
 use Rattle.drum_times.specs.Entries.{entry_in}
 use Rattle.drum_machine.specs.Since.{passes_of}
 use Rattle.drum_flow.specs.Longest.{longest}
-use Rattle.drum_flow.specs.MostPasses.{edges_taken}
+use Rattle.drum_flow.specs.Walk.{edges_taken}
 use Rattle.drum_flow.specs.SettingOf.{setting}
 use Rattle.drum_flow.specs.Walk.{Setting, Taken, IsWalk, time_of}
 use Rattle.drum_bound.specs.Visited.{AreLongest, visited}

@@ -10,7 +10,7 @@ use Rattle.drum_machine.specs.Counts.{is_inside, no_counts, AreWithin}
 use Rattle.drum_machine.specs.Since.{Edge, passes_of}
 use Rattle.drum_machine.specs.Ways.{Way, early, to, late}
 use Rattle.drum_flow.specs.Longest.{longest, most_units, most_wait}
-use Rattle.drum_flow.specs.MostPasses.{edge_taken}
+use Rattle.drum_flow.specs.Walk.{edge_taken}
 use Rattle.drum_flow.specs.Walk.{Setting, Taken, IsWalkFrom, time_from}
 use Rattle.drum_rounds.specs.declared.change.Change.{Change}
 use Rattle.drum_rounds.specs.declared.change.Change.TheVariants.{Rise, SetBack}

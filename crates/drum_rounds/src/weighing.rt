@@ -144,6 +144,7 @@ impl Setting<'_> {
         let Some(told) = Told::of(alloc, &pieces, &stretches)? else {
             return Ok(None);
         };
+        prove!(self.notes.calls().is_empty());
         Ok(Some(InRounds {
             angle: whole.angle,
             passes: passes_of(alloc, &whole.changes)?,

@@ -2,7 +2,8 @@
 
 ghost use Rattle.std.specs.Prelude.{◌≡◌, ◌+◌, ◌^◌, ◌≤◌, ◌++◌, codes, decimal, length};
 ghost use Rattle.drum_core.specs.Word.{spelling};
-ghost use Rattle.drum_machine.specs.declared.left.Left.TheVariants.{Unlisted, TooOften};
+ghost use Rattle.drum_machine.specs.declared.left.Left.TheVariants.{Unlisted};
+ghost use Rattle.drum_core.specs.Numeral.{digits_of};
 ghost use Rattle.drum_lines.specs.Sent.{IsWritten, fails_by};
 ghost use Rattle.drum_lines.specs.declared.verdict.Verdict.TheVariants.{Kept};
 ghost use Rattle.drum_lines.specs.VerdictText.{left_text, limit_name, verdict_text, why_name};
@@ -97,7 +98,10 @@ fn write_left<O: Output>(output: &mut O, what: Left, step: u64, used: u64) -> Re
 {
     match what {
         Left::Unlisted(location, word) => write_unlisted(output, location, word, step, used),
-        Left::TooOften(from, onto) => write_too_often(output, from, onto, step, used),
+        Left::TooOften(from, onto) => {
+            write_edge(output, b"left toooften ", from, onto, step, used)
+        }
+        Left::NotBack(exit, onto) => write_edge(output, b"left notback ", exit, onto, step, used),
         Left::Switch => write_at_step(output, b"left switch step ", step, used),
         Left::LoadCard => write_at_step(output, b"left loadcard step ", step, used),
     }
@@ -134,17 +138,20 @@ fn write_unlisted<O: Output>(
     write_line(output, &pieces)
 }
 
-/// Writes the line of a mark that is passed too often.
-fn write_too_often<O: Output>(
+/// Writes a line of a text, the step's edge, the step and the word times used before it.
+fn write_edge<O: Output>(
     output: &mut O,
+    text: &[u8],
     from: Location,
     onto: Location,
     step: u64,
     used: u64,
 ) -> Result<(), WriteFault>
-    requires { O.called output.old ≤ 2 ^ 62 + 2 ^ 60 }
+    requires called { O.called output.old ≤ 2 ^ 62 + 2 ^ 60 }
+    requires short { length text.now ≤ 100 }
     ensures written { IsWritten (O.written output.old) (O.written output.new) result
-        (left_text (TooOften from onto) step used) }
+        (text.now ++ digits_of 4 from.number ++ codes " " ++ digits_of 4 onto.number
+        ++ codes " step " ++ decimal step ++ codes " used " ++ decimal used ++ codes "\n") }
     ensures failures { O.failed output.new ≡ O.failed output.old + fails_by result }
 {
     let from = four_digits(from.number());
@@ -152,7 +159,7 @@ fn write_too_often<O: Output>(
     let mut number = Buffer::new();
     let mut spent = Buffer::new();
     let pieces: [&[u8]; 9] = [
-        b"left toooften ",
+        text,
         &from,
         b" ",
         &onto,

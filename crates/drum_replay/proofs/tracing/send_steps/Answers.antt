@@ -126,6 +126,7 @@ returns-in_err-sent-clause-written g c =
           declared = as_declared all s waits c.args.most c.requires.begins c.requires.bounded given are;
           replayed = c.advance-step.ensures.of_run s waits strides c.requires.begins c.requires.bounded so_far given are;
           kept = so_far.seen.kept;
+          back = so_far.seen.back;
         },
       ),
       written_cut old between fault (stride_lines all.times 1 more) here,
@@ -178,6 +179,7 @@ returns-in_err-send-clause-written g c =
           declared = as_declared all s waits c.args.most c.requires.begins c.requires.bounded given are;
           replayed = c.advance-step.ensures.of_run s waits strides c.requires.begins c.requires.bounded so_far given are;
           kept = so_far.seen.kept;
+          back = so_far.seen.back;
         },
       ),
       written_cut old new fault (stride_lines all.times 1 more) here,

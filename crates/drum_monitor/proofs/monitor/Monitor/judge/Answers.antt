@@ -4,7 +4,7 @@ use Rattle.drum_core.specs.Loads.{loads_in}
 use Rattle.drum_machine.specs.declared.step.Step.{Step}
 use Rattle.drum_machine.specs.Keeps.{reads_load}
 use Rattle.drum_machine.specs.Machine.{Tells}
-use Rattle.drum_monitor.specs.Monitor.{counts_in}
+use Rattle.drum_monitor.specs.Monitor.{counts_in, open_in}
 use Rattle.drum_machine.specs.Step.{fetched}
 use Rattle.drum_monitor.proofs.Judging.{told_going, told_stop, unlisted_leaves, stop_reads_none, stop_judged}
 use Rattle.drum_monitor.proofs.monitor.Monitor.judge.Goals as goal
@@ -18,8 +18,8 @@ returns-in-Some c times stride told =
     let began =
     told_going stride.outcome told.origin (fetched stride.origin) (reads_load stride.origin) told.punched w.origin w.word
     w.next w.used w.load w.punched tells in
-    unlisted_leaves (loads_in c.args.deck.now) c.args.notes.now (counts_in c.args.self.now c.args.notes.now) stride
-    w.origin w.word c.in-Some.left
+    unlisted_leaves (loads_in c.args.deck.now) c.args.notes.now (counts_in c.args.self.now c.args.notes.now)
+    (open_in c.args.self.now c.args.notes.now) stride w.origin w.word c.in-Some.left
     (ap (λ (l : Location). l.number) began.0 ∙ told.sought) began.1 c.in-Some.ensures.0 c.in-Some.ensures.1
 
 pub returns-in-Stopped : goal.returns-in-Stopped
@@ -31,7 +31,8 @@ returns-in-Stopped c times stride told =
     let began =
     told_stop stride.outcome told.origin (fetched stride.origin) (reads_load stride.origin) told.punched s.origin s.word
     s.why s.used tells in
-    stop_judged (loads_in c.args.deck.now) c.args.notes.now (counts_in c.args.self.now c.args.notes.now) stride s.origin
+    stop_judged (loads_in c.args.deck.now) c.args.notes.now (counts_in c.args.self.now c.args.notes.now)
+    (open_in c.args.self.now c.args.notes.now) stride s.origin
     s.word began.2.0 s.why s.used c.unlisted.result
     (ap (λ (l : Location). l.number) began.0 ∙ told.sought) began.1 began.2.1
     (stop_reads_none times stride.origin stride.wait began.2.0 s.why s.used (sym told.stepped ∙ began.2.1))
