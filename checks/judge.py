@@ -21,7 +21,7 @@ from results import (
     walked_bound,
 )
 from rounds import passes_of, rounded, waited_in_rounds, waits_in_rounds
-from tables import graphed, tabled
+from tables import graphed, sized, tabled
 from text_faults import listed_faults
 from toml_text import document_of
 from traces import traced_verdict
@@ -113,6 +113,7 @@ def result_of(asked, status, text):
         "walk": ("walk", lambda: walked(text, files)),
         "waits": ("waits", lambda: waited(text)),
         "table": ("table", lambda: tabled(text, files)),
+        "size": ("size", lambda: sized(text, files)),
         "graph": ("graph", lambda: graphed(text, files)),
         "draw": ("picture", lambda: pictured_bound(text)),
         "ceiling": ("ceiling", lambda: ceiling_of(text, files)),
@@ -345,7 +346,7 @@ def agrees(asked, ran, told, run):
             replay = told_of(("replay", files), other("replay"))
             return replay is not None and told.fault == replay.fault
         return is_said_first(ran, told, bound, told_of(("bound", files), bound))
-    if command == "table":
+    if command in ("table", "size"):
         return (ran.status, ran.err) == (bound.status, bound.err)
     if command == "graph":
         fault = told_of(("bound", files), bound).fault

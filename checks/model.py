@@ -277,9 +277,10 @@ class Machine:
         texts.append("distributor " + word_text(self.distributor))
         return " ".join(texts + ["latch " + ("on" if self.latch else "off")])
 
-    def step_lines(self, step, place, word):
-        """The lines of the step of this number, once it is taken, which began here with this."""
-        fetched = "step %d %04d %s" % (step, place, word_text(word))
+    def step_lines(self, step, place, word, begun):
+        """The lines of the step of this number, once it is taken, which began here and then with
+        this word."""
+        fetched = "step %d %04d %s begun %d" % (step, place, word_text(word), begun)
         line = [fetched, *self.moments, "ended %d" % self.used, self.held_text()]
         op, d = self.acted or (None, None)
         if op in STORES:
@@ -417,7 +418,7 @@ def traced(machine, walks, limit):
         place, before = machine.sought, machine.used
         word = machine.word(place)
         why = machine.step()
-        yield from machine.step_lines(step, place, word)
+        yield from machine.step_lines(step, place, word, before)
         coverage.see(place, word, None if why else machine.sought)
         if not walks.allows(place, word):
             left = "unlisted %04d %s" % (place, word_text(word))

@@ -1,6 +1,7 @@
 """Whether a table of worst times and a flow graph in DOT are what docs/FORMATS.md says, of a deck,
 a timing table and notes that are accepted."""
 
+import math
 import re
 
 from findings import Flow, writes
@@ -11,6 +12,8 @@ from results import NUMBER, PLACE, entries_of
 from toml_text import document_of
 
 ROW = re.compile("{0} angle {1} counts((?: {1})*) time {1}".format(PLACE, NUMBER))
+
+SIZE = re.compile("words {0}\nhops {0}\ncounts {0}\nkeys {0}\n".format(NUMBER))
 
 # The plain model works a table out where there is no more to go through than this.
 FEW = 3000
@@ -26,6 +29,12 @@ class TextWalks(Walks):
     def is_small(self):
         """Whether the model can go through all walks, which it knows under one switch alone."""
         return self.programmed == "stop" and self.size() <= FEW
+
+    def hops(self, op, d, i):
+        """How many hops an instruction has: where both its ways lead to one location, two."""
+        is_branch = op in (44, 45, 46, 47) or op >= 90 or op == 70 and self.has_load_cards
+        is_double = is_branch and suits(op, d) and d == i and is_location(i)
+        return len(self.ways(op, d, i)) + is_double
 
 
 def tabled(text, files):
@@ -47,6 +56,23 @@ def tabled(text, files):
     in_order = rows == sorted(rows) and all(one != next for one, next in zip(rows, rows[1:]))
     is_whole = not walks.is_small() or text.splitlines() == table(walks)
     return True if rows and in_order and is_whole else None
+
+
+def sized(text, files):
+    """Whether a text says how large an analysis is: its words, their hops and the counts; and its
+    keys where the model can tell."""
+    walks, matched = TextWalks(files), SIZE.fullmatch(text)
+    if not matched:
+        return None
+    words, hops, counts, keys = map(int, matched.groups())
+    order = Flow(files).order
+    all_hops = sum(walks.hops(*one) for place in order for one in walks.instructions(place))
+    all_counts = math.prod(mark.most + 1 for mark in walks.marks)
+    is_whole = not walks.is_small() or keys == len(table(walks))
+    # The model's ways are those under the switch at STOP.
+    are_all = walks.programmed != "stop" or hops == all_hops
+    is_right = (words, counts) == (len(order), all_counts) and 1 <= keys <= words * counts
+    return True if is_right and are_all and is_whole else None
 
 
 class Drawn(Flow):

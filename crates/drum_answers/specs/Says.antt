@@ -1,9 +1,11 @@
 -- What is said of documents and of texts, and when.
-use Rattle.std.specs.Prelude.{◌≡◌, ◌≢◌, ℕ, if◌then◌else◌, List, [], Option, ◌⊎◌}
+use Rattle.std.specs.Prelude.{◌≡◌, ◌≢◌, ℕ, if◌then◌else◌, List, [], Option, ◌⊎◌, length}
 use Rattle.std.specs.List.{list_all}
 use Rattle.drum_core.specs.Loads.{loads_in, start_in}
 use Rattle.drum_times.specs.Entries.{entry_in}
+use Rattle.drum_flow.specs.Accepted.{counts_of}
 use Rattle.drum_flow.specs.Bounded.{IsDeckAccepted}
+use Rattle.drum_flow.specs.Flow.{AreFound}
 use Rattle.drum_bound.specs.Table.{IsTable, Row}
 use Rattle.drum_bound.specs.Visited.{Visited}
 use Rattle.drum_check.specs.Findings.{AreFindings, Finding, may_be_meant}
@@ -11,7 +13,7 @@ use Rattle.drum_check.specs.Lacking.{are_long, check_text}
 use Rattle.drum_command.specs.declared.command.Files.{Files}
 use Rattle.drum_command.specs.declared.command.Question.{Question}
 use Rattle.drum_command.specs.declared.command.Question.TheVariants.{Bound, Report, Walk, Waits}
-use Rattle.drum_command.specs.declared.command.Question.TheVariants.{Table, Graph, Draw, Ceiling}
+use Rattle.drum_command.specs.declared.command.Question.TheVariants.{Table, Size, Graph, Draw, Ceiling}
 use Rattle.drum_faults.specs.FaultLines as printed
 use Rattle.drum_lines.specs.declared.fault.Fault.{Fault}
 use Rattle.drum_lines.specs.declared.status.Status.{Status}
@@ -26,6 +28,7 @@ use Rattle.drum_rounds.specs.declared.bracket.Bracket.{Bracket}
 use Rattle.drum_report.specs.Report.{report_text}
 use Rattle.drum_graph.specs.Graph.{AreNodes, Node}
 use Rattle.drum_graph.specs.GraphText.{graph_text}
+use Rattle.drum_listing.specs.SizeText.{hops_among, size_text}
 use Rattle.drum_listing.specs.TableText.{AreInOrder, table_text}
 use Rattle.drum_listing.specs.Waits.{AreDearestFirst}
 use Rattle.drum_listing.specs.WaitsText.{waits_text}
@@ -39,7 +42,7 @@ use Rattle.drum_toml.specs.declared.notes.notes_read.NotesRead.TheVariants.{Long
 -- ---- what is said
 
 -- a report of a walk, a walk from an angle, one in rounds, the kinds of the hops of each, a table,
--- a flow graph, a picture, and a ceiling
+-- a size, a flow graph, a picture, and a ceiling
 abbrev pub report_reply : Documents → List Visited → Reply
 report_reply documents walk = says (report_text documents.deck documents.notes walk) Done
 
@@ -60,6 +63,11 @@ rounds_waits_reply documents bracket visits firsts =
 
 abbrev pub table_reply : Documents → List Row → Reply
 table_reply documents rows = says (table_text documents.notes.marks rows) Done
+
+abbrev pub size_reply : Documents → List ℕ → List Row → Reply
+size_reply documents executed rows =
+    says (size_text (length executed) (hops_among (loads_in documents.deck) documents.notes executed)
+    (counts_of documents.notes.marks) (length rows)) Done
 
 abbrev pub graph_reply : Documents → List Node → Reply
 graph_reply documents nodes =
@@ -125,6 +133,16 @@ SaysTable documents reply =
     (rows : List Row) × IsTable (setting_of documents) rows
     × (sorted : List Row) × AreInOrder rows sorted × (reply ≡ table_reply documents sorted)
 
+-- how large the analysis is, where the deck with its notes is accepted: how many locations are
+-- executed, and how many entries the table of worst times has
+abbrev pub SaysSize : Documents → Reply → Type 0
+SaysSize documents reply =
+    IsDeckAccepted (setting_of documents)
+    × (executed : List ℕ)
+    × AreFound (loads_in documents.deck) documents.notes (start_in documents.deck) executed
+    × (rows : List Row) × IsTable (setting_of documents) rows
+    × (reply ≡ size_reply documents executed rows)
+
 -- the flow graph, whatever keeps the deck from having a bound under its notes
 abbrev pub SaysGraph : Documents → Reply → Type 0
 SaysGraph documents reply =
@@ -170,6 +188,7 @@ Says Report = SaysReport
 Says Walk = ByEither SaysWalk SaysRounds
 Says Waits = ByEither SaysWaits SaysRoundsWaits
 Says Table = SaysTable
+Says Size = SaysSize
 Says Graph = SaysGraph
 Says Draw = ByEither SaysPicture SaysPictureInRounds
 Says Ceiling = SaysCeiling
@@ -182,6 +201,7 @@ Refuses Report = IsAnalysisFault
 Refuses Walk = IsCeilingFault
 Refuses Waits = IsCeilingFault
 Refuses Table = IsAnalysisFault
+Refuses Size = IsAnalysisFault
 Refuses Graph = λ documents. IsWanting
 Refuses Draw = IsCeilingFault
 Refuses Ceiling = IsCeilingFault

@@ -1,7 +1,10 @@
 //! The analysis of documents.
 
-ghost use Rattle.std.specs.Prelude.{IfOk, IfErr};
-ghost use Rattle.drum_bound.specs.AnalysisOf.{angle_of, bound_of, rows_of, visits_of};
+ghost use Rattle.std.specs.Prelude.{◌≡◌, IfOk, IfErr};
+ghost use Rattle.drum_flow.specs.Accepted.{counts_of};
+ghost use Rattle.drum_flow.specs.Bounded.{IsDeckAccepted};
+ghost use Rattle.drum_bound.specs.AnalysisOf.{angle_of, bound_of, counts_in_all};
+ghost use Rattle.drum_bound.specs.AnalysisOf.{rows_of, visits_of};
 ghost use Rattle.drum_bound.specs.Table.{IsTable};
 ghost use Rattle.drum_documents.specs.Documents.{setting_of};
 ghost use Rattle.drum_documents.specs.Limits.{IsAnalysisFault, IsBound, IsWorstWalk};
@@ -22,6 +25,9 @@ pub fn analysis_of(alloc: Global, documents: &Documents) -> Result<Analysis, Fau
         IsWorstWalk documents.now (bound_of analysis) (angle_of analysis) (visits_of analysis)) }
     ensures table { IfOk result (λ analysis.
         IsTable (setting_of documents.now) (rows_of analysis)) }
+    ensures accepted { IfOk result (λ _. IsDeckAccepted (setting_of documents.now)) }
+    ensures counts { IfOk result (λ analysis.
+        counts_in_all analysis ≡ counts_of documents.now.notes.marks) }
     ensures fault { IfErr result (IsAnalysisFault documents.now) }
 {
     Ok(analyse(alloc, &documents.deck, &documents.times, &documents.notes)?)

@@ -12,7 +12,7 @@ ghost use Rattle.drum_answers.specs.Says.{ByEither, Refuses, Says, SaysBound};
 ghost use Rattle.drum_answers.specs.Says.{SaysCeiling, SaysGraph, SaysPicture};
 ghost use Rattle.drum_answers.specs.Says.{SaysPictureInRounds, SaysReport, SaysRounds};
 ghost use Rattle.drum_answers.specs.Says.{SaysRoundsWaits};
-ghost use Rattle.drum_answers.specs.Says.{SaysTable, SaysWaits, SaysWalk};
+ghost use Rattle.drum_answers.specs.Says.{SaysSize, SaysTable, SaysWaits, SaysWalk};
 
 use crate::analysis::analysis_of;
 use crate::basis::{Basis, basis_of};
@@ -27,7 +27,7 @@ use drum_core::Output;
 use drum_documents::{Documents, bound_of, bracket_of};
 use drum_graph::Graph;
 use drum_lines::{Fault, Status, tell_bound, tell_text};
-use drum_listing::{Table, Waits};
+use drum_listing::{Size, Table, Waits};
 use drum_picture::{picture, picture_in_rounds};
 use drum_rounds::Bracket;
 use std::alloc::{AllocError, Global};
@@ -163,6 +163,20 @@ fn say_table<O: Output>(alloc: Global, documents: &Documents, out: &mut O) -> Re
     Ok(tell_table(out, documents, &table))
 }
 
+/// Writes how large the analysis is.
+fn say_size<O: Output>(alloc: Global, documents: &Documents, out: &mut O) -> Result<Status, Fault>
+    requires { O.called out.old ≤ 2 ^ 62 }
+    ensures does { (err : Device) → Does (SaysSize documents.now) (IsAnalysisFault documents.now)
+        (device (O.written out.old) (O.failed out.old))
+        (device (O.written out.new) (O.failed out.new)) err err result }
+    ensures spared { IfErr result (λ _. out.new ≡ out.old) }
+{
+    let analysis = analysis_of(alloc, documents)?;
+    let size = Size::of(alloc, &documents.deck, &documents.notes, &analysis)?;
+    let text = size.text(alloc)?;
+    Ok(tell_text(out, &text))
+}
+
 /// Writes the flow graph.
 fn say_graph<O: Output>(alloc: Global, documents: &Documents, out: &mut O) -> Result<Status, Fault>
     requires { O.called out.old ≤ 2 ^ 62 }
@@ -246,6 +260,7 @@ pub fn answer<O: Output>(
         Question::Walk => say_walk(alloc, documents, out),
         Question::Waits => say_waits(alloc, documents, out),
         Question::Table => say_table(alloc, documents, out),
+        Question::Size => say_size(alloc, documents, out),
         Question::Graph => say_graph(alloc, documents, out),
         Question::Draw => say_picture(alloc, documents, out),
         Question::Ceiling => say_ceiling(alloc, documents, out),

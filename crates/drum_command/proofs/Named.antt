@@ -60,6 +60,10 @@ table_is_named : IsNamed line.table
 unfolding clap_on_literals
 table_is_named = record { walked = refl; passes = refl; found = refl; files = refl }
 
+size_is_named : IsNamed line.size
+unfolding clap_on_literals
+size_is_named = record { walked = refl; passes = refl; found = refl; files = refl }
+
 graph_is_named : IsNamed line.graph
 unfolding clap_on_literals
 graph_is_named = record { walked = refl; passes = refl; found = refl; files = refl }
@@ -147,6 +151,7 @@ all_lines = all_verbs IsLine (is_line line.bound bound_is_named common_given)
     (is_line line.check check_is_named check_given)
     (is_line line.report report_is_named common_given) (is_line line.walk walk_is_named common_given)
     (is_line line.waits waits_is_named common_given) (is_line line.table table_is_named common_given)
+    (is_line line.size size_is_named common_given)
     (is_line line.graph graph_is_named common_given) (is_line line.draw draw_is_named common_given)
     (is_line line.ceiling ceiling_is_named common_given)
     (is_line line.replay replay_is_named run_given) (is_line line.trace trace_is_named run_given)

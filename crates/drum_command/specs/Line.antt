@@ -13,7 +13,7 @@ use Rattle.drum_command.specs.declared.command.Command.TheVariants.{Answer, Chec
 use Rattle.drum_command.specs.declared.command.Files.{Files}
 use Rattle.drum_command.specs.declared.command.Question.{Question}
 use Rattle.drum_command.specs.declared.command.Question.TheVariants.{Bound, Report, Walk, Waits}
-use Rattle.drum_command.specs.declared.command.Question.TheVariants.{Table, Graph, Draw, Ceiling}
+use Rattle.drum_command.specs.declared.command.Question.TheVariants.{Table, Size, Graph, Draw, Ceiling}
 
 -- a file that a command names: what it is called, and whether it has to be named
 pub record File : Type 0 where
@@ -62,6 +62,9 @@ waits = record { name = codes "waits"; files = common_files }
 abbrev pub table : Verb
 table = record { name = codes "table"; files = common_files }
 
+abbrev pub size : Verb
+size = record { name = codes "size"; files = common_files }
+
 abbrev pub graph : Verb
 graph = record { name = codes "graph"; files = common_files }
 
@@ -79,7 +82,9 @@ trace = record { name = codes "trace"; files = run_files }
 
 -- the commands that there are
 abbrev pub verbs : List Verb
-verbs = bound ∷ check ∷ report ∷ walk ∷ waits ∷ table ∷ graph ∷ draw ∷ ceiling ∷ replay ∷ trace ∷ []
+verbs =
+    bound ∷ check ∷ report ∷ walk ∷ waits ∷ table ∷ size ∷ graph ∷ draw ∷ ceiling ∷ replay ∷ trace
+    ∷ []
 
 -- ---- the same, as clap's arguments and commands
 
@@ -134,6 +139,7 @@ asked_by Report = codes "report"
 asked_by Walk = codes "walk"
 asked_by Waits = codes "waits"
 asked_by Table = codes "table"
+asked_by Size = codes "size"
 asked_by Graph = codes "graph"
 asked_by Draw = codes "draw"
 asked_by Ceiling = codes "ceiling"

@@ -24,6 +24,8 @@ pub enum Question {
     Waits,
     /// The table of worst times: when a location is reached at the latest, by the marks' counts.
     Table,
+    /// How large the analysis is: executed words, their hops, counts, entries of the table.
+    Size,
     /// The flow graph, of whatever the deck and the notes are.
     Graph,
     /// A picture of the worst walk.

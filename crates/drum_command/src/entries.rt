@@ -107,6 +107,12 @@ pub(crate) fn entries() -> &'static [Entry]
             files: COMMON_FILES,
         },
         Entry {
+            name: "size",
+            about: "Prints how many words, hops, counts and entries of the table there are",
+            example: "Example: drum650 size deck.txt times.toml notes.toml",
+            files: COMMON_FILES,
+        },
+        Entry {
             name: "graph",
             about: "Prints the flow graph, in the language DOT",
             example: "Example: drum650 graph deck.txt times.toml notes.toml | dot -Tsvg > g.svg",

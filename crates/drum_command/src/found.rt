@@ -33,6 +33,7 @@ fn command_of<'a>(name: &str, found: &ArgMatches<'a>) -> Command<'a>
         "walk" => Command::Answer(Question::Walk, files_in(found)),
         "waits" => Command::Answer(Question::Waits, files_in(found)),
         "table" => Command::Answer(Question::Table, files_in(found)),
+        "size" => Command::Answer(Question::Size, files_in(found)),
         "graph" => Command::Answer(Question::Graph, files_in(found)),
         "draw" => Command::Answer(Question::Draw, files_in(found)),
         "ceiling" => Command::Answer(Question::Ceiling, files_in(found)),

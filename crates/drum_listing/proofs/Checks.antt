@@ -102,9 +102,9 @@ registers = codes " accumulator +00000000000000000000 distributor +0000000000 la
 -- a step that goes on, one that stops early, and one of an operation outside of the profile
 steps : stride_lines times 7
     (stride (word false 6901030106) ∷ stride (word true 6925000106) ∷ stride (word false 8401000106) ∷ [])
-    ≡ codes "step 7 0100 +6901030106 found 49 ready 52 data 52 ended 55" ++ registers
-    ++ codes "step 8 0100 -6925000106 found 49 ready 52 ended 52" ++ registers
-    ++ codes "step 9 0100 +8401000106 found 49 ended 49" ++ registers
+    ≡ codes "step 7 0100 +6901030106 begun 0 found 49 ready 52 data 52 ended 55" ++ registers
+    ++ codes "step 8 0100 -6925000106 begun 0 found 49 ready 52 ended 52" ++ registers
+    ++ codes "step 9 0100 +8401000106 begun 0 found 49 ended 49" ++ registers
 unfolding first digits
 steps = refl
 

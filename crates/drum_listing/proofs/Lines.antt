@@ -111,28 +111,30 @@ registers_told c accumulator remainder remainder' distributor latch p q r s t =
     ++ spelling c.distributor ++ latch_text c.latch) (sym (remainder_pieces c.remainder))
     )
 
--- texts with a gap between, grouped otherwise
-three_grouped : (begin gap first second third : List ℕ)
-    → begin ++ (first ++ (gap ++ (second ++ (gap ++ third)))) ≡ begin ++ first ++ gap ++ second ++ gap ++ third
-three_grouped begin gap first second third = simp append_assoc
+-- texts with gaps between, grouped otherwise
+fetch_grouped : (begin gap name first second third fourth : List ℕ)
+    → begin ++ (first ++ (gap ++ (second ++ (gap ++ (third ++ (name ++ (fourth ++ [])))))))
+    ≡ begin ++ first ++ gap ++ second ++ gap ++ third ++ name ++ fourth
+fetch_grouped begin gap name first second third fourth = simp (append_assoc, append-nil)
 
 -- and the rest of a line behind them
-line_grouped : (begin gap first second third moments behind ended registers acted last : List ℕ)
-    → ((begin ++ first ++ gap ++ second ++ gap ++ third) ++ (moments ++ behind ++ ended ++ []))
+line_grouped : (begin gap first second third name fourth moments behind ended registers acted last : List ℕ)
+    → ((begin ++ first ++ gap ++ second ++ gap ++ third ++ name ++ fourth) ++ (moments ++ behind ++ ended ++ []))
     ++ (registers ++ acted ++ last)
-    ≡ begin ++ first ++ gap ++ second ++ gap ++ third ++ moments ++ behind ++ ended ++ registers ++ acted ++ last
-line_grouped begin gap first second third moments behind ended registers acted last = simp (append_assoc, append-nil)
+    ≡ begin ++ first ++ gap ++ second ++ gap ++ third ++ name ++ fourth ++ moments ++ behind ++ ended ++ registers ++ acted
+    ++ last
+line_grouped begin gap first second third name fourth moments behind ended registers acted last =
+    simp (append_assoc, append-nil)
 
 -- what a step has fetched
-pub fetch_told : (number place : ℕ) (word : Word) (digits at spelled : List ℕ)
-    → digits ≡ decimal number → at ≡ digits_of 4 place → spelled ≡ spelling word
-    → codes "step " ++ (digits ++ (codes " " ++ (at ++ (codes " " ++ (spelled ++ []))))) ≡ fetch_text number place word
-fetch_told number place word digits at spelled p q r =
-    simp append-nil (ap (λ (xs : List ℕ). codes "step " ++ (xs ++ (codes " " ++ (at ++ (codes " " ++ spelled))))) p
-    ∙ ap (λ (xs : List ℕ). codes "step " ++ (decimal number ++ (codes " " ++ (xs ++ (codes " " ++ spelled))))) q
-    ∙ ap (λ (xs : List ℕ). codes "step " ++ (decimal number ++ (codes " " ++ (digits_of 4 place ++ (codes " " ++ xs)))))
-    r
-    ∙ three_grouped (codes "step ") (codes " ") (decimal number) (digits_of 4 place) (spelling word))
+pub fetch_told : (number place : ℕ) (word : Word) (begun : ℕ) (digits at spelled before : List ℕ)
+    → digits ≡ decimal number → at ≡ digits_of 4 place → spelled ≡ spelling word → before ≡ decimal begun
+    → codes "step "
+    ++ (digits ++ (codes " " ++ (at ++ (codes " " ++ (spelled ++ (codes " begun " ++ (before ++ [])))))))
+    ≡ fetch_text number place word begun
+fetch_told number place word begun digits at spelled before p q r s =
+    rw (p, q, r, s) (fetch_grouped (codes "step ") (codes " ") (codes " begun ") (decimal number) (digits_of 4 place)
+    (spelling word) (decimal begun))
 
 -- a hop, and a named number behind it
 pub hop_told : (visit : Visited) (number place op d i way onto name digits : List ℕ)
@@ -163,7 +165,7 @@ pub stride_told : (times : Op → Entry) (number angle : ℕ) (stride : Stride) 
     → visit ≡ visited (hop_of stride) → word ≡ fetched stride.origin → stride.origin.first_angle ≡ angle
     → moments ≡ moments_of times angle visit.place visit.ins visit.way visit.begun
     → held ≡ contents_after stride.outcome
-    → (fetch_text number visit.place word ++ times_text moments visit.ended []) ++ held_text visit held
+    → (fetch_text number visit.place word visit.begun ++ times_text moments visit.ended []) ++ held_text visit held
     ≡ stride_line times number stride
 stride_told times number angle stride visit word moments held same is start told after =
     let s = stride.origin in
@@ -171,14 +173,16 @@ stride_told times number angle stride visit word moments held same is start told
     told ∙ ap (λ (v : Visited). moments_of times angle v.place v.ins v.way v.begun) same
     ∙ ap (λ (a : ℕ). moments_of times a s.sought (instruction_in s) (ended_by stride.outcome) s.time) (sym start) in
     let hop : Visited = visited (hop_of stride) in
-    ap (λ (v : Visited). (fetch_text number v.place word ++ times_text moments v.ended []) ++ held_text v held) same
-    ∙ ap (λ (w : Word). (fetch_text number s.sought w ++ times_text moments hop.ended []) ++ held_text hop held) is
-    ∙ ap (λ (some : Moments). (fetch_text number s.sought (fetched s) ++ times_text some hop.ended [])
+    ap (λ (v : Visited). (fetch_text number v.place word v.begun ++ times_text moments v.ended []) ++ held_text v held)
+    same
+    ∙ ap (λ (w : Word). (fetch_text number s.sought w s.time ++ times_text moments hop.ended []) ++ held_text hop held) is
+    ∙ ap (λ (some : Moments). (fetch_text number s.sought (fetched s) s.time ++ times_text some hop.ended [])
     ++ held_text hop held) at_start
-    ∙ ap (λ (c : Contents). (fetch_text number s.sought (fetched s)
+    ∙ ap (λ (c : Contents). (fetch_text number s.sought (fetched s) s.time
     ++ times_text (moments_of times s.first_angle s.sought (instruction_in s) (ended_by stride.outcome) s.time) hop.ended [])
     ++ held_text hop c) after
     ∙ line_grouped (codes "step ") (codes " ") (decimal number) (digits_of 4 s.sought) (spelling (fetched s))
+    (codes " begun ") (decimal s.time)
     (moments_text (moments_of times s.first_angle s.sought (instruction_in s) (ended_by stride.outcome) s.time))
     (codes " ended ") (decimal (time_after stride.outcome)) (registers_text (contents_after stride.outcome))
     (stride_acted stride) (codes "\n")

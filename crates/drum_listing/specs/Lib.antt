@@ -3,6 +3,8 @@ pub mod Moments
 pub mod MomentsText
 pub mod Page
 pub mod Pieces
+pub mod SizeOf
+pub mod SizeText
 pub mod StepOf
 pub mod TableOf
 pub mod TableText

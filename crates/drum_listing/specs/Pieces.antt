@@ -72,8 +72,8 @@ abbrev pub remainder_sign : Option Bool → List ℕ
 remainder_sign None = []
 remainder_sign (Some minus) = sign minus ∷ []
 
--- the number of a step, where it begins, and the word that it has fetched there
-abbrev pub fetch_text : ℕ → ℕ → Word → List ℕ
-fetch_text number place word =
+-- the number of a step, where it begins, the word that it has fetched there, and when it begins
+abbrev pub fetch_text : ℕ → ℕ → Word → ℕ → List ℕ
+fetch_text number place word begun =
     codes "step " ++ decimal number ++ codes " " ++ digits_of 4 place
-    ++ codes " " ++ spelling word
+    ++ codes " " ++ spelling word ++ codes " begun " ++ decimal begun

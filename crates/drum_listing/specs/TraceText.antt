@@ -26,7 +26,7 @@ abbrev pub stride_line : (Op → Entry) → ℕ → Stride → List ℕ
 stride_line times number stride =
     let s = stride.origin in
     codes "step " ++ decimal number ++ codes " " ++ digits_of 4 s.sought
-    ++ codes " " ++ spelling (fetched s)
+    ++ codes " " ++ spelling (fetched s) ++ codes " begun " ++ decimal s.time
     ++ moments_text
     (moments_of times s.first_angle s.sought (instruction_in s) (ended_by stride.outcome) s.time)
     ++ codes " ended " ++ decimal (time_after stride.outcome)

@@ -1,6 +1,6 @@
 //! The lines of the worst walk of an analysis and of the steps of a run, each with the moments of
 //! its instruction, and of a step with what the machine holds after it; where the walk's word times
-//! go; and the table of worst times.
+//! go; the table of worst times; and how large the analysis is.
 //!
 //! Code, from the bottom up. `moments` is when an instruction is found, is ready and has its data,
 //! and `moments_text` the end of a line, which tells them, as they are or later. `told` is a hop as
@@ -15,18 +15,18 @@
 //! the word times of a walk go. `waits/adding` goes over the walk once. For each kind of hops
 //! (`waits/kind`) it adds up what they have spent (`waits/spent`, `waits/sums`), beside the first
 //! of them, in a `waits/wait`; and of all hops what they wait (`waits/waited`). `waits/listing` has
-//! `list_waits`, `waits/line` the line of a kind, and `waits/total` that of all hops. `laws` has
-//! laws of the definitions.
+//! `list_waits`, `waits/line` the line of a kind, and `waits/total` that of all hops. `size` is
+//! how large an analysis is, with its lines. `laws` has laws of the definitions.
 //!
 //! A crate above writes lines of its own hops by `send_hop`, `send_times_later`, `send_kind` and
 //! `send_total`, whose numbers may be as large as a u128, and gathers them by `pass_line`; by
 //! `Kind`, `Spent`, `Sums` and `Waited` it adds up what its own hops take.
 //!
 //! Definitions, in the order to read them: `Moments`, `MomentsText`, `WalkText`, `HeldText` (what a
-//! machine holds after a step), `TraceText`, `Waits`, `WaitsText`, `TableText`. The others say what
-//! the code means by these. `StepOf` says which stride a step is of, and `Page` what a page holds
+//! machine holds after a step), `TraceText`, `Waits`, `WaitsText`, `TableText`, `SizeText`. The
+//! others say what the code means by these. `StepOf` says which stride a step is of, and `Page` what a page holds
 //! and what has gone out behind it. `Pieces` are parts of lines, as the code writes them. `Told` is
-//! a hop that is told, `WaitsOf` are the waits, and `TableOf` is the table.
+//! a hop that is told, `WaitsOf` are the waits, `TableOf` is the table, and `SizeOf` the size.
 //!
 //! Proofs. `Lines` puts lines together of their pieces, `Gathers` has lines that go out many at a
 //! time, and `Strides` what a step's answer tells of its stride. `Checks` and `WaitChecks` evaluate
@@ -47,6 +47,7 @@ mod moments_text;
 mod page;
 mod passing;
 mod registers_text;
+mod size;
 mod step_line;
 mod step_page;
 mod table;
@@ -61,6 +62,7 @@ pub use moments::Moments;
 pub use moments_text::send_times_later;
 pub use page::Page;
 pub use passing::pass_line;
+pub use size::Size;
 pub use step_page::pass_step;
 pub use table::{Table, list_table};
 pub use told::Told;

@@ -85,37 +85,43 @@ fn told_of(step: &Step, before: u64) -> Told
     }
 }
 
-/// Writes the number of a step, where it begins, and the word that it has fetched there.
+/// Writes the number of a step, where it begins, the word that it has fetched there, and when it
+/// begins.
 fn send_fetch<O: Output>(
     writer: &mut O,
     sent: usize,
     number: u64,
     origin: Location,
     word: Word,
+    begun: u64,
 ) -> Result<usize, WriteFault>
     requires called { O.called writer.old ≤ 2 ^ 62 + 2 ^ 60 }
     requires few { sent ≤ 2 ^ 60 }
     ensures sent { IsSent (O.written writer.old) (O.written writer.new) sent result
-        (fetch_text number origin.number word) }
+        (fetch_text number origin.number word begun) }
     ensures failures { O.failed writer.new ≡ O.failed writer.old + fails_by result }
-    ensures calls { O.called writer.new ≤ O.called writer.old + 50 }
-    ensures short { length (fetch_text number origin.number word) ≤ 50 }
+    ensures calls { O.called writer.new ≤ O.called writer.old + 100 }
+    ensures short { length (fetch_text number origin.number word begun) ≤ 100 }
 {
     let mut digits = Buffer::new();
+    let mut before = Buffer::new();
     let at = four_digits(origin.number());
     let spelled = spelling_of(word);
-    let pieces: [&[u8]; 6] = [
+    let pieces: [&[u8]; 8] = [
         b"step ",
         digits.format(number).as_bytes(),
         b" ",
         &at,
         b" ",
         &spelled,
+        b" begun ",
+        before.format(begun).as_bytes(),
     ];
     send(writer, sent, &pieces)
 }
 
-/// Writes the number of a step, what it has fetched where, its moments and when it ends.
+/// Writes the number of a step, what it has fetched where, when it begins, its moments and when it
+/// ends.
 fn send_course<O: Output>(
     writer: &mut O,
     sent: usize,
@@ -127,13 +133,13 @@ fn send_course<O: Output>(
     requires called { O.called writer.old ≤ 2 ^ 62 + 2 ^ 60 }
     requires few { sent ≤ 2 ^ 60 }
     ensures sent { IsSent (O.written writer.old) (O.written writer.new) sent result
-        (fetch_text number told.now.place.number word
+        (fetch_text number told.now.place.number word told.now.begun
         ++ times_text moments.now told.now.ended []) }
     ensures failures { O.failed writer.new ≡ O.failed writer.old + fails_by result }
-    ensures calls { O.called writer.new ≤ O.called writer.old + 250 }
-    ensures few { IfOk result (λ total. total ≤ sent + 250) }
+    ensures calls { O.called writer.new ≤ O.called writer.old + 300 }
+    ensures few { IfOk result (λ total. total ≤ sent + 300) }
 {
-    let sent = send_fetch(writer, sent, number, told.place, word)?;
+    let sent = send_fetch(writer, sent, number, told.place, word, told.begun)?;
     send_times(writer, sent, moments, told.ended, b"")
 }
 

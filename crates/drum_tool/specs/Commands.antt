@@ -4,7 +4,7 @@ use Rattle.drum_command.specs.declared.command.Command.{Command}
 use Rattle.drum_command.specs.declared.command.Command.TheVariants.{Answer, Check, Replay, Trace}
 use Rattle.drum_command.specs.declared.command.Files.{Files}
 use Rattle.drum_command.specs.declared.command.Question.{Question}
-use Rattle.drum_command.specs.declared.command.Question.TheVariants.{Bound, Report, Table}
+use Rattle.drum_command.specs.declared.command.Question.TheVariants.{Bound, Report, Table, Size}
 use Rattle.drum_toml.specs.declared.notes.notes_read.NotesRead.{NotesRead}
 use Rattle.drum_toml.specs.declared.notes.notes_read.NotesRead.TheVariants.{Short, Long}
 use Rattle.drum_faults.specs.FaultLines as printed
@@ -41,12 +41,13 @@ Replies {A = A} Are AreNone Says Refuses failures reply =
 abbrev pub AnswersJoined : List ℕ → ℕ → Reply → Type 0
 AnswersJoined bytes = Replies (Gives bytes) (GivesNone bytes) SaysBound IsAnalysisFault
 
--- which notes are read for a question: short ones alone, where it is one of the bound, of a report
--- or of the table
+-- which notes are read for a question: short ones alone, where it is one of the bound, of a
+-- report, of the table or of the size
 abbrev pub read_for : Question → NotesRead
 read_for Bound = Short
 read_for Report = Short
 read_for Table = Short
+read_for Size = Short
 read_for _ = Long
 
 -- the reply to a question about three files

@@ -22,13 +22,13 @@ use drum_replay::{begin_trace, replay, tell_trace};
 use drum_toml::NotesRead;
 use std::alloc::Global;
 
-/// Which notes are read for a question: long ones, unless it is one of the bound, of a report or of
-/// the table.
+/// Which notes are read for a question: long ones, unless it is one of the bound, of a report, of
+/// the table or of the size.
 fn read_for(question: Question) -> NotesRead
     ensures { result ≡ said.read_for question }
 {
     match question {
-        Question::Bound | Question::Report | Question::Table => NotesRead::Short,
+        Question::Bound | Question::Report | Question::Table | Question::Size => NotesRead::Short,
         _ => NotesRead::Long,
     }
 }

@@ -51,9 +51,9 @@ start -> 0100\n\
 /// From angle 1, 24 is ready at clock 53, and 0106 comes at 56; 56 + 3 = 59, and 0106 comes at 106.
 /// There 69 is ready at clock 109, and 0000 comes at 150. The list's one pattern is of 01.
 const NO_STOP: &str = "\
-step 1 0100 +2401060106 found 49 ready 52 data 55 ended 58 \
+step 1 0100 +2401060106 begun 0 found 49 ready 52 data 55 ended 58 \
  accumulator +00000000000000000000 distributor +6900000000 latch off wrote 0106 +6900000000\n\
-step 2 0106 +6900000000 found 105 ready 108 data 149 ended 152 \
+step 2 0106 +6900000000 begun 58 found 105 ready 108 data 149 ended 152 \
  accumulator +00000000000000000000 distributor +0000000000 latch off\n\
 list 0106 patterns-met 0 of 1\n\
 left unlisted 0106 +6900000000 step 2 used 58\n\
@@ -94,6 +94,13 @@ pub(crate) const SUBJECTS: &[Subject] = &[
         files: (TWO_WORDS, NOTES, ""),
         status: Status::Done,
         out: "0100 angle 1 counts time 0\n0106 angle 6 counts time 55\n",
+        err: "",
+    },
+    Subject {
+        command: "size",
+        files: (TWO_WORDS, NOTES, ""),
+        status: Status::Done,
+        out: "words 2\nhops 2\ncounts 1\nkeys 2\n",
         err: "",
     },
     Subject {

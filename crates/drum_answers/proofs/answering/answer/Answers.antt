@@ -16,6 +16,9 @@ returns-in-Waits-clause-does g c err = rw c.in-Waits.is (c.say_waits.ensures.doe
 pub returns-in-Table-clause-does : goal.returns-in-Table-clause-does
 returns-in-Table-clause-does g c err = rw c.in-Table.is (c.say_table.ensures.does err)
 
+pub returns-in-Size-clause-does : goal.returns-in-Size-clause-does
+returns-in-Size-clause-does g c err = rw c.in-Size.is (c.say_size.ensures.does err)
+
 pub returns-in-Graph-clause-does : goal.returns-in-Graph-clause-does
 returns-in-Graph-clause-does g c err = rw c.in-Graph.is (c.say_graph.ensures.does err)
 

@@ -21,7 +21,7 @@ returns-in_err-sent-clause-sent g c stride tells start before cards held =
     let new = g.O.Output.written c.send_course.new.writer in
     let fault = c.in_err-sent.field-0.0 in
     let p = err_from_is_err_and c.from_residual.result c.from_residual.ensures.1 in
-    let course = fetch_text c.args.number hop.place.number c.word_of.result ++ times_text moments hop.ended [] in
+    let course = fetch_text c.args.number hop.place.number c.word_of.result hop.begun ++ times_text moments hop.ended [] in
     let after = held_by c.args.machine.now cards in
     rw (p.1, p.2) (subst (IsSent old new c.args.sent (Err fault))
     (stride_told times c.args.number c.args.angle stride (seen_told hop) c.word_of.result moments after
@@ -37,7 +37,7 @@ returns-clause-sent g c stride tells start before cards held =
     let old = g.O.Output.written c.args.writer.now in
     let between = g.O.Output.written c.send_course.new.writer in
     let new = g.O.Output.written c.send_held.new.writer in
-    let course = fetch_text c.args.number hop.place.number c.word_of.result ++ times_text moments hop.ended [] in
+    let course = fetch_text c.args.number hop.place.number c.word_of.result hop.begun ++ times_text moments hop.ended [] in
     let after = held_by c.args.machine.now cards in
     subst (IsSent old new c.args.sent c.send_held.result)
     (stride_told times c.args.number c.args.angle stride (seen_told hop) c.word_of.result moments after

@@ -1,0 +1,115 @@
+//! How large an analysis is, and its lines.
+
+ghost use Rattle.std.specs.Prelude.{◌≡◌, ◌+◌, ◌*◌, ◌≤◌, ◌++◌, codes, decimal, length, Contains, IfOk};
+ghost use Rattle.drum_core.specs.Loads.{loads_in, start_in};
+ghost use Rattle.drum_flow.specs.Flow.{deck_of, executed_in, notes_of};
+ghost use Rattle.drum_flow.specs.Hops.{hops};
+ghost use Rattle.drum_listing.specs.SizeText.{hops_among, size_text};
+
+use drum_bound::Analysis;
+use drum_core::{Deck, Location};
+use drum_flow::{Flow, discover};
+use drum_times::Notes;
+use itoa::Buffer;
+use std::alloc::{AllocError, Global};
+
+/// How large an analysis is.
+#[derive(Clone, Copy, Debug)]
+pub struct Size {
+    /// How many locations are executed.
+    pub words: u64,
+    /// How many hops these have in all.
+    pub hops: u64,
+    /// How many counts the marks can have.
+    pub counts: u64,
+    /// How many entries the table of worst times has.
+    pub keys: u64,
+}
+
+/// How many hops an executed location has.
+fn hops_at(flow: &Flow<'_>, location: Location) -> u64
+    requires { Contains (executed_in flow.now) location.number }
+    ensures count { result
+        ≡ length (hops (loads_in (deck_of flow.now)) (notes_of flow.now) location.number) }
+    ensures few { result ≤ 2560004 }
+{
+    // What `marks` promises of the notes: that they are sound.
+    let _marks = flow.notes().marks();
+    let mut count = 0;
+    for _ in flow.hops(location) {
+        count += 1;
+    }
+    count
+}
+
+/// How many hops all executed locations have.
+fn hops_of(flow: &Flow<'_>) -> u64
+    ensures { result ≡ hops_among (loads_in (deck_of flow.now)) (notes_of flow.now)
+        (executed_in flow.now) }
+{
+    let mut sum = 0;
+    for location in flow.executed() {
+        sum += hops_at(flow, *location);
+    }
+    sum
+}
+
+/// A text with a named number behind it.
+fn with_number(mut text: Vec<u8>, name: &[u8], number: u64) -> Result<Vec<u8>, AllocError>
+    requires { length name.now ≤ 100 }
+    ensures made { IfOk result (λ new. new.items ≡ text.items ++ name.now ++ decimal number) }
+    ensures short { IfOk result (λ new. length new.items ≤ length text.items + 200) }
+{
+    let mut buffer = Buffer::new();
+    text.extend_from_slice(name)?;
+    text.extend_from_slice(buffer.format(number).as_bytes())?;
+    Ok(text)
+}
+
+impl Size {
+    ghost use Rattle.drum_bound.specs.AnalysisOf.{counts_in_all, rows_of};
+    ghost use Rattle.drum_flow.specs.Flow.{AreFound};
+    ghost use Rattle.std.specs.Prelude.{ℕ, List};
+    ghost use Rattle.drum_listing.specs.SizeOf.{IsSizeOf};
+
+    /// How large the analysis of a deck under its notes is.
+    ///
+    /// # Errors
+    ///
+    /// [`AllocError`] where there is no memory.
+    pub fn of(
+        alloc: Global,
+        deck: &Deck,
+        notes: &Notes,
+        analysis: &Analysis,
+    ) -> Result<Size, AllocError>
+        ensures { IfOk result (IsSizeOf (loads_in deck.now) notes.now (start_in deck.now)
+            analysis.now) }
+    {
+        let flow = discover(alloc, deck, notes)?;
+        Ok(Size {
+            words: flow.executed().len() as u64,
+            hops: hops_of(&flow),
+            counts: analysis.counts() as u64,
+            keys: analysis.table().len() as u64,
+        })
+    }
+
+    /// Its lines.
+    ///
+    /// # Errors
+    ///
+    /// [`AllocError`] where there is no memory.
+    pub fn text(&self, alloc: Global) -> Result<Vec<u8>, AllocError>
+        ensures text { IfOk result (λ text.
+            text.items ≡ size_text self.now.words self.now.hops self.now.counts self.now.keys) }
+        ensures short { IfOk result (λ text. length text.items ≤ 1000) }
+    {
+        let text = with_number(Vec::new(alloc), b"words ", self.words)?;
+        let text = with_number(text, b"\nhops ", self.hops)?;
+        let text = with_number(text, b"\ncounts ", self.counts)?;
+        let mut text = with_number(text, b"\nkeys ", self.keys)?;
+        text.push(b'\n')?;
+        Ok(text)
+    }
+}
