@@ -432,7 +432,7 @@ def of_checks():
     line = fault(5, b"deck", b"nostart")
     yield Case("check of 3999 locations given twice", line, "check", deck=twice, lists=7999)
     slips = b"start 0000\r\n" * 4000
-    yield Case("check of 4000 lines of small letters", line, "check", deck=slips, lists=8001)
+    yield Case("check of 4000 lines of small letters", line, "check", deck=slips, lists=4)
     # Each line of inputs is looked for among all that stand before it.
     again = b"ANGLE 00\n" + b"*\n" * 1999 + b"ANGLE 01\n" * 2000
     line = b"the first is here\n"

@@ -2,6 +2,7 @@
 from their texts, and of a timing table, line by line, whether they may be told."""
 
 import re
+from collections import Counter
 
 from damage import FILES
 from faults import LINES, REFUSED, fault_of, lines_of, names_what_is_there
@@ -12,17 +13,66 @@ LINE = 100
 
 CARD = re.compile(rb"([0-9]{4})((?: [+-][0-9]{10}){1,7})")
 START = re.compile(rb"START ([0-9]{4})")
+WORD = re.compile(rb"[-+][0-9]{10}")
+
+UTF16 = "the text is UTF-16"
+
+
+def word_slip_of(line):
+    """What is to be told of the words of a line."""
+    pieces = line.split(b" ")
+    words = sum(1 for piece in pieces if WORD.fullmatch(piece))
+    begins = re.match(rb"[0-9]", line)
+    if begins and words and any(re.match(rb"[^-+0-9]", piece) for piece in pieces):
+        return "a comment stands behind the words"
+    if re.search(rb"[Oo][0-9]|[0-9][Oo]", line):
+        return "the line has a letter O for a zero"
+    if re.search(rb"[Il][0-9]|[0-9][Il]", line):
+        return "the line has a letter l for a one"
+    if any(re.fullmatch(rb"[0-9]{10}", piece) for piece in pieces):
+        return "a word has no sign"
+    if begins and words > 7:
+        return "the line has more than 7 words"
+    return "the line has small letters" if re.search(rb"[a-z]", line) else None
+
+
+def is_utf16(line):
+    """Whether a line is of a text in UTF-16."""
+    return line.startswith((b"\xff\xfe", b"\xfe\xff")) or b"\0" in line
 
 
 def slip_of(line):
-    """What an editor or a transfer did to a line that is none of a deck."""
+    """What was done to a line that is none of a deck."""
     if line.startswith(b"\xef\xbb\xbf"):
         return "the line begins with a byte order mark"
-    if line.startswith((b"\xff\xfe", b"\xfe\xff")) or b"\0" in line:
-        return "the text is UTF-16"
+    if is_utf16(line):
+        return UTF16
     if line.endswith(b"\r"):
         return "the line ends with a carriage return"
-    return "the line has small letters" if re.search(rb"[a-z]", line) else None
+    if not line:
+        return "the line is empty"
+    if b"\t" in line:
+        return "the line has a tab"
+    return "the line ends with a blank" if line.endswith(b" ") else word_slip_of(line)
+
+
+def too_long_lines(name, number, line, fault):
+    """The lines of a fault of a text whose line of this number is past a limit."""
+    told = ["%s:%d: %s" % (name, number, fault)]
+    return told + (["%s:%d: %s" % (name, number, UTF16)] if is_utf16(line) else [])
+
+
+def told_once(told, name):
+    """The lines that are told of faults, each with its slip, its number, and its own lines: of ten
+    and more with one slip the first, and how many more there are."""
+    counts, lines, done = Counter(slip for slip, _, _ in told), [], set()
+    for slip, number, own in told:
+        if slip is None or counts[slip] < 10:
+            lines += own
+        elif slip not in done:
+            lines += own + ["%s: %d more lines like line %d" % (name, counts[slip] - 1, number)]
+        done.add(slip)
+    return lines
 
 
 class Deck:
@@ -32,9 +82,10 @@ class Deck:
         self.name = name
         self.givers, self.start, self.has_start, self.told = {}, None, False, []
 
-    def tell(self, number, fault, *behind):
-        self.told.append("%s:%d: fault %s" % (self.name, number, fault))
-        self.told += ["%s:%d: %s" % (self.name, *one) for one in behind]
+    def tell(self, number, fault, *behind, slip=None):
+        lines = ["%s:%d: fault %s" % (self.name, number, fault)]
+        lines += ["%s:%d: %s" % (self.name, *one) for one in behind]
+        self.told.append((slip, number, lines))
 
     def take(self, number, line):
         card, start = CARD.fullmatch(line), START.fullmatch(line)
@@ -45,7 +96,8 @@ class Deck:
             self.take_card(number, range(first, first + card.group(2).count(b" ")))
         elif not line.startswith(b"*"):
             slip = slip_of(line)
-            self.tell(number, "3 deck card %d" % number, *[(number, slip)] if slip else [])
+            behind = [(number, slip)] if slip else []
+            self.tell(number, "3 deck card %d" % number, *behind, slip=slip)
 
     def take_start(self, number, place):
         self.has_start = True
@@ -72,11 +124,12 @@ def deck_lines(text, name):
     lines = lines_of(text)
     for number, line in enumerate(lines, 1):
         if number > LINES or len(line) > LINE:
-            return ["%s:%d: fault 8 deck toolong" % (name, number)]
+            return too_long_lines(name, number, line, "fault 8 deck toolong")
     deck = Deck(name)
     for number, line in enumerate(lines, 1):
         deck.take(number, line)
-    return deck.told + ([] if deck.has_start else ["%s: fault 5 deck nostart" % name])
+    told = told_once(deck.told, name)
+    return told + ([] if deck.has_start else ["%s: fault 5 deck nostart" % name])
 
 
 # What each line of inputs is, by its form, and what it is a setting of.
@@ -113,21 +166,22 @@ def inputs_lines(text, name):
     lines, said, told = lines_of(text), {}, []
     for number, line in enumerate(lines, 1):
         if number > LINES or len(line) > INPUT_LINE:
-            return ["%s:%d: fault 46 inputs toolong" % (name, number)]
+            return too_long_lines(name, number, line, "fault 46 inputs toolong")
     for number, line in enumerate(lines, 1):
-        here = said_by(line)
+        here, at = said_by(line), "%s:%d: " % (name, number)
         if here is None:
-            told.append("%s:%d: fault 43 inputs line %d" % (name, number, number))
-            told += ["%s:%d: %s" % (name, number, slip) for slip in [slip_of(line)] if slip]
+            slip = slip_of(line)
+            own = [at + "fault 43 inputs line %d" % number] + ([at + slip] if slip else [])
+            told.append((slip, number, own))
         elif any(isinstance(one, int) and one >= 2000 for one in here):
-            told.append("%s:%d: fault 45 inputs pastdrum %d" % (name, number, number))
+            told.append((None, number, [at + "fault 45 inputs pastdrum %d" % number]))
         elif any(one in said for one in here):
-            told.append("%s:%d: fault 44 inputs repeated %d" % (name, number, number))
             first = min(said[one] for one in here if one in said)
-            told.append("%s:%d: the first is here" % (name, first))
+            own = [at + "fault 44 inputs repeated %d" % number]
+            told.append((None, number, own + ["%s:%d: the first is here" % (name, first)]))
         else:
             said.update(dict.fromkeys(here, number))
-    return told
+    return told_once(told, name)
 
 
 # What stands in front of a line of a document's fault, and of what `toml` says.

@@ -83,9 +83,9 @@ first_or_no_start text (first ∷ further) placed others short none have are =
 
 pub first_is_refused : (text : List ℕ) (placed : PlacedFault DeckFault) (others : List (PlacedFault DeckFault))
     → AreDeckFaults text (placed ∷ others) → IsRefused text placed.fault
-first_is_refused text placed others (inl (number, past, are)) =
+first_is_refused text placed others (inl (number, line, past, are)) =
     let same : placed.fault ≡ TooLong = cc (are) in
-    subst (IsRefused text) (sym same) (past_is_long 4000 100 text number past)
+    subst (IsRefused text) (sym same) (past_is_long 4000 100 text number line past)
 first_is_refused text placed others (inr (short, inl (has, have))) = line_refused text placed others short have
 first_is_refused text placed others (inr (short, inr (none, (of_lines, have, are)))) =
     first_or_no_start text of_lines placed others short none have are
@@ -95,7 +95,7 @@ nothing_behind [] last e = cc
 nothing_behind (first ∷ further) last e = cc
 
 pub none_is_deck : (text : List ℕ) → AreDeckFaults text [] → (lines : List Line) × IsDeck text lines
-none_is_deck text (inl (number, past, are)) = cc (are)
+none_is_deck text (inl (number, line, past, are)) = cc (are)
 none_is_deck text (inr (short, inl (has, have))) =
     let all = nothing_told text have in (
       all.lines,

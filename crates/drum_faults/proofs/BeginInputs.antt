@@ -12,16 +12,16 @@ use Rattle.drum_faults.proofs.OnePlaced.{inputs_one}
 -- the first fault that is found is the one that a reader refuses inputs for
 pub first_input_refused : (text : List ℕ) (placed : PlacedFault InputFault) (others : List (PlacedFault InputFault))
     → AreInputFaults text (placed ∷ others) → IsRefused text placed.fault
-first_input_refused text placed others (inl (number, past, are)) =
+first_input_refused text placed others (inl (number, line, past, are)) =
     let same : TooLong ≡ placed.fault = cc (are) in
-    subst (IsRefused text) same (past_is_long 4000 200 text number past)
+    subst (IsRefused text) same (past_is_long 4000 200 text number line past)
 first_input_refused text placed others (inr (short, have)) =
     first_refused text placed.fault short
     (first_of_lines comment IsLine AreSound IsFaultOfLine IsPlaced inputs_one text placed others have)
 
 -- and only a text that is inputs has none
 pub none_is_inputs : (text : List ℕ) → AreInputFaults text [] → (lines : List Line) × AreInputs text lines
-none_is_inputs text (inl (number, past, are)) = cc (are)
+none_is_inputs text (inl (number, line, past, are)) = cc (are)
 none_is_inputs text (inr (short, have)) =
     let all = none_of_lines comment IsLine AreSound IsPlaced inputs_one.nothing_sound text have in
     (all.lines, record { short = short; said = all.said; sound = all.sound })

@@ -7,7 +7,7 @@ use Rattle.std.proofs.lemmas.List.{append-nil}
 use Rattle.std.specs.Prelude.{Any}
 use Rattle.drum_core.specs.Lines.{lines_of, IsLonger, EachSays, HasFirstFault}
 use Rattle.drum_core.proofs.FirstFaults.{HasOneFault, say_append}
-use Rattle.drum_faults.specs.ByLine.{HaveFaults, IsFirstPast}
+use Rattle.drum_faults.specs.ByLine.{HaveFaults, IsFirstPast, past_limit}
 use Rattle.drum_faults.specs.declared.placed_fault.PlacedFault.{PlacedFault}
 use Rattle.drum_faults.specs.declared.slip.Slip.{Slip}
 use Rattle.drum_faults.proofs.Passed.{any_here}
@@ -24,18 +24,18 @@ pub record HasOnePlaced {Line Fault : Type 0} (IsLine : List ℕ → Line → Ty
   pub nothing_sound : AreSound []
 
 -- a text with a line past a limit is longer
-pub past_is_long : (most longest : ℕ) (text : List ℕ) (number : ℕ) → IsFirstPast most longest text number
-    → IsLonger most longest text
-past_is_long most longest text number p = elim p.past [
+pub past_is_long : (most longest : ℕ) (text : List ℕ) (number : ℕ) (line : List ℕ)
+    → IsFirstPast most longest text number line → IsLonger most longest text
+past_is_long most longest text number line p = elim p.past [
   | inl many ↦ inl (omega (
     arith,
     ap (λ (xs : List (List ℕ)). length xs) p.split,
-    length-append p.texts (p.line ∷ p.others),
+    length-append p.texts (line ∷ p.others),
     p.counted,
     many,
   ))
-  | inr long ↦ inr (subst (Any (λ line. longest < length line)) (sym p.split)
-      (any_here (λ line. longest < length line) p.texts p.line p.others long))
+  | inr long ↦ inr (subst (Any (λ earlier. longest < length earlier)) (sym p.split)
+      (any_here (λ earlier. longest < length earlier) p.texts line p.others long))
 ]
 
 -- of two prefixes, the longer has the line behind the shorter
@@ -50,25 +50,48 @@ among_longer P (first ∷ texts) (other ∷ others) line behind behind' e less i
     let rest = among_longer P texts others line behind behind' tail (omega (arith, less)) is in
     (suc rest.0, rest.1, omega (arith, rest.2), rest.3, rest.4)
 
+-- of two prefixes that are as long, the same line stands behind both
+behind_as_long : (texts others : List (List ℕ)) (line other : List ℕ) (behind behind' : List (List ℕ))
+    → texts ++ line ∷ behind ≡ others ++ other ∷ behind' → length texts ≡ length others → line ≡ other
+behind_as_long [] [] line other behind behind' e same = cc (e)
+behind_as_long [] (first ∷ others) line other behind behind' e same = absurd (omega (arith, same))
+behind_as_long (first ∷ texts) [] line other behind behind' e same = absurd (omega (arith, same))
+behind_as_long (first ∷ texts) (first' ∷ others) line other behind behind' e same =
+    let tail : texts ++ line ∷ behind ≡ others ++ other ∷ behind' = cc (e) in
+    behind_as_long texts others line other behind behind' tail (omega (arith, same))
+
 -- a line past a limit stands behind no other
-not_earlier : (most longest : ℕ) (text : List ℕ) (m n : ℕ) (p : IsFirstPast most longest text m)
-    (q : IsFirstPast most longest text n) → length p.texts < length q.texts → ⊥
-not_earlier most longest text m n p q less = elim p.past [
+not_earlier : (most longest : ℕ) (text : List ℕ) (m n : ℕ) (line other : List ℕ)
+    (p : IsFirstPast most longest text m line) (q : IsFirstPast most longest text n other)
+    → length p.texts < length q.texts → ⊥
+not_earlier most longest text m n line other p q less = elim p.past [
   | inl many ↦ omega (arith, many, p.counted, q.few, less)
-  | inr long ↦ q.short (among_longer (λ earlier. longest < length earlier) p.texts q.texts p.line p.others
-      (q.line ∷ q.others) (sym p.split ∙ q.split) less long)
+  | inr long ↦ q.short (among_longer (λ earlier. longest < length earlier) p.texts q.texts line p.others
+      (other ∷ q.others) (sym p.split ∙ q.split) less long)
 ]
 
--- one line is the first past a limit
-pub first_past_one : (most longest : ℕ) (text : List ℕ) (m n : ℕ) → IsFirstPast most longest text m
-    → IsFirstPast most longest text n → m ≡ n
-first_past_one most longest text m n p q = elim (cases_lt (length p.texts) (length q.texts)) [
-  | inl less ↦ absurd (not_earlier most longest text m n p q less)
+-- as many lines stand before a first line past a limit
+as_many_before : (most longest : ℕ) (text : List ℕ) (m n : ℕ) (line other : List ℕ)
+    (p : IsFirstPast most longest text m line) (q : IsFirstPast most longest text n other)
+    → length p.texts ≡ length q.texts
+as_many_before most longest text m n line other p q = elim (cases_lt (length p.texts) (length q.texts)) [
+  | inl less ↦ absurd (not_earlier most longest text m n line other p q less)
   | inr upto ↦ elim (cases_lt (length q.texts) (length p.texts)) [
-    | inl less ↦ absurd (not_earlier most longest text n m q p less)
-    | inr upto' ↦ omega (arith, p.counted, q.counted, upto, upto')
+    | inl less ↦ absurd (not_earlier most longest text n m other line q p less)
+    | inr upto' ↦ omega (arith, upto, upto')
   ]
 ]
+
+-- one line is the first past a limit, and has one fault
+pub past_limit_one : {Fault : Type 0} (fault : Fault) (most longest : ℕ) (text : List ℕ) (m n : ℕ) (line other : List ℕ)
+    → IsFirstPast most longest text m line → IsFirstPast most longest text n other
+    → past_limit fault m line ≡ past_limit fault n other
+past_limit_one {Fault} fault most longest text m n line other p q =
+    let long = as_many_before most longest text m n line other p q in
+    let number : m ≡ n = omega (arith, p.counted, q.counted, long) in
+    let same : line ≡ other =
+    behind_as_long p.texts q.texts line other p.others q.others (sym p.split ∙ q.split) long in
+    ap (λ (k : ℕ). past_limit fault k line) number ∙ ap (λ (bytes : List ℕ). past_limit fault n bytes) same
 
 -- the first fault of the lines behind sound ones is the first of all
 first_behind : {Line Fault : Type 0} (comment : Line) (IsLine : List ℕ → Line → Type 0)

@@ -25,7 +25,16 @@ use Rattle.drum_faults.specs.InputFaults.{AreInputFaults}
 use Rattle.drum_faults.specs.FaultLines.{Named, at_line, earlier_text, slip_text, placed_text, deck_fault_text}
 use Rattle.drum_faults.specs.FaultLines.{input_fault_text, note_fault_text, loaded_text, complaint_text, IsComplaint}
 use Rattle.drum_faults.specs.FaultLines.{AreDocumentLines, AreLoadedTwice, AreLinesOfInputs, AreFaultLines}
+use Rattle.drum_faults.specs.FaultLines.{more_text, alike_text, told_text}
+use Rattle.drum_faults.specs.Alike.{has_slip, more_alike, first_alike}
 use Rattle.drum_faults.specs.NamedTexts.{complaint_said}
+use Rattle.drum_faults.specs.contracts.slip.Slip.{the_type}
+use Rattle.drum_faults.specs.declared.slip.Slip.{Slip}
+use Rattle.std.specs.Option.{option_eq, option_and_then}
+use Rattle.std.specs.Prelude.{Bool, true, false, find, nat_eq, if◌then◌else◌}
+use Rattle.std.proofs.Common.{rules}
+use borrow.Author.Tests.{tests}
+use denote.Enum.Bare.{sameb, true_same}
 use Rattle.drum_faults.proofs.Begin.{none_is_deck}
 use Rattle.drum_faults.proofs.BeginInputs.{none_is_inputs}
 
@@ -106,11 +115,11 @@ loaded_more name old text new loaded index location less is so_far more =
 pub inputs_returned : {V E : Type 0} (result : Result V E) (items : V → List ℕ) (deck inputs : Named)
     (faults : List (PlacedFault InputFault)) (loaded old between : List ℕ)
     → AreInputFaults inputs.bytes faults → AreLoadedTwice deck.bytes inputs.bytes loaded
-    → between ≡ old ++ flat_map (input_fault_text inputs.name) faults
+    → between ≡ old ++ flat_map (input_fault_text inputs.name faults) faults
     → IfOk result (λ new. items new ≡ between ++ flat_map (loaded_text inputs.name) loaded)
     → IfOk result (λ new. (lines : List ℕ) × AreLinesOfInputs deck (Some inputs) lines × (items new ≡ old ++ lines))
 inputs_returned (Ok new) items deck inputs faults loaded old between are both p q =
-    let own = flat_map (input_fault_text inputs.name) faults in
+    let own = flat_map (input_fault_text inputs.name faults) faults in
     let twice = flat_map (loaded_text inputs.name) loaded in (
       own ++ twice,
       (own, (faults, are, refl), (loaded, both, refl)),
@@ -139,6 +148,22 @@ complaint_in_pieces text name message line column first second third fourth fift
     let of_fifth = t ∙ ap (λ (xs : List ℕ). xs ++ message) of_fourth in
     ap (λ (xs : List ℕ). xs ++ codes "\n") of_fifth ∙ simp append_assoc
 
+-- the line of how many more are like one, piece by piece
+pub more_in_pieces : (text name : List ℕ) (more line : ℕ) (at : Option ℕ) (first second third fourth : List ℕ)
+    → at ≡ Some line
+    → first ≡ text ++ at_line name None
+    → second ≡ first ++ decimal more
+    → third ≡ second ++ codes " more lines like line "
+    → fourth ≡ third ++ decimal line
+    → fourth ++ codes "\n" ≡ text ++ more_text name more at
+more_in_pieces text name more line at first second third fourth is p q r s =
+    let of_second = q ∙ ap (λ (xs : List ℕ). xs ++ decimal more) p in
+    let of_third = r ∙ ap (λ (xs : List ℕ). xs ++ codes " more lines like line ") of_second in
+    let of_fourth = s ∙ ap (λ (xs : List ℕ). xs ++ decimal line) of_third in
+    let all : fourth ++ codes "\n" ≡ text ++ more_text name more (Some line) =
+    ap (λ (xs : List ℕ). xs ++ codes "\n") of_fourth ∙ simp append_assoc in
+    all ∙ ap (λ (one : Option ℕ). text ++ more_text name more one) (sym is)
+
 -- two texts of which nothing comes are nothing
 no_parts : (xs ys : List ℕ) → [] ≡ xs ++ ys → ([] ≡ xs) × ([] ≡ ys)
 no_parts [] ys e = (refl, e)
@@ -165,15 +190,65 @@ placed_fills line name placed e =
     let pair = (no_parts (placed_at ++ line) earlier behind).0 in
     place_fills name placed.line (no_parts placed_at line pair).0
 
-deck_none : (name : List ℕ) (faults : List (PlacedFault DeckFault)) → [] ≡ flat_map (deck_fault_text name) faults
-    → faults ≡ []
-deck_none name faults e =
-    none_mapped (deck_fault_text name) (λ placed none. placed_fills (deck_text placed.fault) name placed none) faults e
+-- a choice that is made
+chosen : {A : Type 0} (b : Bool) (x y : A) → b ≡ true → (if b then x else y) ≡ x
+chosen true x y e = refl
+chosen false x y e = cc (e)
 
-input_none : (name : List ℕ) (faults : List (PlacedFault InputFault)) → [] ≡ flat_map (input_fault_text name) faults
+-- a line is the same as itself
+same_line : (line : Option ℕ) → option_eq nat_eq line line ≡ true
+same_line None = refl
+same_line (Some n) = search (rules, tests)
+
+-- the first of many alike has its lines
+many_fill : {Fault : Type 0} (line name : List ℕ) (placed : PlacedFault Fault) (more first : Option ℕ)
+    → first ≡ placed.line → [] ≡ alike_text name (placed_text line name placed) placed.line more first → ⊥
+many_fill line name placed None first same e = placed_fills line name placed e
+many_fill line name placed (Some more) first same e =
+    let own = placed_text line name placed in
+    let behind = more_text name more placed.line in
+    let is : option_eq nat_eq first placed.line ≡ true =
+    ap (λ (at : Option ℕ). option_eq nat_eq at placed.line) same ∙ same_line placed.line in
+    let told : [] ≡ own ++ behind = e ∙ chosen (option_eq nat_eq first placed.line) (own ++ behind) [] is in
+    placed_fills line name placed (no_parts own behind told).0
+
+-- the first fault of a text is the first of those that are like it
+first_is_first : {Fault : Type 0} (slip : Slip) (first : PlacedFault Fault) (others : List (PlacedFault Fault))
+    → first.slip ≡ Some slip → first_alike (first ∷ others) (Some slip) ≡ first.line
+first_is_first {Fault} slip first others has =
+    let is : has_slip slip first ≡ true =
+    ap (λ (own : Option Slip). option_eq (sameb the_type) own (Some slip)) has ∙ true_same the_type slip slip refl in
+    ap (option_and_then (λ (one : PlacedFault Fault). one.line))
+    (chosen (has_slip slip first) (Some first) (find (has_slip slip) others) is)
+
+-- so something is told of it
+first_fills : {Fault : Type 0} (line name : List ℕ) (first : PlacedFault Fault) (others : List (PlacedFault Fault))
+    (slip : Option Slip) → first.slip ≡ slip
+    → [] ≡ alike_text name (placed_text line name first) first.line (more_alike (first ∷ others) slip)
+    (first_alike (first ∷ others) slip)
+    → ⊥
+first_fills line name first others None has e = placed_fills line name first e
+first_fills line name first others (Some slip) has e =
+    many_fill line name first (more_alike (first ∷ others) (Some slip)) (first_alike (first ∷ others) (Some slip))
+    (first_is_first slip first others has) e
+
+-- nothing comes of no faults alone
+none_told : {Fault : Type 0} (line_of : Fault → List ℕ) (name : List ℕ) (faults : List (PlacedFault Fault))
+    → [] ≡ flat_map (λ placed. told_text (line_of placed.fault) name faults placed) faults → faults ≡ []
+none_told line_of name [] e = refl
+none_told {Fault} line_of name (first ∷ others) e =
+    let text : PlacedFault Fault → List ℕ =
+    λ placed. told_text (line_of placed.fault) name (first ∷ others) placed in
+    absurd (first_fills (line_of first.fault) name first others first.slip refl
+    (no_parts (text first) (flat_map text others) e).0)
+
+deck_none : (name : List ℕ) (faults : List (PlacedFault DeckFault)) → [] ≡ flat_map (deck_fault_text name faults) faults
     → faults ≡ []
-input_none name faults e =
-    none_mapped (input_fault_text name) (λ placed none. placed_fills (input_text placed.fault) name placed none) faults e
+deck_none name faults e = none_told deck_text name faults e
+
+input_none : (name : List ℕ) (faults : List (PlacedFault InputFault))
+    → [] ≡ flat_map (input_fault_text name faults) faults → faults ≡ []
+input_none name faults e = none_told input_text name faults e
 
 notes_none : (name part : List ℕ) (faults : List NoteFault) → [] ≡ flat_map (note_fault_text name part) faults
     → faults ≡ []
@@ -202,7 +277,7 @@ pub all_none : (deck times notes : Named) (inputs : Option Named) (all : AreFaul
     → ((lines : List Line) × IsDeck deck.bytes lines) × ([] ≡ all.of_times) × ([] ≡ all.of_notes)
     × IfSome inputs (λ text. (stated : List input_lines.Line) × AreInputs text.bytes stated)
 all_none deck times notes inputs all =
-    let own = flat_map (deck_fault_text deck.name) all.faults in
+    let own = flat_map (deck_fault_text deck.name all.faults) all.faults in
     let last = no_parts (own ++ all.of_times ++ all.of_notes) all.of_inputs all.all in
     let second = no_parts (own ++ all.of_times) all.of_notes last.0 in
     let first = no_parts own all.of_times second.0 in (

@@ -1,5 +1,5 @@
 -- A text has one list of faults, a deck's and one of inputs.
-use Rattle.std.proofs.Common.{◌≡◌, ℕ, List, [], ◌∷◌, ◌++◌, ap, sym, ◌∙◌, inl, inr, Some, None}
+use Rattle.std.proofs.Common.{◌≡◌, ℕ, List, [], ◌∷◌, ◌++◌, ap, sym, ◌∙◌, inl, inr, None}
 use Rattle.drum_core.specs.declared.deck.fault.DeckFault.{DeckFault}
 use Rattle.drum_core.specs.declared.deck.fault.DeckFault.TheVariants.{NoStart, TooLong}
 use Rattle.drum_core.specs.DeckText as deck
@@ -13,7 +13,7 @@ use Rattle.drum_faults.specs.DeckFaults.{HaveDeckFaults, AreDeckFaults, AreOfSho
 use Rattle.drum_faults.specs.InputFaults as of_inputs
 use Rattle.drum_faults.specs.InputFaults.{HaveInputFaults, AreInputFaults}
 use Rattle.drum_faults.specs.declared.placed_fault.PlacedFault.{PlacedFault}
-use Rattle.drum_faults.proofs.ByLine.{past_is_long, first_past_one, lines_one}
+use Rattle.drum_faults.proofs.ByLine.{past_is_long, past_limit_one, lines_one}
 use Rattle.drum_faults.proofs.OnePlaced.{deck_one, inputs_one}
 
 -- lines of a deck have one list of faults
@@ -41,18 +41,22 @@ short_one text a b (inr p) (inr q) =
 pub faults_one : (text : List ℕ) (a b : List (PlacedFault DeckFault)) → AreDeckFaults text a → AreDeckFaults text b
     → a ≡ b
 faults_one text a b (inl p) (inl q) =
-    p.2 ∙ ap (λ (n : ℕ). alone TooLong (Some n) ∷ []) (first_past_one 4000 100 text p.0 q.0 p.1 q.1) ∙ sym q.2
-faults_one text a b (inl p) (inr q) = absurd (q.0 (past_is_long 4000 100 text p.0 p.1))
-faults_one text a b (inr p) (inl q) = absurd (p.0 (past_is_long 4000 100 text q.0 q.1))
+    p.3
+    ∙ ap (λ (placed : PlacedFault DeckFault). placed ∷ [])
+    (past_limit_one TooLong 4000 100 text p.0 q.0 p.1 q.1 p.2 q.2)
+    ∙ sym q.3
+faults_one text a b (inl p) (inr q) = absurd (q.0 (past_is_long 4000 100 text p.0 p.1 p.2))
+faults_one text a b (inr p) (inl q) = absurd (p.0 (past_is_long 4000 100 text q.0 q.1 q.2))
 faults_one text a b (inr p) (inr q) = short_one text a b p.1 q.1
 
 -- and so has a text of inputs
 pub input_faults_one : (text : List ℕ) (a b : List (PlacedFault InputFault)) → AreInputFaults text a
     → AreInputFaults text b → a ≡ b
 input_faults_one text a b (inl p) (inl q) =
-    p.2
-    ∙ ap (λ (n : ℕ). alone input_faults.TooLong (Some n) ∷ []) (first_past_one 4000 200 text p.0 q.0 p.1 q.1)
-    ∙ sym q.2
-input_faults_one text a b (inl p) (inr q) = absurd (q.0 (past_is_long 4000 200 text p.0 p.1))
-input_faults_one text a b (inr p) (inl q) = absurd (p.0 (past_is_long 4000 200 text q.0 q.1))
+    p.3
+    ∙ ap (λ (placed : PlacedFault InputFault). placed ∷ [])
+    (past_limit_one input_faults.TooLong 4000 200 text p.0 q.0 p.1 q.1 p.2 q.2)
+    ∙ sym q.3
+input_faults_one text a b (inl p) (inr q) = absurd (q.0 (past_is_long 4000 200 text p.0 p.1 p.2))
+input_faults_one text a b (inr p) (inl q) = absurd (p.0 (past_is_long 4000 200 text q.0 q.1 q.2))
 input_faults_one text a b (inr p) (inr q) = input_lines_one (lines_of text) a b p.1 q.1

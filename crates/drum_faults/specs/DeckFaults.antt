@@ -10,7 +10,7 @@ use Rattle.drum_core.specs.DeckText.{IsFaultOfLine, IsTooLong}
 use Rattle.drum_core.specs.Lines.{lines_of}
 use Rattle.drum_faults.specs.declared.placed_fault.PlacedFault.{PlacedFault}
 use Rattle.drum_faults.specs.declared.slip.Slip.{Slip}
-use Rattle.drum_faults.specs.ByLine.{alone, HaveFaults, IsFirstPast}
+use Rattle.drum_faults.specs.ByLine.{alone, past_limit, HaveFaults, IsFirstPast}
 use Rattle.drum_faults.specs.Slip.{slip_in}
 
 -- the number of the first line that is a start, the first line having this number
@@ -77,5 +77,6 @@ AreOfShort text faults =
 -- is past a limit.
 abbrev pub AreDeckFaults : List ℕ → List (PlacedFault DeckFault) → Type 0
 AreDeckFaults text faults =
-    ((number : ℕ) × IsFirstPast 4000 100 text number × (faults ≡ alone TooLong (Some number) ∷ []))
+    ((number : ℕ) × (line : List ℕ) × IsFirstPast 4000 100 text number line
+    × (faults ≡ past_limit TooLong number line ∷ []))
     ⊎ (¬ IsTooLong text × AreOfShort text faults)

@@ -1,7 +1,7 @@
 -- The lines of all faults of a deck, a timing table and notes, and of inputs.
 use Rattle.std.specs.Prelude.{◌≡◌, ℕ, ◌≤◌, ◌⊎◌, List, [], ◌++◌, length, flat_map, codes, decimal}
-use Rattle.std.specs.Prelude.{filter, map, Option, Some, None}
-use Rattle.std.specs.Option.{is_some}
+use Rattle.std.specs.Prelude.{filter, map, nat_eq, if◌then◌else◌, Option, Some, None}
+use Rattle.std.specs.Option.{is_some, option_eq}
 use Rattle.drum_core.specs.declared.deck.fault.DeckFault.{DeckFault}
 use Rattle.drum_core.specs.DeckText.{IsDeck, loads_of}
 use Rattle.drum_core.specs.DeckText as deck_lines
@@ -17,11 +17,14 @@ use Rattle.drum_toml.specs.Document.{Fault}
 use Rattle.drum_toml.specs.Refused.{IsDocument}
 use Rattle.drum_toml.specs.TimesDocument.{times_faults}
 use Rattle.toml.specs.Data.{Members}
+use Rattle.drum_faults.specs.Alike.{more_alike, first_alike}
 use Rattle.drum_faults.specs.DeckFaults.{AreDeckFaults}
 use Rattle.drum_faults.specs.InputFaults.{AreInputFaults}
 use Rattle.drum_faults.specs.declared.placed_fault.PlacedFault.{PlacedFault}
 use Rattle.drum_faults.specs.declared.slip.Slip.{Slip}
 use Rattle.drum_faults.specs.declared.slip.Slip.TheVariants.{ByteOrderMark, Utf16, CarriageReturn}
+use Rattle.drum_faults.specs.declared.slip.Slip.TheVariants.{Empty, Tab, BlankAtEnd, CommentBehind}
+use Rattle.drum_faults.specs.declared.slip.Slip.TheVariants.{LetterO, LetterL, NoSign, ManyWords}
 use Rattle.drum_faults.specs.declared.slip.Slip.TheVariants.{SmallLetters}
 
 -- a text, and the name of the file that holds it
@@ -44,6 +47,14 @@ abbrev pub slip_said : Slip → List ℕ
 slip_said ByteOrderMark = codes "the line begins with a byte order mark\n"
 slip_said Utf16 = codes "the text is UTF-16\n"
 slip_said CarriageReturn = codes "the line ends with a carriage return\n"
+slip_said Empty = codes "the line is empty\n"
+slip_said Tab = codes "the line has a tab\n"
+slip_said BlankAtEnd = codes "the line ends with a blank\n"
+slip_said CommentBehind = codes "a comment stands behind the words\n"
+slip_said LetterO = codes "the line has a letter O for a zero\n"
+slip_said LetterL = codes "the line has a letter l for a one\n"
+slip_said NoSign = codes "a word has no sign\n"
+slip_said ManyWords = codes "the line has more than 7 words\n"
 slip_said SmallLetters = codes "the line has small letters\n"
 
 abbrev pub slip_text : List ℕ → Option ℕ → Option Slip → List ℕ
@@ -56,11 +67,33 @@ placed_text line name placed =
     at_line name placed.line ++ line ++ earlier_text name placed.earlier
     ++ slip_text name placed.line placed.slip
 
-abbrev pub deck_fault_text : List ℕ → PlacedFault DeckFault → List ℕ
-deck_fault_text name placed = placed_text (deck_text placed.fault) name placed
+-- the line that says how many more lines are like this one
+abbrev pub more_text : List ℕ → ℕ → Option ℕ → List ℕ
+more_text name more None = []
+more_text name more (Some line) =
+    at_line name None ++ decimal more ++ codes " more lines like line " ++ decimal line
+    ++ codes "\n"
 
-abbrev pub input_fault_text : List ℕ → PlacedFault InputFault → List ℕ
-input_fault_text name placed = placed_text (input_text placed.fault) name placed
+-- What is told of a fault at a line: its own lines. Where so many more are alike, the first of them
+-- has how many they are behind its own lines, and nothing is told of the others.
+abbrev pub alike_text : List ℕ → List ℕ → Option ℕ → Option ℕ → Option ℕ → List ℕ
+alike_text name own line None first = own
+alike_text name own line (Some more) first =
+    if option_eq nat_eq first line then own ++ more_text name more line else []
+
+-- what is told of a fault among all faults of its text
+abbrev pub told_text : {Fault : Type 0} → List ℕ → List ℕ → List (PlacedFault Fault)
+    → PlacedFault Fault → List ℕ
+told_text line name faults placed =
+    alike_text name (placed_text line name placed) placed.line (more_alike faults placed.slip)
+    (first_alike faults placed.slip)
+
+abbrev pub deck_fault_text : List ℕ → List (PlacedFault DeckFault) → PlacedFault DeckFault → List ℕ
+deck_fault_text name faults placed = told_text (deck_text placed.fault) name faults placed
+
+abbrev pub input_fault_text : List ℕ → List (PlacedFault InputFault) → PlacedFault InputFault
+    → List ℕ
+input_fault_text name faults placed = told_text (input_text placed.fault) name faults placed
 
 -- the line of a fault of a timing table or of notes
 abbrev pub note_fault_text : List ℕ → List ℕ → NoteFault → List ℕ
@@ -94,7 +127,7 @@ pub record AreDocumentLines (faults_of : Members → List Fault) (part : List �
 abbrev pub AreInputLines : Named → List ℕ → Type 0
 AreInputLines text lines =
     (faults : List (PlacedFault InputFault)) × AreInputFaults text.bytes faults
-    × (lines ≡ flat_map (input_fault_text text.name) faults)
+    × (lines ≡ flat_map (input_fault_text text.name faults) faults)
 
 -- the line of a location that both a deck and inputs in the file of this name load
 abbrev pub loaded_text : List ℕ → ℕ → List ℕ
@@ -135,4 +168,5 @@ pub record AreFaultLines (deck times notes : Named) (inputs : Option Named)
   pub notes_are : AreDocumentLines all_long_faults (codes "notes") notes of_notes
   pub of_inputs : List ℕ
   pub inputs_are : AreLinesOfInputs deck inputs of_inputs
-  pub all : lines ≡ flat_map (deck_fault_text deck.name) faults ++ of_times ++ of_notes ++ of_inputs
+  pub all : lines
+      ≡ flat_map (deck_fault_text deck.name faults) faults ++ of_times ++ of_notes ++ of_inputs

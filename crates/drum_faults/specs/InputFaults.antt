@@ -8,7 +8,7 @@ use Rattle.drum_inputs.specs.InputsText.{Line, comment, IsLine, AreSound, Repeat
 use Rattle.drum_inputs.specs.InputsText.{IsFaultOfLine, IsTooLong}
 use Rattle.drum_faults.specs.declared.placed_fault.PlacedFault.{PlacedFault}
 use Rattle.drum_faults.specs.declared.slip.Slip.{Slip}
-use Rattle.drum_faults.specs.ByLine.{alone, HaveFaults, IsFirstPast}
+use Rattle.drum_faults.specs.ByLine.{past_limit, HaveFaults, IsFirstPast}
 use Rattle.drum_faults.specs.Slip.{slip_in}
 
 -- At this index stands the first of some lines that this line says again.
@@ -56,6 +56,6 @@ HaveInputFaults before texts faults =
 -- that is past a limit.
 abbrev pub AreInputFaults : List ℕ → List (PlacedFault InputFault) → Type 0
 AreInputFaults text placed =
-    ((number : ℕ) × IsFirstPast 4000 200 text number
-    × (placed ≡ alone faults.TooLong (Some number) ∷ []))
+    ((number : ℕ) × (line : List ℕ) × IsFirstPast 4000 200 text number line
+    × (placed ≡ past_limit faults.TooLong number line ∷ []))
     ⊎ (¬ IsTooLong text × HaveInputFaults [] (lines_of text) placed)

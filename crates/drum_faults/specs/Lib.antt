@@ -1,3 +1,4 @@
+pub mod Alike
 pub mod ByLine
 pub mod DeckFaults
 pub mod DeckSoFar

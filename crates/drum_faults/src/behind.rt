@@ -4,8 +4,10 @@ ghost use Rattle.std.specs.Prelude.{◌≡◌, ◌++◌, codes, decimal, flat_ma
 ghost use Rattle.drum_faults.specs.FaultLines.{at_line, earlier_text, slip_said, slip_text};
 ghost use Rattle.drum_faults.specs.FaultLines.{placed_text, deck_fault_text, input_fault_text};
 ghost use Rattle.drum_faults.specs.FaultLines.{note_fault_text, complaint_text, loaded_text};
+ghost use Rattle.drum_faults.specs.FaultLines.{more_text, told_text};
 ghost use Rattle.drum_lines.specs.FaultText.{fault_text};
 
+use crate::alike::{first_alike, more_alike};
 use crate::placed_fault::PlacedFault;
 use crate::slip::Slip;
 use drum_core::{DeckFault, Location, Writing};
@@ -23,14 +25,20 @@ fn with_bytes(mut text: Vec<u8>, bytes: &[u8]) -> Result<Vec<u8>, AllocError>
     Ok(text)
 }
 
-/// A colon and a number.
-fn with_number(mut text: Vec<u8>, number: usize) -> Result<Vec<u8>, AllocError>
-    ensures { IfOk result (λ new. new.items ≡ text.items ++ codes ":" ++ decimal number) }
+/// A number.
+fn with_decimal(mut text: Vec<u8>, number: usize) -> Result<Vec<u8>, AllocError>
+    ensures { IfOk result (λ new. new.items ≡ text.items ++ decimal number) }
 {
     let mut buffer = Buffer::new();
-    text.extend_from_slice(b":")?;
     text.extend_from_slice(buffer.format(number).as_bytes())?;
     Ok(text)
+}
+
+/// A colon and a number.
+fn with_number(text: Vec<u8>, number: usize) -> Result<Vec<u8>, AllocError>
+    ensures { IfOk result (λ new. new.items ≡ text.items ++ codes ":" ++ decimal number) }
+{
+    with_decimal(with_bytes(text, b":")?, number)
 }
 
 /// Where a fault stands: in the file of this name, at this line, if at one.
@@ -73,6 +81,14 @@ fn said(slip: Slip) -> &'static [u8]
         Slip::ByteOrderMark => b"the line begins with a byte order mark\n",
         Slip::Utf16 => b"the text is UTF-16\n",
         Slip::CarriageReturn => b"the line ends with a carriage return\n",
+        Slip::Empty => b"the line is empty\n",
+        Slip::Tab => b"the line has a tab\n",
+        Slip::BlankAtEnd => b"the line ends with a blank\n",
+        Slip::CommentBehind => b"a comment stands behind the words\n",
+        Slip::LetterO => b"the line has a letter O for a zero\n",
+        Slip::LetterL => b"the line has a letter l for a one\n",
+        Slip::NoSign => b"a word has no sign\n",
+        Slip::ManyWords => b"the line has more than 7 words\n",
         Slip::SmallLetters => b"the line has small letters\n",
     }
 }
@@ -108,6 +124,46 @@ fn with_place_of<F>(
     with_slip(text, name, placed.line, placed.slip)
 }
 
+/// How many more lines are like this one.
+fn with_more(
+    text: Vec<u8>,
+    name: &str,
+    more: usize,
+    line: Option<u16>,
+) -> Result<Vec<u8>, AllocError>
+    ensures { IfOk result (λ new. new.items ≡ text.items ++ more_text name.now more line) }
+{
+    let Some(line) = line else {
+        return Ok(text);
+    };
+    let text = with_place(text, name, None)?;
+    let text = with_decimal(text, more)?;
+    let text = with_bytes(text, b" more lines like line ")?;
+    let text = with_decimal(text, usize::from(line))?;
+    with_bytes(text, b"\n")
+}
+
+/// What is told of a fault among all faults of its text: of many that are alike the first alone.
+fn with_told<F>(
+    text: Vec<u8>,
+    name: &str,
+    faults: &[PlacedFault<F>],
+    placed: &PlacedFault<F>,
+    fault: &Fault,
+) -> Result<Vec<u8>, AllocError>
+    ensures { IfOk result (λ new. new.items
+        ≡ text.items ++ told_text (fault_text fault.now) name.now faults.now placed.now) }
+{
+    let Some(more) = more_alike(faults, placed.slip) else {
+        return with_place_of(text, name, placed, fault);
+    };
+    if first_alike(faults, placed.slip) != placed.line {
+        return Ok(text);
+    }
+    let text = with_place_of(text, name, placed, fault)?;
+    with_more(text, name, more, placed.line)
+}
+
 /// The lines of faults of a deck.
 pub fn with_deck_faults(
     mut text: Vec<u8>,
@@ -115,10 +171,10 @@ pub fn with_deck_faults(
     faults: &[PlacedFault<DeckFault>],
 ) -> Result<Vec<u8>, AllocError>
     ensures { IfOk result (λ new.
-        new.items ≡ text.items ++ flat_map (deck_fault_text name.now) faults.now) }
+        new.items ≡ text.items ++ flat_map (deck_fault_text name.now faults.now) faults.now) }
 {
     for placed in faults {
-        text = with_place_of(text, name, placed, &Fault::Deck(placed.fault))?;
+        text = with_told(text, name, faults, placed, &Fault::Deck(placed.fault))?;
     }
     Ok(text)
 }
@@ -130,10 +186,10 @@ pub fn with_input_faults(
     faults: &[PlacedFault<InputFault>],
 ) -> Result<Vec<u8>, AllocError>
     ensures { IfOk result (λ new.
-        new.items ≡ text.items ++ flat_map (input_fault_text name.now) faults.now) }
+        new.items ≡ text.items ++ flat_map (input_fault_text name.now faults.now) faults.now) }
 {
     for placed in faults {
-        text = with_place_of(text, name, placed, &Fault::Inputs(placed.fault))?;
+        text = with_told(text, name, faults, placed, &Fault::Inputs(placed.fault))?;
     }
     Ok(text)
 }

@@ -9,6 +9,7 @@ ghost use Rattle.drum_faults.specs.DeckFaults.{AreDeckFaults};
 use crate::deck_so_far::DeckSoFar;
 use crate::first_past::first_past;
 use crate::placed_fault::PlacedFault;
+use crate::slip::Slip;
 use drum_core::{Deck, DeckFault, DeckLine, Lines};
 use std::alloc::{AllocError, Global};
 
@@ -23,13 +24,13 @@ use std::alloc::{AllocError, Global};
 pub fn deck_faults(alloc: Global, text: &[u8]) -> Result<Vec<PlacedFault<DeckFault>>, AllocError>
     ensures { IfOk result (λ faults. AreDeckFaults text.now faults.items) }
 {
-    if let Some(number) = first_past(text, Deck::LINES, Deck::LINE) {
+    if let Some((number, line)) = first_past(text, Deck::LINES, Deck::LINE) {
         let mut faults = Vec::new(alloc);
         faults.push(PlacedFault {
             fault: DeckFault::TooLong,
             line: Some(number),
             earlier: None,
-            slip: None,
+            slip: Slip::of_long(line),
         })?;
         return Ok(faults);
     }

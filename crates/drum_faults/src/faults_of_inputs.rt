@@ -25,13 +25,13 @@ use std::alloc::{AllocError, Global};
 pub fn input_faults(alloc: Global, text: &[u8]) -> Result<Vec<PlacedFault<InputFault>>, AllocError>
     ensures { IfOk result (λ faults. AreInputFaults text.now faults.items) }
 {
-    if let Some(number) = first_past(text, Inputs::LINES, Inputs::LINE) {
+    if let Some((number, line)) = first_past(text, Inputs::LINES, Inputs::LINE) {
         let mut faults = Vec::new(alloc);
         faults.push(PlacedFault {
             fault: InputFault::TooLong,
             line: Some(number),
             earlier: None,
-            slip: None,
+            slip: Slip::of_long(line),
         })?;
         return Ok(faults);
     }

@@ -5,17 +5,17 @@ ghost use Rattle.drum_faults.specs.ByLine.{IsFirstPast};
 use drum_core::Lines;
 
 /// The number, from 1, of the first line of a text that stands behind the first `most` lines, or is
-/// longer than `longest` bytes.
-pub fn first_past(text: &[u8], most: u16, longest: usize) -> Option<u16>
+/// longer than `longest` bytes, and that line.
+pub fn first_past(text: &[u8], most: u16, longest: usize) -> Option<(u16, &[u8])>
     requires { most < 2 ^ 15 }
-    ensures found { IfSome result (IsFirstPast most longest text.now) }
+    ensures found { IfSome result (λ past. IsFirstPast most longest text.now past.0 past.1.now) }
     ensures none { IfNone result (¬ IsLonger most longest text.now) }
 {
     let mut number = 0;
     for line in (Lines { rest: text }) {
         number += 1;
         if number > most || line.len() > longest {
-            return Some(number);
+            return Some((number, line));
         }
     }
     None

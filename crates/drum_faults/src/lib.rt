@@ -2,24 +2,25 @@
 //! that tells all of them at once.
 //!
 //! Code, from the bottom up. `first_past` is the first line of a text that is past a limit. `slip`
-//! is what was done to a line that is no line of a deck or of inputs. `placed_fault` is a fault of
-//! a line, with the earlier line that it points at. `deck_so_far` is what the lines of a deck so
-//! far have given, and the fault of the next one. `faults_of_deck` has all faults of a deck's text,
-//! in the order of its lines, and `faults_of_inputs` those of a text of inputs. `loaded` are the
-//! locations that both a deck and inputs load. `named_text` is a text with its file's name, and
-//! `behind` a text in memory, with what is said of a fault behind it. `lines_of_faults` has the
-//! lines of all faults of a deck, a timing table, notes and inputs. `laws` has laws of the
-//! definitions.
+//! is what was done to a line that is no line of a deck or of inputs, by the tests of `slip_tests`.
+//! `placed_fault` is a fault of a line, with the earlier line that it points at. `deck_so_far` is
+//! what the lines of a deck so far have given, and the fault of the next one. `faults_of_deck` has
+//! all faults of a deck's text, in the order of its lines, and `faults_of_inputs` those of a text
+//! of inputs. `loaded` are the locations that both a deck and inputs load. `alike` are faults to
+//! whose lines the same was done. `named_text` is a text with its file's name, and `behind` a text
+//! in memory, with what is said of a fault behind it. `lines_of_faults` has the lines of all faults
+//! of a deck, a timing table, notes and inputs. `laws` has laws of the definitions.
 //!
-//! Definitions, in the order to read them: `ByLine` says what all faults of a text by lines are,
-//! `DeckFaults` which those of a deck's text, `InputFaults` those of inputs, `Slip` (with
-//! `SlipTests`) what was done to a line, and `FaultLines` the lines of all faults. `DeckSoFar` and
-//! `NamedTexts` say what the code's types mean by these.
+//! Definitions, in the order to read them: `Slip` (with `SlipTests`) says what was done to a line,
+//! `ByLine` what all faults of a text by lines are, `DeckFaults` which those of a deck's text,
+//! `InputFaults` those of inputs, `Alike` which of them are alike, and `FaultLines` the lines of
+//! all faults. `DeckSoFar` and `NamedTexts` say what the code's types mean by these.
 //!
 //! Proofs. They take the lines one after the other (`SoFar`, `Told`, `Placed`), and show that a
 //! text has one list of faults (`OneList`), the first of which is the reader's (`Begin`).
 #![tactic(auto)]
 
+mod alike;
 mod behind;
 mod deck_so_far;
 mod faults_of_deck;
@@ -31,6 +32,7 @@ mod loaded;
 mod named_text;
 mod placed_fault;
 mod slip;
+mod slip_tests;
 
 pub use faults_of_deck::deck_faults;
 pub use faults_of_inputs::input_faults;

@@ -1,7 +1,9 @@
-ghost use Rattle.std.specs.Prelude.{◌≡◌};
-ghost use Rattle.drum_faults.specs.SlipTests as sign;
+use crate::slip_tests::{
+    has_beside_digit, has_comment_behind, has_many_words, has_small_letter, has_unsigned, is_utf16,
+};
 
-/// What an editor or a transfer did to a line that is no line of a deck, or of inputs.
+/// What was done to a line that is no line of a deck, or of inputs: by an editor, by a transfer, or
+/// by whoever wrote it.
 #[derive(Clone, Copy, Debug, PartialEq, Eq)]
 pub enum Slip {
     /// The line begins with the three bytes that some editors put before a text in UTF-8.
@@ -10,13 +12,29 @@ pub enum Slip {
     Utf16,
     /// The line ends with a carriage return.
     CarriageReturn,
+    /// The line has no bytes.
+    Empty,
+    /// The line has a tab.
+    Tab,
+    /// The line ends with a blank.
+    BlankAtEnd,
+    /// Behind the words of a card stands a comment.
+    CommentBehind,
+    /// A letter `O` or `o` stands right beside a digit.
+    LetterO,
+    /// A letter `l` or `I` stands right beside a digit.
+    LetterL,
+    /// Ten digits stand between blanks, without a sign.
+    NoSign,
+    /// A card has more than seven words.
+    ManyWords,
     /// The line has letters from `a` to `z`.
     SmallLetters,
 }
 
 impl Slip {
     ghost use Rattle.std.specs.Prelude.{◌≡◌};
-    ghost use Rattle.drum_faults.specs.Slip.{slip_in};
+    ghost use Rattle.drum_faults.specs.Slip.{slip_in, slip_in_words, slip_in_long};
 
     /// What was done to a line of these bytes, if anything that is known.
     pub fn of(line: &[u8]) -> Option<Slip>
@@ -28,26 +46,47 @@ impl Slip {
             Some(Slip::Utf16)
         } else if line.ends_with(b"\r".as_slice()) {
             Some(Slip::CarriageReturn)
+        } else if line.is_empty() {
+            Some(Slip::Empty)
+        } else if line.contains(&b'\t') {
+            Some(Slip::Tab)
+        } else if line.ends_with(b" ".as_slice()) {
+            Some(Slip::BlankAtEnd)
+        } else {
+            Slip::of_words(line)
+        }
+    }
+
+    /// What is told of the words of a line, if anything that is known.
+    fn of_words(line: &[u8]) -> Option<Slip>
+        ensures { result ≡ slip_in_words line.now }
+    {
+        if has_comment_behind(line) {
+            Some(Slip::CommentBehind)
+        } else if has_beside_digit(line, b'O', b'o') {
+            Some(Slip::LetterO)
+        } else if has_beside_digit(line, b'I', b'l') {
+            Some(Slip::LetterL)
+        } else if has_unsigned(line) {
+            Some(Slip::NoSign)
+        } else if has_many_words(line) {
+            Some(Slip::ManyWords)
         } else if has_small_letter(line) {
             Some(Slip::SmallLetters)
         } else {
             None
         }
     }
-}
 
-/// Whether a line is of a text in UTF-16: it begins with the mark of that, or has a byte 0.
-fn is_utf16(line: &[u8]) -> bool
-    ensures { result ≡ sign.has_utf16 line.now }
-{
-    line.starts_with([255, 254].as_slice())
-        || line.starts_with([254, 255].as_slice())
-        || line.contains(&0)
-}
-
-/// Whether a line has a letter from `a` to `z`.
-fn has_small_letter(line: &[u8]) -> bool
-    ensures { result ≡ sign.has_small_letter line.now }
-{
-    line.iter().any(|byte| byte.is_ascii_lowercase())
+    /// What was done to a line that is past a limit, where only UTF-16 is looked for: it takes two
+    /// bytes for each letter.
+    pub fn of_long(line: &[u8]) -> Option<Slip>
+        ensures { result ≡ slip_in_long line.now }
+    {
+        if is_utf16(line) {
+            Some(Slip::Utf16)
+        } else {
+            None
+        }
+    }
 }
