@@ -87,9 +87,9 @@ pub fn counts_are_since()
         → count ≡ other }
 {}
 
-/// A run keeps to the notes exactly where the programmed switch is as declared, each stride keeps to
-/// them with the counts after the edges that the strides before it take, and each goes back as the
-/// calls along these edges have it.
+/// A run keeps to the notes exactly where the programmed switch is as declared, each stride keeps
+/// to them with the counts after the edges that the strides before it take, and each goes back as
+/// the calls along these edges have it.
 pub fn kept_stride_by_stride()
     ensures { (loads : ℕ → Option Word) (notes : Notes) (s : State) (strides : List Stride)
         → IsKept loads notes s strides ↔ (IsAsDeclared notes.programmed s.contents.programmed_stops

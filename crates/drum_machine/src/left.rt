@@ -11,7 +11,7 @@ pub enum Left {
     Switch,
     /// A load card was read, though the notes say that none is.
     LoadCard,
-    /// From the exit of a call, which is the one location, the run went on to the other, which isn't
+    /// From the exit of a call, which is the one location, the run went on to the other, and not to
     /// the way back that was open there.
     NotBack(Location, Location),
 }
