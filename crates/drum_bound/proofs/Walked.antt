@@ -16,7 +16,8 @@ use Rattle.drum_flow.proofs.LongestLaws.{longest_later, longest_is_timed}
 use Rattle.drum_flow.proofs.Profiles.{hop_may_end}
 use Rattle.drum_bound.specs.Scanned.{cell_at, end_from, LeadsOn, IsOpen, IsEndOf, IsBackedBy, Scanned}
 use Rattle.drum_bound.specs.Table.{start_angle, GoesOn, Arrive}
-use Rattle.drum_bound.specs.TakenOf.{units_of, wait_of, taken_of}
+use Rattle.drum_bound.specs.TakenOf.{taken_of}
+use Rattle.drum_flow.specs.Longest.{units_by, wait_by}
 
 -- Some walk from the angle behind the start's, with nothing used and no mark passed, goes on at the key's location at
 -- this clock by these hops: it has their time, and arrives where they do.
@@ -52,9 +53,9 @@ timed_of g order key hop angle begun there =
       ended =
           ended;
     }) (op_of hop.ins.op) in
-    let with_units : Timed (units_of hop.ins (op_of hop.ins.op)) (most_wait may.0 (g.times may.0)) =
-    subst (λ (units : ℕ). Timed units (most_wait may.0 (g.times may.0))) (ap (units_of hop.ins) (sym may.1)) timed in
-    subst (λ (wait : ℕ). Timed (units_of hop.ins (op_of hop.ins.op)) wait) (ap (wait_of g.times) (sym may.1)) with_units
+    let with_units : Timed (units_by hop.ins.d (op_of hop.ins.op)) (most_wait may.0 (g.times may.0)) =
+    subst (λ (units : ℕ). Timed units (most_wait may.0 (g.times may.0))) (ap (units_by hop.ins.d) (sym may.1)) timed in
+    subst (λ (wait : ℕ). Timed (units_by hop.ins.d (op_of hop.ins.op)) wait) (ap (wait_by g.times) (sym may.1)) with_units
 
 module _ (g : Setting) (order : List ℕ) (cells : List (Option Latest)) (last : Latest)
     (ordered : IsOrdered g.loads g.notes g.start order) (starts : g.start < 2000)

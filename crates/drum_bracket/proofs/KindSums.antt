@@ -7,11 +7,12 @@ use Rattle.drum_core.specs.declared.op.Op.{Op}
 use Rattle.drum_core.specs.Op.{op_of}
 use Rattle.drum_times.specs.declared.entry.Entry.{Entry}
 use Rattle.drum_flow.proofs.Lists.{contains_cases, contains_here, contains_none, contains_there}
+use Rattle.drum_flow.specs.Longest.{wait_by}
 use Rattle.drum_bound.specs.Visited.{Visited}
 use Rattle.drum_rounds.specs.InRounds.{takes}
 use Rattle.drum_rounds.specs.Pieces.{PlacedHop}
 use Rattle.drum_listing.specs.Moments.{is_early}
-use Rattle.drum_listing.specs.Waits.{for_cards, for_data, for_instruction, is_alike, longest_wait, time_of}
+use Rattle.drum_listing.specs.Waits.{for_cards, for_data, for_instruction, is_alike, time_of}
 use Rattle.drum_listing.proofs.LaterMoments.{at_once, data_once, instruction_once}
 use Rattle.drum_listing.proofs.WholeFits.{hop_whole}
 use Rattle.drum_bracket.specs.RoundsText.{from_to}
@@ -52,7 +53,7 @@ module _ (times : Op → Entry) (angle time : ℕ) (visit : Visited) (one : Plac
       data_once times angle one.angle visit at_angle ∙ ap (for_data times one.angle) once_alone
 
   pub same_cards : for_cards times visit ≡ waits_cards times one
-  same_cards = λ j. if is_early (laid.way j) then 0 else longest_wait times (op_of (laid.ins j).op)
+  same_cards = λ j. if is_early (laid.way j) then 0 else wait_by times (op_of (laid.ins j).op)
 
   -- it is of the kinds that the hop is of
   pub same_kinds : (seen : Visited) → is_alike seen visit ≡ is_alike seen (from_to 0 0 one)
@@ -64,11 +65,7 @@ module _ (times : Op → Entry) (angle time : ℕ) (visit : Visited) (one : Plac
     ended = 0;
   })
 
-  -- what it waits is part of what it takes
-  pub waits_fit : waits_instruction times one + waits_data times one ≤ takes times one
-  waits_fit = omega (arith, laid.fits, same_time, same_instruction, same_data)
-
-  -- and so is that with what it waits for the card machine
+  -- what it waits, for the card machine too, is part of what it takes
   pub waits_whole : waits_instruction times one + waits_data times one + waits_cards times one ≤ takes times one
   waits_whole =
       omega (

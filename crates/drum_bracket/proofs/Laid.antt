@@ -9,6 +9,7 @@ use Rattle.drum_bound.specs.Visited.{visited, AreLongest, Visited}
 use Rattle.drum_flow.specs.Longest.{longest}
 use Rattle.drum_listing.specs.Waits.{for_data, for_instruction, time_of}
 use Rattle.drum_listing.proofs.AddingUp.{follow, hop_fits}
+use Rattle.drum_listing.proofs.WholeFits.{known_op}
 use Rattle.drum_rounds.specs.declared.in_rounds.InRounds.{InRounds}
 use Rattle.drum_rounds.specs.InRounds.{angle_of, pieces_of, takes}
 use Rattle.drum_rounds.specs.Pieces.{placed, spelled, PlacedHop}
@@ -37,11 +38,6 @@ AreLaid times angle time (visit ∷ visits) (one ∷ hops) =
 AreLaid times angle time [] (one ∷ hops) = ⊥
 AreLaid times angle time (visit ∷ visits) [] = ⊥
 
-known_of : (times : Op → Entry) (angle : ℕ) (hop : Taken) (found : Option Op) → IsTimed times angle hop found
-    → (op : Op) × (found ≡ Some op)
-known_of times angle hop None timed = absurd timed
-known_of times angle hop (Some op) timed = (op, refl)
-
 from_walk : (g : Setting) (angle place time : ℕ) (counts : List ℕ) (hops : List Taken)
     → IsWalkFrom g angle place time counts hops → AreLongest g angle (map visited hops)
     → AreLaid g.times angle time (map visited hops) (map (placed_visit angle) (map visited hops))
@@ -57,8 +53,8 @@ from_walk g angle place time counts (hop ∷ hops) walk longest = (
     ended =
         subst (λ (n : ℕ). n + takes g.times (placed angle hop) ≡ hop.ended) walk.0.begins
         (hop_takes g.times angle hop longest.0);
-    op = (known_of g.times angle hop (op_of hop.ins.op) walk.0.timed).0;
-    known = (known_of g.times angle hop (op_of hop.ins.op) walk.0.timed).1;
+    op = (known_op g.times angle hop (op_of hop.ins.op) walk.0.timed).0;
+    known = (known_op g.times angle hop (op_of hop.ins.op) walk.0.timed).1;
     longest = longest.0;
     fits = hop_fits g.times angle hop walk.0.timed;
   },

@@ -24,6 +24,15 @@ most_wait Read entry = entry.wait_max
 most_wait Punch entry = entry.wait_max
 most_wait _ entry = 0
 
+-- the same of an instruction's operation, none where it has no operation
+abbrev pub units_by : ℕ → Option Op → ℕ
+units_by d None = 0
+units_by d (Some op) = most_units op d
+
+abbrev pub wait_by : (Op → Entry) → Option Op → ℕ
+wait_by times None = 0
+wait_by times (Some op) = most_wait op (times op)
+
 -- the clock at which a hop of this operation ends at the latest; of none, the clock itself
 abbrev pub longest_by : (Op → Entry) → ℕ → Instruction → Way → ℕ → Option Op → ℕ
 longest_by times place ins way clock None = clock

@@ -28,7 +28,7 @@ fn most_units(op: Op, d: u16) -> u64
 
 /// The longest wait for the card machine that the operation may have, in word times; at most
 /// 1,000,000.
-fn most_wait(op: Op, entry: Entry) -> u32
+pub fn most_wait(op: Op, entry: Entry) -> u32
     ensures value { result ≡ defined.most_wait op entry }
     ensures short { result ≤ 1000000 }
 {

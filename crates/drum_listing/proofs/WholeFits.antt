@@ -11,11 +11,11 @@ use Rattle.drum_times.specs.declared.entry.Entry.{Entry}
 use Rattle.drum_machine.specs.Counts.{AreWithin, after_pass}
 use Rattle.drum_machine.specs.Timing.{ended, found, reached, ready}
 use Rattle.drum_machine.specs.Ways.{Way, early, to, late}
-use Rattle.drum_flow.specs.Longest.{longest, longest_by, most_units, most_wait}
+use Rattle.drum_flow.specs.Longest.{longest, longest_by, most_units, most_wait, wait_by}
 use Rattle.drum_flow.specs.Walk.{end_by, IsTimed, IsWalkFrom, Setting, Taken}
 use Rattle.drum_bound.specs.Visited.{AreLongest, IsWalkOf, Visited, visited}
 use Rattle.drum_listing.specs.Moments.{is_early, moments_with}
-use Rattle.drum_listing.specs.Waits.{between, for_cards, for_data, for_instruction, longest_wait, time_of}
+use Rattle.drum_listing.specs.Waits.{between, for_cards, for_data, for_instruction, time_of}
 use Rattle.drum_listing.proofs.AddingUp.{follow, hop_fits, walk_takes, Fits}
 use Rattle.drum_listing.proofs.Waiting.{found_after, reached_after}
 
@@ -100,7 +100,7 @@ hop_whole times angle hop op known is fits = go (op_of hop.ins.op) known is fits
         → ((moments_with times angle hop.place hop.ins.d hop.way hop.begun seen).found - hop.begun)
         + between (moments_with times angle hop.place hop.ins.d hop.way hop.begun seen).ready
         (moments_with times angle hop.place hop.ins.d hop.way hop.begun seen).operand
-        + (if is_early hop.way then 0 else longest_wait times seen)
+        + (if is_early hop.way then 0 else wait_by times seen)
         ≤ hop.ended - hop.begun
     go None none at fits = absurd (cc)
     go (Some seen) same at fits = by_way seen hop.way (is_operand (operand_of seen) hop.ins.d) at fits
@@ -127,7 +127,7 @@ whole_cons times angle hop walk fits rest =
     )
 
 -- a hop of a walk has an operation
-known_op : (times : Op → Entry) (angle : ℕ) (hop : Taken) (seen : Option Op) → IsTimed times angle hop seen
+pub known_op : (times : Op → Entry) (angle : ℕ) (hop : Taken) (seen : Option Op) → IsTimed times angle hop seen
     → (op : Op) × (seen ≡ Some op)
 known_op times angle hop None timed = absurd timed
 known_op times angle hop (Some op) timed = (op, refl)

@@ -7,7 +7,7 @@ use Rattle.drum_core.specs.Op.{op_of}
 use Rattle.drum_times.specs.declared.entry.Entry.{Entry}
 use Rattle.drum_machine.specs.Timing.{waits_for_operand}
 use Rattle.drum_machine.specs.Ways.{Way, early, to, late}
-use Rattle.drum_flow.specs.Longest.{most_wait}
+use Rattle.drum_flow.specs.Longest.{wait_by}
 use Rattle.drum_bound.specs.Visited.{Visited}
 use Rattle.drum_listing.specs.declared.moments.Moments.{Moments}
 use Rattle.drum_listing.specs.Moments.{is_early, moments_of}
@@ -34,12 +34,8 @@ for_data times angle hop =
     between (moments_at times angle hop).ready (moments_at times angle hop).operand
 
 -- for the card machine: as long as its operation may have to, unless the step stops before it acts
-abbrev pub longest_wait : (Op → Entry) → Option Op → ℕ
-longest_wait times None = 0
-longest_wait times (Some op) = most_wait op (times op)
-
 abbrev pub for_cards : (Op → Entry) → Visited → ℕ
-for_cards times hop = if is_early hop.way then 0 else longest_wait times (op_of hop.ins.op)
+for_cards times hop = if is_early hop.way then 0 else wait_by times (op_of hop.ins.op)
 
 -- ---- hops of one kind
 

@@ -29,7 +29,8 @@ use Rattle.drum_rounds.specs.Change.{all_followed, counts_after, over_rounds, pa
 use Rattle.drum_rows.specs.Marked.{mark_by}
 use Rattle.drum_rounds.specs.InRounds.{takes}
 use Rattle.drum_rounds.specs.Pieces.{placed, repeated, PlacedHop}
-use Rattle.drum_rounds.specs.Stretch.{changes_by, edges_placed, laid, laid_one, next_by, units_by, wait_by, ComeTo, GoOn, Span}
+use Rattle.drum_rounds.specs.Stretch.{changes_by, edges_placed, laid, laid_one, next_by, ComeTo, GoOn, Span}
+use Rattle.drum_flow.specs.Longest.{units_by, wait_by}
 use Rattle.drum_rounds.proofs.CountLaws.{at_followed, at_rounds, counts_followed, counts_once, counts_others, long_by}
 use Rattle.drum_rounds.proofs.CountLaws.{long_followed, passes_followed, passes_rounds, within_first, within_followed}
 use Rattle.drum_rounds.proofs.CountLaws.{within_none, within_others, within_passed}

@@ -4,12 +4,11 @@ use Rattle.std.specs.Prelude.{flat_map, length, map, slice_get, sum_by, Option, 
 use Rattle.drum_core.specs.declared.location.Location.{Location}
 use Rattle.drum_core.specs.declared.op.Op.{Op}
 use Rattle.drum_core.specs.Op.{op_of}
-use Rattle.drum_times.specs.declared.entry.Entry.{Entry}
 use Rattle.drum_times.specs.declared.notes.mark.Mark.{Mark}
 use Rattle.drum_machine.specs.Counts.{is_inside, no_counts, AreWithin}
 use Rattle.drum_machine.specs.Since.{Edge, passes_of}
 use Rattle.drum_machine.specs.Ways.{Way, early, to, late}
-use Rattle.drum_flow.specs.Longest.{longest, most_units, most_wait}
+use Rattle.drum_flow.specs.Longest.{longest, units_by, wait_by}
 use Rattle.drum_flow.specs.Walk.{edge_taken}
 use Rattle.drum_flow.specs.Walk.{Setting, Taken, IsWalkFrom, time_from}
 use Rattle.drum_rounds.specs.declared.change.Change.{Change}
@@ -40,14 +39,6 @@ span_of stretch = record {
   time = stretch.time;
   changes = stretch.changes.items;
 }
-
-abbrev pub units_by : ℕ → Option Op → ℕ
-units_by d None = 0
-units_by d (Some op) = most_units op d
-
-abbrev pub wait_by : (Op → Entry) → Option Op → ℕ
-wait_by times None = 0
-wait_by times (Some op) = most_wait op (times op)
 
 -- the hop, begun at this time, as long as it can be
 abbrev pub laid_one : Setting → ℕ → ℕ → PlacedHop → Taken

@@ -9,11 +9,12 @@ use crate::moments::Moments;
 use crate::told::Told;
 use drum_bound::Way;
 use drum_core::Op;
+use drum_flow::longest::most_wait;
 use drum_times::Times;
 
 /// How long a hop waits for the card machine, in word times: as long as its operation may have to,
 /// unless the step stops before it acts.
-fn longest_wait(told: &Told, times: &Times) -> u32
+fn card_wait(told: &Told, times: &Times) -> u32
     ensures { result ≡ for_cards (entry_in times.now) (seen_told told.now) }
 {
     if matches!(told.way, Way::Early) {
@@ -22,10 +23,7 @@ fn longest_wait(told: &Told, times: &Times) -> u32
     let Some(op) = Op::of(told.instruction.op()) else {
         return 0;
     };
-    match op {
-        Op::Read | Op::Punch => times.entry(op).wait_max,
-        _ => 0,
-    }
+    most_wait(op, times.entry(op))
 }
 
 /// What a hop takes, in word times.
@@ -64,7 +62,7 @@ impl Spent {
             time: told.ended.saturating_sub(told.begun),
             instruction: moments.found - told.begun,
             operand,
-            cards: u64::from(longest_wait(told, times)),
+            cards: u64::from(card_wait(told, times)),
         }
     }
 }
