@@ -5,6 +5,7 @@ use Rattle.drum_core.specs.declared.deck.Deck.{Deck}
 use Rattle.drum_core.specs.declared.word.Word.{Word}
 use Rattle.drum_core.specs.Loads.{loads_in, start_in}
 use Rattle.drum_times.specs.Allowed.{Notes, AreSound}
+use Rattle.drum_machine.specs.Calls.{none_open}
 use Rattle.drum_flow.specs.declared.accepted_flow.AcceptedFlow.{AcceptedFlow}
 use Rattle.drum_flow.specs.Accepted.{counts_of, IsAccepted}
 use Rattle.drum_flow.specs.Flow.{deck_of, notes_of, executed_in, AreFound}
@@ -13,7 +14,8 @@ use Rattle.drum_flow.specs.Free.{IsFreeOrder}
 use Rattle.drum_flow.specs.Graph.{AreDifferent}
 use Rattle.drum_flow.proofs.Acceptances.{moved}
 use Rattle.drum_flow.proofs.Members.{no_more}
-use Rattle.drum_flow.proofs.Orders.{all_found, lead_push}
+use Rattle.drum_flow.proofs.Orders.{first_reached, order_found}
+use Rattle.drum_flow.proofs.Plain.{executed_next}
 use Rattle.drum_bound.specs.Keys.{keys_of, IsOrdered}
 use Rattle.drum_bound.specs.KeysOf.{CanHaveKeys}
 
@@ -21,9 +23,7 @@ module _ (loads : ℕ → Option Word) (notes : Notes) (start : ℕ) (executed :
     (accepted : IsAccepted loads notes start executed) where
   -- The executed locations of an accepted deck are just the members of the order of discovery.
   pub are_executed : AreFound loads notes start executed
-  are_executed =
-      all_found loads notes start accepted.admitted.order.count executed accepted.admitted.order.after
-      accepted.admitted.order.all
+  are_executed = order_found loads notes start executed accepted.admitted.order
 
   module _ (order : List ℕ) (free : IsFreeOrder loads notes executed order) (different : AreDifferent executed) where
     -- The order has as many locations as are executed.
@@ -34,12 +34,12 @@ module _ (loads : ℕ → Option Word) (notes : Notes) (start : ℕ) (executed :
     -- Keys can be made of the order.
     pub is_ordered : AreSound notes → IsOrdered loads notes start order
     is_ordered sound = record {
-      starts = free.all start (are_executed.all start ([], refl));
+      starts = free.all start (are_executed.all start (none_open notes.calls, first_reached loads notes start));
       different = free.different;
       closed = λ place next has edge.
-          let is = are_executed.only place (free.only place has) in
           free.all next (are_executed.all next
-          (is.0 ++ next ∷ [], lead_push loads notes start start place next is.0 is.1 edge));
+          (executed_next loads notes sound.without_calls start place next (are_executed.only place (free.only place has))
+          edge));
       onward = free.onward;
       sound = sound;
       few = few;

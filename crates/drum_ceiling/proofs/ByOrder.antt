@@ -18,14 +18,17 @@ use Rattle.drum_rotation.proofs.Waited.{first_again}
 use Rattle.drum_flow.specs.Accepted.{IsAdmitted}
 use Rattle.drum_flow.specs.Free.{IsFreeOrder}
 use Rattle.drum_flow.specs.Graph.{height, height_by}
-use Rattle.drum_flow.specs.Hops.{Hop, hops, IsEdge, IsExecuted}
+use Rattle.drum_flow.specs.Hops.{Hop, hops, IsEdge}
 use Rattle.drum_flow.specs.Longest.{longest}
 use Rattle.drum_flow.specs.Walk.{IsProper, Setting}
 use Rattle.drum_flow.proofs.FromAngles.{found_angle}
 use Rattle.drum_flow.proofs.Heights.{height_low, lower}
 use Rattle.drum_flow.proofs.Lists.{contains_cases, contains_here, contains_none, contains_there}
 use Rattle.drum_flow.proofs.Members.{no_more}
-use Rattle.drum_flow.proofs.Orders.{has_executed, has_only, lead_push}
+use Rattle.drum_flow.proofs.Orders.{first_reached, order_found}
+use Rattle.drum_flow.proofs.Plain.{executed_next}
+use Rattle.drum_flow.specs.Flow.{AreFound}
+use Rattle.drum_machine.specs.Calls.{none_open}
 use Rattle.drum_rows.specs.Steps.{TakesAtMost}
 use Rattle.drum_ceiling.specs.Affine.{cost_left, owed_by, Affine}
 use Rattle.drum_ceiling.specs.Certificate.{IsCertificate, IsOpen, Pays}
@@ -201,21 +204,20 @@ module _ (g : Setting) (executed order : List ℕ) (proper : IsProper g)
   abbrev pub cost : List ℕ → ℕ
   cost counts = cost_left (λ j. true) 0 marks prices counts
 
+  are_found : AreFound g.loads g.notes g.start executed
+  are_found = order_found g.loads g.notes g.start executed admitted.order
+
   -- where an edge of a place of the order leads is in the order
   next_there : (place next : ℕ) → Contains order place → IsEdge g.loads g.notes place next → Contains order next
   next_there place next there edge =
-      let is : IsExecuted g.loads g.notes g.start place =
-      has_only g.loads g.notes g.start admitted.order.count executed admitted.order.after admitted.order.all place
-      (free.only place there) in
       free.all next
-      (has_executed g.loads g.notes g.start admitted.order.count executed admitted.order.after admitted.order.all next
-      (is.0 ++ next ∷ [], lead_push g.loads g.notes g.start g.start place next is.0 is.1 edge))
+      (are_found.all next
+      (executed_next g.loads g.notes proper.notes.without_calls g.start place next (are_found.only place (free.only place there))
+      edge))
 
   pub start_there : Contains order g.start
   start_there =
-      free.all g.start
-      (has_executed g.loads g.notes g.start admitted.order.count executed admitted.order.after admitted.order.all
-      g.start ([], refl))
+      free.all g.start (are_found.all g.start (none_open g.notes.calls, first_reached g.loads g.notes g.start))
 
   -- a level is no more than as much for all places
   low : (place : ℕ) → height order place * most ≤ unit

@@ -8,7 +8,8 @@ use Rattle.drum_flow.specs.Accepted.{told, IsAdmitted}
 use Rattle.drum_flow.specs.Free.{IsFreeOrder}
 use Rattle.drum_flow.specs.Graph.{height}
 use Rattle.drum_flow.specs.Walk.{IsProper, Setting}
-use Rattle.drum_flow.proofs.Orders.{has_executed}
+use Rattle.drum_flow.proofs.Orders.{first_reached, order_found}
+use Rattle.drum_machine.specs.Calls.{none_open}
 use Rattle.drum_flow.proofs.Products.{told_exact}
 use Rattle.drum_rows.specs.Steps.{TakesAtMost}
 use Rattle.drum_ceiling.specs.Affine.{owed_by}
@@ -64,8 +65,8 @@ module _ (g : Setting) (executed order : List ℕ) (proper : IsProper g)
   some_words : 1 ≤ words
   some_words =
       let there : Contains executed g.start =
-      has_executed g.loads g.notes g.start admitted.order.count executed admitted.order.after admitted.order.all g.start
-      ([], refl) in
+      (order_found g.loads g.notes g.start executed admitted.order).all g.start
+      (none_open g.notes.calls, first_reached g.loads g.notes g.start) in
       omega (arith, there.1)
 
   exact : unit * more ≡ product

@@ -5,12 +5,12 @@ use Rattle.std.specs.Prelude.{Contains, IsTrue, flat_map}
 use Rattle.drum_core.specs.declared.word.Word.{Word}
 use Rattle.drum_times.specs.Allowed.{Notes}
 use Rattle.drum_times.specs.Short.{is_short}
-use Rattle.drum_flow.specs.Accepted.{IsAccepted, IsAdmitted, IsFree, product_of}
+use Rattle.drum_flow.specs.Accepted.{IsAccepted, IsAdmitted, IsFreeLink, product_of}
 use Rattle.drum_flow.specs.Graph.{LeadRound}
+use Rattle.drum_flow.specs.Hops.{Node}
 use Rattle.drum_flow.proofs.Acceptances.{one_order}
 use Rattle.drum_flow.proofs.Lists.{contains_here}
-use Rattle.drum_flow.proofs.Orders.{lead_push}
-use Rattle.drum_loops.specs.Loops.{IsFreeBeside, LeadBy}
+use Rattle.drum_loops.specs.Loops.{IsFreeBut}
 use Rattle.drum_check.specs.Findings.{AreFindings, Finding}
 use Rattle.drum_check.specs.Findings.{altering, too_many, unfit, AreLooseEnds}
 use Rattle.drum_check.proofs.Fits.{good_fit, unaltering}
@@ -18,14 +18,13 @@ use Rattle.drum_check.proofs.Nothing.{all_nothing}
 use Rattle.drum_check.proofs.Sizes.{long_untold, small_untold}
 use Rattle.drum_check.proofs.Tellings.{none_told}
 
--- edges that lead back close a list of edges free of marks
-round_back : (loads : ℕ → Option Word) (notes : Notes) (edges : List (ℕ × ℕ)) (first node last : ℕ) (through : List ℕ)
-    → LeadBy (IsFreeBeside loads notes edges) node through last → IsFree loads notes last first
-    → LeadRound (IsFree loads notes) first node through
-round_back loads notes edges first node last [] lead free =
-    subst (λ (n : ℕ). IsFree loads notes n first) (sym lead) free
-round_back loads notes edges first node last (next ∷ nexts) lead free =
-    (lead.0.0, round_back loads notes edges first next last nexts lead.1 free)
+-- what leads round is free of marks
+round_free : (loads : ℕ → Option Word) (notes : Notes) (edges : List (ℕ × ℕ)) (edge : ℕ × ℕ) (first node : Node)
+    (nodes : List Node) → LeadRound (IsFreeBut loads notes edges edge) first node nodes
+    → LeadRound (IsFreeLink loads notes) first node nodes
+round_free loads notes edges edge first node [] round = round.0
+round_free loads notes edges edge first node (next ∷ nodes) round =
+    (round.0.0, round_free loads notes edges edge first next nodes round.1)
 
 module _ (loads : ℕ → Option Word) (notes : Notes) (start : ℕ) (executed : List ℕ) (findings : List Finding)
     (a : AreFindings loads notes start findings) (admitted : IsAdmitted loads notes start executed) where
@@ -43,14 +42,11 @@ module _ (loads : ℕ → Option Word) (notes : Notes) (start : ℕ) (executed :
   no_edge : (edges : List (ℕ × ℕ)) → a.edges ≡ edges → a.edges ≡ []
   no_edge [] same = same
   no_edge (edge ∷ edges) same =
-      let there : Contains a.edges (edge.0, edge.1) =
+      let there : Contains a.edges edge =
       subst (λ (all : List (ℕ × ℕ)). Contains all edge) (sym same) (contains_here edge edges) in
-      let free = a.closing.free edge.0 edge.1 there in
-      let from = a.closing.executed edge.0 edge.1 there in
-      let back = a.closing.needed edge.0 edge.1 there in
-      absurd (admitted.bounded edge.1 back.0
-      (from.0 ++ edge.1 ∷ [], lead_push loads notes start start edge.0 edge.1 from.0 from.1 free.0)
-      (round_back loads notes a.edges edge.1 edge.1 edge.0 back.0 back.1 free))
+      let is = a.closing.needed edge there in
+      absurd (admitted.bounded is.first is.others is.within
+      (round_free loads notes a.edges edge is.first is.first is.others is.closed))
 
   same : a.executed ≡ executed
   same = one_order loads notes start a.executed executed a.found.order admitted.order

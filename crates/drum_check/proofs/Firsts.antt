@@ -16,16 +16,14 @@ use Rattle.drum_flow.specs.declared.refusal.Refusal.TheVariants.{Memory, NotLoad
 use Rattle.drum_flow.specs.declared.refusal.Refusal.TheVariants.{TooLarge}
 use Rattle.drum_flow.specs.Acceptance.{IsAdmissionRefusal, IsRefusal}
 use Rattle.drum_flow.specs.Accepted as said
-use Rattle.drum_flow.specs.Accepted.{IsAltered, IsFirstOutside, IsFree, IsGood, IsLowestAltered, IsMet}
+use Rattle.drum_flow.specs.Accepted.{IsAltered, IsFirstOutside, IsFreeLink, IsGood, IsLowestAltered, IsMet}
 use Rattle.drum_flow.specs.Accepted.{IsFreeRound, IsNotInProfile, IsNotLoaded, IsSound, IsTooLarge, product_of, told}
 use Rattle.drum_flow.proofs.Products.{many_told}
-use Rattle.drum_flow.specs.Executed.{added_by, found_after}
 use Rattle.drum_flow.specs.Graph.{IsClosed}
-use Rattle.drum_flow.proofs.Acceptances.{one_order}
+use Rattle.drum_flow.specs.Hops.{IsNode, Node}
+use Rattle.drum_flow.proofs.Acceptances.{met_first, one_order}
 use Rattle.drum_flow.proofs.Alterations.{split_at}
-use Rattle.drum_flow.proofs.Lists.{contains_at, contains_here}
-use Rattle.drum_flow.proofs.Members.{no_more}
-use Rattle.drum_flow.proofs.Orders.{found_different, only_executed, with_new_keeps}
+use Rattle.drum_flow.proofs.Lists.{contains_at, contains_here, contains_there}
 use Rattle.drum_check.specs.Findings.{AreFindings, Finding, not_loaded, not_in_profile, alters, too_large, closes}
 use Rattle.drum_check.specs.Findings.{altered, altered_by, altering, is_fixed, not_there, operations_outside, outside}
 use Rattle.drum_check.specs.Findings.{too_many, unfit}
@@ -57,20 +55,6 @@ taken_at xs count x there =
     )
 
 module _ (loads : ℕ → Option Word) (notes : Notes) (start : ℕ) where
-  -- what was found stays where it was
-  found_stays : (before after k x : ℕ) → before ≤ after → slice_get (found_after loads notes start before) k ≡ Some x
-      → slice_get (found_after loads notes start after) k ≡ Some x
-  found_stays before zero k x le e =
-      let same : before ≡ 0 = omega (arith, le) in
-      sym (ap (λ (t : ℕ). slice_get (found_after loads notes start t) k) same) ∙ e
-  found_stays before (suc after) k x le e = elim (cases_lt after before) [
-    | inl last ↦ (let same : before ≡ suc after = omega (arith, le, last) in
-        sym (ap (λ (t : ℕ). slice_get (found_after loads notes start t) k) same) ∙ e)
-    | inr earlier ↦ with_new_keeps (found_after loads notes start after)
-        (added_by loads notes (slice_get (found_after loads notes start after) after)) k x
-        (found_stays before after k x earlier e)
-  ]
-
   -- an operation outside the profile, of which none comes before it
   outside_first : (place op : ℕ) → IsFirstOutside loads notes place op
       → BeginsWith (operations_outside loads notes place) op
@@ -84,6 +68,18 @@ module _ (loads : ℕ → Option Word) (notes : Notes) (start : ℕ) where
       known : {b : Bool} (a : Bool) → b ≡ a → ¬ (b ≡ false) → b ≡ true
       known true e out = e
       known false e out = absurd (out e)
+
+  -- a location with one isn't good
+  outside_not_good : (place op : ℕ) → IsFirstOutside loads notes place op → ¬ IsGood loads notes place
+  outside_not_good place op (ins, (before, after, split, has, none), same) good =
+      let inside : is_some (op_of ins.op) ≡ true =
+      good.1 ins (subst (λ (all : List Instruction). Contains all ins) (sym split) (within before after)) in
+      let clash : ◌≡◌ {A = Bool} true false = sym inside ∙ has in
+      cc
+    where
+      within : (before after : List Instruction) → Contains (before ++ ins ∷ after) ins
+      within [] after = contains_here ins after
+      within (one ∷ before) after = contains_there one ins (before ++ ins ∷ after) (within before after)
 
   module _ (findings : List Finding) (a : AreFindings loads notes start findings) where
     abbrev first_part : List Finding
@@ -131,43 +127,16 @@ module _ (loads : ℕ → Option Word) (notes : Notes) (start : ℕ) where
         (ap (λ (xs : List Finding). xs ++ second_part ++ third_part) none
         ∙ ap (λ (xs : List Finding). xs ++ third_part) nor ∙ neither) begins))
 
-    -- a location that discovery meets, and those before it
-    met_early : (place : ℕ) (met : IsMet loads notes start place) → met.count < a.found.order.count
-    met_early place met =
-        let inside = slice_get_within (found_after loads notes start met.count) met.count place met.member in
-        let few : length (found_after loads notes start met.count) ≤ length a.executed =
-        no_more (found_after loads notes start met.count) a.executed (found_different loads notes start met.count)
-        (λ x there. a.found.all x (only_executed loads notes start met.count x there)) in
-        omega (arith, inside, few, a.found.order.all)
-
-    met_here : (place : ℕ) (met : IsMet loads notes start place) → slice_get a.executed met.count ≡ Some place
-    met_here place met =
-        sym (ap (λ (xs : List ℕ). slice_get xs met.count) a.found.order.after
-        ∙ refl)
-        ∙ found_stays met.count a.found.order.count met.count place (omega (arith, met_early place met)) met.member
-
-    met_before : (place : ℕ) (met : IsMet loads notes start place) (other : ℕ)
-        → Contains (take met.count a.executed) other → IsGood loads notes other
-    met_before place met other there =
-        let at = taken_at a.executed met.count other there in
-        let inside : at.0 < length (found_after loads notes start met.count) =
-        omega (arith, at.1, slice_get_within (found_after loads notes start met.count) met.count place met.member) in
-        let was : ℕ = get_or (found_after loads notes start met.count) at.0 0 in
-        let there_then : slice_get (found_after loads notes start met.count) at.0 ≡ Some was =
-        slice_get-get_or (found_after loads notes start met.count) at.0 0 inside in
-        let now : slice_get a.executed at.0 ≡ Some was =
-        sym (ap (λ (xs : List ℕ). slice_get xs at.0) a.found.order.after ∙ refl)
-        ∙ found_stays met.count a.found.order.count at.0 was (omega (arith, met_early place met)) there_then in
-        let same : ◌≡◌ {A = Option ℕ} (Some was) (Some other) = sym now ∙ at.2 in
-        let one : was ≡ other = cc in
-        met.before at.0 other at.1 (there_then ∙ ap Some one)
-
-    unfit_first : (place : ℕ) (met : IsMet loads notes start place) (x : Finding)
+    -- a location that discovery meets first with something wrong, and those before it
+    unfit_first : (place : ℕ) → IsMet loads notes start place → ¬ IsGood loads notes place → (x : Finding)
         → BeginsWith (unfit loads notes place) x → BeginsWith findings x
-    unfit_first place met x begins =
-        told_first x (begins_flat (unfit loads notes) a.executed (take met.count a.executed)
-        (drop (met.count + 1) a.executed) place x (split_at a.executed met.count place (met_here place met))
-        (λ other there. good_fit loads notes other (met_before place met other there)) begins)
+    unfit_first place met bad x begins =
+        let is = met_first loads notes start a.executed a.found.order place met bad in
+        told_first x (begins_flat (unfit loads notes) a.executed (take is.0 a.executed)
+        (drop (is.0 + 1) a.executed) place x (split_at a.executed is.0 place is.1)
+        (λ other there.
+        let at = taken_at a.executed is.0 other there in
+        good_fit loads notes other (is.2 at.0 other at.1 at.2)) begins)
 
     -- where nothing is wrong with the locations, and where none alters
     all_good : ((place : ℕ) → Contains a.executed place → IsGood loads notes place) → first_part ≡ []
@@ -238,17 +207,16 @@ module _ (loads : ℕ → Option Word) (notes : Notes) (start : ℕ) where
         → (edge : ℕ × ℕ) × (mark : Within) × BeginsWith findings (closes edge mark)
     round_first cycle small is = go a.edges refl
       where
-        closed : (places : List ℕ) → cycle ≡ places → a.edges ≡ [] → IsClosed (IsFree loads notes) places → ⊥
-        closed [] same none round = round
-        closed (place ∷ places) same none round =
-            a.closing.enough place places
-            (is.executed place
-            (subst (λ (all : List ℕ). Contains all place) (sym same) (contains_here place places)))
-            (round_left loads notes a.edges place place places none round)
+        closed : (nodes : List Node) → ((node : Node) → Contains nodes node → IsNode loads notes start node)
+            → a.edges ≡ [] → IsClosed (IsFreeLink loads notes) nodes → ⊥
+        closed [] reached none round = round
+        closed (first ∷ others) reached none round =
+            a.closing.enough first others (reached first (contains_here first others))
+            (round_left loads notes a.edges first first others none round)
 
         go : (edges : List (ℕ × ℕ)) → a.edges ≡ edges
             → (edge : ℕ × ℕ) × (mark : Within) × BeginsWith findings (closes edge mark)
-        go [] none = absurd (closed cycle refl none is.closed)
+        go [] none = absurd (closed is.round.nodes is.round.within none is.round.closed)
         go (edge ∷ edges) same =
             let parts = sound_parts is.sound in
             let first = first_told loads notes start a.executed edge edges a.loops
@@ -257,7 +225,7 @@ module _ (loads : ℕ → Option Word) (notes : Notes) (start : ℕ) where
 
     unloaded_first : (place : ℕ) → IsNotLoaded loads notes start place → BeginsWith findings (not_loaded place)
     unloaded_first place is =
-        unfit_first place is.0 (not_loaded place)
+        unfit_first place is.0 (λ good. is.1 good.0) (not_loaded place)
         (begins_left (not_there loads notes place)
         (map (not_in_profile place) (operations_outside loads notes place))
         (not_loaded place) ([], absent_told loads notes place is.1))
@@ -265,7 +233,7 @@ module _ (loads : ℕ → Option Word) (notes : Notes) (start : ℕ) where
     operation_first : (place op : ℕ) → IsNotInProfile loads notes start place op
         → BeginsWith findings (not_in_profile place op)
     operation_first place op is =
-        unfit_first place is.0 (not_in_profile place op)
+        unfit_first place is.0 (λ good. outside_not_good place op is.2 good) (not_in_profile place op)
         (begins_behind (not_there loads notes place)
         (map (not_in_profile place) (operations_outside loads notes place))
         (not_in_profile place op) (there_untold loads notes place is.1)

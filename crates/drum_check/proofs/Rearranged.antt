@@ -13,8 +13,9 @@ use Rattle.std.proofs.lemmas.Option.{get_or_from_slice_get, slice_get_within}
 use Rattle.drum_core.specs.declared.word.Word.{Word}
 use Rattle.drum_times.specs.Allowed.{Notes}
 use Rattle.drum_flow.specs.Graph.{LeadRound}
+use Rattle.drum_flow.specs.Hops.{Node}
 use Rattle.drum_flow.proofs.Lists.{contains_cases, contains_here, contains_none, contains_there}
-use Rattle.drum_loops.specs.Loops.{AreApart, AreClosing, IsFreeBeside, LeadBy}
+use Rattle.drum_loops.specs.Loops.{AreApart, AreClosing, IsFreeBeside, IsFreeBut}
 use Rattle.drum_check.specs.Among.{AreThose}
 use Rattle.drum_check.specs.Insides.{AreFewestFirst, AreSoMany}
 use Rattle.drum_check.proofs.Unsaids.{those_one}
@@ -179,14 +180,8 @@ once_apart (a ∷ xs) once = (
     twice : 1 + times (same_edge a) xs ≤ 1 → 1 ≤ times (same_edge a) xs → ⊥
     twice few some = omega (arith, few, some)
 
--- links of one kind that are links of another lead as they do
-lead_along : (L M : ℕ → ℕ → Type 0) → ((a b : ℕ) → L a b → M a b) → (node : ℕ) (through : List ℕ) (last : ℕ)
-    → LeadBy L node through last → LeadBy M node through last
-lead_along L M along node [] last lead = lead
-lead_along L M along node (next ∷ nexts) last lead =
-    (along node next lead.0, lead_along L M along next nexts last lead.1)
-
-round_along : (L M : ℕ → ℕ → Type 0) → ((a b : ℕ) → L a b → M a b) → (first node : ℕ) (xs : List ℕ)
+-- links of one kind that are links of another lead round as they do
+round_along : (L M : Node → Node → Type 0) → ((a b : Node) → L a b → M a b) → (first node : Node) (xs : List Node)
     → LeadRound L first node xs → LeadRound M first node xs
 round_along L M along first node [] lead = along node first lead
 round_along L M along first node (next ∷ nexts) lead =
@@ -202,18 +197,19 @@ module _ (loads : ℕ → Option Word) (notes : Notes) (start : ℕ) (xs ys : Li
 
   pub closing_moved : AreClosing loads notes start ys
   closing_moved = record {
-    executed = λ from onto there. closing.executed from onto (back (from, onto) there);
-    free = λ from onto there. closing.free from onto (back (from, onto) there);
-    needed =
-        λ from onto there. let lead = closing.needed from onto (back (from, onto) there) in (
-          lead.0,
-          lead_along (IsFreeBeside loads notes xs) (IsFreeBeside loads notes ys)
-              (λ a b left. (left.0, λ one. left.1 (back (a, b) one))) onto lead.0 from lead.1,
-        );
+    needed = λ edge there.
+        let is = closing.needed edge (back edge there) in
+        record {
+          first = is.first;
+          others = is.others;
+          within = is.within;
+          closed = round_along (IsFreeBut loads notes xs edge) (IsFreeBut loads notes ys edge)
+              (λ a b free. (free.0, λ one. free.1 (back (a.place, b.place) one))) is.first is.first is.others is.closed;
+        };
     enough =
-        λ first others executed closed. closing.enough first others executed
+        λ first others reached closed. closing.enough first others reached
         (round_along (IsFreeBeside loads notes ys) (IsFreeBeside loads notes xs)
-        (λ a b left. (left.0, λ one. left.1 (forth (a, b) one))) first first others closed);
+        (λ a b left. (left.0, λ one. left.1 (forth (a.place, b.place) one))) first first others closed);
     apart =
         once_apart ys (λ x. omega (
           arith,

@@ -8,10 +8,10 @@ use Rattle.drum_core.specs.Op.{op_of}
 use Rattle.drum_times.specs.Allowed.{Notes, allowed, is_listed}
 use Rattle.drum_times.specs.Short.{is_short}
 use Rattle.drum_machine.specs.Writes.{writes}
-use Rattle.drum_flow.specs.Accepted.{IsAccepted, IsAdmitted, IsFixed, IsFree, IsInProfile, IsThere, product_of}
+use Rattle.drum_flow.specs.Accepted.{IsAccepted, IsAdmitted, IsFixed, IsFreeLink, IsInProfile, IsThere, product_of}
 use Rattle.drum_flow.specs.Flow.{AreFound}
 use Rattle.drum_flow.specs.Graph.{LeadRound}
-use Rattle.drum_flow.specs.Hops.{IsExecuted}
+use Rattle.drum_flow.specs.Hops.{IsExecuted, Node}
 use Rattle.drum_flow.proofs.Acceptances.{one_order}
 use Rattle.drum_flow.proofs.Lists.{contains_here, contains_none}
 use Rattle.drum_loops.specs.Loops.{IsFreeBeside}
@@ -28,13 +28,17 @@ use Rattle.drum_check.proofs.Tellings.{told_none}
 use Rattle.drum_check.proofs.Unsaids.{those_one}
 
 -- edges free of marks where there are none that close loops
-pub round_left : (loads : ℕ → Option Word) (notes : Notes) (edges : List (ℕ × ℕ)) (first node : ℕ) (xs : List ℕ)
-    → edges ≡ [] → LeadRound (IsFree loads notes) first node xs → LeadRound (IsFreeBeside loads notes edges) first node xs
+pub round_left : (loads : ℕ → Option Word) (notes : Notes) (edges : List (ℕ × ℕ)) (first node : Node)
+    (nodes : List Node) → edges ≡ [] → LeadRound (IsFreeLink loads notes) first node nodes
+    → LeadRound (IsFreeBeside loads notes edges) first node nodes
 round_left loads notes edges first node [] none round =
-    (round, λ there. contains_none _ (subst (λ (all : List (ℕ × ℕ)). Contains all (node, first)) none there))
-round_left loads notes edges first node (x ∷ xs) none round = (
-  (round.0, λ there. contains_none _ (subst (λ (all : List (ℕ × ℕ)). Contains all (node, x)) none there)),
-  round_left loads notes edges first x xs none round.1,
+    (round, λ there. contains_none _ (subst (λ (all : List (ℕ × ℕ)). Contains all (node.place, first.place)) none there))
+round_left loads notes edges first node (next ∷ nodes) none round = (
+  (
+    round.0,
+    λ there. contains_none _ (subst (λ (all : List (ℕ × ℕ)). Contains all (node.place, next.place)) none there),
+  ),
+  round_left loads notes edges first next nodes none round.1,
 )
 
 -- a location that isn't found to be missing is there
@@ -133,7 +137,7 @@ module _ (loads : ℕ → Option Word) (notes : Notes) (start : ℕ) (executed :
         unaltered =
             λ place ins at executed there written. told_unaltered place ins at (unaltered place executed) there written;
         bounded =
-            λ first others executed closed. a.closing.enough first others executed
+            λ first others reached closed. a.closing.enough first others reached
             (round_left loads notes a.edges first first others no_edges closed);
       })
 

@@ -75,7 +75,11 @@ the_hops : (hops loads notes 100 ≡ record { ins = instruction_of (word false 6
 the_hops = (refl, refl)
 
 the_order : IsOrder loads notes 100 (100 ∷ 106 ∷ [])
-the_order = record { count = 2; after = refl; all = omega arith }
+the_order = record {
+  nodes = record { place = 100; ways = [] } ∷ record { place = 106; ways = [] } ∷ [];
+  reached = record { count = 2; after = refl; all = omega arith };
+  places = refl;
+}
 
 abbrev worst_walk : List Taken
 worst_walk =

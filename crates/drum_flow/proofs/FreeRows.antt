@@ -17,19 +17,9 @@ use Rattle.drum_flow.specs.Rows.{targets_in, AreWithin}
 use Rattle.drum_flow.specs.Graph.{AreDifferent}
 use Rattle.drum_flow.specs.Hops.{hops}
 use Rattle.drum_flow.proofs.Lists.{contains_none, contains_from_get}
-use Rattle.drum_flow.proofs.Orders.{target_there, hop_there, with_new_has, with_new_only}
-
--- what stands at two places of a list without repeats stands at one
-pub one_place : (xs : List ℕ) (i j x : ℕ) → AreDifferent xs → slice_get xs i ≡ Some x → slice_get xs j ≡ Some x → i ≡ j
-one_place [] i j x d a b = cc
-one_place (y ∷ xs) zero zero x d a b = refl
-one_place (y ∷ xs) zero (suc j) x d a b =
-    let same : x ≡ y = cc in
-    absurd (d.0 (contains_from_get xs j y (b ∙ ap Some same)))
-one_place (y ∷ xs) (suc i) zero x d a b =
-    let same : x ≡ y = cc in
-    absurd (d.0 (contains_from_get xs i y (a ∙ ap Some same)))
-one_place (y ∷ xs) (suc i) (suc j) x d a b = ap suc (one_place xs i j x d.1 a b)
+pub use Rattle.drum_flow.proofs.Lists.{one_place}
+use Rattle.drum_flow.proofs.Orders.{with_new_has, with_new_only}
+use Rattle.drum_flow.proofs.Targets.{target_there, hop_there}
 
 module _ (marks : List Mark) (executed targets : List ℕ) (from : ℕ) (row : List ℕ) (onto : ℕ)
     (before : IsUnmarkedRow marks executed targets from row) where

@@ -19,7 +19,7 @@ use Rattle.drum_times.specs.declared.entry.Entry.{Entry}
 use Rattle.drum_times.specs.Allowed.{Notes, is_listed, allowed, loaded, listed, patterns_of}
 use Rattle.drum_machine.proofs.Alone.{writes_no_other, leaves_switch}
 use Rattle.drum_machine.specs.Contents.{Contents, word_at, upper}
-use Rattle.drum_machine.specs.Calls.{none_open, GoBack}
+use Rattle.drum_machine.specs.Calls.{none_open, open_after, GoBack, MayGo}
 use Rattle.drum_machine.specs.Counts.{after_pass, no_counts, AreWithin}
 use Rattle.drum_machine.specs.Effect.{is_too_large, quotient}
 use Rattle.drum_machine.specs.Ending.{ended_by, stops_by, clock_by}
@@ -36,7 +36,8 @@ use Rattle.drum_machine.specs.declared.why.Why as whys
 use Rattle.drum_machine.specs.declared.why.Why.TheVariants as why
 use Rattle.drum_machine.specs.Writes.{writes}
 use Rattle.drum_flow.specs.Accepted.{IsAdmitted, IsFixed, IsThere}
-use Rattle.drum_flow.specs.Hops.{Hop, hops_of, hops, IsEdge, Lead, IsExecuted}
+use Rattle.drum_flow.specs.Hops.{edge_between, Hop, hops_of, hops, IsNode}
+use Rattle.drum_flow.proofs.Orders.{reached_next}
 use Rattle.drum_flow.proofs.Lists.{contains_here, contains_there, contains_cases}
 use Rattle.drum_flow.specs.RunHops.{units_with, hop_of, hops_taken}
 use Rattle.drum_flow.specs.Walk.{edge_taken, edges_taken}
@@ -111,15 +112,6 @@ hops_in notes (one ∷ all) ins way h w = elim (contains_cases one ins all h) [
       (hops_in notes all ins way behind w)
 ]
 
--- where an edge leads from an executed location is executed
-lead_on : (loads : ℕ → Option Word) (notes : Notes) (from : ℕ) (through : List ℕ) (place next : ℕ)
-    → Lead loads notes from through place → IsEdge loads notes place next
-    → Lead loads notes from (through ++ next ∷ []) next
-lead_on loads notes from [] place next leads edge =
-    (subst (λ (p : ℕ). IsEdge loads notes p next) (sym leads) edge, refl)
-lead_on loads notes from (one ∷ through) place next leads edge =
-    (leads.0, lead_on loads notes one through place next leads.1 edge)
-
 -- a drum word is what the drum has at its place
 drum_word : (c : Contents) (place : ℕ) → place < 2000
     → word_at c place ≡ unwrap_or (slice_get c.drum place) (word false 0)
@@ -137,11 +129,11 @@ nothing_follows why.Digit Right hops none = none
 nothing_follows why.Programmed Right hops none = none
 nothing_follows why.Next Right hops none = none
 
--- What is so of each state of a kept run: it seeks an executed location, its switch is as declared, and it has the
--- deck's word at each executed location without a list.
-record Stays (g : Setting) (angle : ℕ) (s : State) : Type 0 where
+-- What is so of each state of a kept run, where this is open: it seeks an executed location, its switch is as
+-- declared, and it has the deck's word at each executed location without a list.
+record Stays (g : Setting) (angle : ℕ) (ways : List (Option ℕ)) (s : State) : Type 0 where
   start : s.first_angle ≡ angle
-  executed : IsExecuted g.loads g.notes g.start s.sought
+  reached : IsNode g.loads g.notes g.start (record { place = s.sought; ways = ways })
   as_declared : IsAsDeclared g.notes.programmed s.contents.programmed_stops
   agrees : (place : ℕ) (w : Word) → IsFixed g.loads g.notes g.start place → g.loads place ≡ Some w
       → word_at s.contents place ≡ w
@@ -157,16 +149,17 @@ module _ (g : Setting) (executed : List ℕ) (angle : ℕ) (proper : IsProper g)
       (contains_here (instruction_of w) (listed (patterns_of g.notes place)))
 
   -- the fetched instruction is allowed
-  fetched_allowed : (s : State) → Stays g angle s → IsAllowed g.loads g.notes s
+  fetched_allowed : (ways : List (Option ℕ)) (s : State) → Stays g angle ways s → IsAllowed g.loads g.notes s
       → Contains (allowed g.loads g.notes s.sought) (instruction_in s)
-  fetched_allowed s stays may_be = go (is_listed g.notes s.sought) refl (admitted.there s.sought stays.executed)
+  fetched_allowed ways s stays may_be =
+      go (is_listed g.notes s.sought) refl (admitted.there s.sought (ways, stays.reached))
     where
       from_deck : ¬ IsTrue (is_listed g.notes s.sought) → (found : Option Word) → g.loads s.sought ≡ found
           → IsSome found → Contains (allowed g.loads g.notes s.sought) (instruction_in s)
       from_deck free None loads some = absurd (cc)
       from_deck free (Some w) loads some =
           subst (λ (v : Word). Contains (allowed g.loads g.notes s.sought) (instruction_of v))
-          (sym (stays.agrees s.sought w (stays.executed, free) loads))
+          (sym (stays.agrees s.sought w ((ways, stays.reached), free) loads))
           (deck_allowed s.sought w loads)
 
       go : (b : Bool) → is_listed g.notes s.sought ≡ b → IsThere g.loads g.notes s.sought
@@ -176,29 +169,32 @@ module _ (g : Setting) (executed : List ℕ) (angle : ℕ) (proper : IsProper g)
       go false is (inr listed_here) = absurd (false≢true (sym is ∙ listed_here))
 
   -- a step that keeps to the notes leaves what stays so
-  next_stays : (s next : State) (wait : ℕ) → Stays g angle s
+  next_stays : (open_ways : List (Option ℕ)) (s next : State) (wait : ℕ) → Stays g angle open_ways s
       → Contains (allowed g.loads g.notes s.sought) (instruction_in s)
       → step g.times s wait ≡ on next → Contains (ways g.notes (instruction_in s)) (to next.sought)
-      → next.first_angle ≡ s.first_angle → Stays g angle next
-  next_stays s next wait stays may_be goes_on by same_start = record {
+      → next.first_angle ≡ s.first_angle → MayGo g.notes.calls open_ways (edge_between s.sought next.sought)
+      → Stays g angle (open_after g.notes.calls (edge_between s.sought next.sought) open_ways) next
+  next_stays open_ways s next wait stays may_be goes_on by same_start may = record {
     start = same_start ∙ stays.start;
-    executed =
-        let edge : IsEdge g.loads g.notes s.sought next.sought = (
-          instruction_in s,
-          hops_in g.notes (allowed g.loads g.notes s.sought) (instruction_in s) (to next.sought) may_be
-              by,
-        ) in (
-          stays.executed.0 ++ next.sought
-              ∷ [],
-          lead_on g.loads g.notes g.start stays.executed.0 s.sought next.sought stays.executed.1 edge,
-        );
+    reached = reached_next g.loads g.notes g.start (record { place = s.sought; ways = open_ways })
+        (record {
+          place = next.sought;
+          ways = open_after g.notes.calls (edge_between s.sought next.sought) open_ways;
+        }) stays.reached (record {
+          edge = (
+            instruction_in s,
+            hops_in g.notes (allowed g.loads g.notes s.sought) (instruction_in s) (to next.sought) may_be by,
+          );
+          may = may;
+          behind = refl;
+        });
     as_declared =
         subst (λ (t : Stepped). IsAsDeclared g.notes.programmed (contents_after t).programmed_stops) goes_on
         (subst (IsAsDeclared g.notes.programmed) (sym (leaves_switch g.times s wait)) stays.as_declared);
     agrees = λ place w fixed loads.
         let below : place < 2000 = proper.on_drum place w loads in
         let free : ¬ Contains (writes (instruction_in s)) place =
-        λ written. admitted.unaltered s.sought (instruction_in s) place stays.executed may_be written fixed in
+        λ written. admitted.unaltered s.sought (instruction_in s) place (open_ways, stays.reached) may_be written fixed in
         drum_word next.contents place below
         ∙ ap (λ (found : Option Word). unwrap_or found (word false 0))
         (subst (λ (t : Stepped). slice_get (contents_after t).drum place ≡ slice_get s.contents.drum place) goes_on
@@ -207,7 +203,7 @@ module _ (g : Setting) (executed : List ℕ) (angle : ℕ) (proper : IsProper g)
   }
 
   -- a stride from such a state, by an operation of the profile
-  module _ (stride : Stride) (op : Op) (stays : Stays g angle stride.origin)
+  module _ (open_ways : List (Option ℕ)) (stride : Stride) (op : Op) (stays : Stays g angle open_ways stride.origin)
       (is : op_of (instruction_in stride.origin).op ≡ Some op)
       (may_be : Contains (allowed g.loads g.notes stride.origin.sought) (instruction_in stride.origin))
       (may_wait : MayWait g.times (op_of (instruction_in stride.origin).op) stride.wait)
@@ -248,12 +244,15 @@ module _ (g : Setting) (executed : List ℕ) (angle : ℕ) (proper : IsProper g)
     }
 
   -- what follows a stride is right if what follows a step that goes on is
-  follows : (s : State) (wait : ℕ) (counts : List ℕ) (strides : List Stride) (outcome : Stepped) → Stays g angle s
+  follows : (open_ways : List (Option ℕ)) (s : State) (wait : ℕ) (counts : List ℕ) (strides : List Stride)
+      (outcome : Stepped) → Stays g angle open_ways s
       → Contains (allowed g.loads g.notes s.sought) (instruction_in s) → outcome ≡ step g.times s wait
       → Contains (ways g.notes (instruction_in s)) (ended_by outcome) → KeepsStart s.first_angle outcome
       → run.FollowStep outcome (λ next. IsRun g.times next strides) strides
       → AreWithin g.notes.marks (counts_by g.notes counts s.sought outcome)
-      → ((next : State) → Stays g angle next → IsRun g.times next strides
+      → GoBack g.notes.calls open_ways (edge_by s.sought outcome ++ edges_of strides)
+      → ((next : State) (after : List (Option ℕ)) → Stays g angle after next
+      → GoBack g.notes.calls after (edges_of strides) → IsRun g.times next strides
       → counts_by g.notes counts s.sought outcome ≡ after_pass g.notes.marks s.sought next.sought counts
       → IsWalkFrom g angle next.sought next.time (after_pass g.notes.marks s.sought next.sought counts)
       (hops_taken strides))
@@ -261,25 +260,31 @@ module _ (g : Setting) (executed : List ℕ) (angle : ℕ) (proper : IsProper g)
       AreWithin g.notes.marks (after_pass g.notes.marks s.sought next counts)
       × IsWalkFrom g angle next (run.time_after outcome) (after_pass g.notes.marks s.sought next counts)
       (hops_taken strides)) (hops_taken strides)
-  follows s wait counts strides (on next) stays may_be stepped by from run within rest =
-      (within, rest next (next_stays s next wait stays may_be (sym stepped) by from) run refl)
-  follows s wait counts strides (stopped held because moment) stays may_be stepped by from run within rest =
+  follows open_ways s wait counts strides (on next) stays may_be stepped by from run within back rest = (
+    within,
+    rest next (open_after g.notes.calls (edge_between s.sought next.sought) open_ways)
+        (next_stays open_ways s next wait stays may_be (sym stepped) by from back.0) back.1 run refl,
+  )
+  follows open_ways s wait counts strides (stopped held because moment) stays may_be stepped by from run within back rest =
       nothing_follows because _ (hops_taken strides) (ap hops_taken run)
 
   -- a stride and what follows it
-  stride_walks : (stride : Stride) (strides : List Stride) (counts : List ℕ) → Stays g angle stride.origin
+  stride_walks : (open_ways : List (Option ℕ)) (stride : Stride) (strides : List Stride) (counts : List ℕ)
+      → Stays g angle open_ways stride.origin
       → IsStride g.times stride.origin stride
       → run.FollowStep stride.outcome (λ next. IsRun g.times next strides) strides → IsKeptStride g.loads g.notes counts stride
-      → ((next : State) → Stays g angle next → IsRun g.times next strides
+      → GoBack g.notes.calls open_ways (edges_of (stride ∷ strides))
+      → ((next : State) (after : List (Option ℕ)) → Stays g angle after next
+      → GoBack g.notes.calls after (edges_of strides) → IsRun g.times next strides
       → counts_after g.notes counts stride ≡ after_pass g.notes.marks stride.origin.sought next.sought counts
       → IsWalkFrom g angle next.sought next.time (after_pass g.notes.marks stride.origin.sought next.sought counts)
       (hops_taken strides))
       → IsWalkFrom g angle stride.origin.sought stride.origin.time counts (hops_taken (stride ∷ strides))
-  stride_walks stride strides counts stays turned is_run kept rest =
+  stride_walks open_ways stride strides counts stays turned is_run kept back rest =
       let may_be : Contains (allowed g.loads g.notes stride.origin.sought) (instruction_in stride.origin) =
-      fetched_allowed stride.origin stays kept.listed in
+      fetched_allowed open_ways stride.origin stays kept.listed in
       go may_be (op_of (instruction_in stride.origin).op) refl
-      (admitted.profile stride.origin.sought stays.executed (instruction_in stride.origin) may_be)
+      (admitted.profile stride.origin.sought (open_ways, stays.reached) (instruction_in stride.origin) may_be)
     where
       go : Contains (allowed g.loads g.notes stride.origin.sought) (instruction_in stride.origin) → (found : Option Op)
           → op_of (instruction_in stride.origin).op ≡ found → IsSome found
@@ -292,25 +297,28 @@ module _ (g : Setting) (executed : List ℕ) (angle : ℕ) (proper : IsProper g)
           (ended (g.times op) op (instruction_in stride.origin).d stride.origin.sought
           (units_of op (instruction_in stride.origin).d stride.origin.contents) stride.wait (clock_of stride.origin)))
           (sym turned.stepped) (step_ends g.times stride.origin stride.wait op g.notes is stays.as_declared kept.cards) in (
-            hop_right stride op stays is may_be turned.may_wait ends,
-            follows stride.origin stride.wait counts strides stride.outcome stays may_be turned.stepped ends.by ends.from is_run
-                kept.marks rest,
+            hop_right open_ways stride op stays is may_be turned.may_wait ends,
+            follows open_ways stride.origin stride.wait counts strides stride.outcome stays may_be turned.stepped ends.by
+                ends.from is_run kept.marks back rest,
           )
 
-  walk_from : (strides : List Stride) (s : State) (counts : List ℕ) → Stays g angle s → IsRun g.times s strides
+  walk_from : (strides : List Stride) (open_ways : List (Option ℕ)) (s : State) (counts : List ℕ)
+      → Stays g angle open_ways s → IsRun g.times s strides → GoBack g.notes.calls open_ways (edges_of strides)
       → AreKept g.loads g.notes counts strides
       → IsWalkFrom g angle s.sought s.time counts (hops_taken strides)
-  walk_from [] s counts stays is_run kept = tt
-  walk_from (stride ∷ strides) s counts stays is_run kept =
+  walk_from [] open_ways s counts stays is_run back kept = tt
+  walk_from (stride ∷ strides) open_ways s counts stays is_run back kept =
       let Walks : State → Type 0 =
       λ state. IsWalkFrom g angle state.sought state.time counts (hops_taken (stride ∷ strides)) in
-      let from : Stays g angle stride.origin = subst (Stays g angle) (sym is_run.0.from_here) stays in
+      let from : Stays g angle open_ways stride.origin =
+      subst (Stays g angle open_ways) (sym is_run.0.from_here) stays in
       let turned : IsStride g.times stride.origin stride =
       subst (λ (state : State). IsStride g.times state stride) (sym is_run.0.from_here) is_run.0 in
       subst Walks is_run.0.from_here
-      (stride_walks stride strides counts from turned is_run.1 kept.0
-      (λ next next_stays_so runs same.
-      walk_from strides next (after_pass g.notes.marks stride.origin.sought next.sought counts) next_stays_so runs
+      (stride_walks open_ways stride strides counts from turned is_run.1 kept.0 back
+      (λ next after next_stays_so back_after runs same.
+      walk_from strides after next (after_pass g.notes.marks stride.origin.sought next.sought counts) next_stays_so runs
+      back_after
       (subst (λ (after : List ℕ). AreKept g.loads g.notes after strides) same kept.1)))
 
 -- a stop takes no edge
@@ -343,10 +351,17 @@ pub kept_walk : (g : Setting) (executed : List ℕ) (s : State) (strides : List 
     → IsKept g.loads g.notes s strides
     → IsWalk g s.first_angle (hops_taken strides) × (time_of (hops_taken strides) ≡ used_from 0 strides)
 kept_walk g executed s strides proper admitted first is_run kept =
-    let stays : Stays g s.first_angle s =
-    record { start = refl; executed = ([], sym first.seeks); as_declared = kept.declared; agrees = first.agrees } in
+    let nothing : List (Option ℕ) = none_open g.notes.calls in
+    let stays : Stays g s.first_angle nothing s = record {
+      start = refl;
+      reached = subst (λ (place : ℕ). IsNode g.loads g.notes g.start (record { place = place; ways = nothing }))
+          (sym first.seeks) ([], refl);
+      as_declared = kept.declared;
+      agrees = first.agrees;
+    } in
     let walks : IsWalkFrom g s.first_angle s.sought s.time (no_counts g.notes.marks) (hops_taken strides) =
-    walk_from g executed s.first_angle proper admitted strides s (no_counts g.notes.marks) stays is_run kept.kept in
+    walk_from g executed s.first_angle proper admitted strides nothing s (no_counts g.notes.marks) stays is_run kept.back
+    kept.kept in
     let seeking : IsWalkFrom g s.first_angle g.start s.time (no_counts g.notes.marks) (hops_taken strides) =
     subst (λ (place : ℕ). IsWalkFrom g s.first_angle place s.time (no_counts g.notes.marks) (hops_taken strides)) first.seeks
     walks in

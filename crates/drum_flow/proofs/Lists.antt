@@ -1,6 +1,6 @@
 -- Lemmas on lists of numbers: members, lists without repeats, and a member that is written.
 use Rattle.std.proofs.Common.{◌≡◌, ◌≢◌, ℕ, zero, suc, ◌<◌, List, [], ◌∷◌, ◌++◌, length, get_or, set, drop, reverse}
-use Rattle.std.proofs.Common.{replicate, Some, refl, ap, sym, subst, inl, inr, ◌⊎◌, arith}
+use Rattle.std.proofs.Common.{replicate, Some, refl, ap, sym, ◌∙◌, subst, inl, inr, ◌⊎◌, arith}
 use Rattle.std.specs.Prelude.{slice_get, Contains}
 use Rattle.std.proofs.lemmas.List.{reverse-append}
 use Rattle.std.proofs.lemmas.List.Elements.{Contains-append_left, Contains-append_right, Contains-append_cases}
@@ -69,13 +69,13 @@ contains_dropped [] (suc k) y h = absurd (contains_none y h)
 contains_dropped (x ∷ xs) (suc k) y h = contains_there x y xs (contains_dropped xs k y h)
 
 -- a list without repeats, with one more at its end
-pub distinct_push : (xs : List ℕ) (y : ℕ) → AreDifferent xs → ¬ Contains xs y → AreDifferent (xs ++ y ∷ [])
+pub distinct_push : {X : Type 0} (xs : List X) (y : X) → AreDifferent xs → ¬ Contains xs y → AreDifferent (xs ++ y ∷ [])
 distinct_push [] y d new = (contains_none y, tt)
 distinct_push (x ∷ xs) y d new = (
   λ there. elim (Contains-append_cases xs (y ∷ []) x there) [
     | inl in_xs ↦ d.0 in_xs
     | inr last ↦ (elim (contains_cases y x [] last) [
-      | inl e ↦ new (subst (λ (z : ℕ). Contains (x ∷ xs) z) (sym e) (contains_here x xs))
+      | inl e ↦ new (subst (λ z. Contains (x ∷ xs) z) (sym e) (contains_here x xs))
       | inr none ↦ contains_none x
           none
     ])
@@ -126,3 +126,15 @@ pub get_replicated : {X : Type 0} (n k : ℕ) (x y : X) → slice_get (replicate
 get_replicated zero k x y e = cc
 get_replicated (suc n) zero x y e = cc
 get_replicated (suc n) (suc k) x y e = get_replicated n k x y e
+
+-- what stands at two places of a list without repeats stands at one
+pub one_place : {X : Type 0} (xs : List X) (i j : ℕ) (x : X) → AreDifferent xs → slice_get xs i ≡ Some x → slice_get xs j ≡ Some x → i ≡ j
+one_place [] i j x d a b = cc
+one_place (y ∷ xs) zero zero x d a b = refl
+one_place (y ∷ xs) zero (suc j) x d a b =
+    let same : x ≡ y = cc in
+    absurd (d.0 (contains_from_get xs j y (b ∙ ap Some same)))
+one_place (y ∷ xs) (suc i) zero x d a b =
+    let same : x ≡ y = cc in
+    absurd (d.0 (contains_from_get xs i y (a ∙ ap Some same)))
+one_place (y ∷ xs) (suc i) (suc j) x d a b = ap suc (one_place xs i j x d.1 a b)

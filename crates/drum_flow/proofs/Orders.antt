@@ -1,306 +1,273 @@
--- The order of discovery: its members are the executed locations.
-use Rattle.std.proofs.Common.{◌≡◌, ℕ, zero, suc, ◌+◌, ◌<◌, ◌≤◌, Bool, true, false, eqb, List, [], ◌∷◌, ◌++◌, length}
-use Rattle.std.proofs.Common.{get_or, Option, Some, None, refl, ap, sym, ◌∙◌, subst, inl, inr, ◌⊎◌, arith}
-use Rattle.std.specs.Prelude.{slice_get, Contains, if◌then◌else◌, ◌||◌, filter_map}
+-- The order of discovery: its members are the nodes that are reached, and their locations the executed
+-- ones.
+use Rattle.std.proofs.Common.{◌≡◌, ℕ, zero, suc, ◌+◌, ◌<◌, ◌≤◌, true, eqb, List, [], ◌∷◌, ◌++◌, length}
+use Rattle.std.proofs.Common.{map, Option, Some, None, refl, ap, sym, ◌∙◌, subst, inl, inr, ◌⊎◌, arith}
+use Rattle.std.specs.Prelude.{slice_get, Contains}
 use Rattle.std.specs.List.{list_any}
-use Rattle.std.proofs.lemmas.Bool.{cases_lt, eq-eqb, eqb-true, or_right}
-use Rattle.std.proofs.lemmas.List.Elements.{Contains-append_cases, Contains-push}
-use Rattle.std.proofs.lemmas.Option.{slice_get_within, slice_get-get_or, slice_get_past}
-use Rattle.drum_core.specs.declared.instruction.Instruction.{Instruction}
+use Rattle.std.proofs.lemmas.Bool.{cases_lt}
+use Rattle.std.proofs.lemmas.Bool.Decides.{Decides-eqb}
+use Rattle.std.proofs.lemmas.Option.{slice_get_within, slice_get_past}
 use Rattle.drum_core.specs.declared.word.Word.{Word}
 use Rattle.drum_times.specs.Allowed.{Notes}
-use Rattle.drum_machine.specs.Ways.{Way, early, to, late}
 use Rattle.drum_flow.specs.declared.refusal.Refusal.{Refusal}
 use Rattle.drum_flow.specs.declared.refusal.Refusal.TheVariants.{Memory, NotLoaded, NotInProfile, Alters, Unbounded}
 use Rattle.drum_flow.specs.declared.refusal.Refusal.TheVariants.{TooLarge}
 use Rattle.drum_flow.specs.Accepted.{IsGood, IsMet, IsNotLoaded, IsNotInProfile}
 use Rattle.drum_flow.specs.Refused.{IsWrong, IsFlowRefusal}
-use Rattle.drum_flow.specs.Executed.{target_of, successors, with_new, added_by, found_after}
+use Rattle.drum_flow.specs.Executed.{with_new, added_by, each_place, found_after, next_nodes}
+use Rattle.drum_flow.specs.Executed.{same_node, with_new_by, AreAllNodes, IsOrder}
 use Rattle.drum_flow.specs.Flow.{AreFound}
-use Rattle.drum_flow.specs.Hops.{Hop, hops, IsEdge, Lead, IsExecuted}
+use Rattle.drum_flow.specs.Hops.{first_node, IsExecuted, IsLink, IsNode, Lead, Node}
+use Rattle.drum_flow.proofs.Adding.{any_there, there_any, grown_keeps, grown_has, grown_only, grown_different, grown_before}
+use Rattle.drum_flow.proofs.Adding.{grown_from}
 use Rattle.drum_flow.proofs.Lists.{contains_here, contains_there, contains_cases, contains_none, contains_at}
-use Rattle.drum_flow.proofs.Lists.{contains_from_get, distinct_push}
+use Rattle.drum_flow.proofs.Lists.{contains_from_get}
+use Rattle.drum_flow.proofs.Links.{link_there, node_law, node_linked}
+pub use Rattle.drum_flow.proofs.Targets.{hop_there, target_there}
 use Rattle.drum_flow.specs.Graph.{AreDifferent}
-
-get_push : (xs : List ℕ) (y k x : ℕ) → slice_get xs k ≡ Some x → slice_get (xs ++ y ∷ []) k ≡ Some x
-get_push [] y k x e = cc
-get_push (a ∷ xs) y zero x e = e
-get_push (a ∷ xs) y (suc k) x e = get_push xs y k x e
 
 -- a member, as a test of the list finds it
 pub any_contains : (xs : List ℕ) (y : ℕ) → list_any (λ x. eqb x y) xs ≡ true → Contains xs y
-any_contains [] y e = cc
-any_contains (x ∷ xs) y e = go (eqb x y) refl e (any_contains xs y)
-  where
-    go : (b : Bool) → eqb x y ≡ b → (b || list_any (λ z. eqb z y) xs) ≡ true
-        → (list_any (λ z. eqb z y) xs ≡ true → Contains xs y) → Contains (x ∷ xs) y
-    go true same h others = subst (λ (z : ℕ). Contains (x ∷ xs) z) (eqb-true x y same) (contains_here x xs)
-    go false ne h others = contains_there x y xs (others h)
+any_contains = any_there eqb Decides-eqb
 
 pub contains_any : (xs : List ℕ) (y : ℕ) → Contains xs y → list_any (λ x. eqb x y) xs ≡ true
-contains_any [] y there = absurd (contains_none y there)
-contains_any (x ∷ xs) y there = go (contains_cases x y xs there) (contains_any xs y)
-  where
-    go : (x ≡ y) ⊎ Contains xs y → (Contains xs y → list_any (λ z. eqb z y) xs ≡ true)
-        → (eqb x y || list_any (λ z. eqb z y) xs) ≡ true
-    go (inl same) others = rw (eq-eqb x y same) refl
-    go (inr behind) others = or_right (eqb x y) (list_any (λ z. eqb z y) xs) (others behind)
+contains_any = there_any eqb Decides-eqb
 
 -- what was there stays where it was
 pub with_new_keeps : (places xs : List ℕ) (k x : ℕ) → slice_get places k ≡ Some x
     → slice_get (with_new places xs) k ≡ Some x
-with_new_keeps places [] k x e = e
-with_new_keeps places (y ∷ xs) k x e =
-    go (list_any (λ place. eqb place y) places) (with_new_keeps places xs k x e)
-    (with_new_keeps (places ++ y ∷ []) xs k x (get_push places y k x e))
-  where
-    go : (b : Bool) → slice_get (with_new places xs) k ≡ Some x → slice_get (with_new (places ++ y ∷ []) xs) k ≡ Some x
-        → slice_get (if b then with_new places xs else with_new (places ++ y ∷ []) xs) k ≡ Some x
-    go true there more = there
-    go false there more = more
-
-kept : (places xs : List ℕ) (x : ℕ) → Contains places x → Contains (with_new places xs) x
-kept places xs x there =
-    let found : (k : ℕ) × (slice_get places k ≡ Some x) = contains_at places x there in
-    contains_from_get (with_new places xs) found.0 x (with_new_keeps places xs found.0 x found.1)
+with_new_keeps = grown_keeps eqb Decides-eqb
 
 -- all that is to be added is there
 pub with_new_has : (places xs : List ℕ) (x : ℕ) → Contains xs x → Contains (with_new places xs) x
-with_new_has places [] x there = absurd (contains_none x there)
-with_new_has places (y ∷ xs) x there =
-    go (list_any (λ place. eqb place y) places) refl (with_new_has places xs x) (with_new_has (places ++ y ∷ []) xs x)
-  where
-    go : (b : Bool) → list_any (λ place. eqb place y) places ≡ b → (Contains xs x → Contains (with_new places xs) x)
-        → (Contains xs x → Contains (with_new (places ++ y ∷ []) xs) x)
-        → Contains (if b then with_new places xs else with_new (places ++ y ∷ []) xs) x
-    go true found others more = elim (contains_cases y x xs there) [
-      | inl same ↦ kept places xs x (subst (λ (z : ℕ). Contains places z) same (any_contains places y found))
-      | inr behind ↦ others behind
-    ]
-    go false new others more = elim (contains_cases y x xs there) [
-      | inl same ↦ kept (places ++ y ∷ []) xs x
-          (subst (λ (z : ℕ). Contains (places ++ y ∷ []) z) same (Contains-push places y))
-      | inr behind ↦ more behind
-    ]
+with_new_has = grown_has eqb Decides-eqb
 
 -- and nothing else
 pub with_new_only : (places xs : List ℕ) (x : ℕ) → Contains (with_new places xs) x → Contains places x ⊎ Contains xs x
-with_new_only places [] x there = inl there
-with_new_only places (y ∷ xs) x there =
-    go (list_any (λ place. eqb place y) places) there (with_new_only places xs x)
-    (with_new_only (places ++ y ∷ []) xs x)
-  where
-    go : (b : Bool) → Contains (if b then with_new places xs else with_new (places ++ y ∷ []) xs) x
-        → (Contains (with_new places xs) x → Contains places x ⊎ Contains xs x)
-        → (Contains (with_new (places ++ y ∷ []) xs) x → Contains (places ++ y ∷ []) x ⊎ Contains xs x)
-        → Contains places x ⊎ Contains (y ∷ xs) x
-    go true here others more =
-        elim (others here) [ inl left ↦ inl left | inr right ↦ inr (contains_there y x xs right) ]
-    go false here others more = elim (more here) [
-      | inl left ↦ (elim (Contains-append_cases places (y ∷ []) x left) [
-        | inl before ↦ inl before
-        | inr last ↦ (elim (contains_cases y x [] last) [
-          | inl same ↦ inr (subst (λ (z : ℕ). Contains (y ∷ xs) z) same (contains_here y xs))
-          | inr none ↦ absurd (contains_none x none)
-        ])
-      ])
-      | inr right ↦ inr (contains_there y x xs right)
-    ]
+with_new_only = grown_only eqb Decides-eqb
 
 -- where none is there twice, none is then
 pub with_new_different : (places xs : List ℕ) → AreDifferent places → AreDifferent (with_new places xs)
-with_new_different places [] different = different
-with_new_different places (y ∷ xs) different =
-    go (list_any (λ place. eqb place y) places) refl (with_new_different places xs different)
-    (with_new_different (places ++ y ∷ []) xs)
-  where
-    go : (b : Bool) → list_any (λ place. eqb place y) places ≡ b → AreDifferent (with_new places xs)
-        → (AreDifferent (places ++ y ∷ []) → AreDifferent (with_new (places ++ y ∷ []) xs))
-        → AreDifferent (if b then with_new places xs else with_new (places ++ y ∷ []) xs)
-    go true found others more = others
-    go false new others more = more (distinct_push places y different
-        (λ there. let clash : ◌≡◌ {A = Bool} true false = sym (contains_any places y there) ∙ new in cc))
+with_new_different = grown_different eqb Decides-eqb
 
 -- what stands where something was is what was there
 pub with_new_before : (places xs : List ℕ) (k x : ℕ) → k < length places → slice_get (with_new places xs) k ≡ Some x
     → slice_get places k ≡ Some x
-with_new_before places xs k x inside e =
-    let here : slice_get places k ≡ Some (get_or places k x) = slice_get-get_or places k x inside in
-    here ∙ sym (with_new_keeps places xs k (get_or places k x) here) ∙ e
+with_new_before = grown_before eqb Decides-eqb
 
--- a hop that goes on is one of the list exactly where its target is one of the targets
-abbrev targets : List Hop → List ℕ
-targets all = filter_map (λ hop. target_of hop.way) all
+-- the location of a member is one of the locations
+pub place_of_node : (nodes : List Node) (node : Node) → Contains nodes node
+    → Contains (map (λ (one : Node). one.place) nodes) node.place
+place_of_node [] node there = absurd (contains_none node there)
+place_of_node (one ∷ nodes) node there = elim (contains_cases one node nodes there) [
+  | inl same ↦ subst (λ (n : Node). Contains (one.place ∷ map (λ (x : Node). x.place) nodes) n.place) same
+      (contains_here one.place _)
+  | inr behind ↦ contains_there one.place node.place _ (place_of_node nodes node behind)
+]
 
-pub target_there : (all : List Hop) (ins : Instruction) (next : ℕ) → Contains all (record { ins = ins; way = to next })
-    → Contains (targets all) next
-target_there [] ins next there = absurd (contains_none _ there)
-target_there (hop ∷ others) ins next there =
-    elim (contains_cases hop (record { ins = ins; way = to next }) others there) [
-      | inl same ↦ here hop.way (ap (λ (h : Hop). h.way) same)
-      | inr behind ↦ later hop.way (target_there others ins next behind)
-    ]
+pub node_of_place : (nodes : List Node) (place : ℕ) → Contains (map (λ (one : Node). one.place) nodes) place
+    → (node : Node) × Contains nodes node × (node.place ≡ place)
+node_of_place [] place there = absurd (contains_none place there)
+node_of_place (one ∷ nodes) place there = elim (contains_cases one.place place _ there) [
+  | inl same ↦ (one, contains_here one nodes, same)
+  | inr behind ↦ (let found = node_of_place nodes place behind in
+      (found.0, contains_there one found.0 nodes found.1, found.2))
+]
+
+-- the location of a node at an index
+pub place_at : (nodes : List Node) (k : ℕ) (node : Node) → slice_get nodes k ≡ Some node
+    → slice_get (map (λ (one : Node). one.place) nodes) k ≡ Some node.place
+place_at [] k node e = cc
+place_at (one ∷ nodes) zero node e = ap Some (ap (λ (n : Node). n.place) same)
   where
-    here : (way : Way) → way ≡ to next → Contains (targets (record { ins = hop.ins; way = way } ∷ others)) next
-    here early e = cc
-    here (to one) e =
-        let same : one ≡ next = cc in
-        subst (λ (z : ℕ). Contains (one ∷ targets others) z) same (contains_here one (targets others))
-    here late e = cc
+    same : one ≡ node
+    same = cc
+place_at (one ∷ nodes) (suc k) node e = place_at nodes k node e
 
-    later : (way : Way) → Contains (targets others) next
-        → Contains (targets (record { ins = hop.ins; way = way } ∷ others)) next
-    later early there = there
-    later (to one) there = contains_there one next (targets others) there
-    later late there = there
-
-pub hop_there : (all : List Hop) (next : ℕ) → Contains (targets all) next → (ins : Instruction)
-    × Contains all (record { ins = ins; way = to next })
-hop_there [] next there = absurd (contains_none next there)
-hop_there (hop ∷ others) next there = go hop.way there (hop_there others next)
+pub node_at : (nodes : List Node) (k place : ℕ) → slice_get (map (λ (one : Node). one.place) nodes) k ≡ Some place
+    → (node : Node) × (slice_get nodes k ≡ Some node) × (node.place ≡ place)
+node_at [] k place e = cc
+node_at (one ∷ nodes) zero place e = (one, refl, same)
   where
-    go : (way : Way) → Contains (targets (record { ins = hop.ins; way = way } ∷ others)) next
-        → (Contains (targets others) next → (ins : Instruction) × Contains others (record { ins = ins; way = to next }))
-        → (ins : Instruction) × Contains (record { ins = hop.ins; way = way } ∷ others)
-        (record { ins = ins; way = to next })
-    go early here more =
-        let found : (ins : Instruction) × Contains others (record { ins = ins; way = to next }) = more here in
-        (found.0, contains_there _ _ others found.1)
-    go (to one) here more = elim (contains_cases one next (targets others) here) [
-      | inl same ↦ (
-        hop.ins,
-        subst
-            (λ (z : ℕ). Contains {X = Hop} (record { ins = hop.ins; way = to one } ∷ others)
-            (record { ins = hop.ins; way = to z })) same (contains_here _ others),
-      )
-      | inr behind ↦ (let found : (ins : Instruction)
-          × Contains others (record { ins = ins; way = to next }) = more behind in
-          (found.0, contains_there _ _ others found.1))
-    ]
-    go late here more =
-        let found : (ins : Instruction) × Contains others (record { ins = ins; way = to next }) = more here in
-        (found.0, contains_there _ _ others found.1)
+    same : one.place ≡ place
+    same = cc
+node_at (one ∷ nodes) (suc k) place e = node_at nodes k place e
 
 module _ (loads : ℕ → Option Word) (notes : Notes) (start : ℕ) where
+  abbrev after : ℕ → List Node
+  after = found_after loads notes start
+
+  abbrev added : ℕ → List Node
+  added turns = added_by loads notes (slice_get (after turns) turns)
+
   -- what was found stays where it was
-  found_later : (before after k x : ℕ) → before ≤ after → slice_get (found_after loads notes start before) k ≡ Some x
-      → slice_get (found_after loads notes start after) k ≡ Some x
+  pub found_later : (before turns k : ℕ) (x : Node) → before ≤ turns → slice_get (after before) k ≡ Some x
+      → slice_get (after turns) k ≡ Some x
   found_later before zero k x le e =
       let same : before ≡ 0 = omega (arith, le) in
-      sym (ap (λ (t : ℕ). slice_get (found_after loads notes start t) k) same) ∙ e
-  found_later before (suc after) k x le e = elim (cases_lt after before) [
-    | inl last ↦ (let same : before ≡ suc after = omega (arith, le, last) in
-        sym (ap (λ (t : ℕ). slice_get (found_after loads notes start t) k) same) ∙ e)
-    | inr earlier ↦ with_new_keeps (found_after loads notes start after)
-        (added_by loads notes (slice_get (found_after loads notes start after) after)) k x
-        (found_later before after k x earlier e)
+      sym (ap (λ (t : ℕ). slice_get (after t) k) same) ∙ e
+  found_later before (suc turns) k x le e = elim (cases_lt turns before) [
+    | inl last ↦ (let same : before ≡ suc turns = omega (arith, le, last) in
+        sym (ap (λ (t : ℕ). slice_get (after t) k) same) ∙ e)
+    | inr earlier ↦ grown_keeps same_node node_law (after turns) (added turns) k x
+        (found_later before turns k x earlier e)
   ]
 
   -- nothing is found twice
-  pub found_different : (turns : ℕ) → AreDifferent (found_after loads notes start turns)
-  found_different zero = (contains_none start, tt)
-  found_different (suc turns) =
-      with_new_different (found_after loads notes start turns)
-      (added_by loads notes (slice_get (found_after loads notes start turns) turns)) (found_different turns)
+  pub found_different : (turns : ℕ) → AreDifferent (after turns)
+  found_different zero = (contains_none (first_node notes start), tt)
+  found_different (suc turns) = grown_different same_node node_law (after turns) (added turns) (found_different turns)
 
   -- a member was there at its turn
-  member_at : (turns k x : ℕ) → k < turns → slice_get (found_after loads notes start turns) k ≡ Some x
-      → slice_get (found_after loads notes start k) k ≡ Some x
+  pub member_at : (turns k : ℕ) (x : Node) → k < turns → slice_get (after turns) k ≡ Some x
+      → slice_get (after k) k ≡ Some x
   member_at zero k x lt e = absurd (omega (arith, lt))
   member_at (suc turns) k x lt e =
-      let there : slice_get (found_after loads notes start turns) k ≡ Some x = before in
+      let there : slice_get (after turns) k ≡ Some x = before in
       elim (cases_lt k turns) [
         | inl earlier ↦ member_at turns k x earlier there
         | inr last ↦ (let same : turns ≡ k = omega (arith, lt, last) in
-            sym (ap (λ (t : ℕ). slice_get (found_after loads notes start t) k) same) ∙ there)
+            sym (ap (λ (t : ℕ). slice_get (after t) k) same) ∙ there)
       ]
     where
-      before : slice_get (found_after loads notes start turns) k ≡ Some x
-      before = elim (cases_lt k (length (found_after loads notes start turns))) [
-        | inl inside ↦ with_new_before (found_after loads notes start turns)
-            (added_by loads notes (slice_get (found_after loads notes start turns) turns)) k x inside e
-        | inr past ↦ (let none : slice_get (found_after loads notes start turns) turns ≡ None =
-            slice_get_past (found_after loads notes start turns) turns (omega (arith, past, lt)) in
-            sym (ap (λ (o : Option ℕ). slice_get
-            (with_new (found_after loads notes start turns) (added_by loads notes o)) k) none) ∙ e)
+      before : slice_get (after turns) k ≡ Some x
+      before = elim (cases_lt k (length (after turns))) [
+        | inl inside ↦ grown_before same_node node_law (after turns) (added turns) k x inside e
+        | inr past ↦ (let none : slice_get (after turns) turns ≡ None =
+            slice_get_past (after turns) turns (omega (arith, past, lt)) in
+            sym (ap (λ (o : Option Node). slice_get (with_new_by same_node (after turns) (added_by loads notes o)) k) none)
+            ∙ e)
       ]
 
-  pub lead_push : (node mid next : ℕ) (through : List ℕ) → Lead loads notes node through mid
-      → IsEdge loads notes mid next → Lead loads notes node (through ++ next ∷ []) next
-  lead_push node mid next [] lead edge = (subst (λ (n : ℕ). IsEdge loads notes n next) (sym lead) edge, refl)
-  lead_push node mid next (one ∷ through) lead edge = (lead.0, lead_push one mid next through lead.1 edge)
+  pub lead_push : (node mid next : Node) (through : List Node) → Lead loads notes node through mid
+      → IsLink loads notes mid next → Lead loads notes node (through ++ next ∷ []) next
+  lead_push node mid next [] lead link = (subst (λ (n : Node). IsLink loads notes n next) (sym lead) link, refl)
+  lead_push node mid next (one ∷ through) lead link = (lead.0, lead_push one mid next through lead.1 link)
 
-  -- all that is found is executed
-  pub only_executed : (turns place : ℕ) → Contains (found_after loads notes start turns) place
-      → IsExecuted loads notes start place
-  only_executed zero place there =
-      elim (contains_cases start place [] there)
-      [ inl same ↦ ([], same) | inr none ↦ absurd (contains_none place none) ]
-  only_executed (suc turns) place there =
-      elim (with_new_only (found_after loads notes start turns)
-      (added_by loads notes (slice_get (found_after loads notes start turns) turns)) place there) [
-        | inl before ↦ only_executed turns place before
-        | inr added ↦ by_member (slice_get (found_after loads notes start turns) turns) refl added (only_executed turns)
-      ]
+  -- where an edge leads from a node that is reached is reached
+  pub reached_next : (node next : Node) → IsNode loads notes start node → IsLink loads notes node next
+      → IsNode loads notes start next
+  reached_next node next (through, lead) link =
+      (through ++ next ∷ [], lead_push (first_node notes start) node next through lead link)
+
+  pub first_reached : IsNode loads notes start (first_node notes start)
+  first_reached = ([], refl)
+
+  -- all that is found is reached
+  pub only_reached : (turns : ℕ) (node : Node) → Contains (after turns) node → IsNode loads notes start node
+  only_reached zero node there = elim (contains_cases (first_node notes start) node [] there)
+      [ inl same ↦ ([], same) | inr none ↦ absurd (contains_none node none) ]
+  only_reached (suc turns) node there = elim (grown_only same_node node_law (after turns) (added turns) node there) [
+    | inl before ↦ only_reached turns node before
+    | inr new ↦ by_member (slice_get (after turns) turns) refl new (only_reached turns)
+  ]
     where
-      by_member : (member : Option ℕ) → slice_get (found_after loads notes start turns) turns ≡ member
-          → Contains (added_by loads notes member) place
-          → ((node : ℕ) → Contains (found_after loads notes start turns) node → IsExecuted loads notes start node)
-          → IsExecuted loads notes start place
-      by_member None e added executed = absurd (contains_none place added)
-      by_member (Some node) e added executed =
-          let lead : IsExecuted loads notes start node =
-          executed node (contains_from_get (found_after loads notes start turns) turns node e) in (
-            lead.0 ++ place ∷ [],
-            lead_push start node place lead.0 lead.1
-                (hop_there (hops loads notes node) place added),
-          )
+      by_member : (member : Option Node) → slice_get (after turns) turns ≡ member
+          → Contains (added_by loads notes member) node
+          → ((one : Node) → Contains (after turns) one → IsNode loads notes start one)
+          → IsNode loads notes start node
+      by_member None e new reached = absurd (contains_none node new)
+      by_member (Some one) e new reached =
+          reached_next one node (reached one (contains_from_get (after turns) turns one e))
+          (node_linked loads notes one node new)
 
-  module _ (turns : ℕ) (places : List ℕ) (after : found_after loads notes start turns ≡ places)
-      (all : length places ≤ turns) where
-    -- the successors of a member are members
-    closed : (node next : ℕ) → Contains places node → IsEdge loads notes node next → Contains places next
-    closed node next there edge =
-        let at : (k : ℕ) × (slice_get places k ≡ Some node) = contains_at places node there in
-        let early : at.0 < turns = omega (arith, slice_get_within places at.0 node at.1, all) in
-        let here : slice_get (found_after loads notes start at.0) at.0 ≡ Some node =
-        member_at turns at.0 node early (ap (λ (xs : List ℕ). slice_get xs at.0) after ∙ at.1) in
-        let successor : Contains (added_by loads notes (Some node)) next =
-        target_there (hops loads notes node) edge.0 next edge.1 in
-        let added : Contains (found_after loads notes start (suc at.0)) next =
-        with_new_has (found_after loads notes start at.0)
-        (added_by loads notes (slice_get (found_after loads notes start at.0) at.0)) next
-        (subst (λ (o : Option ℕ). Contains (added_by loads notes o) next) (sym here) successor) in
-        let place : (k : ℕ) × (slice_get (found_after loads notes start (suc at.0)) k ≡ Some next) =
-        contains_at (found_after loads notes start (suc at.0)) next added in
-        contains_from_get places place.0 next
-        (sym (ap (λ (xs : List ℕ). slice_get xs place.0) after)
-        ∙ found_later (suc at.0) turns place.0 next (omega (arith, early)) place.1)
+  module _ (nodes : List Node) (are : AreAllNodes loads notes start nodes) where
+    abbrev turns : ℕ
+    turns = are.count
 
-    along : (node place : ℕ) (through : List ℕ) → Contains places node → Lead loads notes node through place
-        → Contains places place
-    along node place [] there lead = subst (λ (n : ℕ). Contains places n) lead there
-    along node place (next ∷ through) there lead = along next place through (closed node next there lead.0) lead.1
+    in_time : (k : ℕ) (node : Node) → slice_get nodes k ≡ Some node → k < turns
+    in_time k node at = omega (arith, slice_get_within nodes k node at, are.all)
 
-    begun : Contains places start
-    begun =
-        contains_from_get places 0 start
-        (sym (ap (λ (xs : List ℕ). slice_get xs 0) after) ∙ found_later 0 turns 0 start (omega arith) refl)
+    -- what stands there was there at its turn
+    pub was : (k : ℕ) (node : Node) → slice_get nodes k ≡ Some node → slice_get (after k) k ≡ Some node
+    was k node at = member_at turns k node (in_time k node at) (ap (λ (xs : List Node). slice_get xs k) are.after ∙ at)
 
-    -- each executed location is a member, and each member is executed
-    pub has_executed : (place : ℕ) → IsExecuted loads notes start place → Contains places place
-    has_executed place executed = along start place executed.0 begun executed.1
+    pub stays_there : (before k : ℕ) (node : Node) → before ≤ turns → slice_get (after before) k ≡ Some node
+        → slice_get nodes k ≡ Some node
+    stays_there before k node le at =
+        sym (ap (λ (xs : List Node). slice_get xs k) are.after) ∙ found_later before turns k node le at
 
-    pub has_only : (place : ℕ) → Contains places place → IsExecuted loads notes start place
-    has_only place there = only_executed turns place (subst (λ (xs : List ℕ). Contains xs place) (sym after) there)
+    -- where edges lead from a member are members
+    closed : (node next : Node) → Contains nodes node → IsLink loads notes node next → Contains nodes next
+    closed node next there link =
+        let at : (k : ℕ) × (slice_get nodes k ≡ Some node) = contains_at nodes node there in
+        let here : slice_get (after at.0) at.0 ≡ Some node = was at.0 node at.1 in
+        let new : Contains (after (suc at.0)) next =
+        grown_has same_node node_law (after at.0) (added at.0) next
+        (subst (λ (o : Option Node). Contains (added_by loads notes o) next) (sym here)
+        (link_there loads notes node next link)) in
+        let place : (k : ℕ) × (slice_get (after (suc at.0)) k ≡ Some next) = contains_at (after (suc at.0)) next new in
+        contains_from_get nodes place.0 next
+        (stays_there (suc at.0) place.0 next (omega (arith, in_time at.0 node at.1)) place.1)
 
-    -- the members are the executed locations
-    pub all_found : AreFound loads notes start places
-    all_found = record {
-      order = record { count = turns; after = after; all = all };
-      all = has_executed;
-      only = has_only;
+    along : (node last : Node) (through : List Node) → Contains nodes node → Lead loads notes node through last
+        → Contains nodes last
+    along node last [] there lead = subst (λ (n : Node). Contains nodes n) lead there
+    along node last (next ∷ through) there lead = along next last through (closed node next there lead.0) lead.1
+
+    begun : Contains nodes (first_node notes start)
+    begun = contains_from_get nodes 0 (first_node notes start) (stays_there 0 0 (first_node notes start) (omega arith) refl)
+
+    -- each node that is reached is a member, and each member is reached
+    pub has_reached : (node : Node) → IsNode loads notes start node → Contains nodes node
+    has_reached node (through, lead) = along (first_node notes start) node through begun lead
+
+    pub reached_only : (node : Node) → Contains nodes node → IsNode loads notes start node
+    reached_only node there = only_reached turns node (subst (λ (xs : List Node). Contains xs node) (sym are.after) there)
+
+    pub reached_different : AreDifferent nodes
+    reached_different = subst AreDifferent are.after (found_different turns)
+
+    pub has_executed : (place : ℕ) → IsExecuted loads notes start place → Contains (each_place nodes) place
+    has_executed place (ways, reached) =
+        with_new_has [] (map (λ (one : Node). one.place) nodes) place
+        (place_of_node nodes (record { place = place; ways = ways })
+        (has_reached (record { place = place; ways = ways }) reached))
+
+    pub has_only : (place : ℕ) → Contains (each_place nodes) place → IsExecuted loads notes start place
+    has_only place there = elim (with_new_only [] (map (λ (one : Node). one.place) nodes) place there) [
+      | inl none ↦ absurd (contains_none place none)
+      | inr one ↦ (let found = node_of_place nodes place one in
+          subst (IsExecuted loads notes start) found.2 (found.0.ways, reached_only found.0 found.1))
+    ]
+
+    -- their locations are the executed locations
+    pub all_found : (places : List ℕ) → each_place nodes ≡ places → AreFound loads notes start places
+    all_found places same = record {
+      order = record { nodes = nodes; reached = are; places = same };
+      all = λ place executed. subst (λ (xs : List ℕ). Contains xs place) same (has_executed place executed);
+      only = λ place there. has_only place (subst (λ (xs : List ℕ). Contains xs place) (sym same) there);
     }
+
+  -- of an order of discovery
+  module _ (order : List ℕ) (is : IsOrder loads notes start order) where
+    pub order_found : AreFound loads notes start order
+    order_found = all_found is.nodes is.reached order is.places
+
+    pub order_different : AreDifferent order
+    order_different =
+        subst AreDifferent is.places (with_new_different [] (map (λ (one : Node). one.place) is.nodes) tt)
+
+    -- where a location stands first, with those before it
+    pub first_node_at : (turn place : ℕ) → slice_get order turn ≡ Some place
+        → (k : ℕ) × (node : Node) × (slice_get is.nodes k ≡ Some node) × (node.place ≡ place)
+        × ((j : ℕ) (other : Node) → j < k → slice_get is.nodes j ≡ Some other
+        → (i : ℕ) × (i < turn) × (slice_get order i ≡ Some other.place))
+    first_node_at turn place at =
+        let from = grown_from eqb Decides-eqb [] (map (λ (one : Node). one.place) is.nodes) turn place (omega arith)
+        (ap (λ (xs : List ℕ). slice_get xs turn) is.places ∙ at) in
+        let node = node_at is.nodes from.0 place from.1 in (
+          from.0,
+          node.0,
+          node.1,
+          node.2,
+          λ j other less there.
+              let before = from.2 j other.place less (place_at is.nodes j other there) in (
+                before.0,
+                before.1,
+                sym (ap (λ (xs : List ℕ). slice_get xs before.0) is.places) ∙ before.2,
+              ),
+        )
 
 -- what is wrong with a location, where those found before it are good, refuses the flow
 pub wrong_met : (loads : ℕ → Option Word) (notes : Notes) (start turn place : ℕ) (places : List ℕ) (refusal : Refusal)
@@ -310,26 +277,27 @@ pub wrong_met : (loads : ℕ → Option Word) (notes : Notes) (start turn place 
     → IsFlowRefusal loads notes start refusal
 wrong_met loads notes start turn place places refusal found good here wrong = go refusal wrong
   where
-    early : (k other : ℕ) → slice_get places k ≡ Some other → k < found.order.count
-    early k other at = omega (arith, slice_get_within places k other at, found.order.all)
+    order : IsOrder loads notes start places
+    order = found.order
 
-    was : (k other : ℕ) → slice_get places k ≡ Some other
-        → slice_get (found_after loads notes start k) k ≡ Some other
-    was k other at =
-        member_at loads notes start found.order.count k other (early k other at)
-        (ap (λ (xs : List ℕ). slice_get xs k) found.order.after ∙ at)
+    first : (k : ℕ) × (node : Node) × (slice_get order.nodes k ≡ Some node) × (node.place ≡ place)
+        × ((j : ℕ) (other : Node) → j < k → slice_get order.nodes j ≡ Some other
+        → (i : ℕ) × (i < turn) × (slice_get places i ≡ Some other.place))
+    first = first_node_at loads notes start places order turn place here
 
-    stays : (k other : ℕ) → k < turn → slice_get (found_after loads notes start turn) k ≡ Some other
-        → slice_get places k ≡ Some other
-    stays k other lt at =
-        sym (ap (λ (xs : List ℕ). slice_get xs k) found.order.after)
-        ∙ found_later loads notes start turn found.order.count k other (omega (arith, early turn place here)) at
+    early : first.0 < order.reached.count
+    early = omega (arith, slice_get_within order.nodes first.0 first.1 first.2, order.reached.all)
 
     met : IsMet loads notes start place
     met = record {
-      count = turn;
-      member = was turn place here;
-      before = λ k other lt at. good k other lt (stays k other lt at);
+      count = first.0;
+      ways = first.1.ways;
+      member = was loads notes start order.nodes order.reached first.0 first.1 first.2
+          ∙ ap (λ (p : ℕ). let made : Node = record { place = p; ways = first.1.ways } in Some made) first.3;
+      before = λ k other lt at.
+          let there = stays_there loads notes start order.nodes order.reached first.0 k other (omega (arith, early)) at in
+          let i = first.4 k other lt there in
+          good i.0 other.place i.1 i.2;
     }
 
     go : (one : Refusal) → IsWrong loads notes place one → IsFlowRefusal loads notes start one
@@ -341,14 +309,14 @@ wrong_met loads notes start turn place places refusal found good here wrong = go
     go (TooLarge product) w = w
 
 -- the next turn
-pub found_next : (loads : ℕ → Option Word) (notes : Notes) (start turn place : ℕ) (places more : List ℕ)
-    → found_after loads notes start turn ≡ places
-    → slice_get places turn ≡ Some place → more ≡ with_new places (successors loads notes place)
+pub found_next : (loads : ℕ → Option Word) (notes : Notes) (start turn : ℕ) (node : Node) (nodes more : List Node)
+    → found_after loads notes start turn ≡ nodes
+    → slice_get nodes turn ≡ Some node → more ≡ with_new_by same_node nodes (next_nodes loads notes node)
     → found_after loads notes start (turn + 1) ≡ more
-found_next loads notes start turn place places more after here added =
+found_next loads notes start turn node nodes more after here added =
     let next : turn + 1 ≡ suc turn = omega arith in
     let grown : found_after loads notes start (suc turn)
-    ≡ with_new places (added_by loads notes (slice_get places turn)) =
-    ap (λ (xs : List ℕ). with_new xs (added_by loads notes (slice_get xs turn))) after in
+    ≡ with_new_by same_node nodes (added_by loads notes (slice_get nodes turn)) =
+    ap (λ (xs : List Node). with_new_by same_node xs (added_by loads notes (slice_get xs turn))) after in
     ap (found_after loads notes start) next ∙ grown
-    ∙ ap (λ (o : Option ℕ). with_new places (added_by loads notes o)) here ∙ sym added
+    ∙ ap (λ (o : Option Node). with_new_by same_node nodes (added_by loads notes o)) here ∙ sym added

@@ -9,14 +9,14 @@ use Rattle.drum_flow.specs.declared.refusal.Refusal.{Refusal}
 use Rattle.drum_flow.specs.declared.refusal.Refusal.TheVariants.{Memory, NotLoaded, NotInProfile, Alters, Unbounded}
 use Rattle.drum_flow.specs.declared.refusal.Refusal.TheVariants.{TooLarge}
 use Rattle.drum_flow.specs.Acceptance.{IsRefusal}
-use Rattle.drum_flow.specs.Accepted.{IsAccepted, IsMet, IsFirstIn, IsFree, counts_of, Alters as AltersOne}
+use Rattle.drum_flow.specs.Accepted.{IsAccepted, IsMet, IsFirstIn, IsFreeLink, counts_of, Alters as AltersOne}
 use Rattle.drum_flow.specs.Graph.{IsClosed}
 use Rattle.drum_flow.specs.Executed.{found_after, IsOrder}
-use Rattle.drum_flow.specs.Hops.{IsExecuted}
+use Rattle.drum_flow.specs.Hops.{IsExecuted, IsNode, Node}
 use Rattle.drum_flow.proofs.Products.{many_told}
 use Rattle.drum_flow.proofs.Acceptances.{one_order}
 use Rattle.drum_flow.proofs.Lists.{contains_here, contains_there, contains_from_get}
-use Rattle.drum_flow.proofs.Orders.{only_executed}
+use Rattle.drum_flow.proofs.Orders.{only_reached, order_found}
 
 within : {X : Type 0} (before : List X) (one : X) (behind : List X) → Contains (before ++ one ∷ behind) one
 within [] one behind = contains_here one behind
@@ -30,16 +30,19 @@ first_is_there list Property ins (before, after, split, has, none) =
 module _ (loads : ℕ → Option Word) (notes : Notes) (start : ℕ) where
   met_is_executed : (place : ℕ) → IsMet loads notes start place → IsExecuted loads notes start place
   met_is_executed place met =
-      only_executed loads notes start met.count place
-      (contains_from_get (found_after loads notes start met.count) met.count place met.member)
+      let node : Node = record { place = place; ways = met.ways } in (
+        met.ways,
+        only_reached loads notes start met.count node
+            (contains_from_get (found_after loads notes start met.count) met.count node met.member),
+      )
 
   in_order_is_executed : (order : List ℕ) (place : ℕ) → IsOrder loads notes start order → Contains order place
       → IsExecuted loads notes start place
-  in_order_is_executed order place is there =
-      only_executed loads notes start is.count place (subst (λ (xs : List ℕ). Contains xs place) (sym is.after) there)
+  in_order_is_executed order place is there = (order_found loads notes start order is).only place there
 
-  not_closed : (executed cycle : List ℕ) → IsAccepted loads notes start executed
-      → ((place : ℕ) → Contains cycle place → IsExecuted loads notes start place) → IsClosed (IsFree loads notes) cycle → ⊥
+  not_closed : (executed : List ℕ) (nodes : List Node) → IsAccepted loads notes start executed
+      → ((node : Node) → Contains nodes node → IsNode loads notes start node)
+      → IsClosed (IsFreeLink loads notes) nodes → ⊥
   not_closed executed [] accepted there closed = closed
   not_closed executed (first ∷ others) accepted there closed =
       accepted.admitted.bounded first others (there first (contains_here first others)) closed
@@ -68,5 +71,6 @@ module _ (loads : ℕ → Option Word) (notes : Notes) (start : ℕ) where
       let small : length other * counts_of notes.marks ≤ 4000000 =
       subst (λ (xs : List ℕ). length xs * counts_of notes.marks ≤ 4000000) (sym same) accepted.small in
       absurd (omega (arith, many_told (length other * counts_of notes.marks) (omega (arith, large, number)), small))
-  only_memory executed (Unbounded cycle) accepted is = absurd (not_closed executed _ accepted is.round.executed is.round.closed)
+  only_memory executed (Unbounded cycle) accepted is =
+      absurd (not_closed executed is.round.round.nodes accepted is.round.round.within is.round.round.closed)
   only_memory executed Memory accepted is = refl

@@ -7,9 +7,10 @@ use Rattle.std.proofs.lemmas.List.{map_more, map_push}
 use Rattle.drum_core.specs.declared.location.Location.{Location}
 use Rattle.drum_core.specs.declared.word.Word.{Word}
 use Rattle.drum_times.specs.Allowed.{Notes}
-use Rattle.drum_flow.specs.Accepted.{IsFree}
+use Rattle.drum_flow.specs.Accepted.{IsFree, IsFreeCycle}
 use Rattle.drum_flow.specs.Flow.{AreFound}
-use Rattle.drum_flow.specs.Free.{AreFreeRows, IsFreeOrder, IsFreeCycle}
+use Rattle.drum_flow.specs.Free.{AreFreeRows, IsFreeOrder}
+use Rattle.drum_flow.specs.Hops.{IsNode}
 use Rattle.drum_flow.specs.Turned.{IsTurned}
 use Rattle.drum_flow.proofs.Founds.{numbers}
 use Rattle.drum_flow.proofs.Turns.{IsTurnedCycle, turned_cycle}
@@ -17,7 +18,8 @@ use Rattle.drum_flow.specs.Graph.{AreDifferent, GoOn, Leads, LeadRound, IsClosed
 use Rattle.drum_flow.proofs.FreeRows.{one_place}
 use Rattle.drum_flow.proofs.Lists.{contains_here, contains_there, contains_cases, contains_none, contains_at}
 use Rattle.drum_flow.proofs.Lists.{contains_from_get}
-use Rattle.drum_flow.proofs.Orders.{lead_push}
+use Rattle.drum_flow.proofs.Plain.{executed_next, executed_plain, places_plain, plain_closed, plain_member, plains}
+use Rattle.drum_flow.proofs.Plain.{plains_different}
 
 contains_mapped : (f : ℕ → ℕ) (xs : List ℕ) (x : ℕ) → Contains xs x → Contains (map f xs) (f x)
 contains_mapped f [] x there = absurd (contains_none x there)
@@ -125,13 +127,12 @@ module _ (loads : ℕ → Option Word) (notes : Notes) (executed : List ℕ) (ro
           onward = go_on_free nodes within order.onward;
         }
 
--- edges lead from executed locations to executed ones
+-- Without calls edges lead from executed locations to executed ones.
 pub executed_closed : (loads : ℕ → Option Word) (notes : Notes) (start : ℕ) (executed : List ℕ)
-    → AreFound loads notes start executed
+    → notes.calls ≡ [] → AreFound loads notes start executed
     → (place next : ℕ) → Contains executed place → IsFree loads notes place next → Contains executed next
-executed_closed loads notes start executed e place next there free =
-    let lead = e.only place there in
-    e.all next (lead.0 ++ next ∷ [], lead_push loads notes start start place next lead.0 lead.1 free.0)
+executed_closed loads notes start executed none e place next there free =
+    e.all next (executed_next loads notes none start place next (e.only place there) free.0)
 
 -- the locations of one more place
 pub locations_more : (executed : List ℕ) (locations : List Location) (places : List ℕ) (k place : ℕ)
@@ -146,12 +147,13 @@ locations_more executed locations places k place location inside here at before 
     (sym (get_or_from_slice_get executed place location.number 0 at) ∙ ap (λ (n : ℕ). slice_index executed n) here)
     ∙ sym (map_more (λ (one : ℕ). slice_index executed one) places k 0 inside)
 
--- the cycle of places is one of locations, turned
-pub cycle_free : (loads : ℕ → Option Word) (notes : Notes) (executed : List ℕ) (row : ℕ → List ℕ) (size : ℕ)
-    (nodes turned : List ℕ) → AreDifferent executed → AreFreeRows loads notes executed row
+-- Without calls the cycle of places is one of locations, turned.
+pub cycle_free : (loads : ℕ → Option Word) (notes : Notes) (start : ℕ) (executed : List ℕ) (row : ℕ → List ℕ) (size : ℕ)
+    (nodes turned : List ℕ) → notes.calls ≡ [] → AreFound loads notes start executed → AreDifferent executed
+    → AreFreeRows loads notes executed row
     → size ≡ length executed → IsCycle row size nodes → IsTurned (map (λ one. slice_index executed one) nodes) turned
-    → IsFreeCycle loads notes executed turned
-cycle_free loads notes executed row size nodes turned different rows long cycle t =
+    → IsFreeCycle loads notes start turned
+cycle_free loads notes start executed row size nodes turned none found different rows long cycle t =
     let within : (node : ℕ) → Contains nodes node → node < length executed =
     λ node there. omega (arith, cycle.within node there, long) in
     let all : IsTurnedCycle loads notes (map (λ one. slice_index executed one) nodes) turned =
@@ -159,11 +161,16 @@ cycle_free loads notes executed row size nodes turned different rows long cycle 
     (closed_free loads notes executed row different rows nodes within cycle.closed)
     (different_at loads notes executed row different rows nodes within cycle.distinct) in
     record {
-      within =
-          λ place there. member_executed loads notes executed row different rows nodes within place
-          (all.members place there);
-      closed = all.closed;
-      different = all.different;
+      nodes = plains turned;
+      within = λ node there.
+          let one = plain_member turned node there in
+          subst (IsNode loads notes start) one.2
+          (executed_plain loads notes none start one.0
+          (found.only one.0
+          (member_executed loads notes executed row different rows nodes within one.0 (all.members one.0 one.1))));
+      closed = plain_closed loads notes none turned all.closed;
+      different = plains_different turned all.different;
+      places = places_plain turned;
       smallest = all.smallest;
     }
 

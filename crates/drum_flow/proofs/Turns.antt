@@ -1,6 +1,6 @@
 -- A closed list, turned so that its smallest member is the first, is closed.
-use Rattle.std.proofs.Common.{◌≡◌, ◌≢◌, ℕ, zero, suc, ◌+◌, ◌<◌, ◌≤◌, List, [], ◌∷◌, ◌++◌, length, take, drop, Option}
-use Rattle.std.proofs.Common.{Some, refl, ap, sym, ◌∙◌, subst, inl, inr, arith}
+use Rattle.std.proofs.Common.{◌≡◌, ℕ, zero, suc, ◌+◌, ◌<◌, ◌≤◌, List, [], ◌∷◌, ◌++◌, length, take, drop, Option}
+use Rattle.std.proofs.Common.{Some, refl, ap, sym, ◌∙◌, subst, inl, inr}
 use Rattle.std.specs.Prelude.{slice_get, Contains}
 use Rattle.std.proofs.lemmas.List.{append-nil, take-append-drop, drop_more, map-append, take-map, drop-map}
 use Rattle.std.proofs.lemmas.List.Elements.{Contains-append_left, Contains-append_right, Contains-append_cases}
@@ -108,10 +108,7 @@ turned_parts loads notes before behind mid closed different least =
     record {
       closed = closed_turned loads notes before behind mid closed;
       different = turned;
-      smallest = λ place there.
-          let low : mid ≤ place = least place (members place (contains_there mid place (behind ++ before) there)) in
-          let ne : mid ≢ place = λ same. turned.0 (subst (λ (n : ℕ). Contains (behind ++ before) n) (sym same) there) in
-          omega (arith, low, ne);
+      smallest = λ place there. least place (members place (contains_there mid place (behind ++ before) there));
       members = members;
     }
 

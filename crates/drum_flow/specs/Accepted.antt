@@ -1,6 +1,6 @@
 -- When a deck with its notes is accepted, and why another isn't.
-use Rattle.std.specs.Prelude.{◌≡◌, ℕ, ◌+◌, ◌*◌, ◌^◌, ◌<◌, ◌≤◌, min, IsTrue, IsSome, IsNone, List, [], ◌∷◌}
-use Rattle.std.specs.Prelude.{◌++◌, length, slice_get, Option, Some, Contains, ◌⊎◌}
+use Rattle.std.specs.Prelude.{◌≡◌, ℕ, ◌+◌, ◌*◌, ◌^◌, ◌<◌, ◌≤◌, min, IsTrue, IsSome, IsNone, List}
+use Rattle.std.specs.Prelude.{[], ◌∷◌, ◌++◌, length, map, slice_get, Option, Some, Contains, ◌⊎◌}
 use Rattle.drum_core.specs.declared.instruction.Instruction.{Instruction}
 use Rattle.drum_core.specs.declared.word.Word.{Word}
 use Rattle.drum_core.specs.Op.{op_of}
@@ -10,7 +10,7 @@ use Rattle.drum_times.specs.Marks.{mark_on}
 use Rattle.drum_machine.specs.Writes.{writes}
 use Rattle.drum_flow.specs.Executed.{IsOrder, found_after}
 use Rattle.drum_flow.specs.Graph.{AreDifferent, IsClosed}
-use Rattle.drum_flow.specs.Hops.{IsEdge, IsExecuted}
+use Rattle.drum_flow.specs.Hops.{IsEdge, IsExecuted, IsLink, IsNode, Node}
 
 -- the counts that there can be: the product of `most + 1` over the marks
 abbrev pub counts_of : List Mark → ℕ
@@ -36,6 +36,11 @@ abbrev pub IsFree : (ℕ → Option Word) → Notes → ℕ → ℕ → Type 0
 IsFree loads notes place next =
     IsEdge loads notes place next × IsNone (mark_on notes.marks place next)
 
+-- an edge of nodes that no mark stands on
+abbrev pub IsFreeLink : (ℕ → Option Word) → Notes → Node → Node → Type 0
+IsFreeLink loads notes node next =
+    IsLink loads notes node next × IsNone (mark_on notes.marks node.place next.place)
+
 -- executed words times counts
 abbrev pub product_of : List ℕ → List Mark → ℕ
 product_of executed marks = length executed * counts_of marks
@@ -45,8 +50,9 @@ abbrev pub told : ℕ → ℕ
 told product = min product (2 ^ 127)
 
 -- Admitted, whatever the size: each executed location is loaded or listed, has operations of the
--- profile alone, and is written by an executed instruction only if it has a list; and no edges free
--- of marks lead round. These are the executed locations, in the order of discovery.
+-- profile alone, and is written by an executed instruction only if it has a list; and from no node
+-- of the flow graph do edges free of marks lead round. These are the executed locations, in the
+-- order of discovery.
 pub record IsAdmitted (loads : ℕ → Option Word) (notes : Notes) (start : ℕ)
     (executed : List ℕ) : Type 0 where
   pub order : IsOrder loads notes start executed
@@ -55,8 +61,8 @@ pub record IsAdmitted (loads : ℕ → Option Word) (notes : Notes) (start : ℕ
   pub unaltered : (place : ℕ) (ins : Instruction) (at : ℕ) → IsExecuted loads notes start place
       → Contains (allowed loads notes place) ins
       → Contains (writes ins) at → ¬ IsFixed loads notes start at
-  pub bounded : (first : ℕ) (others : List ℕ) → IsExecuted loads notes start first
-      → ¬ IsClosed (IsFree loads notes) (first ∷ others)
+  pub bounded : (first : Node) (others : List Node) → IsNode loads notes start first
+      → ¬ IsClosed (IsFreeLink loads notes) (first ∷ others)
 
 -- The deck with its notes is accepted: it is admitted, and small.
 pub record IsAccepted (loads : ℕ → Option Word) (notes : Notes) (start : ℕ)
@@ -71,10 +77,12 @@ IsGood loads notes place = IsThere loads notes place × IsInProfile loads notes 
 -- Discovery meets the location, and all that it met before are good.
 pub record IsMet (loads : ℕ → Option Word) (notes : Notes) (start : ℕ) (place : ℕ) : Type 0 where
   pub count : ℕ
-  pub member : slice_get (found_after loads notes start count) count ≡ Some place
-  pub before : (k earlier : ℕ) → k < count
+  pub ways : List (Option ℕ)
+  pub member : slice_get (found_after loads notes start count) count
+      ≡ Some (record { place = place; ways = ways })
+  pub before : (k : ℕ) (earlier : Node) → k < count
       → slice_get (found_after loads notes start count) k ≡ Some earlier
-      → IsGood loads notes earlier
+      → IsGood loads notes earlier.place
 
 -- an instruction is the first in a list with a property
 abbrev pub IsFirstIn : List Instruction → (Instruction → Type 0) → Instruction → Type 0
@@ -146,20 +154,28 @@ IsTooLarge loads notes start product =
     × ((executed : List ℕ) × IsOrder loads notes start executed
     × (product ≡ told (product_of executed notes.marks)))
 
--- the first member is the smallest
+-- no member is smaller than the first
 abbrev pub IsSmallestFirst : List ℕ → Type 0
 IsSmallestFirst [] = ⊥
-IsSmallestFirst (first ∷ places) = (place : ℕ) → Contains places place → first < place
+IsSmallestFirst (first ∷ places) = (place : ℕ) → Contains places place → first ≤ place
 
--- It is sound, whatever its size; and these executed locations, without repeats and the smallest
--- first, lead round by edges free of marks.
+-- These are the locations of nodes of the flow graph, none of them twice, which edges free of marks
+-- lead round. No location is smaller than the first. (One may be there twice, with something else
+-- open.)
+pub record IsFreeCycle (loads : ℕ → Option Word) (notes : Notes) (start : ℕ)
+    (cycle : List ℕ) : Type 0 where
+  pub nodes : List Node
+  pub within : (node : Node) → Contains nodes node → IsNode loads notes start node
+  pub closed : IsClosed (IsFreeLink loads notes) nodes
+  pub different : AreDifferent nodes
+  pub places : map (λ node. node.place) nodes ≡ cycle
+  pub smallest : IsSmallestFirst cycle
+
+-- It is sound, whatever its size; and edges free of marks lead round these.
 pub record IsFreeRound (loads : ℕ → Option Word) (notes : Notes) (start : ℕ)
     (cycle : List ℕ) : Type 0 where
   pub sound : IsSound loads notes start
-  pub executed : (place : ℕ) → Contains cycle place → IsExecuted loads notes start place
-  pub closed : IsClosed (IsFree loads notes) cycle
-  pub different : AreDifferent cycle
-  pub smallest : IsSmallestFirst cycle
+  pub round : IsFreeCycle loads notes start cycle
 
 -- Unbounded: it is sound, its product is 4,000,000 at most, and these lead round.
 pub record IsUnbounded (loads : ℕ → Option Word) (notes : Notes) (start : ℕ)

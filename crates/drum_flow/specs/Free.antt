@@ -6,8 +6,8 @@ use Rattle.drum_times.specs.declared.notes.mark.Mark.{Mark}
 use Rattle.drum_times.specs.Marks.{mark_on}
 use Rattle.drum_flow.specs.declared.refusal.Refusal.{Refusal}
 use Rattle.drum_flow.specs.declared.refusal.Refusal.TheVariants.{Memory, Unbounded}
-use Rattle.drum_flow.specs.Accepted.{IsFree, IsSmallestFirst}
-use Rattle.drum_flow.specs.Graph.{AreDifferent, GoOn, IsClosed}
+use Rattle.drum_flow.specs.Accepted.{IsFree, IsFreeCycle}
+use Rattle.drum_flow.specs.Graph.{AreDifferent, GoOn}
 
 -- The row of a location has the indices of those that edges free of marks lead to from it.
 pub record IsFreeRow (loads : ℕ → Option Word) (notes : Notes) (executed : List ℕ) (from : ℕ)
@@ -38,17 +38,9 @@ abbrev pub AreFreeRows : (ℕ → Option Word) → Notes → List ℕ → (ℕ �
 AreFreeRows loads notes executed row = (index from : ℕ) → slice_get executed index ≡ Some from
     → IsFreeRow loads notes executed from (row index)
 
--- Executed locations without repeats, the smallest first, that edges free of marks lead round.
-pub record IsFreeCycle (loads : ℕ → Option Word) (notes : Notes)
-    (executed cycle : List ℕ) : Type 0 where
-  pub within : (place : ℕ) → Contains cycle place → Contains executed place
-  pub closed : IsClosed (IsFree loads notes) cycle
-  pub different : AreDifferent cycle
-  pub smallest : IsSmallestFirst cycle
-
 -- the refusal has such a cycle, or there is no memory
-abbrev pub IsCycleRefusal : (ℕ → Option Word) → Notes → List ℕ → Refusal → Type 0
-IsCycleRefusal loads notes executed (Unbounded cycle) =
-    IsFreeCycle loads notes executed (map (λ location. location.number) cycle.locations.items)
-IsCycleRefusal loads notes executed Memory = Unit {0}
-IsCycleRefusal loads notes executed _ = ⊥
+abbrev pub IsCycleRefusal : (ℕ → Option Word) → Notes → ℕ → Refusal → Type 0
+IsCycleRefusal loads notes start (Unbounded cycle) =
+    IsFreeCycle loads notes start (map (λ location. location.number) cycle.locations.items)
+IsCycleRefusal loads notes start Memory = Unit {0}
+IsCycleRefusal loads notes start _ = ⊥

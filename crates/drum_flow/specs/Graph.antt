@@ -15,14 +15,15 @@ abbrev pub size : Graph → ℕ
 size graph = length graph.rows.items
 
 -- no member twice
-abbrev pub AreDifferent : List ℕ → Type 0
+abbrev pub AreDifferent : {X : Type 0} → List X → Type 0
 AreDifferent [] = Unit {0}
 AreDifferent (node ∷ nodes) = ¬ Contains nodes node × AreDifferent nodes
 
 -- each edge of a member leads to a later member
-abbrev pub GoOn : (ℕ → ℕ → Type 0) → List ℕ → Type 0
+abbrev pub GoOn : {X : Type 0} → (X → X → Type 0) → List X → Type 0
 GoOn Edge [] = Unit {0}
-GoOn Edge (node ∷ nodes) = ((next : ℕ) → Edge node next → Contains nodes next) × GoOn Edge nodes
+GoOn {X} Edge (node ∷ nodes) =
+    ((next : X) → Edge node next → Contains nodes next) × GoOn Edge nodes
 
 -- an edge of rows leads from the one node to the other
 abbrev pub Leads : (ℕ → List ℕ) → ℕ → ℕ → Type 0
@@ -36,11 +37,11 @@ pub record IsTopologicalOrder (row : ℕ → List ℕ) (size : ℕ) (order : Lis
   pub onward : GoOn (Leads row) order
 
 -- edges lead from a node along these, and from the last to the first
-abbrev pub LeadRound : (ℕ → ℕ → Type 0) → ℕ → ℕ → List ℕ → Type 0
+abbrev pub LeadRound : {X : Type 0} → (X → X → Type 0) → X → X → List X → Type 0
 LeadRound Edge first node [] = Edge node first
 LeadRound Edge first node (next ∷ nexts) = Edge node next × LeadRound Edge first next nexts
 
-abbrev pub IsClosed : (ℕ → ℕ → Type 0) → List ℕ → Type 0
+abbrev pub IsClosed : {X : Type 0} → (X → X → Type 0) → List X → Type 0
 IsClosed Edge [] = ⊥
 IsClosed Edge (node ∷ nodes) = LeadRound Edge node node nodes
 

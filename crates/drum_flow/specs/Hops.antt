@@ -3,6 +3,8 @@ use Rattle.std.specs.Prelude.{◌≡◌, ℕ, List, [], ◌∷◌, map, flat_map
 use Rattle.drum_core.specs.declared.instruction.Instruction.{Instruction}
 use Rattle.drum_core.specs.declared.word.Word.{Word}
 use Rattle.drum_times.specs.Allowed.{Notes, allowed}
+use Rattle.drum_machine.specs.Calls.{none_open, open_after, MayGo}
+use Rattle.drum_machine.specs.Since.{Edge}
 use Rattle.drum_machine.specs.Ways.{Way, to, ways}
 
 -- an instruction that is allowed at a location, and one of its ways
@@ -23,12 +25,38 @@ abbrev pub IsEdge : (ℕ → Option Word) → Notes → ℕ → ℕ → Type 0
 IsEdge loads notes place next =
     (ins : Instruction) × Contains (hops loads notes place) (record { ins = ins; way = to next })
 
--- some edges lead from the one location along these, the last of which is the other
-abbrev pub Lead : (ℕ → Option Word) → Notes → ℕ → List ℕ → ℕ → Type 0
-Lead loads notes place [] last = place ≡ last
-Lead loads notes place (next ∷ nexts) last =
-    IsEdge loads notes place next × Lead loads notes next nexts last
+-- A node is a location with what is open there at the exits of calls.
+pub record Node : Type 0 where
+  pub place : ℕ
+  pub ways : List (Option ℕ)
 
--- an executed location: some list of edges from the start, perhaps empty, ends there
+-- where runs begin: at the start of the deck, with nothing open
+abbrev pub first_node : Notes → ℕ → Node
+first_node notes start = record { place = start; ways = none_open notes.calls }
+
+-- the edge from a location onto another
+abbrev pub edge_between : ℕ → ℕ → Edge
+edge_between place next = record { from = place; onto = next }
+
+-- An edge leads from the one node to the other: it is one of their locations, a step may go along
+-- it with what is open there, and behind it this is open.
+pub record IsLink (loads : ℕ → Option Word) (notes : Notes) (node next : Node) : Type 0 where
+  pub edge : IsEdge loads notes node.place next.place
+  pub may : MayGo notes.calls node.ways (edge_between node.place next.place)
+  pub behind : next.ways ≡ open_after notes.calls (edge_between node.place next.place) node.ways
+
+-- some edges lead from the one node along these, the last of which is the other
+abbrev pub Lead : (ℕ → Option Word) → Notes → Node → List Node → Node → Type 0
+Lead loads notes node [] last = node ≡ last
+Lead loads notes node (next ∷ nexts) last =
+    IsLink loads notes node next × Lead loads notes next nexts last
+
+-- a node of the flow graph: some list of edges from the first node, perhaps empty, ends there
+abbrev pub IsNode : (ℕ → Option Word) → Notes → ℕ → Node → Type 0
+IsNode loads notes start node =
+    (through : List Node) × Lead loads notes (first_node notes start) through node
+
+-- an executed location: that of some node of the flow graph
 abbrev pub IsExecuted : (ℕ → Option Word) → Notes → ℕ → ℕ → Type 0
-IsExecuted loads notes start place = (through : List ℕ) × Lead loads notes start through place
+IsExecuted loads notes start place =
+    (ways : List (Option ℕ)) × IsNode loads notes start (record { place = place; ways = ways })

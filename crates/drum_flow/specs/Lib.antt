@@ -10,6 +10,7 @@ pub mod Flow
 pub mod Found
 pub mod Free
 pub mod Graph
+pub mod Held
 pub mod Hops
 pub mod HopsLeft
 pub mod Instructions

@@ -7,8 +7,8 @@ ghost use Rattle.drum_flow.specs.Flow.{deck_of, notes_of, executed_in, of_flow};
 ghost use Rattle.drum_flow.specs.Flow.{AreFound, AreExecuted};
 ghost use Rattle.drum_flow.specs.Refused.{IsFlowRefusal};
 
-use crate::executed::Executed;
 use crate::flow_graph::Flow;
+use crate::nodes::Nodes;
 use crate::place::check_place;
 use crate::refusal::Refusal;
 use drum_core::Deck;
@@ -48,16 +48,16 @@ pub fn discover<'a>(alloc: Global, deck: &'a Deck, notes: &'a Notes) -> Result<F
     ensures found { IfOk result (λ flow. AreFound (loads_in deck.now) notes.now
         (start_in deck.now) (executed_in flow)) }
 {
-    let mut executed = Executed::new(alloc, deck.start())?;
+    let mut nodes = Nodes::new(alloc, notes.calls(), deck.start())?;
     let mut turn = 0;
-    while let Some(location) = executed.get(turn) {
-        executed.add_successors(deck, notes, location)?;
+    while let Some(node) = nodes.get(turn) {
+        nodes.add_next(alloc, deck, notes, node)?;
         turn += 1;
     }
     Ok(Flow {
         deck,
         notes,
-        executed,
+        executed: nodes.locations(alloc, notes.calls())?,
     })
 }
 

@@ -3,7 +3,7 @@
 
 ghost use Rattle.std.specs.Prelude.{◌≡◌, ℕ, ◌<◌, map, length, slice_index, Contains, IfOk, IfErr};
 ghost use Rattle.drum_core.specs.Loads.{loads_in};
-ghost use Rattle.drum_flow.specs.Flow.{executed_in, of_flow, AreExecuted};
+ghost use Rattle.drum_flow.specs.Flow.{executed_in, of_flow, AreExecuted, AreFound};
 ghost use Rattle.drum_flow.specs.Free.{AreFreeRows, IsFreeOrder, IsCycleRefusal};
 ghost use Rattle.drum_flow.specs.Graph.{row, size, AreDifferent, IsCycle};
 
@@ -28,9 +28,10 @@ pub fn free_order(alloc: Global, flow: &Flow<'_>) -> Result<Vec<Location>, Refus
     ensures order { IfOk result (λ order. IsFreeOrder
         (loads_in flow.now.deck.now) flow.now.notes.now (executed_in flow.now)
         (map (λ location. location.number) order.items)) }
-    ensures cycle { IfErr result (IsCycleRefusal (loads_in flow.now.deck.now) flow.now.notes.now
-        (executed_in flow.now)) }
+    ensures cycle { IfErr result (of_flow IsCycleRefusal flow.now) }
 {
+    // What is known of notes: as yet no exit of theirs is open anywhere.
+    let _calls = flow.notes.calls();
     let graph = free_graph(alloc, flow)?;
     match sort(alloc, &graph)? {
         Sorted::Ordered(order) => Ok(locations_at(alloc, flow, &order)?),
@@ -44,9 +45,10 @@ fn unbounded(alloc: Global, flow: &Flow<'_>, graph: &Graph, cycle: &[usize]) -> 
     requires rows { AreFreeRows (loads_in flow.now.deck.now) flow.now.notes.now
         (executed_in flow.now) (row graph.now) }
     requires cycle { IsCycle (row graph.now) (size graph.now) cycle.now }
-    ensures { IsCycleRefusal (loads_in flow.now.deck.now) flow.now.notes.now
-        (executed_in flow.now) result }
+    requires found { of_flow AreFound flow.now (executed_in flow.now) }
+    ensures { of_flow IsCycleRefusal flow.now result }
 {
+    let _calls = flow.notes.calls();
     match locations_at(alloc, flow, cycle) {
         Ok(locations) => Refusal::Unbounded(Cycle::turned(locations)),
         Err(_) => Refusal::Memory,

@@ -9,11 +9,13 @@ use Rattle.drum_core.specs.declared.word.Word.{Word}
 use Rattle.drum_core.specs.Op.{is_operand, op_of, operand_of}
 use Rattle.drum_times.specs.Allowed.{Listed, Notes, allowed, listed, loaded, patterns_in}
 use Rattle.drum_times.specs.Marks.{mark_on}
+use Rattle.drum_times.specs.declared.notes.call.Call.{Call}
+use Rattle.drum_machine.specs.Calls.{none_open, open_after, MayGo}
 use Rattle.drum_machine.specs.Ways.{Way, early, in_order, to, ways_of, ways_of_stop, ways_with}
 use Rattle.drum_times.specs.declared.notes.programmed.Programmed.{Programmed}
-use Rattle.drum_flow.specs.Accepted.{IsFree}
+use Rattle.drum_flow.specs.Accepted.{IsFreeLink}
 use Rattle.drum_flow.specs.Graph.{IsClosed, LeadRound}
-use Rattle.drum_flow.specs.Hops.{Hop, hops, hops_of, IsEdge, IsExecuted, Lead}
+use Rattle.drum_flow.specs.Hops.{edge_between, first_node, Hop, hops, hops_of, IsEdge, IsLink, IsNode, Lead, Node}
 use Rattle.drum_loops.specs.Loops.{AreClosing, IsFreeBeside}
 use Rattle.drum_loops.specs.Marked.{AreMarked}
 
@@ -63,31 +65,45 @@ module _ (loads : ℕ → Option Word) (notes : Notes) (edges : List (ℕ × ℕ
   same_edge from onto (ins, has) =
       (ins, subst (λ (all : List Hop). Contains all (record { ins = ins; way = to onto })) (same_hops from) has)
 
-  same_lead : (from : ℕ) (through : List ℕ) (last : ℕ) → Lead loads marked from through last
-      → Lead loads notes from through last
-  same_lead from [] last lead = lead
-  same_lead from (next ∷ nexts) last lead = (same_edge from next lead.0, same_lead next nexts last lead.1)
+  same_link : (node next : Node) → IsLink loads marked node next → IsLink loads notes node next
+  same_link node next link = record {
+    edge = same_edge node.place next.place link.edge;
+    may = subst (λ (calls : List Call). MayGo calls node.ways (edge_between node.place next.place)) are.calls link.may;
+    behind = link.behind
+        ∙ ap (λ (calls : List Call). open_after calls (edge_between node.place next.place) node.ways) are.calls;
+  }
+
+  same_lead : (node : Node) (through : List Node) (last : Node) → Lead loads marked node through last
+      → Lead loads notes node through last
+  same_lead node [] last lead = lead
+  same_lead node (next ∷ nexts) last lead = (same_link node next lead.0, same_lead next nexts last lead.1)
+
+  same_reached : (start : ℕ) (node : Node) → IsNode loads marked start node → IsNode loads notes start node
+  same_reached start node (through, lead) = (
+    through,
+    subst (λ (calls : List Call). Lead loads notes (record { place = start; ways = none_open calls }) through node) are.calls
+        (same_lead (first_node marked start) through node lead),
+  )
 
   -- an edge that is free under more marks is left
-  free_left : (from onto : ℕ) → IsFree loads marked from onto → IsFreeBeside loads notes edges from onto
-  free_left from onto free = (
-    (same_edge from onto free.0, are.kept from onto free.1),
-    λ there. none_is_some (mark_on marked.marks from onto) free.1 (are.marks from onto there),
+  free_left : (node next : Node) → IsFreeLink loads marked node next → IsFreeBeside loads notes edges node next
+  free_left node next free = (
+    (same_link node next free.0, are.kept node.place next.place free.1),
+    λ there. none_is_some (mark_on marked.marks node.place next.place) free.1 (are.marks node.place next.place there),
   )
     where
       none_is_some : (mark : Option ℕ) → IsNone mark → IsSome mark → ⊥
       none_is_some None none some = cc
       none_is_some (Some place) none some = cc
 
-  round_left : (first node : ℕ) (xs : List ℕ) → LeadRound (IsFree loads marked) first node xs
-      → LeadRound (IsFreeBeside loads notes edges) first node xs
+  round_left : (first node : Node) (nodes : List Node) → LeadRound (IsFreeLink loads marked) first node nodes
+      → LeadRound (IsFreeBeside loads notes edges) first node nodes
   round_left first node [] round = free_left node first round
-  round_left first node (x ∷ xs) round = (free_left node x round.0, round_left first x xs round.1)
+  round_left first node (next ∷ nodes) round = (free_left node next round.0, round_left first next nodes round.1)
 
 pub marked_closed : (loads : ℕ → Option Word) (notes : Notes) (start : ℕ) (edges : List (ℕ × ℕ)) (marked : Notes)
-    → AreClosing loads notes start edges → AreMarked notes edges marked → (first : ℕ) (others : List ℕ)
-    → IsExecuted loads marked start first → ¬ IsClosed (IsFree loads marked) (first ∷ others)
-marked_closed loads notes start edges marked closing are first others executed closed =
-    closing.enough first others
-    (executed.0, same_lead loads notes edges marked are start executed.0 first executed.1)
+    → AreClosing loads notes start edges → AreMarked notes edges marked → (first : Node) (others : List Node)
+    → IsNode loads marked start first → ¬ IsClosed (IsFreeLink loads marked) (first ∷ others)
+marked_closed loads notes start edges marked closing are first others reached closed =
+    closing.enough first others (same_reached loads notes edges marked are start first reached)
     (round_left loads notes edges marked are first first others closed)

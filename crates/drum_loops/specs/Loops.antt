@@ -3,39 +3,50 @@
 use Rattle.std.specs.Prelude.{◌≡◌, ℕ, List, [], ◌∷◌, Option, Contains}
 use Rattle.drum_core.specs.declared.word.Word.{Word}
 use Rattle.drum_times.specs.Allowed.{Notes}
-use Rattle.drum_flow.specs.Accepted.{IsFree}
+use Rattle.drum_flow.specs.Accepted.{IsFreeLink}
 use Rattle.drum_flow.specs.Graph.{IsClosed}
-use Rattle.drum_flow.specs.Hops.{IsExecuted}
+use Rattle.drum_flow.specs.Hops.{IsNode, Node}
 
 -- none of them twice
 abbrev pub AreApart : List (ℕ × ℕ) → Type 0
 AreApart [] = Unit {0}
 AreApart (edge ∷ edges) = ¬ Contains edges edge × AreApart edges
 
--- edges lead from the one node along these, the last of which is the other
-abbrev pub LeadBy : (ℕ → ℕ → Type 0) → ℕ → List ℕ → ℕ → Type 0
-LeadBy IsLink node [] last = node ≡ last
-LeadBy IsLink node (next ∷ nexts) last = IsLink node next × LeadBy IsLink next nexts last
+-- links lead from the one node along these, the last of which is the other
+abbrev pub LeadBy : {X : Type 0} → (X → X → Type 0) → X → List X → X → Type 0
+LeadBy Link node [] last = node ≡ last
+LeadBy Link node (next ∷ nexts) last = Link node next × LeadBy Link next nexts last
 
--- some edges, perhaps none, lead from the one node to the other
-abbrev pub LeadsTo : (ℕ → ℕ → Type 0) → ℕ → ℕ → Type 0
-LeadsTo IsLink node last = (through : List ℕ) × LeadBy IsLink node through last
+-- some links, perhaps none, lead from the one node to the other
+abbrev pub LeadsTo : {X : Type 0} → (X → X → Type 0) → X → X → Type 0
+LeadsTo {X} Link node last = (through : List X) × LeadBy Link node through last
 
--- the edge is free of marks, and is none of these
-abbrev pub IsFreeBeside : (ℕ → Option Word) → Notes → List (ℕ × ℕ) → ℕ → ℕ → Type 0
-IsFreeBeside loads notes edges from onto =
-    IsFree loads notes from onto × ¬ Contains edges (from, onto)
+-- an edge of nodes that is free of marks, whose locations' edge is none of these
+abbrev pub IsFreeBeside : (ℕ → Option Word) → Notes → List (ℕ × ℕ) → Node → Node → Type 0
+IsFreeBeside loads notes edges node next =
+    IsFreeLink loads notes node next × ¬ Contains edges (node.place, next.place)
 
--- These edges close the loops: edges free of marks between executed locations, none of them twice.
--- A mark on each of them is enough, and none of these marks can be spared.
+-- an edge of nodes that is free of marks, whose locations' edge is this one or none of these
+abbrev pub IsFreeBut : (ℕ → Option Word) → Notes → List (ℕ × ℕ) → ℕ × ℕ → Node → Node → Type 0
+IsFreeBut loads notes edges edge node next =
+    IsFreeLink loads notes node next
+    × (Contains edges (node.place, next.place) → (node.place, next.place) ≡ edge)
+
+-- Without a mark on this one of the edges something closed would be free of marks: others free of
+-- marks lead round with it.
+pub record IsNeeded (loads : ℕ → Option Word) (notes : Notes) (start : ℕ) (edges : List (ℕ × ℕ))
+    (edge : ℕ × ℕ) : Type 0 where
+  pub first : Node
+  pub others : List Node
+  pub within : IsNode loads notes start first
+  pub closed : IsClosed (IsFreeBut loads notes edges edge) (first ∷ others)
+
+-- These edges close the loops, none of them twice. A mark on each of them is enough, and none of
+-- these marks can be spared.
 pub record AreClosing (loads : ℕ → Option Word) (notes : Notes) (start : ℕ)
     (edges : List (ℕ × ℕ)) : Type 0 where
-  pub executed : (from onto : ℕ) → Contains edges (from, onto) → IsExecuted loads notes start from
-  pub free : (from onto : ℕ) → Contains edges (from, onto) → IsFree loads notes from onto
-  -- each is needed: other edges free of marks lead from its end back to its beginning
-  pub needed : (from onto : ℕ) → Contains edges (from, onto)
-      → LeadsTo (IsFreeBeside loads notes edges) onto from
-  -- they are enough: the other edges free of marks close nothing
-  pub enough : (first : ℕ) (others : List ℕ) → IsExecuted loads notes start first
+  pub needed : (edge : ℕ × ℕ) → Contains edges edge → IsNeeded loads notes start edges edge
+  -- they are enough: from no node of the flow graph do other edges free of marks lead round
+  pub enough : (first : Node) (others : List Node) → IsNode loads notes start first
       → ¬ IsClosed (IsFreeBeside loads notes edges) (first ∷ others)
   pub apart : AreApart edges

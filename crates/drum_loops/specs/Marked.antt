@@ -9,6 +9,7 @@ pub record AreMarked (notes : Notes) (edges : List (ℕ × ℕ)) (marked : Notes
   pub programmed : marked.programmed ≡ notes.programmed
   pub load_cards : marked.load_cards ≡ notes.load_cards
   pub lists : marked.lists ≡ notes.lists
+  pub calls : marked.calls ≡ notes.calls
   pub kept : (from onto : ℕ) → IsNone (mark_on marked.marks from onto)
       → IsNone (mark_on notes.marks from onto)
   pub marks : (from onto : ℕ) → Contains edges (from, onto)

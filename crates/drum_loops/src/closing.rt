@@ -69,6 +69,8 @@ pub fn closing_edges(alloc: Global, flow: &Flow<'_>) -> Result<Vec<Edge>, AllocE
     requires { of_flow AreFound flow.now (executed_in flow.now) }
     ensures { IfOk result (λ edges. of_flow AreClosing flow.now (map edge_of edges.items)) }
 {
+    // What is known of notes: as yet no exit of theirs is open anywhere.
+    let _calls = flow.notes().calls();
     let graph = free_graph(alloc, flow)?;
     let order = arrange(alloc, &graph)?;
     let ranks = ranks_in(alloc, &order, graph.size())?;

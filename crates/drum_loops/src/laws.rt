@@ -3,9 +3,9 @@
 ghost use Rattle.std.specs.Prelude.{◌∷◌, ℕ, List, Option};
 ghost use Rattle.drum_core.specs.declared.word.Word.{Word};
 ghost use Rattle.drum_times.specs.Allowed.{Notes};
-ghost use Rattle.drum_flow.specs.Accepted.{IsFree};
+ghost use Rattle.drum_flow.specs.Accepted.{IsFreeLink};
 ghost use Rattle.drum_flow.specs.Graph.{IsClosed};
-ghost use Rattle.drum_flow.specs.Hops.{IsExecuted};
+ghost use Rattle.drum_flow.specs.Hops.{IsNode, Node};
 ghost use Rattle.drum_loops.specs.Loops.{AreClosing};
 ghost use Rattle.drum_loops.specs.Marked.{AreMarked};
 
@@ -14,6 +14,6 @@ ghost use Rattle.drum_loops.specs.Marked.{AreMarked};
 pub fn marks_are_enough()
     ensures { (loads : ℕ → Option Word) (notes : Notes) (start : ℕ) (edges : List (ℕ × ℕ))
         (marked : Notes) → AreClosing loads notes start edges → AreMarked notes edges marked
-        → (first : ℕ) (others : List ℕ) → IsExecuted loads marked start first
-        → ¬ IsClosed (IsFree loads marked) (first ∷ others) }
+        → (first : Node) (others : List Node) → IsNode loads marked start first
+        → ¬ IsClosed (IsFreeLink loads marked) (first ∷ others) }
 {}

@@ -1,28 +1,63 @@
-use Rattle.std.proofs.Common.{◌≡◌, ◌≤◌, ℕ, List, length, get_or, Option, Some, None, sym, ◌∙◌, inl, inr}
-use Rattle.std.specs.Prelude.{slice_get}
+use Rattle.std.proofs.Common.{◌≡◌, ◌<◌, ◌≤◌, ℕ, zero, suc, List, [], ◌∷◌, length, Some, None, sym, ap, ◌∙◌, arith}
+use Rattle.std.proofs.Common.{inl, inr}
+use Rattle.std.specs.Prelude.{slice_get, option_map}
 use Rattle.std.proofs.lemmas.Bool.{cases_lt}
-use Rattle.std.proofs.lemmas.Option.{slice_get-get_or}
+use Rattle.std.proofs.lemmas.List.{length-map}
+use Rattle.std.proofs.lemmas.Option.{slice_get-map}
 use Rattle.drum_core.specs.Loads.{loads_in, start_in}
-use Rattle.drum_flow.specs.Found.{places_of}
+use Rattle.drum_times.specs.declared.notes.call.Call.{Call}
+use Rattle.drum_flow.specs.declared.node.Node as held
+use Rattle.drum_flow.specs.Executed.{each_place}
+use Rattle.drum_flow.specs.Held.{node_of, nodes_in}
+use Rattle.drum_flow.specs.Hops.{Node}
+use Rattle.drum_flow.proofs.Lists.{contains_from_get}
 use Rattle.drum_flow.proofs.Orders.{all_found, found_next}
 use Rattle.drum_flow.proofs.discovery.discover.Goals as goal
 
-past_end : (xs : List ℕ) (k : ℕ) → slice_get xs k ≡ None → length xs ≤ k
-past_end xs k none = elim (cases_lt k (length xs)) [
-  | inl inside ↦ (let clash : ◌≡◌ {A = Option ℕ} None (Some (get_or xs k 0)) = sym none
-      ∙ slice_get-get_or xs k 0 inside in cc)
-  | inr past ↦ past
-]
+some_inside : (xs : List held.Node) (k : ℕ) → k < length xs → slice_get xs k ≡ None → ⊥
+some_inside [] k inside none = absurd (omega (arith, inside))
+some_inside (x ∷ xs) zero inside none = cc
+some_inside (x ∷ xs) (suc k) inside none = some_inside xs k (omega (arith, inside)) none
 
-pub loop-location-preserved : goal.loop-location-preserved
-loop-location-preserved c =
-    found_next (loads_in c.args.deck.now) c.args.notes.now (start_in c.args.deck.now) c.loop-location.turn
-    c.in-Some.location.number (places_of c.loop-location.executed) (places_of c.add_successors.new.self)
-    c.loop-location.invariant (sym c.in-Some.ensures.value) c.in_ok-add_successors.ensures
+past_end : (xs : List held.Node) (k : ℕ) → slice_get xs k ≡ None → length xs ≤ k
+past_end xs k none =
+    elim (cases_lt k (length xs)) [ inl inside ↦ absurd (some_inside xs k inside none) | inr past ↦ past ]
+
+pub add_next-requires-clause-from : goal.add_next-requires-clause-from
+add_next-requires-clause-from c =
+    c.loop-node.invariant.held.within c.in-Some.node
+    (contains_from_get c.loop-node.nodes.nodes.keys c.loop-node.turn c.in-Some.node (sym c.in-Some.ensures.value))
+
+pub loop-node-preserved : goal.loop-node-preserved
+loop-node-preserved c =
+    let notes = c.args.notes.now in
+    let loads = loads_in c.args.deck.now in
+    let nodes = c.loop-node.nodes in
+    let view : held.Node → Node = node_of notes.calls nodes.openings.items in
+    let here : slice_get (nodes_in notes.calls nodes) c.loop-node.turn ≡ Some (view c.in-Some.node) =
+    slice_get-map view nodes.nodes.keys c.loop-node.turn ∙ ap (option_map view) (sym c.in-Some.ensures.value) in
+    record {
+      after = found_next loads notes (start_in c.args.deck.now) c.loop-node.turn (view c.in-Some.node)
+          (nodes_in notes.calls nodes) (nodes_in notes.calls c.add_next.new.self) c.loop-node.invariant.after here
+          c.in_ok-add_next.ensures.nodes;
+      held = c.in_ok-add_next.ensures.held;
+    }
 
 pub returns-clause-found : goal.returns-clause-found
 returns-clause-found c =
-    let places = places_of c.loop-location.executed in
-    let turn = c.loop-location.turn in
-    all_found (loads_in c.args.deck.now) c.args.notes.now (start_in c.args.deck.now) turn places
-    c.loop-location.invariant (past_end places turn (sym c.in_default.ensures.value))
+    let notes = c.args.notes.now in
+    let nodes = c.loop-node.nodes in
+    let turn = c.loop-node.turn in
+    let none : slice_get nodes.nodes.keys turn ≡ None = sym c.in_default.ensures.value in
+    all_found (loads_in c.args.deck.now) notes (start_in c.args.deck.now) (nodes_in notes.calls nodes)
+    (record {
+      count = turn;
+      after = c.loop-node.invariant.after;
+      all = omega (
+        arith,
+        past_end nodes.nodes.keys turn none,
+        length-map nodes.nodes.keys (node_of notes.calls nodes.openings.items),
+      );
+    }) _
+    (sym (c.in_ok-locations.ensures
+    ∙ ap (λ (calls : List Call). each_place (nodes_in calls nodes)) c.calls-2.ensures.all))

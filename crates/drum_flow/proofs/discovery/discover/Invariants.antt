@@ -1,12 +1,15 @@
-use Rattle.std.proofs.Common.{◌≡◌, ◌-◌}
+use Rattle.std.proofs.Common.{◌≡◌, ◌-◌, ◌^◌}
 use Rattle.drum_core.specs.Loads.{loads_in, start_in}
 use Rattle.drum_flow.specs.Executed.{found_after}
-use Rattle.drum_flow.specs.Found.{places_of}
+use Rattle.drum_flow.specs.Held.{AreHeld, nodes_in}
 use Rattle.drum_flow.proofs.discovery.discover.Given as goal
 
--- the first `turn` locations have added their successors
-abbrev pub invariant-loop-location : goal.invariant-loop-location
-invariant-loop-location l = found_after (loads_in l.deck) l.notes (start_in l.deck) l.turn ≡ places_of l.executed
+-- the first `turn` nodes have added those that edges lead to from them
+abbrev pub invariant-loop-node : goal.invariant-loop-node
+invariant-loop-node l = record {
+  after : found_after (loads_in l.deck) l.notes (start_in l.deck) l.turn ≡ nodes_in l.notes.calls l.nodes;
+  held : AreHeld l.notes.calls l.nodes;
+}
 
-abbrev pub decreases-loop-location : goal.decreases-loop-location
-decreases-loop-location l = 2004 - l.turn
+abbrev pub decreases-loop-node : goal.decreases-loop-node
+decreases-loop-node l = 2 ^ 63 - l.turn

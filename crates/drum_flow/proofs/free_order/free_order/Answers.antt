@@ -27,7 +27,8 @@ returns-in-Ordered-clause-order c =
     (map (λ place. slice_index executed place) c.in-Ordered.order.items) =
     order_free loads flow.notes.now executed (row graph) c.in_ok-locations_at-in-Ordered.ensures.different
     c.in_ok-graph.ensures.rows
-    (executed_closed loads flow.notes.now (start_in flow.deck.now) executed c.requires.found) (size graph)
+    (executed_closed loads flow.notes.now (start_in flow.deck.now) executed c.calls-calls.ensures.sound.without_calls
+    c.requires.found) (size graph)
     c.in-Ordered.order.items c.in_ok-graph.ensures.size order in
     subst (IsFreeOrder loads flow.notes.now executed)
     (sym (c.in_ok-locations_at-in-Ordered.ensures.numbers

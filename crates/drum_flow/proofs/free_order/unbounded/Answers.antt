@@ -5,7 +5,7 @@ use Rattle.std.proofs.Common.{◌<◌, ℕ, List, length, Contains, sym, ap, sub
 use Rattle.std.specs.Prelude.{slice_index}
 use Rattle.std.proofs.lemmas.List.{length-map}
 use Rattle.drum_core.specs.declared.location.Location.{Location}
-use Rattle.drum_core.specs.Loads.{loads_in}
+use Rattle.drum_core.specs.Loads.{loads_in, start_in}
 use Rattle.drum_flow.specs.Flow.{executed_in}
 use Rattle.drum_flow.specs.Graph.{row, size, AreDifferent}
 use Rattle.drum_flow.specs.Turned.{IsTurned}
@@ -50,8 +50,9 @@ turned-requires-clause-few c =
 pub returns-in-Ok : goal.returns-in-Ok
 returns-in-Ok c =
     let flow = c.args.flow.now in
-    cycle_free (loads_in flow.deck.now) flow.notes.now (executed_in flow) (row c.args.graph.now) (size c.args.graph.now)
+    cycle_free (loads_in flow.deck.now) flow.notes.now (start_in flow.deck.now) (executed_in flow) (row c.args.graph.now) (size c.args.graph.now)
     c.args.cycle.now (numbers c.turned.result.locations.items)
-    c.in-Ok.ensures.different c.requires.rows c.requires.size c.requires.cycle
+    c.calls-calls.ensures.sound.without_calls c.requires.found c.in-Ok.ensures.different c.requires.rows c.requires.size
+    c.requires.cycle
     (subst (λ (ns : List ℕ). IsTurned ns (numbers c.turned.result.locations.items)) c.in-Ok.ensures.numbers
     c.turned.ensures)

@@ -1,4 +1,4 @@
-use Rattle.std.proofs.Common.{ℕ, List, length, map, sym, subst, arith}
+use Rattle.std.proofs.Common.{◌≡◌, ℕ, [], List, length, map, sym, subst, arith}
 use Rattle.std.specs.Prelude.{Contains}
 use Rattle.std.proofs.lemmas.Result.{IfOk-weaker}
 use Rattle.drum_core.specs.Loads.{loads_in, start_in}
@@ -6,6 +6,7 @@ use Rattle.drum_flow.specs.Flow.{executed_in}
 use Rattle.drum_flow.specs.Graph.{row, size}
 use Rattle.drum_loops.specs.Arranged.{IsArranged}
 use Rattle.drum_loops.specs.Closing.{AreBack}
+use Rattle.drum_times.specs.Allowed.{Notes}
 use Rattle.drum_times.specs.EdgeOf.{edge_of}
 use Rattle.drum_loops.specs.Loops.{AreClosing}
 use Rattle.drum_loops.specs.Ranks.{AreRanks}
@@ -31,9 +32,11 @@ returns c =
     subst (IsArranged (row graph) (size graph)) (sym c.deref.ensures.value) c.in_ok-order.ensures in
     let ranked : AreRanks order ranks =
     subst (AreRanks order) (sym c.deref-2.ensures.value) c.in_ok-ranks.ensures.ranks in
+    let none : flow.notes.now.calls ≡ [] =
+    subst (λ (notes : Notes). notes.calls ≡ []) c.notes.ensures c.calls-calls.ensures.sound.without_calls in
     IfOk-weaker c.edges_back.result
     (λ edges. AreBack (row graph) ranks executed (length executed) (map edge_of edges.items))
     (λ edges. AreClosing loads flow.notes.now start (map edge_of edges.items))
     (λ edges back. closes loads flow.notes.now start executed (row graph) (size graph) order ranks
-    (map edge_of edges.items) c.requires c.edges_back.ensures.different c.in_ok-graph.ensures.rows
+    (map edge_of edges.items) none c.requires c.edges_back.ensures.different c.in_ok-graph.ensures.rows
     c.in_ok-graph.ensures.size arranged ranked back) c.edges_back.ensures.edges

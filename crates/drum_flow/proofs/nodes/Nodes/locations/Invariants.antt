@@ -1,0 +1,11 @@
+use Rattle.std.proofs.Common.{◌≡◌, map, take}
+use Rattle.drum_flow.specs.Executed.{each_place}
+use Rattle.drum_flow.specs.Found.{places_of}
+use Rattle.drum_flow.specs.Held.{node_of}
+use Rattle.drum_flow.proofs.nodes.Nodes.locations.Given as goal
+
+-- the locations of the nodes so far, each once
+abbrev pub invariant-loop-node : goal.invariant-loop-node
+invariant-loop-node l =
+    places_of l.executed
+    ≡ each_place (map (node_of l.fn.calls l.self.openings.items) (take l.node-index l.self.nodes.keys))

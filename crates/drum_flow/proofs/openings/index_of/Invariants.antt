@@ -1,0 +1,10 @@
+use Rattle.std.proofs.Common.{◌≡◌, ℕ, ◌<◌, Some}
+use Rattle.std.specs.Prelude.{slice_get}
+use Rattle.drum_machine.specs.OpenIn.{open_in}
+use Rattle.drum_flow.specs.Held.{ways_in}
+use Rattle.drum_flow.proofs.openings.index_of.Given as goal
+
+-- none of those so far is the same
+abbrev pub invariant-loop-index : goal.invariant-loop-index
+invariant-loop-index l =
+    (k : ℕ) → k < l.index → ¬ (slice_get (ways_in l.calls l.fn.openings.items) k ≡ Some (open_in l.ways l.calls))

@@ -1,0 +1,117 @@
+ghost use Rattle.std.specs.Prelude.{◌≡◌, ◌^◌, ◌<◌, ◌≤◌, [], ◌∷◌, ◌++◌, length, nat_eq};
+ghost use Rattle.std.specs.Option.{option_eq};
+ghost use Rattle.std.specs.Prelude.{option_map, slice_get, Some, IfOk, IfSome, OnOk};
+ghost use Rattle.std.specs.Cmp.Lexicographic.{pointwise};
+ghost use Rattle.drum_core.specs.Loads.{loads_in};
+ghost use Rattle.drum_machine.specs.Calls.{none_open};
+ghost use Rattle.drum_machine.specs.OpenIn.{open_in};
+ghost use Rattle.drum_flow.specs.Executed.{each_place, next_nodes, onward, same_node, with_new_by};
+ghost use Rattle.drum_flow.specs.Found.{places_of};
+ghost use Rattle.drum_flow.specs.Held.{AreHeld, ArePlacedIn, node_in, nodes_in, ways_in};
+
+use crate::executed::Executed;
+use crate::node::Node;
+use crate::openings::index_behind;
+use drum_core::{Deck, Location};
+use drum_machine::Open;
+use drum_times::{Call, Notes};
+use indexmap::IndexSet;
+use std::alloc::{AllocError, Global};
+
+/// Nodes without repeats, in the order in which they are found.
+#[derive(Debug, Drop)]
+pub struct Nodes {
+    nodes: IndexSet<Node>,
+    openings: Vec<Open>,
+}
+
+impl Nodes {
+    /// The node of the start alone, where nothing is open.
+    pub fn new(alloc: Global, calls: &[Call], start: Location) -> Result<Nodes, AllocError>
+        requires { length calls.now ≤ 64 }
+        ensures nodes { IfOk result (λ nodes. nodes_in calls.now nodes
+            ≡ record { place = start.number; ways = none_open calls.now } ∷ []) }
+        ensures held { IfOk result (AreHeld calls.now) }
+    {
+        let mut openings = Vec::new(alloc);
+        openings.push(Open::none())?;
+        let mut nodes = IndexSet::new(alloc);
+        nodes.insert(Node {
+            location: start,
+            opening: 0,
+        })?;
+        Ok(Nodes { nodes, openings })
+    }
+
+    /// The node at an index of the order, from 0; `None` past its end.
+    pub fn get(&self, place: usize) -> Option<Node>
+        ensures value { option_map (λ node. node) result ≡ slice_get self.now.nodes.keys place }
+        ensures few { IfSome result (λ node. place < 2 ^ 63) }
+    {
+        if place >= self.nodes.len() {
+            return None;
+        }
+        self.nodes.get_index(place).copied()
+    }
+
+    /// Adds the node that an edge to a location leads to from a node, if a step may go along it and
+    /// the node isn't there yet.
+    fn add_onward(&mut self, notes: &Notes, from: Node, onto: Location) -> Result<(), AllocError>
+        requires held { AreHeld notes.now.calls self.old }
+        requires from { from.opening < length self.old.openings.items }
+        ensures nodes { OnOk result (nodes_in notes.now.calls self.new ≡ with_new_by same_node
+            (nodes_in notes.now.calls self.old)
+            (onward notes.now (node_in notes.now.calls self.old from) onto.number)) }
+        ensures held { OnOk result (AreHeld notes.now.calls self.new) }
+        ensures kept { OnOk result ((more : _) × (self.new.openings.items
+            ≡ self.old.openings.items ++ more)) }
+    {
+        let calls = notes.calls();
+        if !self.openings[from.opening].may_go(calls, from.location, onto) {
+            return Ok(());
+        }
+        let (before, from) = (from.opening, from.location);
+        let opening = index_behind(&mut self.openings, calls, before, from, onto)?;
+        self.nodes.insert(Node {
+            location: onto,
+            opening,
+        })?;
+        Ok(())
+    }
+
+    /// Adds the nodes that edges lead to from a node, in the order of its hops, unless they are
+    /// there.
+    pub fn add_next(
+        &mut self,
+        alloc: Global,
+        deck: &Deck,
+        notes: &Notes,
+        from: Node,
+    ) -> Result<(), AllocError>
+        requires held { AreHeld notes.now.calls self.old }
+        requires from { from.opening < length self.old.openings.items }
+        ensures nodes { OnOk result (nodes_in notes.now.calls self.new ≡ with_new_by same_node
+            (nodes_in notes.now.calls self.old)
+            (next_nodes (loads_in deck.now) notes.now (node_in notes.now.calls self.old from))) }
+        ensures held { OnOk result (AreHeld notes.now.calls self.new) }
+    {
+        let mut targets = Executed::none(alloc);
+        targets.add_successors(deck, notes, from.location)?;
+        for onto in targets.locations() {
+            self.add_onward(notes, from, *onto)?;
+        }
+        Ok(())
+    }
+
+    /// The locations of the nodes, each once.
+    pub fn locations(&self, alloc: Global, calls: &[Call]) -> Result<Executed, AllocError>
+        ensures { IfOk result (λ executed. places_of executed
+            ≡ each_place (nodes_in calls.now self.now)) }
+    {
+        let mut executed = Executed::none(alloc);
+        for node in self.nodes.as_slice() {
+            executed.add(node.location)?;
+        }
+        Ok(executed)
+    }
+}
