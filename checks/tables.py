@@ -4,7 +4,7 @@ a timing table and notes that are accepted."""
 import math
 import re
 
-from findings import Flow, writes
+from findings import Flow, are_closing, writes
 from latest import table
 from marks import place_on
 from model import MAY_STOP_LATE, Walks, is_location, suits
@@ -76,7 +76,12 @@ def sized(text, files):
 
 
 class Drawn(Flow):
-    """The flow graph of a deck under its notes, as it is drawn."""
+    """The flow graph of a deck under its notes, as it is drawn, where these edges were told for
+    those that close loops."""
+
+    def __init__(self, files, loops):
+        super().__init__(files)
+        self.loops = loops
 
     def may_stop(self, place):
         return any(self.stops(*one) for one in self.instructions(place) if one[0] in self.profile)
@@ -108,17 +113,24 @@ class Drawn(Flow):
         text = "%04d -> %04d" % (place, onto)
         if number is not None:
             mark = self.marks[number]
-            told = number + 1, mark.most, mark.ending()
-            text += ' [label="mark %d most %d%s" penwidth=3]' % told
-        return text
+            inside = "" if mark.inside is None else " inside %d" % (mark.inside + 1)
+            told = number + 1, mark.most, inside, mark.ending()
+            text += ' [label="mark %d most %d%s%s" penwidth=3]' % told
+        return text + (" [color=red]" if (place, onto) in self.loops else "")
+
+    def style(self, place):
+        """How the box of a location is drawn."""
+        is_listed, is_unfit = place in self.lists, any(self.unfit(place))
+        dashed = '"dashed,filled"' if is_unfit else "dashed"
+        text = " style=%s" % (dashed if is_listed else "filled") if is_listed or is_unfit else ""
+        text += " fillcolor=lightgrey" if is_unfit else ""
+        return text + (" peripheries=2" if self.may_stop(place) else "")
 
     def text(self):
         yield from ["digraph deck {", "node [shape=box]", "start [shape=point]"]
         yield "start -> %04d" % self.order[0]
         for place in self.order:
-            style = " style=dashed" if place in self.lists else ""
-            style += " peripheries=2" if self.may_stop(place) else ""
-            yield '%04d [label="%s"%s]' % (place, self.label(place), style)
+            yield '%04d [label="%s"%s]' % (place, self.label(place), self.style(place))
             yield from (self.arrow(place, onto) for onto in self.targets[place])
             for word in self.written(place):
                 yield "%04d -> %04d [style=dotted]" % (place, word)
@@ -127,4 +139,8 @@ class Drawn(Flow):
 
 def graphed(text, files):
     """Whether a text is the flow graph."""
-    return True if text == "".join(line + "\n" for line in Drawn(files).text()) else None
+    loops = re.findall("^([0-9]{4}) -> ([0-9]{4}) \\[color=red\\]$", text, re.M)
+    told = [tuple(map(int, edge)) for edge in loops]
+    drawn = Drawn(files, set(told))
+    is_one = text == "".join(line + "\n" for line in drawn.text())
+    return True if is_one and are_closing(drawn.in_order(told), drawn) else None

@@ -33,6 +33,7 @@ use Rattle.drum_listing.specs.TableText.{AreInOrder, table_text}
 use Rattle.drum_listing.specs.Waits.{AreDearestFirst}
 use Rattle.drum_listing.specs.WaitsText.{waits_text}
 use Rattle.drum_listing.specs.WalkText.{walk_text}
+use Rattle.drum_loops.specs.Loops.{AreClosing}
 use Rattle.drum_documents.specs.declared.documents.Documents.{Documents}
 use Rattle.drum_documents.specs.Documents.{Say, Texts, setting_of}
 use Rattle.drum_documents.specs.Limits.{AreShort, HaveNoBound, IsAnalysisFault, IsBound, IsBracket}
@@ -69,9 +70,9 @@ size_reply documents executed rows =
     says (size_text (length executed) (hops_among (loads_in documents.deck) documents.notes executed)
     (counts_of documents.notes.marks) (length rows)) Done
 
-abbrev pub graph_reply : Documents → List Node → Reply
-graph_reply documents nodes =
-    says (graph_text documents.notes.marks (start_in documents.deck) nodes) Done
+abbrev pub graph_reply : Documents → List (ℕ × ℕ) → List Node → Reply
+graph_reply documents loops nodes =
+    says (graph_text documents.notes.marks loops (start_in documents.deck) nodes) Done
 
 abbrev pub picture_reply : List ℕ → Reply
 picture_reply picture = says picture Done
@@ -143,12 +144,15 @@ SaysSize documents reply =
     × (rows : List Row) × IsTable (setting_of documents) rows
     × (reply ≡ size_reply documents executed rows)
 
--- the flow graph, whatever keeps the deck from having a bound under its notes
+-- the flow graph, whatever keeps the deck from having a bound under its notes, with edges that close
+-- its loops
 abbrev pub SaysGraph : Documents → Reply → Type 0
 SaysGraph documents reply =
     (nodes : List Node)
     × AreNodes (loads_in documents.deck) documents.notes (start_in documents.deck) nodes
-    × (reply ≡ graph_reply documents nodes)
+    × (loops : List (ℕ × ℕ))
+    × AreClosing (loads_in documents.deck) documents.notes (start_in documents.deck) loops
+    × (reply ≡ graph_reply documents loops nodes)
 
 -- a picture, where the deck with its notes is accepted; which one isn't said
 abbrev pub SaysPicture : Documents → Reply → Type 0

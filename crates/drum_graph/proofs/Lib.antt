@@ -1,5 +1,6 @@
 pub mod Among
 mod Checks
+pub mod Edges
 pub mod Nodes
 pub mod PatternOperations
 pub mod Stopping

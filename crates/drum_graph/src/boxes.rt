@@ -4,7 +4,7 @@ ghost use Rattle.std.specs.Prelude.{◌≡◌, ◌+◌, ◌^◌, ◌≤◌, ◌+
 ghost use Rattle.drum_core.specs.Numeral.{digits_of};
 ghost use Rattle.drum_lines.specs.Sent.{IsSent, fails_by};
 ghost use Rattle.drum_graph.specs.GraphOf.{node_of};
-ghost use Rattle.drum_graph.specs.GraphText.{box_text, border_text, dash_text, operation_text};
+ghost use Rattle.drum_graph.specs.GraphText.{box_text, border_text, operation_text, style_text};
 
 use crate::node::Node;
 use drum_core::{Location, Output};
@@ -67,12 +67,17 @@ fn send_operations<O: Output>(
     Ok(sent)
 }
 
-/// How the box of a word is drawn that has a list.
-fn dashes(is_listed: bool) -> &'static [u8]
-    ensures text { result.now ≡ dash_text is_listed }
-    ensures short { length result.now ≤ 20 }
+/// How the box of a word is drawn: one that has a list, and one that is unfit.
+fn style(is_listed: bool, is_unfit: bool) -> &'static [u8]
+    ensures text { result.now ≡ style_text is_listed is_unfit }
+    ensures short { length result.now ≤ 50 }
 {
-    if is_listed { b" style=dashed" } else { b"" }
+    match (is_listed, is_unfit) {
+        (false, false) => b"",
+        (true, false) => b" style=dashed",
+        (false, true) => b" style=filled fillcolor=lightgrey",
+        (true, true) => b" style=\"dashed,filled\" fillcolor=lightgrey",
+    }
 }
 
 /// How the border of a word is drawn that may stop the run.
@@ -88,15 +93,15 @@ fn send_style<O: Output>(writer: &mut O, sent: usize, node: &Node) -> Result<usi
     requires called { O.called writer.old ≤ 2 ^ 62 + 2 ^ 60 }
     requires few { sent ≤ 2 ^ 60 }
     ensures sent { IsSent (O.written writer.old) (O.written writer.new) sent result
-        (codes "\"" ++ dash_text node.now.is_listed ++ border_text node.now.may_stop
-        ++ codes "]\n") }
+        (codes "\"" ++ style_text node.now.is_listed node.now.is_unfit
+        ++ border_text node.now.may_stop ++ codes "]\n") }
     ensures failures { O.failed writer.new ≡ O.failed writer.old + fails_by result }
-    ensures calls { O.called writer.new ≤ O.called writer.old + 50 }
-    ensures few { IfOk result (λ total. total ≤ sent + 50) }
+    ensures calls { O.called writer.new ≤ O.called writer.old + 80 }
+    ensures few { IfOk result (λ total. total ≤ sent + 80) }
 {
     let pieces: [&[u8]; 4] = [
         b"\"",
-        dashes(node.is_listed),
+        style(node.is_listed, node.is_unfit),
         borders(node.may_stop),
         b"]\n",
     ];
@@ -114,8 +119,8 @@ pub(crate) fn send_box<O: Output>(
     ensures sent { IsSent (O.written writer.old) (O.written writer.new) sent result
         (box_text (node_of node.now)) }
     ensures failures { O.failed writer.new ≡ O.failed writer.old + fails_by result }
-    ensures calls { O.called writer.new ≤ O.called writer.old + 1080 }
-    ensures few { IfOk result (λ total. total ≤ sent + 1080) }
+    ensures calls { O.called writer.new ≤ O.called writer.old + 1110 }
+    ensures few { IfOk result (λ total. total ≤ sent + 1110) }
 {
     let sent = send_name(writer, sent, node.location)?;
     let sent = send_operations(writer, sent, &node.operations)?;

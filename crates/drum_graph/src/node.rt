@@ -1,5 +1,6 @@
 ghost use Rattle.std.specs.Prelude.{◌≤◌, vec_len};
 
+use crate::fitness::is_fit;
 use crate::operations::operations_at;
 use crate::stops::may_stop;
 use crate::written::written_at;
@@ -11,13 +12,14 @@ use drum_times::Notes;
 use std::alloc::{AllocError, Global};
 
 /// What is drawn of an executed word: which operations are allowed there, each once, whether it has
-/// a list, whether one of its instructions may stop the run, where they go on, and which executed
-/// words they write.
+/// a list, whether it is neither loaded nor listed or has an operation outside the profile, whether
+/// one of its instructions may stop the run, where they go on, and which executed words they write.
 #[derive(Debug, Drop)]
 pub(crate) struct Node {
     pub(crate) location: Location,
     pub(crate) operations: Vec<u8>,
     pub(crate) is_listed: bool,
+    pub(crate) is_unfit: bool,
     pub(crate) may_stop: bool,
     pub(crate) nexts: Executed,
     pub(crate) written: Executed,
@@ -52,10 +54,13 @@ impl Node {
         ensures { IfOk result (λ node. node_of node ≡ said.node (loads_in flow.now.deck.now)
             flow.now.notes.now (executed_in flow.now) location.number) }
     {
+        let operations = operations_at(alloc, flow.deck(), flow.notes(), location)?;
+        let is_unfit = !is_fit(flow.deck(), flow.notes(), location, &operations);
         Ok(Node {
             location,
-            operations: operations_at(alloc, flow.deck(), flow.notes(), location)?,
+            operations,
             is_listed: is_listed(flow.notes(), location),
+            is_unfit,
             may_stop: may_stop(flow.deck(), flow.notes(), location),
             nexts: Node::nexts_at(alloc, flow.deck(), flow.notes(), location)?,
             written: written_at(alloc, flow, location)?,

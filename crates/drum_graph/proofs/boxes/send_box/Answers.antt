@@ -5,7 +5,7 @@ use Rattle.std.specs.Prelude.{codes}
 use Rattle.std.proofs.lemmas.Result.{err_from_is_err_and}
 use Rattle.drum_core.specs.Numeral.{digits_of}
 use Rattle.drum_lines.specs.Sent.{IsSent}
-use Rattle.drum_graph.specs.GraphText.{border_text, dash_text, operation_text}
+use Rattle.drum_graph.specs.GraphText.{border_text, operation_text, style_text}
 use Rattle.drum_graph.proofs.Texts.{all_sent, box_pieces, first_cut, second_cut}
 use Rattle.drum_graph.proofs.boxes.send_box.Goals as goal
 
@@ -19,10 +19,10 @@ returns-in_err-sent-clause-sent g c =
     let fault = c.in_err-sent.field-0.0 in
     let p = err_from_is_err_and c.from_residual.result c.from_residual.ensures.1 in
     rw (p.1, p.2) (subst (IsSent old new c.args.sent (Err fault))
-    (box_pieces name (codes " [label=\"") operations (codes "\"") (dash_text node.is_listed) (border_text node.may_stop)
+    (box_pieces name (codes " [label=\"") operations (codes "\"") (style_text node.is_listed node.is_unfit) (border_text node.may_stop)
     (codes "]\n"))
     (first_cut old new c.args.sent (name ++ codes " [label=\"" ++ name) operations
-    (codes "\"" ++ dash_text node.is_listed ++ border_text node.may_stop ++ codes "]\n") fault
+    (codes "\"" ++ style_text node.is_listed node.is_unfit ++ border_text node.may_stop ++ codes "]\n") fault
     c.in_err-sent.ensures.sent))
 
 pub returns-in_err-sent-2-clause-sent : goal.returns-in_err-sent-2-clause-sent
@@ -39,10 +39,10 @@ returns-in_err-sent-2-clause-sent g c =
     subst (λ (ops : List ℕ). IsSent first new c.in_ok-sent.sent (Err fault) (flat_map operation_text ops))
     c.deref.ensures.value c.in_err-sent-2.ensures.sent in
     rw (p.1, p.2) (subst (IsSent old new c.args.sent (Err fault))
-    (box_pieces name (codes " [label=\"") operations (codes "\"") (dash_text node.is_listed) (border_text node.may_stop)
+    (box_pieces name (codes " [label=\"") operations (codes "\"") (style_text node.is_listed node.is_unfit) (border_text node.may_stop)
     (codes "]\n"))
     (second_cut old new c.args.sent (name ++ codes " [label=\"" ++ name) operations
-    (codes "\"" ++ dash_text node.is_listed ++ border_text node.may_stop ++ codes "]\n") first c.in_ok-sent.sent fault
+    (codes "\"" ++ style_text node.is_listed node.is_unfit ++ border_text node.may_stop ++ codes "]\n") first c.in_ok-sent.sent fault
     c.in_ok-sent.ensures.sent told))
 
 pub returns-clause-sent : goal.returns-clause-sent
@@ -59,8 +59,8 @@ returns-clause-sent g c =
     (flat_map operation_text ops))
     c.deref.ensures.value c.in_ok-sent-2.ensures.sent in
     subst (IsSent old new c.args.sent c.send_style.result)
-    (box_pieces name (codes " [label=\"") operations (codes "\"") (dash_text node.is_listed) (border_text node.may_stop)
+    (box_pieces name (codes " [label=\"") operations (codes "\"") (style_text node.is_listed node.is_unfit) (border_text node.may_stop)
     (codes "]\n"))
     (all_sent old new c.args.sent (name ++ codes " [label=\"" ++ name) operations
-    (codes "\"" ++ dash_text node.is_listed ++ border_text node.may_stop ++ codes "]\n") first second c.in_ok-sent.sent
+    (codes "\"" ++ style_text node.is_listed node.is_unfit ++ border_text node.may_stop ++ codes "]\n") first second c.in_ok-sent.sent
     c.in_ok-sent-2.sent c.send_style.result c.in_ok-sent.ensures.sent told c.send_style.ensures.sent)
