@@ -69,6 +69,7 @@ abbrev nodes : List Node
 nodes =
     record {
       place = 100;
+      further = [];
       operations = 65 ∷ [];
       is_listed = false;
       is_unfit = false;
@@ -78,6 +79,7 @@ nodes =
     }
     ∷ record {
       place = 110;
+      further = [];
       operations = 15 ∷ 16 ∷ [];
       is_listed = true;
       is_unfit = false;
@@ -87,6 +89,7 @@ nodes =
     }
     ∷ record {
       place = 120;
+      further = [];
       operations = 20 ∷ [];
       is_listed = false;
       is_unfit = false;
@@ -145,10 +148,13 @@ unfolding digits
 of_inside = refl
 
 -- an edge that closes a loop, and the same edge the other way round
-of_loop : edge_text [] ((120, 100) ∷ []) 120 100 ≡ codes "0120 -> 0100 [color=red]\n"
+abbrev word_at : ℕ → Node
+word_at place = node loads notes [] place
+
+of_loop : edge_text [] ((120, 100) ∷ []) (word_at 120) 100 ≡ codes "0120 -> 0100 [color=red]\n"
 of_loop = refl
 
-of_no_loop : edge_text [] ((120, 100) ∷ []) 100 120 ≡ codes "0100 -> 0120\n"
+of_no_loop : edge_text [] ((120, 100) ∷ []) (word_at 100) 120 ≡ codes "0100 -> 0120\n"
 of_no_loop = refl
 
 -- a location that is neither loaded nor listed has its location alone, is grey, and ends

@@ -11,10 +11,11 @@ use Rattle.drum_graph.specs.declared.loops.Loops.{Loops}
 use Rattle.drum_graph.specs.declared.node.Node as held
 use Rattle.drum_graph.specs.Graph.{Node, stops}
 
--- what is drawn of a word, by its numbers
+-- what is drawn as a box, by its numbers
 abbrev pub node_of : held.Node → Node
 node_of node = record {
   place = node.location.number;
+  further = map (λ location. location.number) node.further.items;
   operations = node.operations.items;
   is_listed = node.is_listed;
   is_unfit = node.is_unfit;

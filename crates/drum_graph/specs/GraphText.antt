@@ -1,6 +1,7 @@
 -- The text of a flow graph, in the language DOT. A location has four digits, an operation two, and
 -- other numbers are plain decimal.
-use Rattle.std.specs.Prelude.{ℕ, ◌+◌, nat_lt, Bool, true, false, if◌then◌else◌, List, [], ◌++◌}
+use Rattle.std.specs.Prelude.{ℕ, ◌+◌, nat_lt, Bool, true, false, if◌then◌else◌, List, [], ◌∷◌}
+use Rattle.std.specs.Prelude.{◌++◌}
 use Rattle.std.specs.Prelude.{flat_map, length, slice_get, Option, Some, None, codes, decimal}
 use Rattle.std.specs.List.{list_any}
 use Rattle.drum_core.specs.Numeral.{digits_of}
@@ -8,15 +9,28 @@ use Rattle.drum_lines.specs.NameText.{name_text}
 use Rattle.drum_times.specs.declared.notes.mark.Mark.{Mark}
 use Rattle.drum_times.specs.Edges.{leads}
 use Rattle.drum_times.specs.Marks.{mark_on}
-use Rattle.drum_graph.specs.Graph.{Node}
+use Rattle.drum_graph.specs.Graph.{Node, last_word}
 
 -- an operation in a label
 abbrev pub operation_text : ℕ → List ℕ
 operation_text op = codes " " ++ digits_of 2 op
 
--- the label of a word: its location, and the operations that are allowed there
+-- the label of several words, behind the first: the last, and how many they are
+abbrev pub span_text : Node → List ℕ
+span_text node =
+    codes " .. " ++ digits_of 4 (last_word node) ++ codes " "
+    ++ decimal (length node.further + 1) ++ codes " words"
+
+-- the label of a word, behind its location: the operations that are allowed there
+abbrev pub content_text : Node → List ℕ
+content_text node =
+    elim node.further [
+      | [] ↦ flat_map operation_text node.operations
+      | word ∷ words ↦ span_text node
+    ]
+
 abbrev pub label_text : Node → List ℕ
-label_text node = digits_of 4 node.place ++ flat_map operation_text node.operations
+label_text node = digits_of 4 node.place ++ content_text node
 
 -- how the box of a word is drawn: dashed, where it has a list, and grey, where it is unfit
 abbrev pub style_text : Bool → Bool → List ℕ
@@ -29,7 +43,7 @@ style_text true true = codes " style=\"dashed,filled\" fillcolor=lightgrey"
 abbrev pub border_text : Bool → List ℕ
 border_text may_stop = if may_stop then codes " peripheries=2" else []
 
--- the line of a word's box
+-- the line of a box
 abbrev pub box_text : Node → List ℕ
 box_text node =
     digits_of 4 node.place ++ codes " [label=\"" ++ label_text node ++ codes "\""
@@ -75,21 +89,22 @@ end_text closes = colour_text closes ++ codes "\n"
 abbrev pub arrow_text : ℕ → ℕ → List ℕ
 arrow_text from onto = digits_of 4 from ++ codes " -> " ++ digits_of 4 onto
 
--- the line of an edge, with the mark that stands on it; one that closes a loop has none
-abbrev pub edge_text : List Mark → List (ℕ × ℕ) → ℕ → ℕ → List ℕ
-edge_text marks loops from onto =
-    arrow_text from onto ++ mark_label marks (mark_on marks from onto)
-    ++ end_text (is_loop loops from onto)
+-- the line of an edge of a box, which leads from its last word, with the mark that stands on it; one
+-- that closes a loop has none
+abbrev pub edge_text : List Mark → List (ℕ × ℕ) → Node → ℕ → List ℕ
+edge_text marks loops node onto =
+    arrow_text node.place onto ++ mark_label marks (mark_on marks (last_word node) onto)
+    ++ end_text (is_loop loops (last_word node) onto)
 
--- the line of a word that an instruction of the first location writes
+-- the line of a word that an instruction of a box writes
 abbrev pub written_text : ℕ → ℕ → List ℕ
 written_text from word =
     digits_of 4 from ++ codes " -> " ++ digits_of 4 word ++ codes " [style=dotted]\n"
 
--- the lines of a word: its box, its edges, and what it writes
+-- the lines of a box: itself, its edges, and what it writes
 abbrev pub node_text : List Mark → List (ℕ × ℕ) → Node → List ℕ
 node_text marks loops node =
-    box_text node ++ flat_map (edge_text marks loops node.place) node.nexts
+    box_text node ++ flat_map (edge_text marks loops node) node.nexts
     ++ flat_map (written_text node.place) node.written
 
 -- the beginning, with an arrow to where the deck starts

@@ -1,12 +1,12 @@
-//! The lines of the arrows of an executed word: to where its instructions go on, and to the words
-//! that they write.
+//! The lines of the arrows of a box: to where its instructions go on, and to the words that they
+//! write.
 
 ghost use Rattle.std.specs.Prelude.{◌≡◌, ◌+◌, ◌^◌, ◌<◌, ◌≤◌, ◌++◌, codes, IfOk, Some};
 ghost use Rattle.std.specs.Prelude.{flat_map, length};
 ghost use Rattle.drum_flow.specs.Found.{places_of};
 ghost use Rattle.drum_lines.specs.Sent.{IsSent, fails_by};
 ghost use Rattle.drum_times.specs.Marks.{mark_on};
-ghost use Rattle.drum_graph.specs.GraphOf.{edges_in};
+ghost use Rattle.drum_graph.specs.GraphOf.{edges_in, node_of};
 ghost use Rattle.drum_graph.specs.GraphText.{arrow_text, colour_text, count_text, edge_text};
 ghost use Rattle.drum_graph.specs.GraphText.{end_text, inside_text, mark_label, named_text};
 ghost use Rattle.drum_graph.specs.GraphText.{written_text};
@@ -174,30 +174,31 @@ fn send_end<O: Output>(writer: &mut O, sent: usize, closes: bool) -> Result<usiz
     send(writer, sent, &pieces)
 }
 
-/// Writes the line of an edge, with the mark that stands on it, and red if it closes a loop.
+/// Writes the line of an edge of a box, with the mark that stands on it, and red if it closes a loop.
 fn send_edge<O: Output>(
     writer: &mut O,
     sent: usize,
     marks: &[Mark],
     loops: &Loops,
-    from: Location,
+    node: &Node,
     onto: Location,
 ) -> Result<usize, WriteFault>
     requires called { O.called writer.old ≤ 2 ^ 62 + 2 ^ 50 }
     requires few { sent ≤ 2 ^ 50 }
     ensures sent { IsSent (O.written writer.old) (O.written writer.new) sent result
-        (edge_text marks.now (edges_in loops.now) from.number onto.number) }
+        (edge_text marks.now (edges_in loops.now) (node_of node.now) onto.number) }
     ensures failures { O.failed writer.new ≡ O.failed writer.old + fails_by result }
     ensures calls { O.called writer.new ≤ O.called writer.old + 180 }
     ensures few { IfOk result (λ total. total ≤ sent + 180) }
 {
-    let sent = send_arrow(writer, sent, from, onto)?;
-    let sent = send_mark_on(writer, sent, marks, from, onto)?;
-    let closes = loops.have(from, onto);
+    let sent = send_arrow(writer, sent, node.location, onto)?;
+    let last = node.last();
+    let sent = send_mark_on(writer, sent, marks, last, onto)?;
+    let closes = loops.have(last, onto);
     send_end(writer, sent, closes)
 }
 
-/// Writes the lines of the edges of a word.
+/// Writes the lines of the edges of a box.
 pub(crate) fn send_edges<O: Output>(
     writer: &mut O,
     begun: usize,
@@ -208,7 +209,7 @@ pub(crate) fn send_edges<O: Output>(
     requires called { O.called writer.old ≤ 2 ^ 62 + 2 ^ 40 }
     requires few { begun ≤ 2 ^ 40 }
     ensures sent { IsSent (O.written writer.old) (O.written writer.new) begun result
-        (flat_map (edge_text marks.now (edges_in loops.now) node.now.location.number)
+        (flat_map (edge_text marks.now (edges_in loops.now) (node_of node.now))
         (places_of node.now.nexts)) }
     ensures failures { O.failed writer.new ≡ O.failed writer.old + fails_by result }
     ensures calls { O.called writer.new ≤ O.called writer.old + 360720 }
@@ -216,7 +217,7 @@ pub(crate) fn send_edges<O: Output>(
 {
     let mut sent = begun;
     for next in node.nexts.locations() {
-        sent = send_edge(writer, sent, marks, loops, node.location, *next)?;
+        sent = send_edge(writer, sent, marks, loops, node, *next)?;
     }
     Ok(sent)
 }

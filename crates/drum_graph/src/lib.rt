@@ -30,6 +30,7 @@ pub mod laws;
 mod loops;
 mod node;
 mod operations;
+mod outline;
 mod stops;
 mod written;
 
