@@ -130,7 +130,7 @@ pub fn tell_table<O: Output>(out: &mut O, documents: &Documents, table: &Table) 
     )
 }
 
-/// Writes a flow graph.
+/// Writes a flow graph, or its outline.
 pub fn tell_graph<O: Output>(out: &mut O, documents: &Documents, graph: &Graph) -> Status
     requires { O.called out.old ≤ 2 ^ 62 }
     ensures { GetsResult (device (O.written out.old) (O.failed out.old))

@@ -4,7 +4,7 @@ use Rattle.std.proofs.Common.{◌≤◌, get_or, Some, refl, ap, sym, subst, ◌
 use Rattle.std.specs.Prelude.{if◌then◌else◌, slice_get}
 use Rattle.std.proofs.lemmas.Bool.{cases_lt}
 use Rattle.std.proofs.lemmas.List.{drop_more, length-drop, take_more}
-use Rattle.std.proofs.lemmas.Option.{get_or_from_slice_get, slice_get-get_or, slice_get_within}
+use Rattle.std.proofs.lemmas.Option.{get_or_from_slice_get, slice_get_within}
 use Rattle.drum_times.specs.declared.notes.mark.Mark.{Mark}
 use Rattle.drum_flow.specs.Executed.{with_new}
 use Rattle.drum_flow.proofs.Additions.{with_new_append}

@@ -28,11 +28,11 @@ abbrev pub is_bare : List Mark → List (ℕ × ℕ) → ℕ → ℕ → Bool
 is_bare marks loops from onto =
     not (is_some (mark_on marks from onto)) && not (is_loop loops from onto)
 
--- whether a box goes straight on to a location: its last word has no list, never ends the run, and
--- goes on there and nowhere else, by a bare edge
+-- whether a box goes straight on to a location: its last word has no list, and goes on there and
+-- nowhere else, by a bare edge
 abbrev pub goes_straight : List Mark → List (ℕ × ℕ) → ℕ → Node → Bool
 goes_straight marks loops onto box =
-    not (box.is_listed || box.may_stop) && length box.nexts == 1 && is_among box.nexts onto
+    not box.is_listed && length box.nexts == 1 && is_among box.nexts onto
     && is_bare marks loops (last_word box) onto
 
 -- a box with one word more
@@ -43,7 +43,7 @@ join box word = record {
   operations = box.operations;
   is_listed = box.is_listed;
   is_unfit = box.is_unfit;
-  may_stop = word.may_stop;
+  may_stop = box.may_stop || word.may_stop;
   nexts = word.nexts;
   written = with_new box.written word.written;
 }

@@ -59,7 +59,7 @@ impl Node {
             nexts,
             ..
         } = word;
-        self.may_stop = may_stop;
+        self.may_stop = self.may_stop || may_stop;
         self.nexts = nexts;
         Ok(())
     }

@@ -70,10 +70,7 @@ fn goes_straight(marks: &[Mark], loops: &Loops, onto: Location, one: &Node) -> b
     ensures { result ≡ said.goes_straight marks.now (edges_in loops.now) onto.number
         (node_of one.now) }
 {
-    if one.is_listed || one.may_stop {
-        return false;
-    }
-    if one.nexts.locations().len() != 1 || !one.goes_on_at(onto) {
+    if one.is_listed || one.nexts.locations().len() != 1 || !one.goes_on_at(onto) {
         return false;
     }
     is_bare(marks, loops, one.last(), onto)

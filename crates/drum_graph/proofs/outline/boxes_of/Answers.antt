@@ -1,6 +1,6 @@
 -- Of boxes_of: each word is put into the boxes in its turn, and it is known whether it may follow
 -- another.
-use Rattle.std.proofs.Common.{◌≡◌, ◌+◌, ℕ, Bool, List, [], ◌∷◌, ◌++◌, map, length, drop, get_or, ap, sym, ◌∙◌, arith}
+use Rattle.std.proofs.Common.{◌≡◌, ℕ, Bool, List, [], ◌∷◌, ◌++◌, map, length, drop, get_or, ap, sym, ◌∙◌, arith}
 use Rattle.std.specs.Prelude.{fold, if◌then◌else◌}
 use Rattle.std.specs.Vec.Iter.{into_iter_items}
 use Rattle.drum_graph.specs.declared.node.Node as held
