@@ -23,7 +23,7 @@ may_follow start words word =
     not (word.is_listed || word.is_unfit || start == word.place || is_written words word.place)
     && is_come_to_once words word.place
 
--- whether an edge has neither a mark nor lacks one
+-- whether an edge neither has a mark nor lacks one
 abbrev pub is_bare : List Mark → List (ℕ × ℕ) → ℕ → ℕ → Bool
 is_bare marks loops from onto =
     not (is_some (mark_on marks from onto)) && not (is_loop loops from onto)

@@ -58,7 +58,7 @@ fn followers(alloc: Global, start: Location, words: &[Node]) -> Result<Vec<bool>
     Ok(follows)
 }
 
-/// Whether an edge has neither a mark nor lacks one.
+/// Whether an edge neither has a mark nor lacks one.
 fn is_bare(marks: &[Mark], loops: &Loops, from: Location, onto: Location) -> bool
     ensures { result ≡ said.is_bare marks.now (edges_in loops.now) from.number onto.number }
 {
