@@ -7,7 +7,7 @@ import re
 TOP = os.path.dirname(os.path.dirname(os.path.abspath(__file__)))
 FILES = ["deck", "times", "notes", "inputs"]
 # Two of a replay and of a trace, since they look at a file more than the others.
-OF_THREE = "bound check report walk waits table size graph draw ceiling".split()
+OF_THREE = "bound check report walk waits table size graph outline draw ceiling".split()
 LINES = [[]] + [[command] + FILES[:3] for command in OF_THREE]
 LINES += 2 * [[command] + FILES for command in ("replay", "trace")] + [["check"] + FILES]
 # A check, and one that looks at inputs too.

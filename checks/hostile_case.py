@@ -47,7 +47,7 @@ class Case:
         self.line = line
         self.command = command
         is_check = command == "check"
-        is_listed = command in ("check", "table", "graph")
+        is_listed = command in ("check", "table", "graph", "outline")
         is_result = is_listed or line.startswith((b"bound", b"ceiling", b"kept", b"left"))
         usual = 4 if line.startswith(b"left") else 0 if is_result else 1
         usual = 1 if is_check and line else usual

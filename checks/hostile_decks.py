@@ -180,15 +180,16 @@ def is_picture(bound):
     return look
 
 
-def everywhere():
-    """The graph of 2000 words, each of which goes on at every word, and stores into every one."""
+def everywhere(command):
+    """The graph of 2000 words, each of which goes on at every word, and stores into every one; or
+    its outline, which is the same."""
     patterns = "{op=45,d_from=0,d_to=1999,i=0},{op=24,d_from=0,d_to=1999,i=0}"
     one = "[[list]]\nlocation=%d\npattern=[%s]\n"
     lists = "".join(one % (here, patterns) for here in range(2000))
     # Four lines, of each word a box and two arrows to each, and the last.
     holds = has_lines(4 + 2000 * (1 + 2 * 2000) + 1, b"}\n")
     parts = {"deck": b"START 0000\n", "notes": NOTES + lists.encode(), "holds": holds}
-    return Case("graph of 8,000,000 arrows", b"}\n", "graph", **parts)
+    return Case("%s of 8,000,000 arrows" % command, b"}\n", command, **parts)
 
 
 def of_results():
@@ -201,7 +202,8 @@ def of_results():
     last = b"1999 angle 49 counts 1999 time %d\n" % (49 + KEYS - 1)
     parts = {"deck": ring_deck(), "notes": ring_notes(1999), "holds": has_lines(KEYS, last)}
     yield Case("table of 4,000,000 entries", last, "table", **parts)
-    yield everywhere()
+    yield everywhere("graph")
+    yield everywhere("outline")
     deck, notes = ring_deck(), ring_notes(1999)
     left = b"left toooften 1999 0000 step 4000000 used 3999999\n"
     for command, holds in [("replay", None), ("trace", has_lines(KEYS + 2, left))]:

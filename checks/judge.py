@@ -21,7 +21,7 @@ from results import (
     walked_bound,
 )
 from rounds import passes_of, rounded, waited_in_rounds, waits_in_rounds
-from tables import graphed, sized, tabled
+from tables import graphed, outlined, sized, tabled
 from text_faults import listed_faults
 from toml_text import document_of
 from traces import traced_verdict
@@ -35,7 +35,7 @@ Told = namedtuple("Told", "kind bound used fault by", defaults=[None, None, None
 # The commands that tell of the worst walk, line by line.
 WALKED = ["walk", "report", "waits"]
 # Those that read long notes, and of these the ones that go by the bound all the same.
-OF_LONG = [*CHECKS, "graph", "ceiling", "walk", "waits", "draw", "trace"]
+OF_LONG = [*CHECKS, "graph", "outline", "ceiling", "walk", "waits", "draw", "trace"]
 # Of these, past the bound, by the walk beside a ceiling.
 PAST_BOUND = ["walk", "waits", "draw"]
 
@@ -115,6 +115,7 @@ def result_of(asked, status, text):
         "table": ("table", lambda: tabled(text, files)),
         "size": ("size", lambda: sized(text, files)),
         "graph": ("graph", lambda: graphed(text, files)),
+        "outline": ("outline", lambda: outlined(text, files)),
         "draw": ("picture", lambda: pictured_bound(text)),
         "ceiling": ("ceiling", lambda: ceiling_of(text, files)),
     }
@@ -291,7 +292,7 @@ def agrees_of_long(asked, ran, told, run):
     if limit.fault and limit.fault.ending == "product":
         if limit.fault != past or not may_be_too_large(files):
             return False
-    if command == "graph":
+    if command in ("graph", "outline"):
         return told.fault is None
     if command in PAST_BOUND:
         return goes_with_ceiling(asked, ran, told, run)
@@ -348,7 +349,7 @@ def agrees(asked, ran, told, run):
         return is_said_first(ran, told, bound, told_of(("bound", files), bound))
     if command in ("table", "size"):
         return (ran.status, ran.err) == (bound.status, bound.err)
-    if command == "graph":
+    if command in ("graph", "outline"):
         fault = told_of(("bound", files), bound).fault
         is_refused = fault is not None and fault.about != "analysis"
         return told.fault == fault if is_refused else told.fault is None

@@ -1,10 +1,10 @@
-"""Whether a table of worst times and a flow graph in DOT are what docs/FORMATS.md says, of a deck,
-a timing table and notes that are accepted."""
+"""Whether a table of worst times, and a flow graph and its outline in DOT, are what
+docs/FORMATS.md says, of a deck, a timing table and notes that are accepted."""
 
 import math
 import re
 
-from findings import Flow, writes
+from findings import Flow, are_closing, writes
 from latest import table
 from marks import place_on
 from model import MAY_STOP_LATE, Walks, is_location, suits
@@ -76,7 +76,12 @@ def sized(text, files):
 
 
 class Drawn(Flow):
-    """The flow graph of a deck under its notes, as it is drawn."""
+    """The flow graph of a deck under its notes, as it is drawn, where these edges were told for
+    those that close loops."""
+
+    def __init__(self, files, loops):
+        super().__init__(files)
+        self.loops = loops
 
     def may_stop(self, place):
         return any(self.stops(*one) for one in self.instructions(place) if one[0] in self.profile)
@@ -102,29 +107,84 @@ class Drawn(Flow):
         operations = dict.fromkeys(op for op, _, _ in self.instructions(place))
         return "".join(["%04d" % place] + [" %02d" % op for op in operations])
 
-    def arrow(self, place, onto):
-        """The arrow of an edge, with the mark on it, if there is one."""
+    def arrow(self, first, place, onto):
+        """The arrow of an edge, from the first word of its box, with the mark on it, if there is
+        one."""
         number = place_on(self.marks, (place, onto))
-        text = "%04d -> %04d" % (place, onto)
+        text = "%04d -> %04d" % (first, onto)
         if number is not None:
             mark = self.marks[number]
-            told = number + 1, mark.most, mark.ending()
-            text += ' [label="mark %d most %d%s" penwidth=3]' % told
-        return text
+            inside = "" if mark.inside is None else " inside %d" % (mark.inside + 1)
+            told = number + 1, mark.most, inside, mark.ending()
+            text += ' [label="mark %d most %d%s%s" penwidth=3]' % told
+        return text + (" [color=red]" if (place, onto) in self.loops else "")
+
+    def style(self, places):
+        """How the box of these locations is drawn."""
+        place = places[0]
+        is_listed, is_unfit = place in self.lists, any(self.unfit(place))
+        dashed = '"dashed,filled"' if is_unfit else "dashed"
+        text = " style=%s" % (dashed if is_listed else "filled") if is_listed or is_unfit else ""
+        text += " fillcolor=lightgrey" if is_unfit else ""
+        return text + (" peripheries=2" if any(map(self.may_stop, places)) else "")
 
     def text(self):
         yield from ["digraph deck {", "node [shape=box]", "start [shape=point]"]
         yield "start -> %04d" % self.order[0]
-        for place in self.order:
-            style = " style=dashed" if place in self.lists else ""
-            style += " peripheries=2" if self.may_stop(place) else ""
-            yield '%04d [label="%s"%s]' % (place, self.label(place), style)
-            yield from (self.arrow(place, onto) for onto in self.targets[place])
-            for word in self.written(place):
-                yield "%04d -> %04d [style=dotted]" % (place, word)
+        for box in self.boxes():
+            first, last = box[0], box[-1]
+            label = self.label(first)
+            if len(box) > 1:
+                label = "%04d .. %04d %d words" % (first, last, len(box))
+            yield '%04d [label="%s"%s]' % (first, label, self.style(box))
+            yield from (self.arrow(first, last, onto) for onto in self.targets[last])
+            for word in dict.fromkeys(word for place in box for word in self.written(place)):
+                yield "%04d -> %04d [style=dotted]" % (first, word)
         yield "}"
 
+    def boxes(self):
+        return [[place] for place in self.order]
 
-def graphed(text, files):
-    """Whether a text is the flow graph."""
-    return True if text == "".join(line + "\n" for line in Drawn(files).text()) else None
+
+class Outlined(Drawn):
+    """The outline of a flow graph, in which words that go straight on from one to the next are one
+    box."""
+
+    def boxes(self):
+        boxes = []
+        for place in self.order:
+            before = [box for box in boxes if self.goes_straight(box[-1], place)]
+            if before and self.may_follow(place):
+                before[0].append(place)
+            else:
+                boxes.append([place])
+        return boxes
+
+    def may_follow(self, place):
+        """Whether a word may stand in a box behind another."""
+        is_plain = place not in self.lists and not any(self.unfit(place))
+        is_written = any(place in self.written(one) for one in self.order)
+        comers = [one for one in self.order if place in self.targets[one]]
+        return is_plain and not is_written and place != self.order[0] and len(comers) == 1
+
+    def goes_straight(self, place, onto):
+        """Whether a word goes on at another alone, by an edge that neither has nor lacks a mark."""
+        is_bare = place_on(self.marks, (place, onto)) is None and (place, onto) not in self.loops
+        is_alone = place not in self.lists and self.targets[place] == [onto]
+        return is_alone and is_bare
+
+
+def graphed(text, files, kind=Drawn):
+    """Whether a text is the flow graph, or its outline."""
+    ends = dict(re.findall('^([0-9]{4}) \\[label="[0-9]{4} [.][.] ([0-9]{4})', text, re.M))
+    loops = re.findall("^([0-9]{4}) -> ([0-9]{4}) \\[color=red\\]$", text, re.M)
+    told = [(int(ends.get(first, first)), int(onto)) for first, onto in loops]
+    drawn = kind(files, set(told))
+    is_one = text == "".join(line + "\n" for line in drawn.text())
+    order = [edge for edge in drawn.free_edges() if edge in drawn.loops]
+    return True if is_one and are_closing(drawn.in_order(order), drawn) else None
+
+
+def outlined(text, files):
+    """Whether a text is the outline of the flow graph."""
+    return graphed(text, files, Outlined)

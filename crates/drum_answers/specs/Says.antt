@@ -13,7 +13,8 @@ use Rattle.drum_check.specs.Lacking.{are_long, check_text}
 use Rattle.drum_command.specs.declared.command.Files.{Files}
 use Rattle.drum_command.specs.declared.command.Question.{Question}
 use Rattle.drum_command.specs.declared.command.Question.TheVariants.{Bound, Report, Walk, Waits}
-use Rattle.drum_command.specs.declared.command.Question.TheVariants.{Table, Size, Graph, Draw, Ceiling}
+use Rattle.drum_command.specs.declared.command.Question.TheVariants.{Table, Size, Graph, Outline}
+use Rattle.drum_command.specs.declared.command.Question.TheVariants.{Draw, Ceiling}
 use Rattle.drum_faults.specs.FaultLines as printed
 use Rattle.drum_lines.specs.declared.fault.Fault.{Fault}
 use Rattle.drum_lines.specs.declared.status.Status.{Status}
@@ -28,11 +29,13 @@ use Rattle.drum_rounds.specs.declared.bracket.Bracket.{Bracket}
 use Rattle.drum_report.specs.Report.{report_text}
 use Rattle.drum_graph.specs.Graph.{AreNodes, Node}
 use Rattle.drum_graph.specs.GraphText.{graph_text}
+use Rattle.drum_graph.specs.Outline.{outlined}
 use Rattle.drum_listing.specs.SizeText.{hops_among, size_text}
 use Rattle.drum_listing.specs.TableText.{AreInOrder, table_text}
 use Rattle.drum_listing.specs.Waits.{AreDearestFirst}
 use Rattle.drum_listing.specs.WaitsText.{waits_text}
 use Rattle.drum_listing.specs.WalkText.{walk_text}
+use Rattle.drum_loops.specs.Loops.{AreClosing}
 use Rattle.drum_documents.specs.declared.documents.Documents.{Documents}
 use Rattle.drum_documents.specs.Documents.{Say, Texts, setting_of}
 use Rattle.drum_documents.specs.Limits.{AreShort, HaveNoBound, IsAnalysisFault, IsBound, IsBracket}
@@ -42,7 +45,7 @@ use Rattle.drum_toml.specs.declared.notes.notes_read.NotesRead.TheVariants.{Long
 -- ---- what is said
 
 -- a report of a walk, a walk from an angle, one in rounds, the kinds of the hops of each, a table,
--- a size, a flow graph, a picture, and a ceiling
+-- a size, a flow graph, its outline, a picture, and a ceiling
 abbrev pub report_reply : Documents → List Visited → Reply
 report_reply documents walk = says (report_text documents.deck documents.notes walk) Done
 
@@ -69,9 +72,14 @@ size_reply documents executed rows =
     says (size_text (length executed) (hops_among (loads_in documents.deck) documents.notes executed)
     (counts_of documents.notes.marks) (length rows)) Done
 
-abbrev pub graph_reply : Documents → List Node → Reply
-graph_reply documents nodes =
-    says (graph_text documents.notes.marks (start_in documents.deck) nodes) Done
+abbrev pub graph_reply : Documents → List (ℕ × ℕ) → List Node → Reply
+graph_reply documents loops nodes =
+    says (graph_text documents.notes.marks loops (start_in documents.deck) nodes) Done
+
+abbrev pub outline_reply : Documents → List (ℕ × ℕ) → List Node → Reply
+outline_reply documents loops words =
+    graph_reply documents loops
+    (outlined documents.notes.marks loops (start_in documents.deck) words)
 
 abbrev pub picture_reply : List ℕ → Reply
 picture_reply picture = says picture Done
@@ -143,12 +151,24 @@ SaysSize documents reply =
     × (rows : List Row) × IsTable (setting_of documents) rows
     × (reply ≡ size_reply documents executed rows)
 
--- the flow graph, whatever keeps the deck from having a bound under its notes
+-- the flow graph, whatever keeps the deck from having a bound under its notes, with the edges that
+-- close its loops
 abbrev pub SaysGraph : Documents → Reply → Type 0
 SaysGraph documents reply =
     (nodes : List Node)
     × AreNodes (loads_in documents.deck) documents.notes (start_in documents.deck) nodes
-    × (reply ≡ graph_reply documents nodes)
+    × (loops : List (ℕ × ℕ))
+    × AreClosing (loads_in documents.deck) documents.notes (start_in documents.deck) loops
+    × (reply ≡ graph_reply documents loops nodes)
+
+-- its outline: the boxes of its words, with the same edges
+abbrev pub SaysOutline : Documents → Reply → Type 0
+SaysOutline documents reply =
+    (words : List Node)
+    × AreNodes (loads_in documents.deck) documents.notes (start_in documents.deck) words
+    × (loops : List (ℕ × ℕ))
+    × AreClosing (loads_in documents.deck) documents.notes (start_in documents.deck) loops
+    × (reply ≡ outline_reply documents loops words)
 
 -- a picture, where the deck with its notes is accepted; which one isn't said
 abbrev pub SaysPicture : Documents → Reply → Type 0
@@ -190,11 +210,12 @@ Says Waits = ByEither SaysWaits SaysRoundsWaits
 Says Table = SaysTable
 Says Size = SaysSize
 Says Graph = SaysGraph
+Says Outline = SaysOutline
 Says Draw = ByEither SaysPicture SaysPictureInRounds
 Says Ceiling = SaysCeiling
 
--- why nothing is said of them: the deck with its notes is refused; of the flow graph, which any
--- deck has, that the program is out of memory, and nothing else
+-- why nothing is said of them: the deck with its notes is refused; of the flow graph and its
+-- outline, which any deck has, that the program is out of memory, and nothing else
 abbrev pub Refuses : Question → Documents → Fault → Type 0
 Refuses Bound = IsAnalysisFault
 Refuses Report = IsAnalysisFault
@@ -203,6 +224,7 @@ Refuses Waits = IsCeilingFault
 Refuses Table = IsAnalysisFault
 Refuses Size = IsAnalysisFault
 Refuses Graph = λ documents. IsWanting
+Refuses Outline = λ documents. IsWanting
 Refuses Draw = IsCeilingFault
 Refuses Ceiling = IsCeilingFault
 

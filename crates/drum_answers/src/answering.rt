@@ -9,7 +9,7 @@ ghost use Rattle.drum_lines.specs.FaultStatus.{IsWanting};
 ghost use Rattle.drum_answers.specs.Basis.{IsBasis};
 ghost use Rattle.drum_answers.specs.declared.basis.Basis.TheVariants as bases;
 ghost use Rattle.drum_answers.specs.Says.{ByEither, Refuses, Says, SaysBound};
-ghost use Rattle.drum_answers.specs.Says.{SaysCeiling, SaysGraph, SaysPicture};
+ghost use Rattle.drum_answers.specs.Says.{SaysCeiling, SaysGraph, SaysOutline, SaysPicture};
 ghost use Rattle.drum_answers.specs.Says.{SaysPictureInRounds, SaysReport, SaysRounds};
 ghost use Rattle.drum_answers.specs.Says.{SaysRoundsWaits};
 ghost use Rattle.drum_answers.specs.Says.{SaysSize, SaysTable, SaysWaits, SaysWalk};
@@ -189,6 +189,22 @@ fn say_graph<O: Output>(alloc: Global, documents: &Documents, out: &mut O) -> Re
     Ok(tell_graph(out, documents, &graph))
 }
 
+/// Writes the outline of the flow graph.
+fn say_outline<O: Output>(
+    alloc: Global,
+    documents: &Documents,
+    out: &mut O,
+) -> Result<Status, Fault>
+    requires { O.called out.old ≤ 2 ^ 62 }
+    ensures does { (err : Device) → Does (SaysOutline documents.now) IsWanting
+        (device (O.written out.old) (O.failed out.old))
+        (device (O.written out.new) (O.failed out.new)) err err result }
+    ensures spared { IfErr result (λ _. out.new ≡ out.old) }
+{
+    let graph = Graph::outline(alloc, &documents.deck, &documents.notes)?;
+    Ok(tell_graph(out, documents, &graph))
+}
+
 /// Draws a worst walk.
 fn picture_by(alloc: Global, documents: &Documents, basis: &Basis) -> Result<String, AllocError> {
     let (deck, times) = (&documents.deck, &documents.times);
@@ -262,6 +278,7 @@ pub fn answer<O: Output>(
         Question::Table => say_table(alloc, documents, out),
         Question::Size => say_size(alloc, documents, out),
         Question::Graph => say_graph(alloc, documents, out),
+        Question::Outline => say_outline(alloc, documents, out),
         Question::Draw => say_picture(alloc, documents, out),
         Question::Ceiling => say_ceiling(alloc, documents, out),
     }

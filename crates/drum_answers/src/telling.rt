@@ -6,7 +6,7 @@ ghost use Rattle.drum_bound.specs.AnalysisOf.{angle_of, bound_of, visits_of};
 ghost use Rattle.drum_check.specs.FindingsOf.{found_in, is_long_in};
 ghost use Rattle.drum_check.specs.Lacking.{check_text, words_altered};
 ghost use Rattle.drum_check.specs.LackingOf.{words_in};
-ghost use Rattle.drum_graph.specs.GraphOf.{nodes_in, start_of};
+ghost use Rattle.drum_graph.specs.GraphOf.{loops_in, nodes_in, start_of};
 ghost use Rattle.drum_graph.specs.GraphText.{graph_text};
 ghost use Rattle.drum_listing.specs.TableOf.{rows_in};
 ghost use Rattle.drum_listing.specs.TableText.{table_text};
@@ -130,12 +130,13 @@ pub fn tell_table<O: Output>(out: &mut O, documents: &Documents, table: &Table) 
     )
 }
 
-/// Writes a flow graph.
+/// Writes a flow graph, or its outline.
 pub fn tell_graph<O: Output>(out: &mut O, documents: &Documents, graph: &Graph) -> Status
     requires { O.called out.old ≤ 2 ^ 62 }
     ensures { GetsResult (device (O.written out.old) (O.failed out.old))
         (device (O.written out.new) (O.failed out.new))
-        (graph_text documents.now.notes.marks (start_of graph.now) (nodes_in graph.now))
+        (graph_text documents.now.notes.marks (loops_in graph.now) (start_of graph.now)
+        (nodes_in graph.now))
         Status.Done result }
 {
     ended(

@@ -43,7 +43,7 @@ leaf verb = record (new_shape verb.name) {
 
 abbrev pub leaves : List Shape
 leaves = leaf line.bound ∷ leaf line.check ∷ leaf line.report ∷ leaf line.walk ∷ leaf line.waits ∷ leaf line.table
-    ∷ leaf line.size ∷ leaf line.graph ∷ leaf line.draw ∷ leaf line.ceiling ∷ leaf line.replay ∷ leaf line.trace ∷ []
+    ∷ leaf line.size ∷ leaf line.graph ∷ leaf line.outline ∷ leaf line.draw ∷ leaf line.ceiling ∷ leaf line.replay ∷ leaf line.trace ∷ []
 
 -- ---- one command
 
@@ -154,8 +154,11 @@ all_read = (
               (
                 leaf_has_files line.graph,
                 (
-                  leaf_has_files line.draw,
-                  (leaf_has_files line.ceiling, (leaf_has_files line.replay, (leaf_has_files line.trace, tt))),
+                  leaf_has_files line.outline,
+                  (
+                    leaf_has_files line.draw,
+                    (leaf_has_files line.ceiling, (leaf_has_files line.replay, (leaf_has_files line.trace, tt))),
+                  ),
                 ),
               ),
             ),

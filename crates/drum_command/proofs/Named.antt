@@ -68,6 +68,10 @@ graph_is_named : IsNamed line.graph
 unfolding clap_on_literals
 graph_is_named = record { walked = refl; passes = refl; found = refl; files = refl }
 
+outline_is_named : IsNamed line.outline
+unfolding clap_on_literals
+outline_is_named = record { walked = refl; passes = refl; found = refl; files = refl }
+
 draw_is_named : IsNamed line.draw
 unfolding clap_on_literals
 draw_is_named = record { walked = refl; passes = refl; found = refl; files = refl }
@@ -152,7 +156,8 @@ all_lines = all_verbs IsLine (is_line line.bound bound_is_named common_given)
     (is_line line.report report_is_named common_given) (is_line line.walk walk_is_named common_given)
     (is_line line.waits waits_is_named common_given) (is_line line.table table_is_named common_given)
     (is_line line.size size_is_named common_given)
-    (is_line line.graph graph_is_named common_given) (is_line line.draw draw_is_named common_given)
+    (is_line line.graph graph_is_named common_given) (is_line line.outline outline_is_named common_given)
+    (is_line line.draw draw_is_named common_given)
     (is_line line.ceiling ceiling_is_named common_given)
     (is_line line.replay replay_is_named run_given) (is_line line.trace trace_is_named run_given)
 

@@ -13,7 +13,8 @@ use Rattle.drum_command.specs.declared.command.Command.TheVariants.{Answer, Chec
 use Rattle.drum_command.specs.declared.command.Files.{Files}
 use Rattle.drum_command.specs.declared.command.Question.{Question}
 use Rattle.drum_command.specs.declared.command.Question.TheVariants.{Bound, Report, Walk, Waits}
-use Rattle.drum_command.specs.declared.command.Question.TheVariants.{Table, Size, Graph, Draw, Ceiling}
+use Rattle.drum_command.specs.declared.command.Question.TheVariants.{Table, Size, Graph, Outline}
+use Rattle.drum_command.specs.declared.command.Question.TheVariants.{Draw, Ceiling}
 
 -- a file that a command names: what it is called, and whether it has to be named
 pub record File : Type 0 where
@@ -68,6 +69,9 @@ size = record { name = codes "size"; files = common_files }
 abbrev pub graph : Verb
 graph = record { name = codes "graph"; files = common_files }
 
+abbrev pub outline : Verb
+outline = record { name = codes "outline"; files = common_files }
+
 abbrev pub draw : Verb
 draw = record { name = codes "draw"; files = common_files }
 
@@ -83,8 +87,8 @@ trace = record { name = codes "trace"; files = run_files }
 -- the commands that there are
 abbrev pub verbs : List Verb
 verbs =
-    bound ∷ check ∷ report ∷ walk ∷ waits ∷ table ∷ size ∷ graph ∷ draw ∷ ceiling ∷ replay ∷ trace
-    ∷ []
+    bound ∷ check ∷ report ∷ walk ∷ waits ∷ table ∷ size ∷ graph ∷ outline ∷ draw ∷ ceiling
+    ∷ replay ∷ trace ∷ []
 
 -- ---- the same, as clap's arguments and commands
 
@@ -141,6 +145,7 @@ asked_by Waits = codes "waits"
 asked_by Table = codes "table"
 asked_by Size = codes "size"
 asked_by Graph = codes "graph"
+asked_by Outline = codes "outline"
 asked_by Draw = codes "draw"
 asked_by Ceiling = codes "ceiling"
 

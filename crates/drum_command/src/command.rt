@@ -28,6 +28,8 @@ pub enum Question {
     Size,
     /// The flow graph, of whatever the deck and the notes are.
     Graph,
+    /// The flow graph with words that go straight on from one to the next as one box.
+    Outline,
     /// A picture of the worst walk.
     Draw,
     /// A number of word times that no run which keeps to the notes passes, however much the notes

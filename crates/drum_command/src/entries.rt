@@ -119,6 +119,12 @@ pub(crate) fn entries() -> &'static [Entry]
             files: COMMON_FILES,
         },
         Entry {
+            name: "outline",
+            about: "Prints the flow graph with straight runs of words as one box",
+            example: "Example: drum650 outline deck.txt times.toml notes.toml | dot -Tsvg > o.svg",
+            files: COMMON_FILES,
+        },
+        Entry {
             name: "draw",
             about: "Prints a picture, in SVG, of the drum and of the worst walk",
             example: "Example: drum650 draw deck.txt times.toml notes.toml > picture.svg",

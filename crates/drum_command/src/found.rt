@@ -35,6 +35,7 @@ fn command_of<'a>(name: &str, found: &ArgMatches<'a>) -> Command<'a>
         "table" => Command::Answer(Question::Table, files_in(found)),
         "size" => Command::Answer(Question::Size, files_in(found)),
         "graph" => Command::Answer(Question::Graph, files_in(found)),
+        "outline" => Command::Answer(Question::Outline, files_in(found)),
         "draw" => Command::Answer(Question::Draw, files_in(found)),
         "ceiling" => Command::Answer(Question::Ceiling, files_in(found)),
         "replay" => Command::Replay(files_in(found), file_in(found, INPUTS)),

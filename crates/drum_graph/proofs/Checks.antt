@@ -12,7 +12,7 @@ use Rattle.drum_times.specs.declared.notes.pattern.Pattern.{Pattern}
 use Rattle.drum_times.specs.declared.notes.programmed.Programmed.TheVariants as switch
 use Rattle.drum_times.specs.Allowed.{Notes}
 use Rattle.drum_graph.specs.Graph.{Node, node}
-use Rattle.drum_graph.specs.GraphText.{graph_text, mark_label}
+use Rattle.drum_graph.specs.GraphText.{edge_text, graph_text, mark_label}
 
 abbrev loads : ℕ → Option Word
 loads n =
@@ -69,24 +69,30 @@ abbrev nodes : List Node
 nodes =
     record {
       place = 100;
+      further = [];
       operations = 65 ∷ [];
       is_listed = false;
+      is_unfit = false;
       may_stop = false;
       nexts = 110 ∷ [];
       written = [];
     }
     ∷ record {
       place = 110;
+      further = [];
       operations = 15 ∷ 16 ∷ [];
       is_listed = true;
+      is_unfit = false;
       may_stop = true;
       nexts = 120 ∷ [];
       written = [];
     }
     ∷ record {
       place = 120;
+      further = [];
       operations = 20 ∷ [];
       is_listed = false;
+      is_unfit = false;
       may_stop = false;
       nexts = 100 ∷ [];
       written = 110 ∷ [];
@@ -96,7 +102,7 @@ nodes =
 the_nodes : map (node loads notes (100 ∷ 110 ∷ 120 ∷ [])) (100 ∷ 110 ∷ 120 ∷ []) ≡ nodes
 the_nodes = refl
 
-the_text : graph_text marks 100 nodes
+the_text : graph_text marks [] 100 nodes
     ≡ codes "digraph deck {\n"
     ++ codes "node [shape=box]\n"
     ++ codes "start [shape=point]\n"
@@ -130,8 +136,29 @@ of_name : mark_label named (Some 0) ≡ codes " [label=\"mark 1 most 10 name car
 unfolding digits
 of_name = refl
 
--- a location that is neither loaded nor listed has its location alone, and ends
-of_nothing : graph_text [] 1999 (map (node loads notes (1999 ∷ [])) (1999 ∷ []))
+-- a mark that stands inside another
+abbrev within : List Mark
+within =
+    record { from = first; onto = third; others = []; most = 3; inside = None; name = None; four_digits = few.0 }
+    ∷ record { from = third; onto = first; others = []; most = 10; inside = Some 0; name = None; four_digits = few.1 }
+    ∷ []
+
+of_inside : mark_label within (Some 1) ≡ codes " [label=\"mark 2 most 10 inside 1\" penwidth=3]"
+unfolding digits
+of_inside = refl
+
+-- an edge that closes a loop, and the same edge the other way round
+abbrev word_at : ℕ → Node
+word_at place = node loads notes [] place
+
+of_loop : edge_text [] ((120, 100) ∷ []) (word_at 120) 100 ≡ codes "0120 -> 0100 [color=red]\n"
+of_loop = refl
+
+of_no_loop : edge_text [] ((120, 100) ∷ []) (word_at 100) 120 ≡ codes "0100 -> 0120\n"
+of_no_loop = refl
+
+-- a location that is neither loaded nor listed has its location alone, is grey, and ends
+of_nothing : graph_text [] [] 1999 (map (node loads notes (1999 ∷ [])) (1999 ∷ []))
     ≡ codes "digraph deck {\nnode [shape=box]\nstart [shape=point]\nstart -> 1999\n"
-    ++ codes "1999 [label=\"1999\"]\n}\n"
+    ++ codes "1999 [label=\"1999\" style=filled fillcolor=lightgrey]\n}\n"
 of_nothing = refl

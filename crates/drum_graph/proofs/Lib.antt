@@ -1,6 +1,8 @@
 pub mod Among
 mod Checks
+pub mod Edges
 pub mod Nodes
+pub mod Outlines
 pub mod PatternOperations
 pub mod Stopping
 pub mod Texts

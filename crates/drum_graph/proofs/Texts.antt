@@ -1,16 +1,16 @@
 -- Texts of a graph, piece by piece.
-use Rattle.std.proofs.Common.{◌≡◌, ℕ, ◌<◌, List, [], ◌++◌, ◌∙◌, length, get_or, ap, sym, append_assoc}
+use Rattle.std.proofs.Common.{◌≡◌, ℕ, ◌<◌, List, [], ◌++◌, ◌∙◌, length, get_or, ap, sym, append_assoc, append-nil}
 use Rattle.std.proofs.Common.{Option, Some, None, Result, Ok, Err, subst}
+use Rattle.std.specs.Prelude.{slice_get}
 use Rattle.std.proofs.lemmas.Option.{get_or_from_slice_get, slice_get-get_or, slice_get_within}
 use Rattle.drum_core.specs.declared.location.Location.{Location}
 use Rattle.drum_flow.proofs.Alterations.{number_at}
 use Rattle.drum_flow.proofs.Founds.{numbers}
 use Rattle.drum_lines.specs.declared.failed_write.WriteFault.{WriteFault}
-use Rattle.drum_lines.specs.NameText.{name_text}
 use Rattle.drum_lines.specs.Sent.{IsSent}
 use Rattle.drum_lines.proofs.Sending.{IsSent-cut, IsSent-then}
 use Rattle.drum_times.specs.declared.notes.mark.Mark.{Mark}
-use Rattle.drum_graph.specs.GraphText.{most_at, name_at}
+use Rattle.drum_graph.specs.GraphText.{mark_label, mark_text}
 
 -- the name of a box, its label and its style, piece by piece
 pub box_pieces : (name between operations mark dash border behind : List ℕ)
@@ -26,29 +26,22 @@ two_numbers IsTold between behind first first' second second' p q told =
     subst (λ (xs : List ℕ). IsTold (first' ++ (between ++ (xs ++ behind)))) q
     (subst (λ (xs : List ℕ). IsTold (xs ++ (between ++ (second ++ behind)))) p told)
 
--- the label of a mark, piece by piece
-pub mark_pieces : (before number between most label name named behind end : List ℕ)
-    → label ++ name ≡ named
-    → before ++ (number ++ (between ++ (most ++ (label ++ (name ++ (behind ++ end))))))
-    ≡ before ++ number ++ between ++ most ++ named ++ behind ++ end
-mark_pieces before number between most label name named behind end p =
-    ap (λ (xs : List ℕ). before ++ (number ++ (between ++ (most ++ xs))))
-    (sym (append_assoc label name (behind ++ end)) ∙ ap (λ (xs : List ℕ). xs ++ (behind ++ end)) p)
+-- two numbers behind texts, piece by piece
+pub count_pieces : (before number number' between most most' : List ℕ) → number ≡ number' → most ≡ most'
+    → before ++ (number ++ (between ++ (most ++ []))) ≡ before ++ number' ++ between ++ most'
+count_pieces before number number' between most most' p q =
+    ap (λ (xs : List ℕ). before ++ (xs ++ (between ++ (most ++ [])))) p
+    ∙ ap (λ (xs : List ℕ). before ++ (number' ++ (between ++ xs))) (append-nil most ∙ q)
     ∙ sym (simp append_assoc)
 
--- the most of a mark, by its place
-pub most_told : (marks : List Mark) (place : ℕ) (mark : Mark) → place < length marks
-    → (get_or marks place mark).most ≡ most_at marks place
-most_told marks place mark inside =
-    sym (ap (λ (one : Option Mark). elim one [ None ↦ 0 | Some m ↦ m.most ]) (slice_get-get_or marks place mark inside))
-
--- the name of a mark, by its place
-pub name_told : (marks : List Mark) (place : ℕ) (mark : Mark) → place < length marks
-    → mark ≡ get_or marks place mark → name_text mark.name ≡ name_at marks place
-name_told marks place mark inside is =
-    ap (λ (one : Mark). name_text one.name) is
-    ∙ sym (ap (λ (one : Option Mark). elim one [ None ↦ [] | Some m ↦ name_text m.name ])
-    (slice_get-get_or marks place mark inside))
+-- the label of a mark, by its place
+pub label_sent : (IsTold : List ℕ → Type 0) (marks : List Mark) (place : ℕ) (mark : Mark) → place < length marks
+    → mark ≡ get_or marks place mark → IsTold (mark_text marks place mark)
+    → IsTold (mark_label marks (Some place))
+label_sent IsTold marks place mark inside is told =
+    let at : slice_get marks place ≡ Some mark = slice_get-get_or marks place mark inside ∙ ap Some (sym is) in
+    subst IsTold
+    (sym (ap (λ (one : Option Mark). elim one [ None ↦ [] | Some m ↦ mark_text marks place m ]) at)) told
 
 -- a location among others, by its number, and its text
 pub numbered : (text : ℕ → List ℕ) (locations : List Location) (places : List ℕ) (k : ℕ) (location : Location)

@@ -1,10 +1,11 @@
 -- What is drawn of a deck's flow graph under its notes. `loads` says which word the deck loads into
 -- a location.
-use Rattle.std.specs.Prelude.{◌≡◌, ℕ, ◌==◌, Bool, true, false, List, [], map, filter, flat_map}
-use Rattle.std.specs.Prelude.{Option}
-use Rattle.std.specs.List.{list_any}
+use Rattle.std.specs.Prelude.{◌≡◌, ℕ, ◌==◌, ◌&&◌, ◌||◌, not, Bool, true, false, List, [], map}
+use Rattle.std.specs.Prelude.{filter, flat_map, Option, None, Some, is_some}
+use Rattle.std.specs.List.{list_all, list_any}
 use Rattle.drum_core.specs.declared.instruction.Instruction.{Instruction}
 use Rattle.drum_core.specs.declared.word.Word.{Word}
+use Rattle.drum_core.specs.Op.{op_of}
 use Rattle.drum_times.specs.Allowed as lists
 use Rattle.drum_times.specs.Allowed.{Notes, allowed}
 use Rattle.drum_machine.specs.Ways.{Way, early, to, late}
@@ -12,12 +13,16 @@ use Rattle.drum_machine.specs.Writes.{writes}
 use Rattle.drum_flow.specs.Executed.{successors, with_new}
 use Rattle.drum_flow.specs.Flow.{AreFound}
 use Rattle.drum_flow.specs.Hops.{hops}
+use Rattle.drum_flow.specs.Search.{last_of}
 
--- what is drawn of an executed word
+-- what is drawn as a box: an executed word, and in an outline those behind it, to which it goes
+-- straight on; then its next ones are those of the last word
 pub record Node : Type 0 where
   pub place : ℕ
+  pub further : List ℕ
   pub operations : List ℕ
   pub is_listed : Bool
+  pub is_unfit : Bool
   pub may_stop : Bool
   pub nexts : List ℕ
   pub written : List ℕ
@@ -25,6 +30,21 @@ pub record Node : Type 0 where
 -- the operations that are allowed at a location, each once
 abbrev pub operations : (ℕ → Option Word) → Notes → ℕ → List ℕ
 operations loads notes place = with_new [] (map (λ ins. ins.op) (allowed loads notes place))
+
+-- whether a location is loaded or listed
+abbrev pub is_there : (ℕ → Option Word) → Notes → ℕ → Bool
+is_there loads notes place = is_some (loads place) || lists.is_listed notes place
+
+-- whether a location is neither, or has an operation outside the profile: then nothing has a bound
+-- that comes there
+abbrev pub is_unfit : (ℕ → Option Word) → Notes → ℕ → Bool
+is_unfit loads notes place =
+    not (is_there loads notes place
+    && list_all (λ op. is_some (op_of op)) (operations loads notes place))
+
+-- the last word of a box
+abbrev pub last_word : Node → ℕ
+last_word node = elim (last_of node.further) [ None ↦ node.place | Some word ↦ word ]
 
 -- whether a way goes on nowhere
 abbrev pub stops : Way → Bool
@@ -57,8 +77,10 @@ written loads notes executed place =
 abbrev pub node : (ℕ → Option Word) → Notes → List ℕ → ℕ → Node
 node loads notes executed place = record {
   place = place;
+  further = [];
   operations = operations loads notes place;
   is_listed = lists.is_listed notes place;
+  is_unfit = is_unfit loads notes place;
   may_stop = may_stop loads notes place;
   nexts = nexts loads notes place;
   written = written loads notes executed place;

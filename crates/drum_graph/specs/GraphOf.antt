@@ -6,15 +6,19 @@ use Rattle.drum_times.specs.Allowed.{Notes}
 use Rattle.drum_machine.specs.Ways.{ways}
 use Rattle.drum_flow.specs.Found.{places_of}
 use Rattle.drum_graph.specs.declared.graph.Graph.{Graph}
+use Rattle.drum_graph.specs.declared.loops.Ends.{Ends}
+use Rattle.drum_graph.specs.declared.loops.Loops.{Loops}
 use Rattle.drum_graph.specs.declared.node.Node as held
 use Rattle.drum_graph.specs.Graph.{Node, stops}
 
--- what is drawn of a word, by its numbers
+-- what is drawn as a box, by its numbers
 abbrev pub node_of : held.Node → Node
 node_of node = record {
   place = node.location.number;
+  further = map (λ location. location.number) node.further.items;
   operations = node.operations.items;
   is_listed = node.is_listed;
+  is_unfit = node.is_unfit;
   may_stop = node.may_stop;
   nexts = places_of node.nexts;
   written = places_of node.written;
@@ -23,6 +27,17 @@ node_of node = record {
 -- all of them, in order
 abbrev pub nodes_in : Graph → List Node
 nodes_in graph = map node_of graph.nodes.items
+
+-- where an edge leads from, and where it leads
+abbrev pub edge_in : Ends → ℕ × ℕ
+edge_in ends = (ends.from.number, ends.onto.number)
+
+-- the edges that close loops
+abbrev pub edges_in : Loops → List (ℕ × ℕ)
+edges_in loops = map edge_in loops.edges.keys
+
+abbrev pub loops_in : Graph → List (ℕ × ℕ)
+loops_in graph = edges_in graph.loops
 
 -- where the deck starts
 abbrev pub start_of : Graph → ℕ

@@ -1,3 +1,4 @@
 pub mod Graph
 pub mod GraphOf
 pub mod GraphText
+pub mod Outline

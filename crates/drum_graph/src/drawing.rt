@@ -3,12 +3,13 @@
 ghost use Rattle.std.specs.Prelude.{◌≡◌, ◌+◌, ◌^◌, ◌≤◌, ◌++◌, codes, IfOk, flat_map};
 ghost use Rattle.drum_core.specs.Numeral.{digits_of};
 ghost use Rattle.drum_lines.specs.Sent.{IsSent, IsWritten, fails_by};
-ghost use Rattle.drum_graph.specs.GraphOf.{node_of, nodes_in, start_of};
+ghost use Rattle.drum_graph.specs.GraphOf.{edges_in, loops_in, node_of, nodes_in, start_of};
 ghost use Rattle.drum_graph.specs.GraphText.{graph_text, head_text, node_text};
 
 use crate::arrows::{send_edges, send_words};
 use crate::boxes::send_box;
 use crate::graph::Graph;
+use crate::loops::Loops;
 use crate::node::Node;
 use drum_core::{Location, Output};
 use drum_lines::{WriteFault, four_digits, send};
@@ -38,18 +39,19 @@ fn send_node<O: Output>(
     writer: &mut O,
     sent: usize,
     marks: &[Mark],
+    loops: &Loops,
     node: &Node,
 ) -> Result<usize, WriteFault>
     requires called { O.called writer.old ≤ 2 ^ 62 + 2 ^ 32 }
     requires few { sent ≤ 2 ^ 32 }
     ensures sent { IsSent (O.written writer.old) (O.written writer.new) sent result
-        (node_text marks.now (node_of node.now)) }
+        (node_text marks.now (edges_in loops.now) (node_of node.now)) }
     ensures failures { O.failed writer.new ≡ O.failed writer.old + fails_by result }
-    ensures calls { O.called writer.new ≤ O.called writer.old + 402000 }
-    ensures few { IfOk result (λ total. total ≤ sent + 402000) }
+    ensures calls { O.called writer.new ≤ O.called writer.old + 463000 }
+    ensures few { IfOk result (λ total. total ≤ sent + 463000) }
 {
     let sent = send_box(writer, sent, node)?;
-    let sent = send_edges(writer, sent, marks, node.location, &node.nexts)?;
+    let sent = send_edges(writer, sent, marks, loops, node)?;
     send_words(writer, sent, node.location, &node.written)
 }
 
@@ -63,21 +65,21 @@ fn send_nodes<O: Output>(
     requires called { O.called writer.old ≤ 2 ^ 62 + 100 }
     requires few { begun ≤ 100 }
     ensures sent { IsSent (O.written writer.old) (O.written writer.new) begun result
-        (flat_map (node_text marks.now) (nodes_in graph.now)) }
+        (flat_map (node_text marks.now (loops_in graph.now)) (nodes_in graph.now)) }
     ensures failures { O.failed writer.new ≡ O.failed writer.old + fails_by result }
-    ensures calls { O.called writer.new ≤ O.called writer.old + 805608000 }
-    ensures few { IfOk result (λ total. total ≤ begun + 805608000) }
+    ensures calls { O.called writer.new ≤ O.called writer.old + 928000000 }
+    ensures few { IfOk result (λ total. total ≤ begun + 928000000) }
 {
     let mut sent = begun;
     for node in &graph.nodes {
-        sent = send_node(writer, sent, marks, node)?;
+        sent = send_node(writer, sent, marks, &graph.loops, node)?;
     }
     Ok(sent)
 }
 
 /// Writes a flow graph in the language DOT: for each executed word its box, an arrow to each
-/// location where its instructions go on, with the mark that stands on that edge, and a dotted one
-/// to each executed word that they write. It takes no memory.
+/// location where its instructions go on, with the mark that stands on that edge, or red if the
+/// edge closes a loop, and a dotted one to each executed word that they write. It takes no memory.
 ///
 /// # Errors
 ///
@@ -90,7 +92,7 @@ pub fn send_graph<O: Output>(
 ) -> Result<(), WriteFault>
     requires { O.called writer.old ≤ 2 ^ 62 }
     ensures written { IsWritten (O.written writer.old) (O.written writer.new) result
-        (graph_text marks.now (start_of graph.now) (nodes_in graph.now)) }
+        (graph_text marks.now (loops_in graph.now) (start_of graph.now) (nodes_in graph.now)) }
     ensures failures { O.failed writer.new ≡ O.failed writer.old + fails_by result }
 {
     let sent = send_head(writer, graph.start)?;

@@ -1,26 +1,33 @@
 ghost use Rattle.std.specs.Prelude.{◌≤◌, vec_len};
 
+use crate::loops::Loops;
 use crate::node::Node;
+use crate::outline::boxes_of;
 use drum_core::{Deck, Location};
 use drum_flow::{Flow, discover};
+use drum_loops::closing_edges;
 use drum_times::Notes;
 use std::alloc::{AllocError, Global};
 
-/// What is drawn of the flow graph of a deck: its executed words, in the order of discovery, and
-/// where it starts.
+/// What is drawn of the flow graph of a deck: its executed words, in the order of discovery, or the
+/// boxes of its outline, the edges that close its loops and lack a mark, and where it starts.
 #[derive(Debug, Drop)]
 pub struct Graph {
     pub(crate) nodes: Vec<Node>,
+    pub(crate) loops: Loops,
     pub(crate) start: Location,
     ghost few: { vec_len nodes ≤ 2004 },
 }
 
 impl Graph {
-    ghost use Rattle.std.specs.Prelude.{◌≡◌, IfOk, map};
+    ghost use Rattle.std.specs.Prelude.{◌≡◌, IfOk, List, map};
     ghost use Rattle.drum_core.specs.Loads.{loads_in, start_in};
     ghost use Rattle.drum_flow.specs.Flow.{executed_in};
+    ghost use Rattle.drum_loops.specs.Loops.{AreClosing};
     ghost use Rattle.drum_graph.specs.Graph.{AreNodes, node};
-    ghost use Rattle.drum_graph.specs.GraphOf.{node_of, nodes_in, start_of};
+    ghost use Rattle.drum_graph.specs.Graph as drawn;
+    ghost use Rattle.drum_graph.specs.GraphOf.{loops_in, node_of, nodes_in, start_of};
+    ghost use Rattle.drum_graph.specs.Outline.{outlined};
 
     /// What is drawn of each executed word, in the order of discovery.
     fn nodes_of(alloc: Global, flow: &Flow<'_>) -> Result<Vec<Node>, AllocError>
@@ -36,7 +43,8 @@ impl Graph {
         Ok(nodes)
     }
 
-    /// What is drawn of the flow graph of a deck under its notes, whatever is wrong with them.
+    /// What is drawn of the flow graph of a deck under its notes, whatever is wrong with them. It
+    /// takes as long as to find the edges that close loops, which `closing_edges` does.
     ///
     /// # Errors
     ///
@@ -44,12 +52,45 @@ impl Graph {
     pub fn of(alloc: Global, deck: &Deck, notes: &Notes) -> Result<Graph, AllocError>
         ensures nodes { IfOk result (λ graph. AreNodes (loads_in deck.now) notes.now
             (start_in deck.now) (nodes_in graph)) }
+        ensures loops { IfOk result (λ graph. AreClosing (loads_in deck.now) notes.now
+            (start_in deck.now) (loops_in graph)) }
         ensures start { IfOk result (λ graph. start_of graph ≡ start_in deck.now) }
     {
         let flow = discover(alloc, deck, notes)?;
+        let edges = closing_edges(alloc, &flow)?;
         Ok(Graph {
             nodes: Graph::nodes_of(alloc, &flow)?,
+            loops: Loops::of(alloc, &edges)?,
             start: deck.start(),
+        })
+    }
+
+    /// The outline of the flow graph of a deck under its notes, whatever is wrong with them: words
+    /// that go straight on from one to the next are one box.
+    ///
+    /// # Errors
+    ///
+    /// [`AllocError`] where there is no memory.
+    pub fn outline(alloc: Global, deck: &Deck, notes: &Notes) -> Result<Graph, AllocError>
+        ensures nodes { IfOk result (λ graph. (words : List drawn.Node)
+            × AreNodes (loads_in deck.now) notes.now (start_in deck.now) words
+            × (nodes_in graph
+            ≡ outlined notes.now.marks (loops_in graph) (start_in deck.now) words)) }
+        ensures loops { IfOk result (λ graph. AreClosing (loads_in deck.now) notes.now
+            (start_in deck.now) (loops_in graph)) }
+        ensures start { IfOk result (λ graph. start_of graph ≡ start_in deck.now) }
+    {
+        let graph = Graph::of(alloc, deck, notes)?;
+        let Graph {
+            nodes,
+            loops,
+            start,
+        } = graph;
+        let nodes = boxes_of(alloc, notes.marks(), &loops, start, nodes)?;
+        Ok(Graph {
+            nodes,
+            loops,
+            start,
         })
     }
 }

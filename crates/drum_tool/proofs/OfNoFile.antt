@@ -2,7 +2,7 @@
 -- of them says that a read failed.
 use Rattle.std.proofs.Common.{◌≡◌, ℕ, None, Result, Ok, Err, IfErr, refl}
 use Rattle.drum_command.specs.declared.command.Question.{Question}
-use Rattle.drum_command.specs.declared.command.Question.TheVariants.{Bound, Report, Walk, Waits, Table, Size, Graph, Draw, Ceiling}
+use Rattle.drum_command.specs.declared.command.Question.TheVariants.{Bound, Report, Walk, Waits, Table, Size, Graph, Outline, Draw, Ceiling}
 use Rattle.drum_flow.specs.declared.refusal.Refusal.{Refusal}
 use Rattle.drum_flow.specs.Acceptance.{IsRefusal}
 use Rattle.drum_flow.specs.Bounded.{IsDeckAccepted}
@@ -73,6 +73,7 @@ question_of_none Waits documents fault is = refused_of_none _ fault is
 question_of_none Table documents fault is = refused_of_none _ fault is
 question_of_none Size documents fault is = refused_of_none _ fault is
 question_of_none Graph documents fault is = wanting_of_none fault is
+question_of_none Outline documents fault is = wanting_of_none fault is
 question_of_none Draw documents fault is = refused_of_none _ fault is
 question_of_none Ceiling documents fault is = refused_of_none _ fault is
 

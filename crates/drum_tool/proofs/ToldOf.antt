@@ -4,7 +4,7 @@ use Rattle.std.specs.Prelude.{codes}
 use Rattle.clap.specs.Words.{Text, takes}
 use Rattle.drum_command.specs.declared.command.Command.{Command}
 use Rattle.drum_command.specs.declared.command.Command.TheVariants.{Answer, Check, Replay, Trace}
-use Rattle.drum_command.specs.declared.command.Question.TheVariants.{Bound, Report, Walk, Waits, Table, Size, Graph, Draw, Ceiling}
+use Rattle.drum_command.specs.declared.command.Question.TheVariants.{Bound, Report, Walk, Waits, Table, Size, Graph, Outline, Draw, Ceiling}
 use Rattle.drum_command.specs.declared.refused.Refused.{Refused}
 use Rattle.drum_command.specs.Line.{drum650, said_by}
 use Rattle.drum_documents.specs.declared.documents.Documents.{Documents}
@@ -109,6 +109,8 @@ of_files told_of held deck times notes (Answer Size files) failures reply told s
     absurd (let bad : 115 ≡ 98 = same_first _ _ said in omega (arith, bad))
 of_files told_of held deck times notes (Answer Graph files) failures reply told said answers =
     absurd (let bad : 103 ≡ 98 = same_first _ _ said in omega (arith, bad))
+of_files told_of held deck times notes (Answer Outline files) failures reply told said answers =
+    absurd (let bad : 111 ≡ 98 = same_first _ _ said in omega (arith, bad))
 of_files told_of held deck times notes (Answer Draw files) failures reply told said answers =
     absurd (let bad : 100 ≡ 98 = same_first _ _ said in omega (arith, bad))
 of_files told_of held deck times notes (Answer Ceiling files) failures reply told said answers =

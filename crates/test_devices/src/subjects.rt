@@ -48,6 +48,16 @@ start -> 0100\n\
 }\n\
 ";
 
+/// Its outline, of one box.
+const OUTLINE: &str = "\
+digraph deck {\n\
+node [shape=box]\n\
+start [shape=point]\n\
+start -> 0100\n\
+0100 [label=\"0100 .. 0106 2 words\" peripheries=2]\n\
+}\n\
+";
+
 /// From angle 1, 24 is ready at clock 53, and 0106 comes at 56; 56 + 3 = 59, and 0106 comes at 106.
 /// There 69 is ready at clock 109, and 0000 comes at 150. The list's one pattern is of 01.
 const NO_STOP: &str = "\
@@ -108,6 +118,13 @@ pub(crate) const SUBJECTS: &[Subject] = &[
         files: (TWO_WORDS, NOTES, ""),
         status: Status::Done,
         out: GRAPH,
+        err: "",
+    },
+    Subject {
+        command: "outline",
+        files: (TWO_WORDS, NOTES, ""),
+        status: Status::Done,
+        out: OUTLINE,
         err: "",
     },
     Subject {

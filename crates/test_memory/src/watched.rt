@@ -206,7 +206,7 @@ fn of_the_program(rt: HostRuntime) -> Result<(), Fail> {
         let notes = subject.notes(rt.alloc())?;
         let files = files(subject.deck, &notes, "ANGLE 01\n");
         for command in [
-            "bound", "check", "report", "walk", "waits", "table", "size", "graph",
+            "bound", "check", "report", "walk", "waits", "table", "size", "graph", "outline",
         ] {
             holds(&rt, Call::Run(&[command, "deck", "times", "notes"], &files))?;
         }

@@ -22,6 +22,9 @@ returns-in-Size-clause-does g c err = rw c.in-Size.is (c.say_size.ensures.does e
 pub returns-in-Graph-clause-does : goal.returns-in-Graph-clause-does
 returns-in-Graph-clause-does g c err = rw c.in-Graph.is (c.say_graph.ensures.does err)
 
+pub returns-in-Outline-clause-does : goal.returns-in-Outline-clause-does
+returns-in-Outline-clause-does g c err = rw c.in-Outline.is (c.say_outline.ensures.does err)
+
 pub returns-in-Draw-clause-does : goal.returns-in-Draw-clause-does
 returns-in-Draw-clause-does g c err = rw c.in-Draw.is (c.say_picture.ensures.does err)
 

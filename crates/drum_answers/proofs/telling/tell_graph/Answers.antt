@@ -1,5 +1,5 @@
 use Rattle.std.proofs.Common.{◌≡◌, ◌+◌, List, ℕ, Option, Result, Ok, Err, inl, inr, subst, arith}
-use Rattle.drum_graph.specs.GraphOf.{nodes_in, start_of}
+use Rattle.drum_graph.specs.GraphOf.{loops_in, nodes_in, start_of}
 use Rattle.drum_graph.specs.GraphText.{graph_text}
 use Rattle.drum_lines.specs.declared.failed_write.WriteFault.{WriteFault}
 use Rattle.drum_lines.specs.declared.status.Status.{Status}
@@ -23,7 +23,7 @@ returns g c =
     let new = g.O.Output.written c.send_graph.new.writer in
     gets_result old new (g.O.Output.failed c.args.out.now) (g.O.Output.failed c.send_graph.new.writer)
     c.send_graph.result
-    (graph_text c.args.documents.now.notes.marks (start_of c.args.graph.now) (nodes_in c.args.graph.now)) _ c.ended.result
+    (graph_text c.args.documents.now.notes.marks (loops_in c.args.graph.now) (start_of c.args.graph.now) (nodes_in c.args.graph.now)) _ c.ended.result
     (subst (λ (marks : List Mark). IsWritten old new c.send_graph.result
-    (graph_text marks (start_of c.args.graph.now) (nodes_in c.args.graph.now))) c.marks.ensures.all
+    (graph_text marks (loops_in c.args.graph.now) (start_of c.args.graph.now) (nodes_in c.args.graph.now))) c.marks.ensures.all
     c.send_graph.ensures.written) c.send_graph.ensures.failures c.ended.ensures

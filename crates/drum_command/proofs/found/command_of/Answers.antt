@@ -23,11 +23,12 @@ unreachable-requires c =
     (others (codes "replay") name _ none.not-replay
     (others (codes "ceiling") name _ none.not-ceiling
     (others (codes "draw") name _ none.not-draw
+    (others (codes "outline") name _ none.not-outline
     (others (codes "graph") name _ none.not-graph
     (others (codes "size") name _ none.not-size
     (others (codes "table") name _ none.not-table
     (others (codes "waits") name _ none.not-waits
     (others (codes "walk") name _ none.not-walk
     (others (codes "report") name _ none.not-report
-    (others (codes "check") name _ none.not-check (others (codes "bound") name _ none.not-bound named))))))))))) in
+    (others (codes "check") name _ none.not-check (others (codes "bound") name _ none.not-bound named)))))))))))) in
     cc

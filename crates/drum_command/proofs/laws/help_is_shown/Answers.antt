@@ -19,8 +19,8 @@ returns-clause-short c = refl
 
 pub returns-clause-each : goal.returns-clause-each
 unfolding clap_on_literals
-returns-clause-each c = all_verbs (ShowsHelp (codes "--help")) refl refl refl refl refl refl refl refl refl refl refl refl
+returns-clause-each c = all_verbs (ShowsHelp (codes "--help")) refl refl refl refl refl refl refl refl refl refl refl refl refl
 
 pub returns-clause-each_short : goal.returns-clause-each_short
 unfolding clap_on_literals
-returns-clause-each_short c = all_verbs (ShowsHelp (codes "-h")) refl refl refl refl refl refl refl refl refl refl refl refl
+returns-clause-each_short c = all_verbs (ShowsHelp (codes "-h")) refl refl refl refl refl refl refl refl refl refl refl refl refl

@@ -6,14 +6,15 @@ use Rattle.drum_flow.specs.Found.{places_of}
 use Rattle.drum_flow.proofs.Alterations.{all_taken}
 use Rattle.drum_lines.specs.Sent.{IsSent}
 use Rattle.drum_lines.proofs.Sending.{sent_cut, sent_more}
+use Rattle.drum_graph.specs.GraphOf.{edges_in, node_of}
 use Rattle.drum_graph.specs.GraphText.{edge_text}
 use Rattle.drum_graph.proofs.Texts.{numbered}
 use Rattle.drum_graph.proofs.arrows.send_edges.Goals as goal
 
 pub returns-in_err-sent-clause-sent : goal.returns-in_err-sent-clause-sent
 returns-in_err-sent-clause-sent g c =
-    let line : ℕ → List ℕ = edge_text c.args.marks.now c.args.from.number in
-    let places = places_of c.args.nexts.now in
+    let line : ℕ → List ℕ = edge_text c.args.marks.now (edges_in c.args.loops.now) (node_of c.args.node.now) in
+    let places = places_of c.args.node.now.nexts in
     let index = c.loop-next.next-index in
     let next = c.next-item.result in
     let old = g.O.Output.written c.args.writer.now in
@@ -30,8 +31,8 @@ returns-in_err-sent-clause-sent g c =
 
 pub loop-next-preserved : goal.loop-next-preserved
 loop-next-preserved g c =
-    let line : ℕ → List ℕ = edge_text c.args.marks.now c.args.from.number in
-    let places = places_of c.args.nexts.now in
+    let line : ℕ → List ℕ = edge_text c.args.marks.now (edges_in c.args.loops.now) (node_of c.args.node.now) in
+    let places = places_of c.args.node.now.nexts in
     let index = c.loop-next.next-index in
     let next = c.next-item.result in
     let old = g.O.Output.written c.args.writer.now in
@@ -52,8 +53,8 @@ loop-next-preserved g c =
 
 pub returns-clause-sent : goal.returns-clause-sent
 returns-clause-sent g c =
-    let places = places_of c.args.nexts.now in
+    let places = places_of c.args.node.now.nexts in
     subst (λ (some : List ℕ). IsSent (g.O.Output.written c.args.writer.now) (g.O.Output.written c.loop-next.writer)
-    c.args.begun (Ok c.loop-next.sent) (flat_map (edge_text c.args.marks.now c.args.from.number) some))
+    c.args.begun (Ok c.loop-next.sent) (flat_map (edge_text c.args.marks.now (edges_in c.args.loops.now) (node_of c.args.node.now)) some))
     (all_taken c.locations-next-items.result.now places c.loop-next.next-index c.locations-next-items.ensures.all
     c.loop-next-test.false) c.loop-next.invariant.so_far

@@ -1,0 +1,47 @@
+ghost use Rattle.std.specs.Prelude.{◌≡◌, map, IfOk};
+ghost use Rattle.drum_loops.specs.Loops.{AreApart};
+ghost use Rattle.drum_times.specs.EdgeOf.{edge_of};
+ghost use Rattle.drum_graph.specs.GraphOf.{edges_in};
+ghost use Rattle.drum_graph.specs.GraphText.{is_loop};
+
+use drum_core::Location;
+use drum_times::Edge;
+use indexmap::IndexSet;
+use std::alloc::{AllocError, Global};
+
+/// Where an edge leads from, and where it leads.
+#[derive(Clone, Copy, Debug, PartialEq, Eq, Hash)]
+pub(crate) struct Ends {
+    pub(crate) from: Location,
+    pub(crate) onto: Location,
+}
+
+/// The edges that close the loops of a flow graph.
+#[derive(Debug, Drop)]
+pub(crate) struct Loops {
+    pub(crate) edges: IndexSet<Ends>,
+}
+
+impl Loops {
+    /// These edges.
+    pub(crate) fn of(alloc: Global, edges: &[Edge]) -> Result<Loops, AllocError>
+        requires { AreApart (map edge_of edges.now) }
+        ensures { IfOk result (λ loops. edges_in loops ≡ map edge_of edges.now) }
+    {
+        let mut ends = IndexSet::new(alloc);
+        for edge in edges {
+            ends.insert(Ends {
+                from: edge.from,
+                onto: edge.onto,
+            })?;
+        }
+        Ok(Loops { edges: ends })
+    }
+
+    /// Whether the edge from the one location to the other is one of them.
+    pub(crate) fn have(&self, from: Location, onto: Location) -> bool
+        ensures { result ≡ is_loop (edges_in self.now) from.number onto.number }
+    {
+        self.edges.contains(&Ends { from, onto })
+    }
+}
