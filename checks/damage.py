@@ -9,9 +9,12 @@ FILES = ["deck", "times", "notes", "inputs"]
 # Two of a replay and of a trace, since they look at a file more than the others.
 OF_THREE = "bound check report walk waits table size graph outline draw ceiling".split()
 LINES = [[]] + [[command] + FILES[:3] for command in OF_THREE]
-LINES += 2 * [[command] + FILES for command in ("replay", "trace")] + [["check"] + FILES]
+LINES += 2 * [[command] + FILES for command in ("replay", "trace")]
+LINES += [[command] + FILES for command in ("check", "draw")]
 # A check, and one that looks at inputs too.
 CHECKS = ("check", "check of inputs")
+# A picture of a walk, and one of a run.
+PICTURES = ("draw", "draw of a run")
 # Words that are put among those of a line.
 WORDS = OF_THREE + ["replay", "trace", "--help", "-h", "-", "", "none", "--fast"] + FILES
 
@@ -294,7 +297,7 @@ class Case:
 
     def asked(self):
         """The command and its files' texts, where the words are one over files that there are; of a
-        check also whether it looks at inputs."""
+        check and of a picture also whether it looks at inputs."""
         if not self.words:
             files = files_of_joined(self.text, self.files["inputs"])
             return files and ("joined", files)
@@ -303,8 +306,9 @@ class Case:
             return None
         if any(name not in self.files for name in names):
             return None
-        if command == "check":
-            command = CHECKS[len(names) == len(FILES)]
+        for kinds in (CHECKS, PICTURES):
+            if command == kinds[0]:
+                command = kinds[len(names) == len(FILES)]
         named = {part: self.files[name] for part, name in zip(FILES, names)}
         return command, dict(self.files, **named)
 

@@ -56,8 +56,8 @@ class Case:
         self.joined, self.stdin = more.pop("joined", None), more.pop("stdin", None)
         # Where standard output goes to: a device, `closed`, or `broken`, a pipe that nobody reads.
         self.to = more.pop("out", None)
-        # Whether a check looks at inputs too.
-        self.has_inputs = command == "check" and "inputs" in more
+        # Whether a check or a picture looks at inputs too.
+        self.has_inputs = command in ("check", "draw") and "inputs" in more
         # How many lines of faults a check lists, the last of which ends with the line.
         self.lists = more.pop("lists", None)
         # What a long output is held to: a function of its file, which gives what is wrong with it.

@@ -100,8 +100,8 @@ ROUNDS = 2001
 
 
 def counting(command, **more):
-    """A replay or a trace of the ring that counts, from angle 0: 1998 steps a round, and the stop.
-    None moves a card, so that a trace has one line for each, and one for the mark."""
+    """A run of the ring that counts, from angle 0: 1998 steps a round, and the stop. None moves a
+    card, so that a trace has one line for each, and one for the mark."""
     notes, inputs = NOTES + marks([(1997, 0, ROUNDS - 1, 0)]), b"ACCUMULATOR +%020d\n" % ROUNDS
     used = 2050 * ROUNDS + 48 + 1
     line = b"kept used %d bound %d stop programmed\n" % (used, 49 + used)
@@ -164,8 +164,8 @@ def has_lines(count, last):
     return look
 
 
-def is_picture(bound):
-    """That a file is a well-formed picture that names this bound, and is small."""
+def is_picture(name):
+    """That a file is a well-formed picture that says this, and is small."""
 
     def look(path):
         if os.path.getsize(path) > PICTURE:
@@ -174,7 +174,6 @@ def is_picture(bound):
             texts = [part.text for part in xml.parse(path).getroot().iter()]
         except xml.ParseError as error:
             return "no XML: %s" % error
-        name = "bound %d word times" % bound
         return None if name in texts else "it doesn't say %r" % name
 
     return look
@@ -197,7 +196,7 @@ def of_results():
     yield ring(1999, "report", holds=has_lines(2000 + 3, last))
     yield ring(1999, "walk", holds=has_lines(KEYS, last))
     yield ring(1999, "waits", holds=has_lines(2000 + 2, last))
-    yield ring(1999, "draw", holds=is_picture(49 + KEYS - 1))
+    yield ring(1999, "draw", holds=is_picture("bound %d word times" % (49 + KEYS - 1)))
     # The last word is come to for the last time, of 2000, as the bound is reached.
     last = b"1999 angle 49 counts 1999 time %d\n" % (49 + KEYS - 1)
     parts = {"deck": ring_deck(), "notes": ring_notes(1999), "holds": has_lines(KEYS, last)}
@@ -212,6 +211,7 @@ def of_results():
     kept = counting("replay")
     yield kept
     yield counting("trace", holds=has_lines(1998 * ROUNDS + 3, kept.line))
+    yield counting("draw", holds=is_picture("run %d word times" % (2050 * ROUNDS + 48 + 1)))
 
 
 def ceiling(case, marks_in_it, total):

@@ -4,7 +4,7 @@ checks/damaged-inputs holds to it the cases of checks/damage.py."""
 from collections import namedtuple
 
 from ceilings import bracket_of, ceiling_of, least_ceiling, may_be_too_large
-from damage import CHECKS, FILES, LEAST, files_of_joined, joined
+from damage import CHECKS, FILES, LEAST, PICTURES, files_of_joined, joined
 from faults import Fault, fault_of, has_its_form, is_accepted, names_what_is_there
 from findings import Flow, is_check, is_first_of, is_loose_end
 from marks import are_short, marks_of, short_text
@@ -14,6 +14,7 @@ from results import (
     kept_of,
     left_of,
     pictured_bound,
+    pictured_verdict,
     report_of_walk,
     reported_bound,
     waited_bound,
@@ -38,6 +39,8 @@ WALKED = ["walk", "report", "waits"]
 OF_LONG = [*CHECKS, "graph", "outline", "ceiling", "walk", "waits", "draw", "trace"]
 # Of these, past the bound, by the walk beside a ceiling.
 PAST_BOUND = ["walk", "waits", "draw"]
+# Those that look at inputs.
+OF_INPUTS = ["replay", "trace", CHECKS[1], PICTURES[1]]
 
 # From so many word times on no trace goes by a ceiling.
 LONGEST = 2**50
@@ -107,6 +110,9 @@ def result_of(asked, status, text):
         return told if told and told.by != "ceiling" else None
     if command == "trace":
         line = traced_verdict(text, files)
+        return line and verdict_of(line, status)
+    if command == PICTURES[1]:
+        line = pictured_verdict(text)
         return line and verdict_of(line, status)
     kinds = {
         "report": ("report", lambda: reported_bound(text, files)),
@@ -191,8 +197,9 @@ def is_within(told, bound, files):
 
 def words_of(command):
     """The words of a command over the files."""
-    if command in CHECKS:
-        return ["check"] + FILES[: 3 + CHECKS.index(command)]
+    for kinds in (CHECKS, PICTURES):
+        if command in kinds:
+            return [kinds[0]] + FILES[: 3 + kinds.index(command)]
     return [command] + FILES[: 4 if command in ("replay", "trace") else 3]
 
 
@@ -325,6 +332,10 @@ def agrees_apart(asked, ran, told, run):
 def agrees(asked, ran, told, run):
     """Whether a run agrees with what the other commands tell of the same files."""
     command, files = asked
+    if command == PICTURES[1]:
+        replay = run(words_of("replay"), files, b"")
+        is_one = (ran.status, ran.err) == (replay.status, replay.err)
+        return is_one and told == told_of(("replay", files), replay)
     if not are_read_alike(files["notes"]):
         return agrees_apart(asked, ran, told, run)
     other = lambda command: run(words_of(command), files, b"")
@@ -426,7 +437,7 @@ def judged(case, ran, run):
     if told.fault:
         hold("names what is there", names_what_is_there(told.fault, files))
     hold("reads notes", reads_notes(asked, told))
-    for part in FILES[: 4 if command in ("replay", "trace", CHECKS[1]) else 3]:
+    for part in FILES[: 4 if command in OF_INPUTS else 3]:
         is_taken = is_accepted(told.fault, part)
         hold("takes what has its form", not is_taken or has_its_form(part, files[part]))
     hold("agrees with other commands", agrees(asked, ran, told, run))

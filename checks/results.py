@@ -297,16 +297,41 @@ def waits_of_walk(walk, files):
 # Pictures.
 
 
-def pictured_bound(text):
-    """The bound that a picture names, or what the walk takes that it is of, where it is
-    well-formed."""
+def pictured_texts(text):
+    """The texts of a picture's parts; none where it isn't well-formed."""
     if not text.startswith("<svg") or not text.endswith("</svg>\n"):
-        return None
+        return []
     try:
         root = xml.fromstring(text)
     except xml.ParseError:
-        return None
+        return []
+    return [part.text or "" for part in root.iter()]
+
+
+def pictured_bound(text):
+    """The bound that a picture names, or what the walk takes that it is of, where it is
+    well-formed."""
     name = "(?:bound|reached) %s word times" % NUMBER
-    named = [re.fullmatch(name, part.text or "") for part in root.iter()]
+    named = [re.fullmatch(name, part) for part in pictured_texts(text)]
     bounds = [int(matched.group(1)) for matched in named if matched]
     return bounds[0] if len(bounds) == 1 else None
+
+
+def pictured_verdict(text):
+    """The line of the verdict on the run that a picture is of, where it is well-formed. How the run
+    leaves the notes isn't told in the words of that line, so one way stands for all."""
+    texts = pictured_texts(text)
+    runs = [re.fullmatch("run %s word times" % NUMBER, part) for part in texts]
+    used = [matched.group(1) for matched in runs if matched]
+    if len(used) != 1:
+        return None
+    kept = r"kept to the notes until it stopped \([a-z0-9 ]+\); bound %s word times" % NUMBER
+    left = "left the notes with step %s, begun at %s: .+" % (NUMBER, NUMBER)
+    for part in texts:
+        if matched := re.fullmatch(kept, part):
+            return "kept used %s bound %s stop programmed\n" % (used[0], matched.group(1))
+        if matched := re.fullmatch(left, part):
+            return "left loadcard step %s used %s\n" % matched.groups()
+        if part == "left the notes before any step: the programmed switch":
+            return "left switch step 0 used 0\n"
+    return None

@@ -157,7 +157,7 @@ all_lines = all_verbs IsLine (is_line line.bound bound_is_named common_given)
     (is_line line.waits waits_is_named common_given) (is_line line.table table_is_named common_given)
     (is_line line.size size_is_named common_given)
     (is_line line.graph graph_is_named common_given) (is_line line.outline outline_is_named common_given)
-    (is_line line.draw draw_is_named common_given)
+    (is_line line.draw draw_is_named check_given)
     (is_line line.ceiling ceiling_is_named common_given)
     (is_line line.replay replay_is_named run_given) (is_line line.trace trace_is_named run_given)
 

@@ -10,6 +10,7 @@ use Rattle.clap.specs.Walk.{is_empty}
 use Rattle.clap.specs.declared.builder.action.ArgAction.TheVariants.{Set}
 use Rattle.drum_command.specs.declared.command.Command.{Command}
 use Rattle.drum_command.specs.declared.command.Command.TheVariants.{Answer, Check, Replay, Trace}
+use Rattle.drum_command.specs.declared.command.Command.TheVariants.{DrawRun}
 use Rattle.drum_command.specs.declared.command.Files.{Files}
 use Rattle.drum_command.specs.declared.command.Question.{Question}
 use Rattle.drum_command.specs.declared.command.Question.TheVariants.{Bound, Report, Walk, Waits}
@@ -39,7 +40,7 @@ run_files =
     needed (codes "DECK") ∷ needed (codes "TIMES") ∷ needed (codes "NOTES")
     ∷ needed (codes "INPUTS") ∷ []
 
--- and those of a command that looks at inputs where they are named
+-- and those of a command that looks at inputs where they are named, or draws their run
 abbrev pub check_files : List File
 check_files =
     needed (codes "DECK") ∷ needed (codes "TIMES") ∷ needed (codes "NOTES")
@@ -73,7 +74,7 @@ abbrev pub outline : Verb
 outline = record { name = codes "outline"; files = common_files }
 
 abbrev pub draw : Verb
-draw = record { name = codes "draw"; files = common_files }
+draw = record { name = codes "draw"; files = check_files }
 
 abbrev pub ceiling : Verb
 ceiling = record { name = codes "ceiling"; files = common_files }
@@ -149,13 +150,20 @@ asked_by Outline = codes "outline"
 asked_by Draw = codes "draw"
 asked_by Ceiling = codes "ceiling"
 
+-- the files of its command that it leaves unnamed
+abbrev pub unnamed_by : Question → List (Option Text)
+unnamed_by Draw = None ∷ []
+unnamed_by _ = []
+
 -- what a command says: its name, and its files in their order
 abbrev pub said_by : Command → Text × List (Option Text)
-said_by (Answer question files) = (asked_by question, map Some (common files))
+said_by (Answer question files) =
+    (asked_by question, map Some (common files) ++ unnamed_by question)
 said_by (Check files inputs) =
     (codes "check", map Some (common files) ++ option_map (λ name. name.now) inputs ∷ [])
 said_by (Replay files inputs) = (codes "replay", map Some (with_inputs files inputs.now))
 said_by (Trace files inputs) = (codes "trace", map Some (with_inputs files inputs.now))
+said_by (DrawRun files inputs) = (codes "draw", map Some (with_inputs files inputs.now))
 
 -- a file was found, if it has to be named
 abbrev pub is_there : List Row → File → Bool

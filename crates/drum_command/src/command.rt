@@ -49,4 +49,6 @@ pub enum Command<'a> {
     Replay(Files<'a>, &'a str),
     /// That run, step by step, and the verdict on it.
     Trace(Files<'a>, &'a str),
+    /// A picture of that run.
+    DrawRun(Files<'a>, &'a str),
 }

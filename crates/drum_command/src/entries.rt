@@ -56,6 +56,13 @@ const INPUTS_TOO: FileWord = FileWord {
     needed: false,
 };
 
+/// The inputs of a run, for a command that draws the worst walk without them.
+const INPUTS_DRAWN: FileWord = FileWord {
+    name: "INPUTS",
+    help: "The inputs of a replay, whose run is drawn in place of the worst walk",
+    needed: false,
+};
+
 /// The files that every command works on.
 const COMMON_FILES: &[FileWord] = &[DECK, TIMES, NOTES];
 
@@ -64,6 +71,9 @@ const RUN_FILES: &[FileWord] = &[DECK, TIMES, NOTES, INPUTS];
 
 /// The files of a command that looks at inputs where they are named.
 const CHECK_FILES: &[FileWord] = &[DECK, TIMES, NOTES, INPUTS_TOO];
+
+/// The files of a command that draws the run of inputs where they are named.
+const DRAW_FILES: &[FileWord] = &[DECK, TIMES, NOTES, INPUTS_DRAWN];
 
 /// Each command that there is.
 pub(crate) fn entries() -> &'static [Entry]
@@ -126,9 +136,9 @@ pub(crate) fn entries() -> &'static [Entry]
         },
         Entry {
             name: "draw",
-            about: "Prints a picture, in SVG, of the drum and of the worst walk",
+            about: "Prints a picture, in SVG, of the drum and of the worst walk, or of a run",
             example: "Example: drum650 draw deck.txt times.toml notes.toml > picture.svg",
-            files: COMMON_FILES,
+            files: DRAW_FILES,
         },
         Entry {
             name: "ceiling",

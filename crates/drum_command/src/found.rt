@@ -1,5 +1,6 @@
 //! The command that clap's matches stand for.
-ghost use Rattle.std.specs.Prelude.{◌≡◌, true, false, Some, is_some, map, option_map};
+ghost use Rattle.std.specs.Prelude.{◌≡◌, ◌∷◌, ◌++◌, [], true, false, Some, is_some, map, codes};
+ghost use Rattle.std.specs.Prelude.{option_map};
 ghost use Rattle.std.specs.List.{list_all};
 ghost use Rattle.std.specs.Option.{option_map_or};
 ghost use Rattle.clap.specs.Words.{first_of, found_of, rows_of, subcommand_rows_of};
@@ -36,11 +37,26 @@ fn command_of<'a>(name: &str, found: &ArgMatches<'a>) -> Command<'a>
         "size" => Command::Answer(Question::Size, files_in(found)),
         "graph" => Command::Answer(Question::Graph, files_in(found)),
         "outline" => Command::Answer(Question::Outline, files_in(found)),
-        "draw" => Command::Answer(Question::Draw, files_in(found)),
+        "draw" => draw_of(files_in(found), file_if_named(found, INPUTS)),
         "ceiling" => Command::Answer(Question::Ceiling, files_in(found)),
         "replay" => Command::Replay(files_in(found), file_in(found, INPUTS)),
         "trace" => Command::Trace(files_in(found), file_in(found, INPUTS)),
         _ => unreachable!(),
+    }
+}
+
+/// What is drawn of files: the run of inputs, where these are named.
+fn draw_of<'a>(files: Files<'a>, inputs: Option<&'a str>) -> Command<'a>
+    ensures { said_by result
+        ≡ (
+          codes "draw",
+          map Some (common files.entry)
+              ++ option_map (λ name. name.now) inputs.entry ∷ [],
+        ) }
+{
+    match inputs {
+        Some(inputs) => Command::DrawRun(files, inputs),
+        None => Command::Answer(Question::Draw, files),
     }
 }
 

@@ -32,7 +32,7 @@ Exit status:
   1  the deck, the timing table, the notes or the inputs are refused
   2  the command line is wrong
   3  a file could not be read, memory ran out, or what is printed could not be written
-  4  a replay or a trace left the notes
+  4  a replay, a trace or a drawn run left the notes
 
 This is version 2026.11; README.md says how to cite it.
 ";

@@ -4,6 +4,7 @@ use Rattle.std.specs.Prelude.{Result, Ok, Err, ◌⊎◌, option_map}
 use Rattle.std.specs.Borrow.{Bor}
 use Rattle.drum_command.specs.declared.command.Command.{Command}
 use Rattle.drum_command.specs.declared.command.Command.TheVariants.{Answer, Check, Replay, Trace}
+use Rattle.drum_command.specs.declared.command.Command.TheVariants.{DrawRun}
 use Rattle.drum_command.specs.declared.command.Files.{Files}
 use Rattle.drum_core.specs.declared.deck.fault.DeckFault.TheVariants as of_deck
 use Rattle.drum_inputs.specs.declared.fault.InputFault.TheVariants as of_inputs
@@ -133,6 +134,7 @@ files_sought (Answer question files) = named_in files
 files_sought (Check files inputs) = named_with files (name_in inputs)
 files_sought (Replay files inputs) = all_named_in files inputs.now
 files_sought (Trace files inputs) = all_named_in files inputs.now
+files_sought (DrawRun files inputs) = all_named_in files inputs.now
 
 -- Files are looked at one after the other, and nothing is wrong with one.
 abbrev pub AreLookedAt : List NamedFile → List Asked → Type 0

@@ -3,6 +3,7 @@
 use crate::labels::LARGE_FONT;
 use crate::point::Point;
 use crate::tallies::Tallies;
+use crate::walk::Walk;
 use crate::word::Word;
 use std::alloc::AllocError;
 
@@ -31,10 +32,10 @@ pub(crate) fn beside_top(number: u16) -> Point {
 }
 
 /// Draws a word beside the drum.
-fn draw_box(text: &mut String, word: Word) -> Result<(), AllocError> {
+fn draw_box(text: &mut String, word: Word, walk: Walk) -> Result<(), AllocError> {
     let left = left_of(word.number);
     write!(text, "<use href='#beside' x='{left}' y='{TOP}'")?;
-    word.finish(text)?;
+    word.finish(text, walk)?;
     let (ink, number, base) = (word.label_ink(), word.number, TOP + 145);
     let middle = left.saturating_add(200);
     write!(
@@ -44,13 +45,17 @@ fn draw_box(text: &mut String, word: Word) -> Result<(), AllocError> {
 }
 
 /// Draws those of 8000 to 8003 that the walk has to do with.
-pub(crate) fn draw_beside(text: &mut String, tallies: &Tallies) -> Result<(), AllocError> {
+pub(crate) fn draw_beside(
+    text: &mut String,
+    tallies: &Tallies,
+    walk: Walk,
+) -> Result<(), AllocError> {
     let most = tallies.most_time();
     text.push_str("<defs><rect id='beside' width='400' height='220' rx='30' stroke-width='8'/>")?;
     text.push_str("</defs>\n")?;
     for number in 8000..8004u16 {
         if let Some(word) = Word::of(tallies, number, most) {
-            draw_box(text, word)?;
+            draw_box(text, word, walk)?;
         }
     }
     Ok(())

@@ -10,8 +10,10 @@ use crate::layout::Layout;
 use crate::page::{begin, draw_drum_title, draw_rows_key};
 use crate::revolutions::{draw_revolutions, draw_revolutions_title};
 use crate::rings::rings_of;
+use crate::run::Run;
 use drum_bound::Analysis;
 use drum_core::Deck;
+use drum_lines::Verdict;
 use drum_rounds::Bracket;
 use drum_times::{Notes, Times};
 use std::alloc::{AllocError, Global};
@@ -24,10 +26,10 @@ fn draw_drum(alloc: Global, text: &mut String, drawn: &Drawn) -> Result<(), Allo
     text.push_str("<g class='drum' transform='translate(310 396) scale(.1)'>\n")?;
     draw_rings(text, &rings)?;
     draw_rim(text)?;
-    draw_words(text, &rings, tallies)?;
+    draw_words(text, &rings, tallies, drawn.walk)?;
     draw_curves(text, &rings, &edges.drawn)?;
     draw_labels(text, &rings, tallies)?;
-    draw_beside(text, tallies)?;
+    draw_beside(text, tallies, drawn.walk)?;
     text.push_str("</g>\n")
 }
 
@@ -87,5 +89,26 @@ pub fn picture_in_rounds(
     draw(
         alloc,
         &Drawn::of_bracket(alloc, bracket, deck, times, notes)?,
+    )
+}
+
+/// The picture of a run with this verdict, of which all steps were taken in: the same as that of an
+/// analysis. It means something where the run is of this deck with this timing table, and was held
+/// to these notes. No clause says what it is.
+///
+/// # Errors
+///
+/// [`AllocError`] where there is no memory.
+pub fn picture_of_run(
+    alloc: Global,
+    run: Run,
+    verdict: &Verdict,
+    deck: &Deck,
+    times: &Times,
+    notes: &Notes,
+) -> Result<String, AllocError> {
+    draw(
+        alloc,
+        &Drawn::of_run(alloc, run, verdict, deck, times, notes)?,
     )
 }

@@ -5,6 +5,7 @@ use crate::point::Point;
 use crate::rings::{RIM, Ring};
 use crate::tallies::Tallies;
 use crate::tenths::Tenths;
+use crate::walk::Walk;
 use crate::word::Word;
 use std::alloc::AllocError;
 
@@ -66,6 +67,7 @@ fn draw_ring_words(
     ring: Ring,
     tallies: &Tallies,
     most: u128,
+    walk: Walk,
 ) -> Result<(), AllocError> {
     let band = ring.band;
     for angle in 0..50u16 {
@@ -74,7 +76,7 @@ fn draw_ring_words(
                 count: u128::from(angle) * 72,
             };
             write!(text, "<use href='#b{band}' transform='rotate({degrees})'")?;
-            word.finish(text)?;
+            word.finish(text, walk)?;
         }
     }
     Ok(())
@@ -85,10 +87,11 @@ pub(crate) fn draw_words(
     text: &mut String,
     rings: &[Ring],
     tallies: &Tallies,
+    walk: Walk,
 ) -> Result<(), AllocError> {
     let most = tallies.most_time();
     for ring in rings {
-        draw_ring_words(text, *ring, tallies, most)?;
+        draw_ring_words(text, *ring, tallies, most, walk)?;
     }
     Ok(())
 }

@@ -44,16 +44,28 @@ impl Edge {
     }
 }
 
-/// How often these hops take each edge.
-fn counted(alloc: Global, visits: &[Visit]) -> Result<HashMap<Edge, u64>, AllocError> {
-    let mut counts = HashMap::new(alloc);
-    for visit in visits {
-        if let Some(edge) = Edge::of(visit) {
-            let taken = counts.entry(edge)?.or_insert(0u64);
-            *taken = taken.saturating_add(1);
+/// How often each edge is taken, counted hop by hop.
+#[derive(Debug, Drop)]
+pub struct EdgeCounts {
+    counts: HashMap<Edge, u64>,
+}
+
+impl EdgeCounts {
+    /// Of no hop yet.
+    pub(crate) fn new(alloc: Global) -> EdgeCounts {
+        EdgeCounts {
+            counts: HashMap::new(alloc),
         }
     }
-    Ok(counts)
+
+    /// Counts a hop that is taken once.
+    pub(crate) fn count(&mut self, visit: &Visit) -> Result<(), AllocError> {
+        if let Some(edge) = Edge::of(visit) {
+            let taken = self.counts.entry(edge)?.or_insert(0u64);
+            *taken = taken.saturating_add(1);
+        }
+        Ok(())
+    }
 }
 
 impl Edges {
@@ -67,9 +79,17 @@ impl Edges {
 
     /// The edges of hops that are taken once each.
     pub(crate) fn of_visits(alloc: Global, visits: &[Visit]) -> Result<Edges, AllocError> {
-        let counts = counted(alloc, visits)?;
+        let mut counts = EdgeCounts::new(alloc);
+        for visit in visits {
+            counts.count(visit)?;
+        }
+        Edges::of_counts(alloc, &counts)
+    }
+
+    /// The edges that were counted.
+    pub(crate) fn of_counts(alloc: Global, counts: &EdgeCounts) -> Result<Edges, AllocError> {
         let mut edges = Edges::new(alloc);
-        for (edge, taken) in counts.iter() {
+        for (edge, taken) in counts.counts.iter() {
             edges.add(*edge, u128::from(*taken))?;
         }
         edges.keep_most()?;

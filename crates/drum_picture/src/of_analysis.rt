@@ -2,99 +2,14 @@
 
 use crate::braces::Braces;
 use crate::drawn::Drawn;
-use crate::drawn_hop::DrawnHop;
 use crate::edges::Edges;
-use crate::extent::Extent;
-use crate::parts::Parts;
-use crate::rows::{PAGE_ROWS, Rows};
-use crate::shares::Shares;
+use crate::hops::Hops;
 use crate::tallies::Tallies;
 use crate::walk::{Kind, Walk};
-use drum_bound::{Analysis, Visit};
+use drum_bound::Analysis;
 use drum_core::Deck;
 use drum_times::Times;
 use std::alloc::{AllocError, Global};
-
-/// How many rows are the walk's first, where it spends most further on.
-const FIRST_ROWS: usize = 6;
-
-/// How many hops are looked at for the rows, from one on: rows have no more word times.
-const MOST_VISITS: usize = 1200;
-
-/// The walk of an analysis.
-#[derive(Clone, Copy, Debug)]
-struct Analysed<'a> {
-    visits: &'a [Visit],
-    /// The drum's angle when it begins.
-    angle: u64,
-    times: &'a Times,
-}
-
-impl Analysed<'_> {
-    /// One of the hops, as it is drawn.
-    fn hop(self, visit: &Visit) -> DrawnHop {
-        DrawnHop {
-            visit: *visit,
-            parts: Parts::of(visit, self.angle, self.times),
-            from: 0,
-        }
-    }
-
-    /// Takes hops from one on into rows, as long as these have room.
-    fn take_from(self, rows: &mut Rows, first: usize) -> Result<(), AllocError> {
-        let visits = self.visits.get(first..).unwrap_or(&[]);
-        for visit in visits.get(..MOST_VISITS).unwrap_or(visits) {
-            if !rows.take(self.hop(visit))? {
-                break;
-            }
-        }
-        Ok(())
-    }
-
-    /// The first hop of the location at which the walk spends most word times, from 0, and the
-    /// revolution in which it begins.
-    fn heaviest(self, tallies: &Tallies) -> Option<(usize, u128)> {
-        let most = tallies.most_time();
-        let (place, visit) = self
-            .visits
-            .iter()
-            .enumerate()
-            .find(|one| tallies.at(one.1.place.number()).time == most)?;
-        Some((place, self.hop(visit).first_revolution()))
-    }
-
-    /// The rows: those of the first hops, and where the walk spends most further on, those from
-    /// there on.
-    fn rows(
-        self,
-        alloc: Global,
-        walk: Walk,
-        tallies: &Tallies,
-    ) -> Result<(Rows, Extent), AllocError> {
-        let mut rows = Rows::new(alloc, PAGE_ROWS);
-        self.take_from(&mut rows, 0)?;
-        if let Some((place, revolution)) = self.heaviest(tallies) {
-            if revolution > rows.last() {
-                rows.cut(FIRST_ROWS);
-                self.take_from(&mut rows, place)?;
-                let from = revolution.saturating_add(1);
-                return Ok((rows, Extent::Again(FIRST_ROWS, from)));
-            }
-        }
-        let extent = Extent::until(walk, rows.last());
-        Ok((rows, extent))
-    }
-
-    /// Counts the hops.
-    fn count(self, tallies: &mut Tallies) -> Shares {
-        let mut shares = Shares::NONE;
-        for visit in self.visits {
-            tallies.count(visit, 1);
-            shares = shares.with(Parts::of(visit, self.angle, self.times), 1);
-        }
-        shares
-    }
-}
 
 impl Drawn {
     /// What is drawn of an analysis of a deck and a timing table.
@@ -109,22 +24,22 @@ impl Drawn {
             angle: u64::from(analysis.angle()),
             time: u128::from(analysis.bound()),
         };
-        let analysed = Analysed {
+        let hops = Hops {
             visits: analysis.walk(),
             angle: walk.angle,
             times,
         };
         let mut tallies = Tallies::new(alloc)?;
-        let shares = analysed.count(&mut tallies);
+        let shares = hops.count(&mut tallies);
         for worst in analysis.table() {
             tallies.note_executed(worst.place);
         }
         tallies.note_loaded(deck);
-        let (rows, extent) = analysed.rows(alloc, walk, &tallies)?;
+        let (rows, extent) = hops.rows(alloc, walk, &tallies)?;
         Ok(Drawn {
             walk,
             tallies,
-            edges: Edges::of_visits(alloc, analysed.visits)?,
+            edges: Edges::of_visits(alloc, hops.visits)?,
             shares,
             rows,
             extent,

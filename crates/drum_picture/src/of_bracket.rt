@@ -10,7 +10,6 @@ use crate::shares::Shares;
 use crate::tallies::Tallies;
 use crate::walk::{Kind, Walk};
 use drum_core::Deck;
-use drum_flow::discover;
 use drum_rounds::Bracket;
 use drum_times::{Notes, Times};
 use std::alloc::{AllocError, Global};
@@ -71,11 +70,7 @@ impl Drawn {
         let pieces = weigh(alloc, bracket.walk.pieces(), times)?;
         let mut tallies = Tallies::new(alloc)?;
         let shares = count(&mut tallies, &pieces);
-        let flow = discover(alloc, deck, notes)?;
-        for location in flow.executed() {
-            tallies.note_executed(*location);
-        }
-        tallies.note_loaded(deck);
+        tallies.note_flow(alloc, deck, notes)?;
         let (rows, braces) = Going::all(alloc, &pieces, walk.angle)?;
         Ok(Drawn {
             walk,

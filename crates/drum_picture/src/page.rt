@@ -4,7 +4,9 @@ use crate::edges::MOST_EDGES;
 use crate::ink::Ink;
 use crate::layout::Layout;
 use crate::rings::Ring;
+use crate::verdict::write_verdict;
 use crate::walk::{Kind, Walk};
+use drum_lines::Verdict;
 use std::alloc::AllocError;
 
 /// The attributes of a drawing's title.
@@ -129,6 +131,18 @@ fn draw_reached(text: &mut String, reached: u128, ceiling: u128) -> Result<(), A
     )
 }
 
+/// Writes how long a run is, and its verdict.
+fn draw_run(text: &mut String, time: u128, verdict: &Verdict) -> Result<(), AllocError> {
+    write!(text, "<title>A run: {time} word times</title>\n")?;
+    write!(
+        text,
+        "<text font-size='27' font-weight='600' x='28' y='40'>run {time} word times</text>\n"
+    )?;
+    write!(text, "<text {TITLE} x='29' y='64'>")?;
+    write_verdict(text, verdict)?;
+    text.push_str("</text>\n")
+}
+
 /// Begins the picture, with its heading.
 pub(crate) fn begin(text: &mut String, walk: Walk, layout: Layout) -> Result<(), AllocError> {
     let (width, height) = (layout.width, layout.height);
@@ -146,6 +160,10 @@ pub(crate) fn begin(text: &mut String, walk: Walk, layout: Layout) -> Result<(),
         }
         Kind::InRounds(ceiling) => {
             draw_reached(text, walk.time, ceiling)?;
+            84
+        }
+        Kind::Run(verdict) => {
+            draw_run(text, walk.time, &verdict)?;
             84
         }
     };

@@ -38,12 +38,15 @@ pub(crate) fn data_of(visit: &Visit) -> Option<Location> {
     }
 }
 
-/// How long a hop with this entry waits for the card machine at most, in word times: not at all
-/// where it stops before it acts. (The entry of an operation without a card machine has no wait.)
-fn card_wait(entry: Entry, way: Way) -> u64 {
-    match way {
-        Way::Early => 0,
-        Way::To(_) | Way::Late => u64::from(entry.wait_max),
+/// When a hop that is ready at a clock has done its work: at its end, but for 70 and 71, which wait
+/// for the card machine then, unless they stop before they act.
+fn worked(visit: &Visit, op: Op, entry: Entry, ready: u64, ended: u64) -> u64 {
+    let d = visit.instruction.d();
+    let has_cards = matches!(op, Op::Read | Op::Punch) && !matches!(visit.way, Way::Early);
+    if has_cards && op.operand().suits(d) && ready <= LATEST {
+        moments::ended(entry, op, d, 0, 0, ready).min(ended)
+    } else {
+        ended
     }
 }
 
@@ -86,13 +89,12 @@ impl Parts {
         } else {
             ready
         };
-        let wait = card_wait(entry, visit.way);
         Parts {
             begun,
             found,
             ready,
             reached,
-            worked: ended.saturating_sub(wait).max(reached),
+            worked: worked(visit, op, entry, ready, ended).max(reached),
             ended,
         }
     }

@@ -4,6 +4,8 @@ use crate::operations::Operations;
 use crate::parts::data_of;
 use drum_bound::Visit;
 use drum_core::{Deck, Instruction, Location};
+use drum_flow::discover;
+use drum_times::Notes;
 use std::alloc::{AllocError, Global};
 
 /// How many locations there are: those of the drum, then 8000 to 8003.
@@ -99,6 +101,22 @@ impl Tallies {
                 tally.operations = Operations::One(Instruction::of(word).op());
             }
         }
+    }
+
+    /// Notes the words of a deck, when all hops are counted, and which locations some walk executes
+    /// under these notes.
+    pub(crate) fn note_flow(
+        &mut self,
+        alloc: Global,
+        deck: &Deck,
+        notes: &Notes,
+    ) -> Result<(), AllocError> {
+        let flow = discover(alloc, deck, notes)?;
+        for location in flow.executed() {
+            self.note_executed(*location);
+        }
+        self.note_loaded(deck);
+        Ok(())
     }
 
     /// The tally of the location of this number.

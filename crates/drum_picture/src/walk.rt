@@ -1,6 +1,7 @@
 //! Which walk is drawn, and how long it takes.
 
 use crate::tenths::Tenths;
+use drum_lines::Verdict;
 
 /// Which walk it is.
 #[derive(Clone, Copy, Debug, PartialEq, Eq)]
@@ -9,6 +10,8 @@ pub enum Kind {
     Worst,
     /// A walk in rounds, beside this ceiling.
     InRounds(u128),
+    /// That of a run with this verdict.
+    Run(Verdict),
 }
 
 /// The walk that is drawn.
@@ -27,6 +30,15 @@ impl Walk {
         match self.kind {
             Kind::Worst => "The worst walk",
             Kind::InRounds(_) => "The walk in rounds",
+            Kind::Run(_) => "The run",
+        }
+    }
+
+    /// What it is, in a word.
+    pub(crate) fn noun(self) -> &'static str {
+        match self.kind {
+            Kind::Worst | Kind::InRounds(_) => "walk",
+            Kind::Run(_) => "run",
         }
     }
 

@@ -2,6 +2,7 @@ use crate::ink::Ink;
 use crate::operations::Operations;
 use crate::scale::scaled;
 use crate::tallies::{Tallies, Tally};
+use crate::walk::Walk;
 use std::alloc::AllocError;
 
 /// From this shade on a word is so dark that its location is written in white.
@@ -68,7 +69,7 @@ impl Word {
     }
 
     /// Ends the element of the word, of which the shape is written: its colour, and its title.
-    pub(crate) fn finish(self, text: &mut String) -> Result<(), AllocError> {
+    pub(crate) fn finish(self, text: &mut String, walk: Walk) -> Result<(), AllocError> {
         let (ink, number) = (self.ink(), self.number);
         let (visits, time, data) = (self.tally.visits, self.tally.time, self.tally.data);
         write!(text, " {ink}><title>{number:04}")?;
@@ -82,7 +83,10 @@ impl Word {
                 let more = plural(data);
                 write!(text, "data, sought {data} time{more}")?;
             }
-            Ink::Rest => text.push_str("not sought by this walk")?,
+            Ink::Rest => {
+                let noun = walk.noun();
+                write!(text, "not sought by this {noun}")?;
+            }
             _ => {
                 let (more_visits, more_time) = (plural(visits), plural(time));
                 write!(text, "{visits} visit{more_visits}, ")?;

@@ -14,7 +14,8 @@ use Rattle.drum_documents.specs.Limits.{IsLimit}
 use Rattle.drum_documents.specs.Documents.{setting_of}
 use Rattle.drum_replay.specs.CoverageOf.{HasSeen}
 use Rattle.drum_replay.specs.Following.{AreGiven, CanBegin, IsFollowing, state_of, waits_of}
-use Rattle.drum_replay.specs.Replay.{Given, HasOwnWords}
+use Rattle.drum_bound.specs.Worst.{IsWorst}
+use Rattle.drum_replay.specs.Replay.{Given, HasOwnWords, HasReplay}
 
 -- the verdict on a run that leaves the notes before any step
 abbrev pub left_before : lefts.Left → Verdict
@@ -39,6 +40,13 @@ pub record IsBegun (g : Setting) (given : Given) (begun : Begun) : Type 0 where
       (verdict : Verdict) → begun.verdict ≡ Some verdict
       → (verdict ≡ left_before left.Switch)
       × ¬ IsAsDeclared g.notes.programmed given.setup.programmed
+
+-- It is that of what is given, which has a replay, and what limits it is what any walk takes at
+-- most.
+pub record IsReplayBegun (g : Setting) (given : Given) (begun : Begun) : Type 0 where
+  pub begun_of : IsBegun g given begun
+  pub has : HasReplay g given
+  pub worst : IsWorst g begun.most
 
 -- It is that of what is given, what limits it is that of the documents, and nothing was seen of it
 -- yet.

@@ -34,6 +34,12 @@ SaysVerdict documents given reply =
     (verdict : Verdict) × IsReplay (setting_of documents) given verdict
     × (reply ≡ verdict_reply verdict)
 
+-- a picture of that run, and the status of the verdict; which picture isn't said
+abbrev pub SaysRunPicture : Documents → Given → Reply → Type 0
+SaysRunPicture documents given reply =
+    (verdict : Verdict) × IsReplay (setting_of documents) given verdict
+    × (picture : List ℕ) × (reply ≡ says picture (status_of verdict))
+
 -- the strides of a run that is limited so, and its verdict; or its first strides alone, where a
 -- write fails
 abbrev pub SaysStrides : Setting → limits.Limit → ℕ → Given → Reply → Type 0

@@ -2,7 +2,7 @@
 
 ghost use Rattle.std.specs.Prelude.{◌≡◌, ◌^◌, ◌<◌, IfErr, IfOk, option_map};
 ghost use Rattle.drum_flow.specs.SettingOf.{setting};
-ghost use Rattle.drum_replay.specs.Begun.{IsBegun, IsTraceBegun, left_before};
+ghost use Rattle.drum_replay.specs.Begun.{IsBegun, IsReplayBegun, IsTraceBegun, left_before};
 ghost use Rattle.drum_flow.specs.Bounded.{IsBounded};
 ghost use Rattle.drum_replay.specs.Given.{given};
 ghost use Rattle.drum_replay.specs.Replay.{IsReplay, IsReplayFault, IsTraceFault};
@@ -97,6 +97,30 @@ fn begin(
     })
 }
 
+/// The run of a machine with this deck, which the inputs set up and feed, before its first step.
+///
+/// # Errors
+///
+/// As [`replay`].
+pub(crate) fn begin_replay(
+    alloc: Global,
+    deck: &Deck,
+    times: &Times,
+    notes: &Notes,
+    inputs: Inputs,
+) -> Result<Begun, Fault>
+    ensures begun { IfOk result
+        (IsReplayBegun (setting deck.now times.now notes.now) (given inputs)) }
+    ensures refused { IfErr result
+        (IsReplayFault (setting deck.now times.now notes.now) (given inputs)) }
+{
+    if let Some(location) = inputs.setup.loaded_by(deck) {
+        return Err(Fault::Loaded(location));
+    }
+    let bound = bound(alloc, deck, times, notes)?;
+    begin(alloc, deck, notes, inputs, Limit::Bound, bound)
+}
+
 /// The verdict on the run of a machine with this deck, which the inputs set up and feed.
 ///
 /// # Errors
@@ -116,16 +140,12 @@ pub fn replay(
     ensures refused { IfErr result
         (IsReplayFault (setting deck.now times.now notes.now) (given inputs)) }
 {
-    if let Some(location) = inputs.setup.loaded_by(deck) {
-        return Err(Fault::Loaded(location));
-    }
-    let bound = bound(alloc, deck, times, notes)?;
     let Begun {
         following,
         most,
         verdict,
         ..
-    } = begin(alloc, deck, notes, inputs, Limit::Bound, bound)?;
+    } = begin_replay(alloc, deck, times, notes, inputs)?;
     match verdict {
         Some(verdict) => Ok(verdict),
         None => Ok(follow(deck, times, notes, following, most)),

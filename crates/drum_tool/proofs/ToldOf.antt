@@ -3,7 +3,7 @@ use Rattle.std.proofs.Common.{◌≡◌, ℕ, true, List, [], ◌∷◌, Option,
 use Rattle.std.specs.Prelude.{codes}
 use Rattle.clap.specs.Words.{Text, takes}
 use Rattle.drum_command.specs.declared.command.Command.{Command}
-use Rattle.drum_command.specs.declared.command.Command.TheVariants.{Answer, Check, Replay, Trace}
+use Rattle.drum_command.specs.declared.command.Command.TheVariants.{Answer, Check, Replay, Trace, DrawRun}
 use Rattle.drum_command.specs.declared.command.Question.TheVariants.{Bound, Report, Walk, Waits, Table, Size, Graph, Outline, Draw, Ceiling}
 use Rattle.drum_command.specs.declared.refused.Refused.{Refused}
 use Rattle.drum_command.specs.Line.{drum650, said_by}
@@ -119,3 +119,5 @@ of_files told_of held deck times notes (Replay files inputs) failures reply told
     absurd (let bad : 114 ≡ 98 = same_first _ _ said in omega (arith, bad))
 of_files told_of held deck times notes (Trace files inputs) failures reply told said answers =
     absurd (let bad : 116 ≡ 98 = same_first _ _ said in omega (arith, bad))
+of_files told_of held deck times notes (DrawRun files inputs) failures reply told said answers =
+    absurd (let bad : 100 ≡ 98 = same_first _ _ said in omega (arith, bad))

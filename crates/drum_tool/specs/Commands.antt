@@ -2,6 +2,7 @@
 use Rattle.std.specs.Prelude.{◌≡◌, ℕ, List, Option, ◌⊎◌}
 use Rattle.drum_command.specs.declared.command.Command.{Command}
 use Rattle.drum_command.specs.declared.command.Command.TheVariants.{Answer, Check, Replay, Trace}
+use Rattle.drum_command.specs.declared.command.Command.TheVariants.{DrawRun}
 use Rattle.drum_command.specs.declared.command.Files.{Files}
 use Rattle.drum_command.specs.declared.command.Question.{Question}
 use Rattle.drum_command.specs.declared.command.Question.TheVariants.{Bound, Report, Table, Size}
@@ -24,8 +25,7 @@ use Rattle.drum_replay.specs.Replay.{Given, IsReplayFault, IsTraceFault}
 use Rattle.drum_lines.specs.FaultStatus.{IsWanting}
 use Rattle.drum_answers.specs.Says.{Refuses, Says, SaysBound, SaysCheck}
 use Rattle.drum_lines.specs.Reply.{Reply}
-use Rattle.drum_replay.specs.RunReply.{SaysTrace}
-use Rattle.drum_replay.specs.RunReply.{SaysVerdict}
+use Rattle.drum_replay.specs.RunReply.{SaysRunPicture, SaysTrace, SaysVerdict}
 use Rattle.drum_lines.specs.Reply.{fault_reply}
 
 -- The reply to a command, where `failures` reads failed: what it says of what it has read; or the
@@ -79,3 +79,5 @@ AnswersCommand held (Check files inputs) = AnswersCheck held files (name_in inpu
 AnswersCommand held (Replay files inputs) =
     AnswersRun Short held SaysVerdict (λ documents. IsReplayFault (setting_of documents))
 AnswersCommand held (Trace files inputs) = AnswersRun Long held SaysTrace IsTraceFault
+AnswersCommand held (DrawRun files inputs) =
+    AnswersRun Short held SaysRunPicture (λ documents. IsReplayFault (setting_of documents))

@@ -18,7 +18,7 @@ use drum_command::{Command, Files, Question};
 use drum_core::Output;
 use drum_documents::{Source, documents_in, documents_with_inputs, texts_with_inputs};
 use drum_lines::{Fault, Limit, Status, complain, tell_faults, tell_verdict};
-use drum_replay::{begin_trace, replay, tell_trace};
+use drum_replay::{begin_trace, picture_run, replay, tell_picture, tell_trace};
 use drum_toml::NotesRead;
 use std::alloc::Global;
 
@@ -146,6 +146,36 @@ fn trace_files<S: Source, O: Output>(
     Ok(tell_trace(out, &documents, begun))
 }
 
+/// Draws the run of the documents and inputs in files.
+fn draw_files<S: Source, O: Output>(
+    alloc: Global,
+    source: &mut S,
+    files: Files<'_>,
+    inputs: &str,
+    out: &mut O,
+) -> Result<Status, Fault>
+    requires source { S.failed source.old ≤ 2 ^ 61 }
+    requires out { O.called out.old ≤ 2 ^ 62 }
+    ensures does { (err : Device)
+        → DoesCommand (commands.DrawRun files.entry inputs.entry) (S.files source.old)
+        (device (O.written out.old) (O.failed out.old))
+        (device (O.written out.new) (O.failed out.new)) err err result }
+    ensures spared { IfErr result (λ _. out.new ≡ out.old) }
+    ensures counted { S.failed source.new ≡ S.failed source.old + failed_by result }
+    ensures asked { AsksFor (S.asked source.old) (S.asked source.new)
+        (Looks (all_named_in files.entry inputs.entry.now) (fault_in result)) }
+{
+    let (documents, inputs) = documents_with_inputs(
+        alloc,
+        source,
+        files,
+        inputs,
+        NotesRead::Short,
+    )?;
+    let pictured = picture_run(alloc, &documents, inputs)?;
+    Ok(tell_picture(out, &pictured))
+}
+
 /// Does what a command says, up to a fault.
 fn follow<S: Source, O: Output, E: Output>(
     alloc: Global,
@@ -172,6 +202,7 @@ fn follow<S: Source, O: Output, E: Output>(
         Command::Check(files, inputs) => check_files(alloc, source, files, inputs, out, err),
         Command::Replay(files, inputs) => replay_files(alloc, source, files, inputs, out),
         Command::Trace(files, inputs) => trace_files(alloc, source, files, inputs, out),
+        Command::DrawRun(files, inputs) => draw_files(alloc, source, files, inputs, out),
     }
 }
 

@@ -40,7 +40,7 @@ fn none_behind_a_fault(rt: HostRuntime) {
         ("deck", "times", "notes", "no inputs", 4),
         ("deck", "times", "notes", "inputs", 4),
     ] {
-        for command in ["replay", "trace"] {
+        for command in ["replay", "trace", "draw"] {
             seeks(&rt, &[command, deck, times, notes, inputs], sought);
         }
         for command in ["bound", "report", "walk", "draw"] {

@@ -14,7 +14,7 @@ pub(crate) struct Subject {
     pub(crate) err: &'static str,
 }
 
-/// The deck, the notes and the inputs of a command.
+/// The deck, the notes and the inputs of a command; these are empty where it takes none.
 pub(crate) type Files = (&'static str, &'static str, &'static str);
 
 /// The report of the deck of two words, which has 84 bytes.
@@ -194,6 +194,13 @@ pub(crate) const SUBJECTS: &[Subject] = &[
         out: "",
         err: "fault 47 inputs loaded 0100\n",
     },
+    Subject {
+        command: "draw",
+        files: (TWO_WORDS, NOTES, "0106 +0000000000\n"),
+        status: Status::Refused,
+        out: "",
+        err: "fault 47 inputs loaded 0106\n",
+    },
 ];
 
 /// The words of a command, and the names of its files.
@@ -221,10 +228,6 @@ impl Subject {
 
     /// How many words its command takes.
     pub(crate) fn count(&self) -> usize {
-        if matches!(self.command, "replay" | "trace") {
-            5
-        } else {
-            4
-        }
+        if self.files.2.is_empty() { 4 } else { 5 }
     }
 }

@@ -210,7 +210,7 @@ fn of_the_program(rt: HostRuntime) -> Result<(), Fail> {
         ] {
             holds(&rt, Call::Run(&[command, "deck", "times", "notes"], &files))?;
         }
-        for command in ["replay", "trace"] {
+        for command in ["replay", "trace", "draw"] {
             holds(
                 &rt,
                 Call::Run(&[command, "deck", "times", "notes", "inputs"], &files),
@@ -243,7 +243,7 @@ fn of_the_program_that_refuses(rt: HostRuntime) -> Result<(), Fail> {
         ("x\n", NOTES, ""),
     ] {
         let files = files(deck, notes, inputs);
-        for command in ["check", "replay", "trace"] {
+        for command in ["check", "replay", "trace", "draw"] {
             holds(
                 &rt,
                 Call::Run(&[command, "deck", "times", "notes", "inputs"], &files),

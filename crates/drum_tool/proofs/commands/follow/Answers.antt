@@ -13,6 +13,9 @@ returns-in-Replay-clause-does g c = rw c.in-Replay.is (c.replay_files.ensures.do
 pub returns-in-Trace-clause-does : goal.returns-in-Trace-clause-does
 returns-in-Trace-clause-does g c = rw c.in-Trace.is (c.trace_files.ensures.does _)
 
+pub returns-in-DrawRun-clause-does : goal.returns-in-DrawRun-clause-does
+returns-in-DrawRun-clause-does g c = rw c.in-DrawRun.is (c.draw_files.ensures.does _)
+
 pub returns-in-Answer-clause-asked : goal.returns-in-Answer-clause-asked
 returns-in-Answer-clause-asked g c = rw c.in-Answer.is c.answer_of_files.ensures.asked
 
@@ -24,3 +27,6 @@ returns-in-Replay-clause-asked g c = rw c.in-Replay.is c.replay_files.ensures.as
 
 pub returns-in-Trace-clause-asked : goal.returns-in-Trace-clause-asked
 returns-in-Trace-clause-asked g c = rw c.in-Trace.is c.trace_files.ensures.asked
+
+pub returns-in-DrawRun-clause-asked : goal.returns-in-DrawRun-clause-asked
+returns-in-DrawRun-clause-asked g c = rw c.in-DrawRun.is c.draw_files.ensures.asked

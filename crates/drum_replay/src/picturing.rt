@@ -1,0 +1,150 @@
+//! A run that is followed as a replay, and drawn.
+
+ghost use Rattle.std.specs.Prelude.{◌^◌, ◌<◌, ◌≤◌, ℕ, IfErr, IfOk, List, [], length, string_bytes};
+ghost use Rattle.drum_machine.specs.Run.{Stride};
+ghost use Rattle.drum_flow.specs.Bounded.{IsBounded};
+ghost use Rattle.drum_flow.specs.SettingOf.{setting};
+ghost use Rattle.drum_lines.specs.Output.{GetsResult, device};
+ghost use Rattle.drum_lines.specs.Status.{status_of};
+ghost use Rattle.drum_documents.specs.Documents.{setting_of};
+ghost use Rattle.drum_replay.specs.Begun.{IsBegun, IsReady};
+ghost use Rattle.drum_replay.specs.Following.{CanBegin, IsFollowed, IsFollowing};
+ghost use Rattle.drum_replay.specs.Following.{state_of, waits_of};
+ghost use Rattle.drum_replay.specs.Given.{given};
+ghost use Rattle.drum_replay.specs.Replay.{Given, IsJudged, IsReplay, IsReplayFault};
+
+use crate::following::Following;
+use crate::replaying::{Begun, begin_replay};
+use drum_bound::Refusal;
+use drum_core::{Deck, Output};
+use drum_documents::Documents;
+use drum_inputs::Inputs;
+use drum_lines::{Fault, Status, Verdict, tell_text};
+use drum_picture::{Run, picture_of_run};
+use drum_times::{Notes, Times};
+use std::alloc::{AllocError, Global};
+
+/// The most bytes of a picture that is printed.
+const PICTURE_BYTES: usize = 1 << 61;
+
+/// A run that was followed to its verdict, and drawn.
+#[derive(Debug, Drop)]
+pub struct Pictured {
+    pub verdict: Verdict,
+    /// The picture, an SVG document.
+    pub picture: String,
+}
+
+/// Follows a run up to the step with which it leaves the notes or stops, and takes each step into
+/// what is drawn.
+fn take_steps(
+    deck: &Deck,
+    times: &Times,
+    notes: &Notes,
+    mut following: Following,
+    most: u64,
+    run: &mut Run,
+) -> Result<Verdict, AllocError>
+    requires below { most < 2 ^ 62 }
+    requires bounded { IsBounded (setting deck.now times.now notes.now) most }
+    requires begins { CanBegin (setting deck.now times.now notes.now) (state_of following) }
+    requires follows { IsFollowing (setting deck.now times.now notes.now) (state_of following)
+        (waits_of following) most [] following }
+    ensures { IfOk result (λ verdict. (strides : List Stride)
+        × IsFollowed (setting deck.now times.now notes.now) (state_of following)
+        (waits_of following) most strides verdict) }
+{
+    loop {
+        let before = following.used();
+        let (step, verdict) = following.advance(deck, times, notes, most);
+        run.take(&step, before, times)?;
+        if let Some(verdict) = verdict {
+            return Ok(verdict);
+        }
+    }
+}
+
+/// The verdict on a run, each step of which is taken into what is drawn: none, where the verdict
+/// comes before any.
+fn judge(documents: &Documents, begun: Begun, run: &mut Run) -> Result<Verdict, AllocError>
+    requires ready { IsReady (setting_of documents.now) begun }
+    ensures { (given : Given) → IsBegun (setting_of documents.now) given begun
+        → IfOk result (λ verdict. (step : ℕ)
+        × IsJudged (setting_of documents.now) given begun.most step verdict) }
+{
+    let Begun {
+        following,
+        most,
+        verdict,
+        ..
+    } = begun;
+    match verdict {
+        Some(verdict) => Ok(verdict),
+        None => take_steps(
+            &documents.deck,
+            &documents.times,
+            &documents.notes,
+            following,
+            most,
+            run,
+        ),
+    }
+}
+
+/// Follows a run to its verdict, and draws it.
+fn draw(alloc: Global, documents: &Documents, begun: Begun) -> Result<Pictured, AllocError>
+    requires ready { IsReady (setting_of documents.now) begun }
+    ensures { (given : Given) → IsBegun (setting_of documents.now) given begun
+        → IfOk result (λ pictured. (step : ℕ)
+        × IsJudged (setting_of documents.now) given begun.most step pictured.verdict) }
+{
+    let mut run = Run::new(alloc, begun.angle)?;
+    let verdict = judge(documents, begun, &mut run)?;
+    let picture = picture_of_run(
+        alloc,
+        run,
+        &verdict,
+        &documents.deck,
+        &documents.times,
+        &documents.notes,
+    )?;
+    Ok(Pictured { verdict, picture })
+}
+
+/// The verdict on the run of documents, which the inputs set up and feed, and its picture.
+///
+/// # Errors
+///
+/// As [`replay`](crate::replay); and [`Fault::Refused`] where there is no memory for the picture.
+pub fn picture_run(alloc: Global, documents: &Documents, inputs: Inputs) -> Result<Pictured, Fault>
+    ensures verdict { IfOk result (λ pictured.
+        IsReplay (setting_of documents.now) (given inputs) pictured.verdict) }
+    ensures short { IfOk result (λ pictured. length (string_bytes pictured.picture) ≤ 2 ^ 61) }
+    ensures refused { IfErr result (IsReplayFault (setting_of documents.now) (given inputs)) }
+{
+    let begun = begin_replay(
+        alloc,
+        &documents.deck,
+        &documents.times,
+        &documents.notes,
+        inputs,
+    )?;
+    match draw(alloc, documents, begun) {
+        Ok(pictured) if pictured.picture.len() <= PICTURE_BYTES => Ok(pictured),
+        _ => Err(Fault::Refused(Refusal::Memory)),
+    }
+}
+
+/// Writes the picture of a run; the program then ends as its verdict says.
+pub fn tell_picture<O: Output>(out: &mut O, pictured: &Pictured) -> Status
+    requires out { O.called out.old ≤ 2 ^ 62 }
+    requires short { length (string_bytes pictured.now.picture) ≤ 2 ^ 61 }
+    ensures { GetsResult (device (O.written out.old) (O.failed out.old))
+        (device (O.written out.new) (O.failed out.new)) (string_bytes pictured.now.picture)
+        (status_of pictured.now.verdict) result }
+{
+    match tell_text(out, pictured.picture.as_bytes()) {
+        Status::Done => pictured.verdict.status(),
+        status => status,
+    }
+}
