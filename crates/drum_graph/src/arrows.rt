@@ -174,7 +174,7 @@ fn send_end<O: Output>(writer: &mut O, sent: usize, closes: bool) -> Result<usiz
     send(writer, sent, &pieces)
 }
 
-/// Writes the line of an edge of a box, with the mark that stands on it, and red if it closes a loop.
+/// Writes the line of an edge of a box, with the mark that stands on it; red if it closes a loop.
 fn send_edge<O: Output>(
     writer: &mut O,
     sent: usize,

@@ -7,10 +7,10 @@
 //! Code, from the bottom up. `operations` are those that are allowed at a location. `stops` tells
 //! whether some instruction of it may stop the run, `fitness` whether it is loaded or listed with
 //! operations in the profile alone, and `written` are the executed words that its instructions
-//! write. A `node` is what is drawn as a box, `loops` are the edges that close loops, and `graph` is
-//! what is drawn of a deck; its `outline` has words that go straight on from one to the next as one
-//! box. `drawing` writes the graph out: `boxes` the line of a box, and `arrows` the lines of its
-//! arrows. `laws` has laws of the definitions.
+//! write. A `node` is what is drawn as a box, `loops` are the edges that close loops, and `graph`
+//! is what is drawn of a deck; its `outline` has words that go straight on from one to the next as
+//! one box. `drawing` writes the graph out: `boxes` the line of a box, and `arrows` the lines of
+//! its arrows. `laws` has laws of the definitions.
 //!
 //! Definitions, in the order to read them: `Graph` is what is drawn of each executed location,
 //! `GraphText` its lines, `Outline` which words are one box, and `GraphOf` how all this is held.

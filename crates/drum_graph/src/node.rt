@@ -14,7 +14,8 @@ use std::alloc::{AllocError, Global};
 /// What is drawn as a box, mostly an executed word: which operations are allowed there, each once,
 /// whether it has a list, whether it is neither loaded nor listed or has an operation outside the
 /// profile, whether one of its instructions may stop the run, where they go on, and which executed
-/// words they write. In an outline it may be several words that go straight on from one to the next.
+/// words they write. In an outline it may be several words that go straight on from one to the
+/// next.
 #[derive(Debug, Drop)]
 pub(crate) struct Node {
     pub(crate) location: Location,

@@ -94,7 +94,7 @@ fn box_before(marks: &[Mark], loops: &Loops, onto: Location, boxes: &[Node]) -> 
     None
 }
 
-/// Puts a word into the boxes, behind the first that goes straight on to it, or as a box of its own.
+/// Puts a word into the boxes: behind the first that goes straight on to it, or in one of its own.
 fn put_behind(
     marks: &[Mark],
     loops: &Loops,
