@@ -1,6 +1,6 @@
 -- Why a deck with its notes is accepted, or not.
-use Rattle.std.proofs.Common.{◌≡◌, ℕ, zero, suc, ◌*◌, ◌<◌, ◌≤◌, List, [], ◌∷◌, length}
-use Rattle.std.proofs.Common.{map, Option, Some, None, ap, sym, ◌∙◌, subst, inl, inr, arith}
+use Rattle.std.proofs.Common.{◌≡◌, ℕ, zero, suc, ◌*◌, ◌<◌, ◌≤◌, List, length}
+use Rattle.std.proofs.Common.{Option, Some, None, ap, sym, ◌∙◌, subst, inl, inr, arith}
 use Rattle.std.specs.Prelude.{slice_get, Contains}
 use Rattle.std.proofs.lemmas.Bool.{cases_lt}
 use Rattle.std.proofs.lemmas.Option.{same_Some, slice_get_past}
@@ -12,19 +12,18 @@ use Rattle.drum_flow.specs.declared.refusal.Refusal.{Refusal}
 use Rattle.drum_flow.specs.declared.refusal.Refusal.TheVariants.{Memory, NotLoaded, NotInProfile, Alters, Unbounded}
 use Rattle.drum_flow.specs.declared.refusal.Refusal.TheVariants.{TooLarge}
 use Rattle.drum_flow.specs.Acceptance.{IsAdmissionRefusal, IsRefusal}
-use Rattle.drum_flow.specs.Accepted.{counts_of, product_of, told, IsFree, IsAdmitted, IsGood, IsMet, IsSound}
+use Rattle.drum_flow.specs.Accepted.{counts_of, product_of, told, IsFreeLink, IsAdmitted, IsGood, IsMet, IsSound}
 use Rattle.drum_flow.specs.Altering.{FlagsFixed, AltersNone}
 use Rattle.drum_flow.specs.Executed.{added_by, each_place, found_after, same_node, with_new_by, AreAllNodes, IsOrder}
 use Rattle.drum_flow.specs.Fixed.{AreFlagged}
 use Rattle.drum_flow.specs.Flow.{AreExecuted}
-use Rattle.drum_flow.specs.Free.{IsFreeOrder, IsCycleRefusal}
-use Rattle.drum_flow.specs.Graph.{height, AreDifferent, GoOn, LeadRound, IsClosed}
+use Rattle.drum_flow.specs.Free.{IsNodeOrder, IsCycleRefusal}
 use Rattle.drum_flow.specs.Hops.{Node}
 use Rattle.drum_flow.specs.Size.{IsTooMuch}
-use Rattle.drum_flow.proofs.Heights.{lower}
+use Rattle.drum_flow.proofs.Heights.{no_round}
+use Rattle.drum_flow.proofs.Links.{node_law}
 use Rattle.drum_flow.proofs.Lists.{contains_at, contains_from_get, one_place}
-use Rattle.drum_flow.proofs.Orders.{first_node_at, found_later, order_different, order_found, reached_only, stays_there, was}
-use Rattle.drum_flow.proofs.Plain.{round_places}
+use Rattle.drum_flow.proofs.Orders.{first_node_at, found_later, has_reached, order_different, order_found, reached_only, stays_there, was}
 
 -- what is so of one deck and its notes is so of those that are the same
 pub moved : (Holds : Deck → Notes → Type 0) (deck other : Deck) (notes others : Notes) → deck ≡ other → notes ≡ others
@@ -33,21 +32,6 @@ moved Holds deck other notes others same equal holds =
     subst (Holds other) equal (subst (λ (d : Deck). Holds d notes) same holds)
 
 module _ (loads : ℕ → Option Word) (notes : Notes) where
-  round_lower : (order : List ℕ) (first node : ℕ) (xs : List ℕ) → AreDifferent order → GoOn (IsFree loads notes) order
-      → Contains order node → LeadRound (IsFree loads notes) first node xs
-      → height order first < height order node
-  round_lower order first node [] d onward there round = (lower loads notes order node first d onward there round).1
-  round_lower order first node (next ∷ xs) d onward there round =
-      let less = lower loads notes order node next d onward there round.0 in
-      omega (arith, less.1, round_lower order first next xs d onward less.0 round.1)
-
-  -- where every free edge goes on, none lead round
-  no_round : (order : List ℕ) (first : ℕ) (xs : List ℕ) → AreDifferent order → GoOn (IsFree loads notes) order
-      → Contains order first → ¬ IsClosed (IsFree loads notes) (first ∷ xs)
-  no_round order first xs d onward there closed =
-      let less : height order first < height order first = round_lower order first first xs d onward there closed in
-      omega (arith, less)
-
   module _ (start : ℕ) where
     -- once each member has added its own, the list stays
     stays : (before after : ℕ) → length (found_after loads notes start before) ≤ before → before ≤ after
@@ -178,9 +162,9 @@ module _ (loads : ℕ → Option Word) (notes : Notes) where
         not_admitted (Alters writer word) wrong = absurd wrong
         not_admitted (TooLarge product) wrong = absurd wrong
 
-        pub is_admitted : (order : List ℕ) → IsFreeOrder loads notes executed order
-            → IsAdmitted loads notes start executed
-        is_admitted order free = record {
+        pub is_admitted : (nodes order : List Node) → AreAllNodes loads notes start nodes
+            → IsNodeOrder loads notes nodes order → IsAdmitted loads notes start executed
+        is_admitted nodes order are free = record {
           order = e.found.order;
           there = λ place is_executed. (e.good place (e.found.all place is_executed)).0;
           profile = λ place is_executed. (e.good place (e.found.all place is_executed)).1;
@@ -188,9 +172,8 @@ module _ (loads : ℕ → Option Word) (notes : Notes) where
               λ place ins at is_executed allowed written is_fixed. none place (e.found.all place is_executed) ins allowed
               (at, written, is_fixed);
           bounded =
-              λ first others reached closed. no_round order first.place (map (λ (node : Node). node.place) others)
-              free.different free.onward (free.all first.place (e.found.all first.place (first.ways, reached)))
-              (round_places loads notes first first others closed);
+              λ first others reached closed. no_round same_node node_law (IsFreeLink loads notes) order first others
+              free.different free.onward (free.all first (has_reached loads notes start nodes are first reached)) closed;
         }
 
         module _ (small : product_of executed notes.marks ≤ 4000000) where

@@ -3,7 +3,10 @@ use Rattle.std.proofs.Common.{◌≡◌, ℕ, zero, suc, ◌<◌, Bool, true, fa
 use Rattle.std.proofs.Common.{get_or, map, Option, Some, refl, ap, sym, ◌∙◌, subst, inl, inr, arith}
 use Rattle.std.specs.Prelude.{slice_get, slice_index_or, Contains, if◌then◌else◌, option_map, ◌||◌, ◌⊎◌}
 use Rattle.std.specs.Bool.{one_answer}
-use Rattle.std.specs.List.{list_any}
+use Rattle.std.specs.List.{list_any, AllByRecursion, IsDistinct}
+use Rattle.std.specs.Prelude.{position}
+use Rattle.std.proofs.lemmas.List.Quantifiers.{position-Some}
+use Rattle.std.proofs.lemmas.Map.Keys.{IsDistinct-head, IsDistinct-tail}
 use Rattle.std.proofs.lemmas.Bool.Decides.{Decides-eqb, Decides-and, Decides-like}
 use Rattle.std.proofs.lemmas.List.{append-nil, length-append, length-map, map-append}
 use Rattle.std.proofs.lemmas.Option.{get_or_from_slice_get, slice_get_within, slice_get-get_or, slice_get-map}
@@ -20,7 +23,8 @@ use Rattle.drum_flow.specs.Graph.{AreDifferent}
 use Rattle.drum_flow.specs.Held.{node_of, ways_in, ArePlacedIn}
 use Rattle.drum_flow.specs.Hops.{edge_between, Node}
 use Rattle.drum_flow.proofs.Links.{may_go_law, node_law}
-use Rattle.drum_flow.proofs.Lists.{contains_cases, contains_here, contains_none, contains_there}
+use Rattle.drum_flow.proofs.Adding.{there_any}
+use Rattle.drum_flow.proofs.Lists.{contains_cases, contains_from_get, contains_here, contains_none, contains_there}
 use Rattle.drum_flow.proofs.Lists.{distinct_push, one_place}
 
 -- what is open by an index
@@ -133,6 +137,66 @@ module _ (calls : List Call) (openings : List Open) (different : AreDifferent (w
       both : (a b c d : Bool) → a ≡ b → c ≡ d → (a || c) ≡ (b || d)
       both a b c d e f = ap (λ (t : Bool). t || c) e ∙ ap (λ (t : Bool). b || t) f
 
+  abbrev pub view : held.Node → Node
+  view = node_of calls openings
+
+  none_same : (k : held.Node) (nodes : List held.Node) → k.opening < length openings
+      → ((node : held.Node) → Contains nodes node → node.opening < length openings)
+      → AllByRecursion (λ y. held_nodes.TheImpl.ghosts.eq k y ≡ false) nodes → ¬ Contains (map (node_of calls openings) nodes) (view k)
+  none_same k [] below within apart there = contains_none (view k) there
+  none_same k (x ∷ nodes) below within apart there = elim (contains_cases (view x) (view k) (map (node_of calls openings) nodes) there) [
+    | inl equal ↦ (let clash : ◌≡◌ {A = Bool} true false =
+        sym ((node_law (view x) (view k)).1 equal)
+        ∙ sym (same_held k x below (within x (contains_here x nodes))) ∙ apart.0 in cc)
+    | inr behind ↦ none_same k nodes below (λ one at. within one (contains_there x one nodes at)) apart.1 behind
+  ]
+
+  -- no two of them are the same node
+  pub held_different : (nodes : List held.Node) → IsDistinct held_nodes.TheImpl.ghosts.eq nodes
+      → ((node : held.Node) → Contains nodes node → node.opening < length openings)
+      → AreDifferent (map (node_of calls openings) nodes)
+  held_different [] d within = tt
+  held_different (k ∷ nodes) d within = (
+    none_same k nodes (within k (contains_here k nodes)) (λ one at. within one (contains_there k one nodes at))
+        (IsDistinct-head held_nodes.TheImpl.ghosts.eq k nodes d),
+    held_different nodes (IsDistinct-tail held_nodes.TheImpl.ghosts.eq k nodes d)
+        (λ one at. within one (contains_there k one nodes at)),
+  )
+
+  -- a node is found by its index, or it isn't there
+  pub held_found : (nodes : List held.Node) (k : held.Node) (index : ℕ) → k.opening < length openings
+      → ((node : held.Node) → Contains nodes node → node.opening < length openings)
+      → position (held_nodes.TheImpl.ghosts.eq k) nodes ≡ Some index
+      → slice_get (map (node_of calls openings) nodes) index ≡ Some (view k)
+  held_found nodes k index below within e =
+      let found = position-Some (held_nodes.TheImpl.ghosts.eq k) nodes index k e in
+      let x = get_or nodes index k in
+      let at : slice_get nodes index ≡ Some x = slice_get-get_or nodes index k found.0 in
+      slice_get-map (node_of calls openings) nodes index ∙ ap (option_map (node_of calls openings)) at
+      ∙ ap Some ((node_law (view x) (view k)).0
+      (sym (same_held k x below (within x (contains_from_get nodes index x at))) ∙ found.1))
+
+  pub held_absent : (nodes : List held.Node) (k : held.Node) → k.opening < length openings
+      → ((node : held.Node) → Contains nodes node → node.opening < length openings)
+      → list_any (held_nodes.TheImpl.ghosts.eq k) nodes ≡ false
+      → ¬ Contains (map (node_of calls openings) nodes) (view k)
+  held_absent nodes k below within none there =
+      let clash : ◌≡◌ {A = Bool} true false =
+      sym (there_any same_node node_law (map (node_of calls openings) nodes) (view k) there)
+      ∙ sym (any_held k nodes below within) ∙ none in cc
+
+  -- what is open at a node is open somewhere
+  pub ways_held : (nodes : List held.Node) (node : Node)
+      → ((one : held.Node) → Contains nodes one → one.opening < length openings)
+      → Contains (map (node_of calls openings) nodes) node → Contains (ways_in calls openings) node.ways
+  ways_held [] node within there = absurd (contains_none node there)
+  ways_held (k ∷ nodes) node within there = elim (contains_cases (view k) node (map (node_of calls openings) nodes) there) [
+    | inl equal ↦ subst (λ (n : Node). Contains (ways_in calls openings) n.ways) equal
+        (contains_from_get (ways_in calls openings) k.opening (view k).ways
+        (ways_there calls openings k.opening (within k (contains_here k nodes))))
+    | inr behind ↦ ways_held nodes node (λ one at. within one (contains_there k one nodes at)) behind
+  ]
+
   -- the nodes after one is added
   pub held_added : (nodes : List held.Node) (k : held.Node) → k.opening < length openings
       → ((node : held.Node) → Contains nodes node → node.opening < length openings)
@@ -177,7 +241,7 @@ none_onward notes node next not_so = go (may_go notes.calls node.ways (edge_betw
     go true is = absurd (not_so ((may_go_law notes.calls node.ways (edge_between node.place next)).0 is))
     go false is = refl
 
-one_onward : (notes : Notes) (node : Node) (next : ℕ) → MayGo notes.calls node.ways (edge_between node.place next)
+pub one_onward : (notes : Notes) (node : Node) (next : ℕ) → MayGo notes.calls node.ways (edge_between node.place next)
     → onward notes node next
     ≡ record { place = next; ways = open_after notes.calls (edge_between node.place next) node.ways } ∷ []
 one_onward notes node next may =

@@ -6,10 +6,13 @@ use Rattle.drum_times.specs.declared.notes.call.Call.{Call}
 use Rattle.drum_times.specs.Allowed.{Notes}
 use Rattle.drum_machine.specs.Calls.{none_open, open_after, MayGo}
 use Rattle.drum_flow.specs.Accepted.{IsFree, IsFreeLink}
-use Rattle.drum_flow.specs.Graph.{AreDifferent, IsClosed, LeadRound}
+use Rattle.drum_flow.specs.Executed.{AreAllNodes}
+use Rattle.drum_flow.specs.Flow.{AreFound}
+use Rattle.drum_flow.specs.Free.{IsFreeOrder, IsNodeOrder}
+use Rattle.drum_flow.specs.Graph.{AreDifferent, GoOn, IsClosed, LeadRound}
 use Rattle.drum_flow.specs.Hops.{edge_between, first_node, IsEdge, IsExecuted, IsLink, IsNode, Lead, Node}
 use Rattle.drum_flow.proofs.Lists.{contains_here, contains_there, contains_cases, contains_none}
-use Rattle.drum_flow.proofs.Orders.{reached_next}
+use Rattle.drum_flow.proofs.Orders.{has_reached, node_of_place, place_of_node, reached_next, reached_only}
 
 -- a node at which nothing is open
 abbrev pub plain : ℕ → Node
@@ -95,3 +98,53 @@ module _ (loads : ℕ → Option Word) (notes : Notes) where
         → IsClosed (IsFreeLink loads notes) (plains places)
     plain_closed [] closed = closed
     plain_closed (place ∷ places) closed = plain_round place place places closed
+
+    module _ (start : ℕ) where
+      -- nodes are their locations
+      pub node_plain : (node : Node) → IsNode loads notes start node → plain node.place ≡ node
+      node_plain node (through, lead) =
+          ap (λ (w : List (Option ℕ)). let made : Node = record { place = node.place; ways = w } in made)
+          (sym (lead_plain (first_node notes start) node through (ap none_open none) lead))
+
+      pub places_different : (nodes : List Node) → ((node : Node) → Contains nodes node → IsNode loads notes start node)
+          → AreDifferent nodes → AreDifferent (map (λ (node : Node). node.place) nodes)
+      places_different [] are different = tt
+      places_different (node ∷ nodes) are different = (
+        λ there.
+            let found = node_of_place nodes node.place there in
+            different.0
+            (subst (λ (n : Node). Contains nodes n)
+            (sym (node_plain found.0 (are found.0 (contains_there node found.0 nodes found.1)))
+            ∙ ap plain found.2 ∙ node_plain node (are node (contains_here node nodes))) found.1),
+        places_different nodes (λ one there. are one (contains_there node one nodes there)) different.1,
+      )
+
+      onward_plain : (order : List Node) → ((node : Node) → Contains order node → IsNode loads notes start node)
+          → GoOn (IsFreeLink loads notes) order → GoOn (IsFree loads notes) (map (λ (node : Node). node.place) order)
+      onward_plain [] are onward = tt
+      onward_plain (node ∷ nodes) are onward = (
+        λ next free. place_of_node nodes (plain next)
+            (onward.0 (plain next)
+            (subst (λ (n : Node). IsFreeLink loads notes n (plain next)) (node_plain node (are node (contains_here node nodes)))
+            (plain_free node.place next free))),
+        onward_plain nodes (λ one there. are one (contains_there node one nodes there)) onward.1,
+      )
+
+      -- an order of the nodes is one of the executed locations
+      pub order_plain : (nodes order : List Node) (executed : List ℕ) → AreAllNodes loads notes start nodes
+          → AreFound loads notes start executed → IsNodeOrder loads notes nodes order
+          → IsFreeOrder loads notes executed (map (λ (node : Node). node.place) order)
+      order_plain nodes order executed are found free = record {
+        all = λ place there. place_of_node order (plain place)
+            (free.all (plain place)
+            (has_reached loads notes start nodes are (plain place) (executed_plain start place (found.only place there))));
+        only = λ place there.
+            let node = node_of_place order place there in
+            found.all place
+            (subst (IsExecuted loads notes start) node.2
+            (node.0.ways, reached_only loads notes start nodes are node.0 (free.only node.0 node.1)));
+        different = places_different order
+            (λ node there. reached_only loads notes start nodes are node (free.only node there)) free.different;
+        onward = onward_plain order
+            (λ node there. reached_only loads notes start nodes are node (free.only node there)) free.onward;
+      }

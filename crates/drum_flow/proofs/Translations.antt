@@ -1,180 +1,189 @@
--- Orders and cycles of places are those of their locations.
-use Rattle.std.proofs.Common.{◌≡◌, ℕ, ◌+◌, ◌<◌, List, [], ◌∷◌, ◌++◌, length, map, take, get_or, Option, Some, ap, sym}
-use Rattle.std.proofs.Common.{◌∙◌, subst, inl, inr, arith}
-use Rattle.std.specs.Prelude.{slice_get, slice_index, Contains}
-use Rattle.std.proofs.lemmas.Option.{slice_get_within, slice_get-get_or, get_or_from_slice_get}
-use Rattle.std.proofs.lemmas.List.{map_more, map_push}
+-- Orders and cycles of indices are those of their nodes.
+use Rattle.std.proofs.Common.{◌≡◌, ℕ, suc, ◌+◌, ◌<◌, List, [], ◌∷◌, ◌++◌, length, map, take, drop, get_or, Option, Some, None}
+use Rattle.std.proofs.Common.{refl, ap, sym, ◌∙◌, subst, inl, inr, arith}
+use Rattle.std.specs.Prelude.{slice_get, Contains}
+use Rattle.std.proofs.lemmas.Option.{same_Some, slice_get_within}
+use Rattle.std.proofs.lemmas.List.{drop-map, map_push, map-append, take-map, take_more}
+use Rattle.std.proofs.lemmas.List.Elements.{filter_map-append}
 use Rattle.drum_core.specs.declared.location.Location.{Location}
 use Rattle.drum_core.specs.declared.word.Word.{Word}
 use Rattle.drum_times.specs.Allowed.{Notes}
-use Rattle.drum_flow.specs.Accepted.{IsFree, IsFreeCycle}
-use Rattle.drum_flow.specs.Flow.{AreFound}
-use Rattle.drum_flow.specs.Free.{AreFreeRows, IsFreeOrder}
-use Rattle.drum_flow.specs.Hops.{IsNode}
+use Rattle.drum_flow.specs.Accepted.{IsFreeCycle, IsFreeLink}
+use Rattle.drum_flow.specs.Executed.{AreAllNodes}
+use Rattle.drum_flow.specs.Free.{those_at, AreFreeRows, IsNodeOrder}
+use Rattle.drum_flow.specs.Hops.{Node}
 use Rattle.drum_flow.specs.Turned.{IsTurned}
 use Rattle.drum_flow.proofs.Founds.{numbers}
-use Rattle.drum_flow.proofs.Turns.{IsTurnedCycle, turned_cycle}
+use Rattle.drum_flow.proofs.Turns.{closed_from, different_from, members_turned, smallest_turned}
 use Rattle.drum_flow.specs.Graph.{AreDifferent, GoOn, Leads, LeadRound, IsClosed, IsCycle, IsTopologicalOrder}
-use Rattle.drum_flow.proofs.FreeRows.{one_place}
+use Rattle.drum_flow.proofs.FreeRows.{one_place, some_at}
 use Rattle.drum_flow.proofs.Lists.{contains_here, contains_there, contains_cases, contains_none, contains_at}
 use Rattle.drum_flow.proofs.Lists.{contains_from_get}
-use Rattle.drum_flow.proofs.Plain.{executed_next, executed_plain, places_plain, plain_closed, plain_member, plains}
-use Rattle.drum_flow.proofs.Plain.{plains_different}
+use Rattle.drum_flow.proofs.Orders.{has_reached, node_at, reached_different, reached_next, reached_only}
 
-contains_mapped : (f : ℕ → ℕ) (xs : List ℕ) (x : ℕ) → Contains xs x → Contains (map f xs) (f x)
-contains_mapped f [] x there = absurd (contains_none x there)
-contains_mapped f (y ∷ xs) x there = elim (contains_cases y x xs there) [
-  | inl same ↦ subst (λ (z : ℕ). Contains (f y ∷ map f xs) (f z)) same (contains_here (f y) (map f xs))
-  | inr behind ↦ contains_there (f y) (f x) (map f xs) (contains_mapped f xs x behind)
-]
+module _ {X : Type 0} (all : List X) where
+  -- those at indices, the first of which is there
+  pub those_first : (k : ℕ) (x : X) (ks : List ℕ) → slice_get all k ≡ Some x
+      → those_at all (k ∷ ks) ≡ x ∷ those_at all ks
+  those_first k x ks at = rw at refl
 
-mapped_from : (f : ℕ → ℕ) (xs : List ℕ) (v : ℕ) → Contains (map f xs) v → (x : ℕ) × Contains xs x × (f x ≡ v)
-mapped_from f [] v there = absurd (contains_none v there)
-mapped_from f (y ∷ xs) v there = elim (contains_cases (f y) v (map f xs) there) [
-  | inl same ↦ (y, contains_here y xs, same)
-  | inr behind ↦ (let found : (x : ℕ) × Contains xs x
-      × (f x ≡ v) = mapped_from f xs v behind in (found.0, contains_there y found.0 xs found.1, found.2))
-]
+  pub those_there : (ks : List ℕ) (k : ℕ) (x : X) → Contains ks k → slice_get all k ≡ Some x → Contains (those_at all ks) x
+  those_there [] k x there at = absurd (contains_none k there)
+  those_there (j ∷ ks) k x there at = elim (contains_cases j k ks there) [
+    | inl same ↦ subst (λ xs. Contains xs x) (sym (those_first j x ks (ap (slice_get all) same ∙ at)))
+        (contains_here x (those_at all ks))
+    | inr behind ↦ go (slice_get all j) refl (those_there ks k x behind at)
+  ]
+    where
+      go : (one : Option X) → slice_get all j ≡ one → Contains (those_at all ks) x → Contains (those_at all (j ∷ ks)) x
+      go None e later = rw e later
+      go (Some y) e later = subst (λ xs. Contains xs x) (sym (those_first j y ks e)) (contains_there y x (those_at all ks) later)
 
-module _ (loads : ℕ → Option Word) (notes : Notes) (executed : List ℕ) (row : ℕ → List ℕ)
-    (different : AreDifferent executed) (rows : AreFreeRows loads notes executed row) where
-  here : (k : ℕ) → k < length executed → slice_get executed k ≡ Some (slice_index executed k)
-  here k inside = slice_get-get_or executed k 0 inside
+  pub those_from : (ks : List ℕ) (x : X) → Contains (those_at all ks) x
+      → (k : ℕ) × Contains ks k × (slice_get all k ≡ Some x)
+  those_from [] x there = absurd (contains_none x there)
+  those_from (j ∷ ks) x there = go (slice_get all j) refl (λ later. deeper (those_from ks x later))
+    where
+      deeper : (k : ℕ) × Contains ks k × (slice_get all k ≡ Some x)
+          → (k : ℕ) × Contains (j ∷ ks) k × (slice_get all k ≡ Some x)
+      deeper found = (found.0, contains_there j found.0 ks found.1, found.2)
 
-  -- an edge of places is one of locations
-  edge_free : (k next : ℕ) → k < length executed → Contains (row k) next
-      → IsFree loads notes (slice_index executed k) (slice_index executed next)
-  edge_free k next inside there =
-      let found = (rows k (slice_index executed k) (here k inside)).free next there in
-      subst (IsFree loads notes (slice_index executed k)) (sym (get_or_from_slice_get executed next found.0 0 found.1))
-      found.2
+      go : (one : Option X) → slice_get all j ≡ one
+          → (Contains (those_at all ks) x → (k : ℕ) × Contains (j ∷ ks) k × (slice_get all k ≡ Some x))
+          → (k : ℕ) × Contains (j ∷ ks) k × (slice_get all k ≡ Some x)
+      go None e others = others (rw e at there)
+      go (Some y) e others = elim (contains_cases y x (those_at all ks) (subst (λ xs. Contains xs x) (those_first j y ks e) there)) [
+        | inl same ↦ (j, contains_here j ks, e ∙ ap Some same)
+        | inr behind ↦ others behind
+      ]
 
-  pub different_at : (nodes : List ℕ) → ((node : ℕ) → Contains nodes node → node < length executed) → AreDifferent nodes
-      → AreDifferent (map (λ place. slice_index executed place) nodes)
-  different_at [] within d = tt
-  different_at (node ∷ nodes) within d = (
-    λ there.
-        let found = mapped_from (λ place. slice_index executed place) nodes (slice_index executed node) there in
-        let inside : node < length executed = within node (contains_here node nodes) in
-        let other : found.0 < length executed = within found.0 (contains_there node found.0 nodes found.1) in
-        let same : found.0 ≡ node =
-        one_place executed found.0 node (slice_index executed node) different (here found.0 other ∙ ap Some found.2)
-        (here node inside) in
-        d.0 (subst (λ (n : ℕ). Contains nodes n) same found.1),
-    different_at nodes (λ one there. within one (contains_there node one nodes there)) d.1,
-  )
+  pub those_different : (ks : List ℕ) → AreDifferent all → AreDifferent ks → AreDifferent (those_at all ks)
+  those_different [] different d = tt
+  those_different (j ∷ ks) different d = go (slice_get all j) refl (those_different ks different d.1)
+    where
+      go : (one : Option X) → slice_get all j ≡ one → AreDifferent (those_at all ks) → AreDifferent (those_at all (j ∷ ks))
+      go None e later = rw e later
+      go (Some y) e later = subst AreDifferent (sym (those_first j y ks e)) (
+        λ there.
+            let found = those_from ks y there in
+            d.0 (subst (λ (n : ℕ). Contains ks n) (one_place all found.0 j y different found.2 e) found.1),
+        later,
+      )
 
-  round_free : (first node : ℕ) (xs : List ℕ) → node < length executed
-      → ((one : ℕ) → Contains xs one → one < length executed) → LeadRound (Leads row) first node xs
-      → LeadRound (IsFree loads notes) (slice_index executed first) (slice_index executed node)
-      (map (λ place. slice_index executed place) xs)
-  round_free first node [] inside within round = edge_free node first inside round
-  round_free first node (next ∷ xs) inside within round = (
-    edge_free node next inside round.0,
-    round_free first next xs (within next (contains_here next xs))
-        (λ one there. within one (contains_there next one xs there)) round.1,
-  )
+module _ (loads : ℕ → Option Word) (notes : Notes) (nodes : List Node) (row : ℕ → List ℕ)
+    (rows : AreFreeRows loads notes nodes row) where
+  -- an edge of indices is one of nodes
+  edge_free : (k next : ℕ) (from : Node) → slice_get nodes k ≡ Some from → Contains (row k) next
+      → (onto : Node) × (slice_get nodes next ≡ Some onto) × IsFreeLink loads notes from onto
+  edge_free k next from at there = (rows k from at).free next there
 
-  closed_free : (nodes : List ℕ) → ((node : ℕ) → Contains nodes node → node < length executed) → IsClosed (Leads row) nodes
-      → IsClosed (IsFree loads notes) (map (λ place. slice_index executed place) nodes)
-  closed_free [] within closed = closed
-  closed_free (node ∷ nodes) within closed =
-      round_free node node nodes (within node (contains_here node nodes))
-      (λ one there. within one (contains_there node one nodes there)) closed
+  round_free : (first k : ℕ) (one from : Node) (ks : List ℕ) → slice_get nodes first ≡ Some one
+      → slice_get nodes k ≡ Some from → LeadRound (Leads row) first k ks
+      → LeadRound (IsFreeLink loads notes) one from (those_at nodes ks)
+  round_free first k one from [] begins at round =
+      let edge = edge_free k first from at round in
+      subst (IsFreeLink loads notes from) (same_Some edge.0 one (sym edge.1 ∙ begins)) edge.2
+  round_free first k one from (next ∷ ks) begins at round =
+      let edge = edge_free k next from at round.0 in
+      subst (λ (xs : List Node). LeadRound (IsFreeLink loads notes) one from xs)
+      (sym (those_first nodes next edge.0 ks edge.1))
+      (edge.2, round_free first next one edge.0 ks begins edge.1 round.1)
 
-  member_executed : (nodes : List ℕ) → ((node : ℕ) → Contains nodes node → node < length executed) → (place : ℕ)
-      → Contains (map (λ place. slice_index executed place) nodes) place → Contains executed place
-  member_executed nodes within place there =
-      let found = mapped_from (λ place. slice_index executed place) nodes place there in
-      contains_from_get executed found.0 place (here found.0 (within found.0 found.1) ∙ ap Some found.2)
+  closed_free : (ks : List ℕ) → ((k : ℕ) → Contains ks k → k < length nodes) → IsClosed (Leads row) ks
+      → IsClosed (IsFreeLink loads notes) (those_at nodes ks)
+  closed_free [] within closed = absurd closed
+  closed_free (k ∷ ks) within closed =
+      let at = some_at nodes k (within k (contains_here k ks)) in
+      subst (IsClosed (IsFreeLink loads notes)) (sym (those_first nodes k at.0 ks at.1))
+      (round_free k k at.0 at.0 ks at.1 at.1 closed)
 
-  -- where edges lead from executed locations to executed ones
-  module _ (closed : (place next : ℕ) → Contains executed place → IsFree loads notes place next
-      → Contains executed next) where
-    go_on_free : (nodes : List ℕ) → ((node : ℕ) → Contains nodes node → node < length executed) → GoOn (Leads row) nodes
-        → GoOn (IsFree loads notes) (map (λ place. slice_index executed place) nodes)
+  module _ (start : ℕ) (are : AreAllNodes loads notes start nodes) where
+    go_on_free : (ks : List ℕ) → ((k : ℕ) → Contains ks k → k < length nodes) → GoOn (Leads row) ks
+        → GoOn (IsFreeLink loads notes) (those_at nodes ks)
     go_on_free [] within onward = tt
-    go_on_free (node ∷ nodes) within onward = (
-      λ next free.
-          let inside : node < length executed = within node (contains_here node nodes) in
-          let at : slice_get executed node ≡ Some (slice_index executed node) = here node inside in
-          let found : (k : ℕ) × (slice_get executed k ≡ Some next) =
-          contains_at executed next
-          (closed (slice_index executed node) next (contains_from_get executed node (slice_index executed node) at)
-          free) in
-          let edge : Contains (row node) found.0 =
-          (rows node (slice_index executed node) at).all found.0 next found.1 free in
-          subst (λ (n : ℕ). Contains (map (λ place. slice_index executed place) nodes) n)
-          (get_or_from_slice_get executed found.0 next 0 found.1)
-          (contains_mapped (λ place. slice_index executed place) nodes found.0 (onward.0 found.0 edge)),
-      go_on_free nodes (λ one there. within one (contains_there node one nodes there)) onward.1,
-    )
+    go_on_free (k ∷ ks) within onward =
+        let at = some_at nodes k (within k (contains_here k ks)) in
+        subst (GoOn (IsFreeLink loads notes)) (sym (those_first nodes k at.0 ks at.1)) (
+          λ next free.
+              let reached = reached_next loads notes start at.0 next
+              (reached_only loads notes start nodes are at.0 (contains_from_get nodes k at.0 at.1)) free.0 in
+              let found = contains_at nodes next (has_reached loads notes start nodes are next reached) in
+              those_there nodes ks found.0 next
+              (onward.0 found.0 ((rows k at.0 at.1).all found.0 next found.1 free)) found.1,
+          go_on_free ks (λ one there. within one (contains_there k one ks there)) onward.1,
+        )
 
-    pub order_free : (size : ℕ) (nodes : List ℕ) → size ≡ length executed → IsTopologicalOrder row size nodes
-        → IsFreeOrder loads notes executed (map (λ place. slice_index executed place) nodes)
-    order_free size nodes long order =
-        let within : (node : ℕ) → Contains nodes node → node < length executed =
-        λ node there. omega (arith, order.within node there, long) in
+    pub order_free : (size : ℕ) (order : List ℕ) → size ≡ length nodes → IsTopologicalOrder row size order
+        → IsNodeOrder loads notes nodes (those_at nodes order)
+    order_free size order long is =
+        let within : (k : ℕ) → Contains order k → k < length nodes =
+        λ k there. omega (arith, is.within k there, long) in
         record {
-          all = λ place there.
-              let found : (k : ℕ) × (slice_get executed k ≡ Some place) = contains_at executed place there in
-              subst (λ (n : ℕ). Contains (map (λ place. slice_index executed place) nodes) n)
-              (get_or_from_slice_get executed found.0 place 0 found.1)
-              (contains_mapped (λ place. slice_index executed place) nodes found.0
-              (order.all found.0 (omega (arith, slice_get_within executed found.0 place found.1, long))));
-          only = member_executed nodes within;
-          different = different_at nodes within order.distinct;
-          onward = go_on_free nodes within order.onward;
+          all = λ node there.
+              let found = contains_at nodes node there in
+              those_there nodes order found.0 node
+              (is.all found.0 (omega (arith, slice_get_within nodes found.0 node found.1, long))) found.1;
+          only = λ node there.
+              let found = those_from nodes order node there in contains_from_get nodes found.0 node found.2;
+          different = those_different nodes order (reached_different loads notes start nodes are) is.distinct;
+          onward = go_on_free order within is.onward;
         }
 
--- Without calls edges lead from executed locations to executed ones.
-pub executed_closed : (loads : ℕ → Option Word) (notes : Notes) (start : ℕ) (executed : List ℕ)
-    → notes.calls ≡ [] → AreFound loads notes start executed
-    → (place next : ℕ) → Contains executed place → IsFree loads notes place next → Contains executed next
-executed_closed loads notes start executed none e place next there free =
-    e.all next (executed_next loads notes none start place next (e.only place there) free.0)
+    -- The cycle of indices is one of nodes, turned.
+    pub cycle_free : (size : ℕ) (cycle turned : List ℕ) → size ≡ length nodes → IsCycle row size cycle
+        → IsTurned (map (λ (node : Node). node.place) (those_at nodes cycle)) turned → IsFreeCycle loads notes start turned
+    cycle_free size cycle turned long is t =
+        let round : List Node = those_at nodes cycle in
+        let mid = node_at round t.place t.member.0 t.member.1 in
+        record {
+          nodes = drop t.place round ++ take t.place round;
+          within = λ node there.
+              let found = those_from nodes cycle node (members_turned round t.place node there) in
+              reached_only loads notes start nodes are node (contains_from_get nodes found.0 node found.2);
+          closed = closed_from (IsFreeLink loads notes) round t.place mid.0 mid.1
+              (closed_free cycle (λ k there. omega (arith, is.within k there, long)) is.closed);
+          different = different_from round t.place
+              (those_different nodes cycle (reached_different loads notes start nodes are) is.distinct);
+          places = places_turned round t.place ∙ sym t.parts;
+          smallest = smallest_turned (map (λ (node : Node). node.place) round) turned t;
+        }
+      where
+        places_turned : (round : List Node) (k : ℕ)
+            → map (λ (node : Node). node.place) (drop k round ++ take k round)
+            ≡ drop k (map (λ (node : Node). node.place) round) ++ take k (map (λ (node : Node). node.place) round)
+        places_turned round k =
+            map-append (λ (node : Node). node.place) (drop k round) (take k round)
+            ∙ ap (λ (ns : List ℕ). ns ++ map (λ (node : Node). node.place) (take k round))
+            (sym (drop-map (λ (node : Node). node.place) k round))
+            ∙ ap (λ (ns : List ℕ). drop k (map (λ (node : Node). node.place) round) ++ ns)
+            (sym (take-map (λ (node : Node). node.place) k round))
 
--- the locations of one more place
-pub locations_more : (executed : List ℕ) (locations : List Location) (places : List ℕ) (k place : ℕ)
-    (location : Location) → k < length places → place ≡ get_or places k 0
-    → slice_get executed place ≡ Some location.number
-    → numbers locations ≡ map (λ one. slice_index executed one) (take k places)
-    → numbers (locations ++ location ∷ []) ≡ map (λ one. slice_index executed one) (take (k + 1) places)
-locations_more executed locations places k place location inside here at before =
+-- the locations of one more node
+pub locations_more : (nodes : List Node) (locations : List Location) (indices : List ℕ) (k : ℕ) (node : Node)
+    (location : Location) → k < length indices → slice_get nodes (get_or indices k 0) ≡ Some node
+    → location.number ≡ node.place
+    → numbers locations ≡ map (λ (one : Node). one.place) (those_at nodes (take k indices))
+    → numbers (locations ++ location ∷ []) ≡ map (λ (one : Node). one.place) (those_at nodes (take (k + 1) indices))
+locations_more nodes locations indices k node location inside at place before =
     map_push (λ (one : Location). one.number) locations location
     ∙ ap (λ (ns : List ℕ). ns ++ location.number ∷ []) before
-    ∙ ap (λ (n : ℕ). map (λ one. slice_index executed one) (take k places) ++ n ∷ [])
-    (sym (get_or_from_slice_get executed place location.number 0 at) ∙ ap (λ (n : ℕ). slice_index executed n) here)
-    ∙ sym (map_more (λ (one : ℕ). slice_index executed one) places k 0 inside)
-
--- Without calls the cycle of places is one of locations, turned.
-pub cycle_free : (loads : ℕ → Option Word) (notes : Notes) (start : ℕ) (executed : List ℕ) (row : ℕ → List ℕ) (size : ℕ)
-    (nodes turned : List ℕ) → notes.calls ≡ [] → AreFound loads notes start executed → AreDifferent executed
-    → AreFreeRows loads notes executed row
-    → size ≡ length executed → IsCycle row size nodes → IsTurned (map (λ one. slice_index executed one) nodes) turned
-    → IsFreeCycle loads notes start turned
-cycle_free loads notes start executed row size nodes turned none found different rows long cycle t =
-    let within : (node : ℕ) → Contains nodes node → node < length executed =
-    λ node there. omega (arith, cycle.within node there, long) in
-    let all : IsTurnedCycle loads notes (map (λ one. slice_index executed one) nodes) turned =
-    turned_cycle loads notes (map (λ one. slice_index executed one) nodes) turned t
-    (closed_free loads notes executed row different rows nodes within cycle.closed)
-    (different_at loads notes executed row different rows nodes within cycle.distinct) in
-    record {
-      nodes = plains turned;
-      within = λ node there.
-          let one = plain_member turned node there in
-          subst (IsNode loads notes start) one.2
-          (executed_plain loads notes none start one.0
-          (found.only one.0
-          (member_executed loads notes executed row different rows nodes within one.0 (all.members one.0 one.1))));
-      closed = plain_closed loads notes none turned all.closed;
-      different = plains_different turned all.different;
-      places = places_plain turned;
-      smallest = all.smallest;
-    }
+    ∙ ap (λ (n : ℕ). map (λ (one : Node). one.place) (those_at nodes (take k indices)) ++ n ∷ []) place
+    ∙ sym (map_push (λ (one : Node). one.place) (those_at nodes (take k indices)) node)
+    ∙ ap (map (λ (one : Node). one.place))
+    (ap (λ (xs : List Node). those_at nodes (take k indices) ++ xs) (sym (those_first nodes (get_or indices k 0) node [] at))
+    ∙ sym (filter_map-append (slice_get nodes) (take k indices) (get_or indices k 0 ∷ []))
+    ∙ ap (those_at nodes) (sym (take_more indices k 0 inside)))
 
 -- a cycle has a member
 pub cycle_some : (row : ℕ → List ℕ) (nodes : List ℕ) → IsClosed (Leads row) nodes → 0 < length nodes
 cycle_some row [] closed = absurd closed
 cycle_some row (node ∷ nodes) closed = omega arith
+
+-- those at indices that are there are as many
+pub those_long : {X : Type 0} (all : List X) (ks : List ℕ) → ((k : ℕ) → Contains ks k → k < length all)
+    → length (those_at all ks) ≡ length ks
+those_long all [] within = refl
+those_long all (k ∷ ks) within =
+    let at = some_at all k (within k (contains_here k ks)) in
+    ap length (those_first all k at.0 ks at.1)
+    ∙ ap suc (those_long all ks (λ j there. within j (contains_there k j ks there)))

@@ -1,7 +1,14 @@
 -- What an accepted flow has beside the flow: an order of its own.
 use Rattle.std.specs.Prelude.{ℕ, List, map}
 use Rattle.drum_flow.specs.declared.accepted_flow.AcceptedFlow.{AcceptedFlow}
+use Rattle.drum_flow.specs.Flow.{nodes_of}
+use Rattle.drum_flow.specs.Free.{those_at}
+use Rattle.drum_flow.specs.Hops.{Node}
 
--- the executed locations, in that order
+-- the nodes of the flow graph, in that order
+abbrev pub nodes_in_order : AcceptedFlow → List Node
+nodes_in_order accepted = those_at (nodes_of accepted.flow) accepted.order.nodes.items
+
+-- their locations
 abbrev pub in_order : AcceptedFlow → List ℕ
-in_order accepted = map (λ location. location.number) accepted.order.items
+in_order accepted = map (λ location. location.number) accepted.order.locations.items

@@ -8,7 +8,8 @@ use Rattle.drum_flow.specs.declared.flow_graph.Flow.{Flow}
 use Rattle.drum_flow.specs.Accepted.{IsGood}
 use Rattle.drum_flow.specs.Executed.{IsOrder}
 use Rattle.drum_flow.specs.Found.{places_of}
-use Rattle.drum_flow.specs.Hops.{IsExecuted}
+use Rattle.drum_flow.specs.Held.{nodes_in}
+use Rattle.drum_flow.specs.Hops.{IsExecuted, Node}
 
 -- the deck and the notes that a flow is of
 abbrev pub deck_of : Flow → Deck
@@ -25,6 +26,10 @@ of_flow says flow = says (loads_in flow.deck.now) flow.notes.now (start_in flow.
 -- the executed locations, in the order of discovery
 abbrev pub executed_in : Flow → List ℕ
 executed_in flow = places_of flow.executed
+
+-- the nodes of the flow graph, in the order of discovery
+abbrev pub nodes_of : Flow → List Node
+nodes_of flow = nodes_in flow.notes.now.calls flow.nodes
 
 -- These are the executed locations in the order of discovery.
 pub record AreFound (loads : ℕ → Option Word) (notes : Notes) (start : ℕ)

@@ -1,42 +1,62 @@
--- The edges free of marks, as rows of indices in the order of discovery.
-use Rattle.std.specs.Prelude.{◌≡◌, ℕ, IsNone, List, slice_get, Option, Some, Contains, map}
+-- The edges of nodes free of marks, as rows of indices in the order of discovery.
+use Rattle.std.specs.Prelude.{◌≡◌, ℕ, IsNone, List, slice_get, Option, Some, Contains, filter_map, map}
 use Rattle.drum_core.specs.declared.word.Word.{Word}
 use Rattle.drum_times.specs.Allowed.{Notes}
-use Rattle.drum_times.specs.declared.notes.mark.Mark.{Mark}
 use Rattle.drum_times.specs.Marks.{mark_on}
 use Rattle.drum_flow.specs.declared.refusal.Refusal.{Refusal}
 use Rattle.drum_flow.specs.declared.refusal.Refusal.TheVariants.{Memory, Unbounded}
-use Rattle.drum_flow.specs.Accepted.{IsFree, IsFreeCycle}
+use Rattle.drum_flow.specs.Accepted.{IsFree, IsFreeCycle, IsFreeLink}
+use Rattle.drum_flow.specs.Executed.{onward}
 use Rattle.drum_flow.specs.Graph.{AreDifferent, GoOn}
+use Rattle.drum_flow.specs.Hops.{Node}
 
--- The row of a location has the indices of those that edges free of marks lead to from it.
-pub record IsFreeRow (loads : ℕ → Option Word) (notes : Notes) (executed : List ℕ) (from : ℕ)
+-- those at these indices of a list
+abbrev pub those_at : {X : Type 0} → List X → List ℕ → List X
+those_at all indices = filter_map (slice_get all) indices
+
+-- The row of a node has the indices of those that edges free of marks lead to from it.
+pub record IsFreeRow (loads : ℕ → Option Word) (notes : Notes) (nodes : List Node) (from : Node)
     (row : List ℕ) : Type 0 where
-  pub free : (index : ℕ) → Contains row index → (onto : ℕ) × (slice_get executed index ≡ Some onto)
-      × IsFree loads notes from onto
-  pub all : (index onto : ℕ) → slice_get executed index ≡ Some onto → IsFree loads notes from onto
-      → Contains row index
+  pub free : (index : ℕ) → Contains row index → (onto : Node) × (slice_get nodes index ≡ Some onto)
+      × IsFreeLink loads notes from onto
+  pub all : (index : ℕ) (onto : Node) → slice_get nodes index ≡ Some onto
+      → IsFreeLink loads notes from onto → Contains row index
 
--- The row has the indices of those of the targets to which the edge has no mark.
-pub record IsUnmarkedRow (marks : List Mark) (executed targets : List ℕ) (from : ℕ)
+-- the edge to one of these locations has no mark, and a step along it leads to this node
+abbrev pub IsUnmarkedTo : Notes → List ℕ → Node → Node → Type 0
+IsUnmarkedTo notes targets from onto =
+    Contains targets onto.place × IsNone (mark_on notes.marks from.place onto.place)
+    × Contains (onward notes from onto.place) onto
+
+-- The row has the indices of those nodes to which steps along edges without a mark lead, by the
+-- locations in these targets.
+pub record IsUnmarkedRow (notes : Notes) (nodes : List Node) (targets : List ℕ) (from : Node)
     (row : List ℕ) : Type 0 where
-  pub free : (index : ℕ) → Contains row index → (onto : ℕ) × (slice_get executed index ≡ Some onto)
-      × (Contains targets onto × IsNone (mark_on marks from onto))
-  pub all : (index onto : ℕ) → slice_get executed index ≡ Some onto → Contains targets onto
-      → IsNone (mark_on marks from onto) → Contains row index
+  pub free : (index : ℕ) → Contains row index → (onto : Node) × (slice_get nodes index ≡ Some onto)
+      × IsUnmarkedTo notes targets from onto
+  pub all : (index : ℕ) (onto : Node) → slice_get nodes index ≡ Some onto
+      → IsUnmarkedTo notes targets from onto → Contains row index
 
--- An order of the executed locations in which every edge free of marks goes on.
-pub record IsFreeOrder (loads : ℕ → Option Word) (notes : Notes)
-    (executed order : List ℕ) : Type 0 where
-  pub all : (place : ℕ) → Contains executed place → Contains order place
-  pub only : (place : ℕ) → Contains order place → Contains executed place
-  pub different : AreDifferent order
-  pub onward : GoOn (IsFree loads notes) order
+-- An order of these in which every edge goes on.
+pub record IsOnwardOrder {X : Type 0} (Edge : X → X → Type 0) (members order : List X) : Type 0
+  where
+    pub all : (one : X) → Contains members one → Contains order one
+    pub only : (one : X) → Contains order one → Contains members one
+    pub different : AreDifferent order
+    pub onward : GoOn Edge order
 
--- Each index's row is that of its location.
-abbrev pub AreFreeRows : (ℕ → Option Word) → Notes → List ℕ → (ℕ → List ℕ) → Type 0
-AreFreeRows loads notes executed row = (index from : ℕ) → slice_get executed index ≡ Some from
-    → IsFreeRow loads notes executed from (row index)
+-- an order of the executed locations in which every edge free of marks goes on
+abbrev pub IsFreeOrder : (ℕ → Option Word) → Notes → List ℕ → List ℕ → Type 0
+IsFreeOrder loads notes executed order = IsOnwardOrder (IsFree loads notes) executed order
+
+-- the same of nodes
+abbrev pub IsNodeOrder : (ℕ → Option Word) → Notes → List Node → List Node → Type 0
+IsNodeOrder loads notes nodes order = IsOnwardOrder (IsFreeLink loads notes) nodes order
+
+-- Each index's row is that of its node.
+abbrev pub AreFreeRows : (ℕ → Option Word) → Notes → List Node → (ℕ → List ℕ) → Type 0
+AreFreeRows loads notes nodes row = (index : ℕ) (from : Node) → slice_get nodes index ≡ Some from
+    → IsFreeRow loads notes nodes from (row index)
 
 -- the refusal has such a cycle, or there is no memory
 abbrev pub IsCycleRefusal : (ℕ → Option Word) → Notes → ℕ → Refusal → Type 0

@@ -56,12 +56,17 @@ abbrev pub IsSorted : (ℕ → List ℕ) → ℕ → Sorted → Type 0
 IsSorted row size (Ordered order) = IsTopologicalOrder row size order.items
 IsSorted row size (Cyclic cycle) = IsCycle row size cycle.items
 
--- how far before the end of a list the first of this number stands; 0 where there is none
+-- how far before the end of a list the first stands that is the same as one, as a test says; 0
+-- where there is none
 abbrev pub height_by : Bool → ℕ → ℕ → ℕ
 height_by true here behind = here
 height_by false here behind = behind
 
+abbrev pub height_of : {X : Type 0} → (X → X → Bool) → List X → X → ℕ
+height_of same [] one = 0
+height_of same (node ∷ nodes) one =
+    height_by (same node one) (suc (length nodes)) (height_of same nodes one)
+
+-- the same of locations
 abbrev pub height : List ℕ → ℕ → ℕ
-height [] place = 0
-height (node ∷ nodes) place =
-    height_by (node == place) (suc (length nodes)) (height nodes place)
+height = height_of (λ node place. node == place)

@@ -16,6 +16,7 @@ pub mod HopsLeft
 pub mod Instructions
 pub mod Longest
 pub mod MostPasses
+pub mod OneProof
 pub mod Passes
 pub mod Patterns
 pub mod Profile

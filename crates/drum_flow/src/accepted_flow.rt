@@ -5,15 +5,17 @@ ghost use Rattle.drum_core.specs.Loads.{loads_in, start_in};
 ghost use Rattle.drum_flow.specs.Acceptance.{IsAdmissionRefusal, IsRefusal};
 ghost use Rattle.drum_flow.specs.Accepted.{IsAccepted, IsAdmitted};
 ghost use Rattle.drum_flow.specs.Altering.{AltersNone};
-ghost use Rattle.drum_flow.specs.AcceptedFlow.{in_order};
-ghost use Rattle.drum_flow.specs.Flow.{deck_of, notes_of, executed_in, of_flow, AreExecuted};
-ghost use Rattle.drum_flow.specs.Free.{IsFreeOrder};
+ghost use Rattle.drum_flow.specs.AcceptedFlow.{in_order, nodes_in_order};
+ghost use Rattle.drum_flow.specs.Executed.{AreAllNodes};
+ghost use Rattle.drum_flow.specs.Flow.{deck_of, notes_of, nodes_of, executed_in, of_flow};
+ghost use Rattle.drum_flow.specs.Flow.{AreExecuted};
+ghost use Rattle.drum_flow.specs.Free.{those_at, IsFreeOrder, IsNodeOrder};
 
 use crate::altering::check_unaltered;
 use crate::discovery::flow;
 use crate::fixed::Fixed;
 use crate::flow_graph::Flow;
-use crate::free_order::free_order;
+use crate::free_order::{FreeOrder, free_order};
 use crate::refusal::Refusal;
 use crate::size::check_small;
 use drum_core::{Deck, Location};
@@ -25,6 +27,7 @@ use std::alloc::Global;
 fn sound_flow<'a>(alloc: Global, deck: &'a Deck, notes: &'a Notes) -> Result<Flow<'a>, Refusal>
     ensures deck { IfOk result (λ flow. deck_of flow ≡ deck.now) }
     ensures notes { IfOk result (λ flow. notes_of flow ≡ notes.now) }
+    ensures nodes { IfOk result (λ flow. of_flow AreAllNodes flow (nodes_of flow)) }
     ensures executed { IfOk result (λ flow. of_flow AreExecuted flow (executed_in flow)) }
     ensures unaltered { IfOk result (λ flow. (place : ℕ) → Contains (executed_in flow) place
         → of_flow AltersNone flow place) }
@@ -38,12 +41,12 @@ fn sound_flow<'a>(alloc: Global, deck: &'a Deck, notes: &'a Notes) -> Result<Flo
     Ok(flow)
 }
 
-/// The flow graph of an admitted deck under its notes, with an order of its executed locations in
-/// which every edge free of marks goes on.
+/// The flow graph of an admitted deck under its notes, with an order of its nodes in which every
+/// edge free of marks goes on.
 #[derive(Debug, Drop)]
 pub struct AcceptedFlow<'a> {
     flow: Flow<'a>,
-    order: Vec<Location>,
+    order: FreeOrder,
 }
 
 impl<'a> AcceptedFlow<'a> {
@@ -57,6 +60,10 @@ impl<'a> AcceptedFlow<'a> {
         ensures notes { IfOk result (λ accepted. notes_of accepted.flow ≡ notes.now) }
         ensures accepted { IfOk result (λ accepted. IsAccepted (loads_in deck.now) notes.now
             (start_in deck.now) (executed_in accepted.flow)) }
+        ensures nodes { IfOk result (λ accepted. AreAllNodes (loads_in deck.now) notes.now
+            (start_in deck.now) (nodes_of accepted.flow)) }
+        ensures onward { IfOk result (λ accepted. IsNodeOrder (loads_in deck.now) notes.now
+            (nodes_of accepted.flow) (nodes_in_order accepted)) }
         ensures order { IfOk result (λ accepted. IsFreeOrder (loads_in deck.now) notes.now
             (executed_in accepted.flow) (in_order accepted)) }
         ensures refused { IfErr result (IsRefusal (loads_in deck.now) notes.now
@@ -83,6 +90,10 @@ impl<'a> AcceptedFlow<'a> {
         ensures notes { IfOk result (λ accepted. notes_of accepted.flow ≡ notes.now) }
         ensures admitted { IfOk result (λ accepted. IsAdmitted (loads_in deck.now) notes.now
             (start_in deck.now) (executed_in accepted.flow)) }
+        ensures nodes { IfOk result (λ accepted. AreAllNodes (loads_in deck.now) notes.now
+            (start_in deck.now) (nodes_of accepted.flow)) }
+        ensures onward { IfOk result (λ accepted. IsNodeOrder (loads_in deck.now) notes.now
+            (nodes_of accepted.flow) (nodes_in_order accepted)) }
         ensures order { IfOk result (λ accepted. IsFreeOrder (loads_in deck.now) notes.now
             (executed_in accepted.flow) (in_order accepted)) }
         ensures refused { IfErr result (IsAdmissionRefusal (loads_in deck.now) notes.now
@@ -107,10 +118,17 @@ impl<'a> AcceptedFlow<'a> {
         self.flow
     }
 
-    /// The executed locations, in an order in which every edge free of marks goes on.
+    /// The indices of the nodes, in an order in which every edge free of marks goes on.
+    pub fn nodes(&self) -> &[usize]
+        ensures { those_at (nodes_of self.now.flow) result.now ≡ nodes_in_order self.now }
+    {
+        &self.order.nodes
+    }
+
+    /// The locations of the nodes, in that order.
     pub fn order(&self) -> &[Location]
         ensures { map (λ location. location.number) result.now ≡ in_order self.now }
     {
-        &self.order
+        &self.order.locations
     }
 }

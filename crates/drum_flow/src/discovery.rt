@@ -3,7 +3,8 @@
 ghost use Rattle.std.specs.Prelude.{◌≡◌, ℕ, Contains, IfOk, IfErr, OnOk};
 ghost use Rattle.drum_core.specs.Loads.{loads_in, start_in};
 ghost use Rattle.drum_flow.specs.Accepted.{IsGood};
-ghost use Rattle.drum_flow.specs.Flow.{deck_of, notes_of, executed_in, of_flow};
+ghost use Rattle.drum_flow.specs.Executed.{AreAllNodes};
+ghost use Rattle.drum_flow.specs.Flow.{deck_of, notes_of, nodes_of, executed_in, of_flow};
 ghost use Rattle.drum_flow.specs.Flow.{AreFound, AreExecuted};
 ghost use Rattle.drum_flow.specs.Refused.{IsFlowRefusal};
 
@@ -26,6 +27,8 @@ use std::alloc::{AllocError, Global};
 pub fn flow<'a>(alloc: Global, deck: &'a Deck, notes: &'a Notes) -> Result<Flow<'a>, Refusal>
     ensures deck { IfOk result (λ flow. deck_of flow ≡ deck.now) }
     ensures notes { IfOk result (λ flow. notes_of flow ≡ notes.now) }
+    ensures nodes { IfOk result (λ flow. AreAllNodes (loads_in deck.now) notes.now
+        (start_in deck.now) (nodes_of flow)) }
     ensures executed { IfOk result (λ flow. AreExecuted (loads_in deck.now) notes.now
         (start_in deck.now) (executed_in flow)) }
     ensures refused { IfErr result (IsFlowRefusal (loads_in deck.now) notes.now
@@ -45,6 +48,8 @@ pub fn flow<'a>(alloc: Global, deck: &'a Deck, notes: &'a Notes) -> Result<Flow<
 pub fn discover<'a>(alloc: Global, deck: &'a Deck, notes: &'a Notes) -> Result<Flow<'a>, AllocError>
     ensures deck { IfOk result (λ flow. deck_of flow ≡ deck.now) }
     ensures notes { IfOk result (λ flow. notes_of flow ≡ notes.now) }
+    ensures nodes { IfOk result (λ flow. AreAllNodes (loads_in deck.now) notes.now
+        (start_in deck.now) (nodes_of flow)) }
     ensures found { IfOk result (λ flow. AreFound (loads_in deck.now) notes.now
         (start_in deck.now) (executed_in flow)) }
 {
@@ -54,10 +59,12 @@ pub fn discover<'a>(alloc: Global, deck: &'a Deck, notes: &'a Notes) -> Result<F
         nodes.add_next(alloc, deck, notes, node)?;
         turn += 1;
     }
+    let executed = nodes.locations(alloc, notes.calls())?;
     Ok(Flow {
         deck,
         notes,
-        executed: nodes.locations(alloc, notes.calls())?,
+        nodes,
+        executed,
     })
 }
 

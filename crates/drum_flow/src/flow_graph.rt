@@ -1,25 +1,33 @@
-ghost use Rattle.std.specs.Prelude.{◌≡◌, ◌≤◌, [], map, length, slice_get, Some, Contains, IfSome};
-ghost use Rattle.std.specs.Prelude.{IfNone};
-ghost use Rattle.drum_core.specs.Loads.{loads_in};
-ghost use Rattle.drum_flow.specs.Hops as said;
-ghost use Rattle.drum_flow.specs.HopsLeft.{hops_left};
-ghost use Rattle.drum_flow.specs.Flow.{deck_of, notes_of, executed_in};
-ghost use Rattle.drum_flow.specs.Graph.{AreDifferent};
+ghost use Rattle.drum_flow.specs.Held.{AreHeld};
+ghost use Rattle.drum_flow.specs.OneProof.{one_proof};
 
 use crate::executed::Executed;
 use crate::hops::Hops;
+use crate::nodes::Nodes;
 use drum_core::{Deck, Location};
 use drum_times::Notes;
 
-/// The flow graph of a deck under its notes: the executed locations, and the hops of each.
+/// The flow graph of a deck under its notes: its nodes, and the executed locations with the hops of
+/// each.
 #[derive(Debug, Drop)]
 pub struct Flow<'a> {
     pub(crate) deck: &'a Deck,
     pub(crate) notes: &'a Notes,
+    pub(crate) nodes: Nodes,
     pub(crate) executed: Executed,
+    ghost held: { AreHeld notes.now.calls nodes } by { Prim.hlevel one_proof },
 }
 
 impl<'a> Flow<'a> {
+    ghost use Rattle.std.specs.Prelude.{◌≡◌, ◌≤◌, ◌<◌, [], ◌∷◌, map, length, slice_get, Some, Contains};
+    ghost use Rattle.std.specs.Prelude.{IfSome, IfNone};
+    ghost use Rattle.drum_core.specs.Loads.{loads_in};
+    ghost use Rattle.drum_flow.specs.Hops as said;
+    ghost use Rattle.drum_flow.specs.HopsLeft.{hops_left};
+    ghost use Rattle.drum_flow.specs.Executed.{onward};
+    ghost use Rattle.drum_flow.specs.Flow.{deck_of, notes_of, nodes_of, executed_in};
+    ghost use Rattle.drum_flow.specs.Graph.{AreDifferent};
+
     /// The executed locations, in the order of discovery.
     pub fn executed(&self) -> &[Location]
         ensures all { map (λ location. location.number) result.now ≡ executed_in self.now }
@@ -41,6 +49,39 @@ impl<'a> Flow<'a> {
         ensures { result.now ≡ notes_of self.now }
     {
         self.notes
+    }
+
+    /// How many nodes it has: locations with what is open there at the exits of calls.
+    pub fn size(&self) -> usize
+        ensures { result ≡ length (nodes_of self.now) }
+    {
+        self.nodes.len()
+    }
+
+    /// The location of the node with this index in the order of discovery, from 0.
+    pub fn location(&self, node: usize) -> Location
+        requires { node < length (nodes_of self.now) }
+        ensures { (one : said.Node) × (slice_get (nodes_of self.now) node ≡ Some one)
+            × (result.number ≡ one.place) }
+    {
+        self.nodes.at(node).location
+    }
+
+    /// The index of the node that an edge to a location leads to from a node; `None` where no step
+    /// may go along it.
+    pub fn onward(&self, node: usize, onto: Location) -> Option<usize>
+        requires { node < length (nodes_of self.now) }
+        ensures found { IfSome result (λ index. (from next : said.Node)
+            × (slice_get (nodes_of self.now) node ≡ Some from)
+            × (slice_get (nodes_of self.now) index ≡ Some next)
+            × (onward (notes_of self.now) from onto.number ≡ next ∷ [])) }
+        ensures none { IfNone result ((from next : said.Node)
+            → slice_get (nodes_of self.now) node ≡ Some from
+            → Contains (nodes_of self.now) next
+            → ¬ Contains (onward (notes_of self.now) from onto.number) next) }
+        ensures different { AreDifferent (nodes_of self.now) }
+    {
+        self.nodes.index_onward(self.notes, self.nodes.at(node), onto)
     }
 
     /// The index of a location in the order of discovery, from 0; `None` for one that isn't

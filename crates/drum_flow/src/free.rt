@@ -1,11 +1,11 @@
-//! The edges free of marks between executed locations, as a graph of their indices in the order of
-//! discovery.
+//! The edges of nodes free of marks, as a graph of the nodes' indices in the order of discovery.
 
-ghost use Rattle.std.specs.Prelude.{◌≡◌, IfOk, length, map};
+ghost use Rattle.std.specs.Prelude.{◌≡◌, ◌<◌, IfOk, Some, length, map, slice_get};
 ghost use Rattle.drum_core.specs.Loads.{loads_in};
-ghost use Rattle.drum_flow.specs.Flow.{executed_in};
+ghost use Rattle.drum_flow.specs.Flow.{nodes_of};
 ghost use Rattle.drum_flow.specs.Free.{IsFreeRow, IsUnmarkedRow, AreFreeRows};
 ghost use Rattle.drum_flow.specs.Graph.{row, size};
+ghost use Rattle.drum_flow.specs.Hops.{Node};
 ghost use Rattle.drum_flow.specs.Rows.{targets_in};
 
 use crate::executed::Executed;
@@ -15,32 +15,38 @@ use drum_core::Location;
 use drum_times::Mark;
 use std::alloc::{AllocError, Global};
 
-/// The indices of the executed locations that edges free of marks lead to from a location.
-fn free_row(alloc: Global, flow: &Flow<'_>, from: Location) -> Result<Vec<usize>, AllocError>
-    ensures { IfOk result (λ row. IsFreeRow (loads_in flow.now.deck.now) flow.now.notes.now
-        (executed_in flow.now) from.number row.items) }
+/// The indices of the nodes that edges free of marks lead to from a node.
+fn free_row(alloc: Global, flow: &Flow<'_>, node: usize) -> Result<Vec<usize>, AllocError>
+    requires { node < length (nodes_of flow.now) }
+    ensures { IfOk result (λ row. (from : Node) × (slice_get (nodes_of flow.now) node ≡ Some from)
+        × IsFreeRow (loads_in flow.now.deck.now) flow.now.notes.now (nodes_of flow.now) from
+        row.items) }
 {
     let mut targets = Executed::none(alloc);
-    targets.add_successors(flow.deck, flow.notes, from)?;
-    unmarked_row(alloc, flow, targets.locations(), from)
+    targets.add_successors(flow.deck, flow.notes, flow.location(node))?;
+    unmarked_row(alloc, flow, targets.locations(), node)
 }
 
-/// The indices of those of the targets to which the edge has no mark.
+/// The indices of the nodes that edges from a node to one of the targets lead to, those without a
+/// mark.
 fn unmarked_row(
     alloc: Global,
     flow: &Flow<'_>,
     targets: &[Location],
-    from: Location,
+    node: usize,
 ) -> Result<Vec<usize>, AllocError>
-    ensures { IfOk result (λ row. IsUnmarkedRow flow.now.notes.now.marks (executed_in flow.now)
-        (map (λ location. location.number) targets.now) from.number row.items) }
+    requires { node < length (nodes_of flow.now) }
+    ensures { IfOk result (λ row. (from : Node) → slice_get (nodes_of flow.now) node ≡ Some from
+        → IsUnmarkedRow flow.now.notes.now (nodes_of flow.now)
+        (map (λ location. location.number) targets.now) from row.items) }
 {
+    let from = flow.location(node);
     let mut row = Vec::new(alloc);
     for onto in targets {
         if Mark::on_edge(flow.notes.marks(), from, *onto).is_some() {
             continue;
         }
-        let Some(index) = flow.index_of(*onto) else {
+        let Some(index) = flow.onward(node, *onto) else {
             continue;
         };
         row.push(index)?;
@@ -48,25 +54,25 @@ fn unmarked_row(
     Ok(row)
 }
 
-/// The rows of all executed locations.
+/// The rows of all nodes.
 fn free_rows(alloc: Global, flow: &Flow<'_>) -> Result<Vec<Vec<usize>>, AllocError>
-    ensures long { IfOk result (λ rows. length rows.items ≡ length (executed_in flow.now)) }
+    ensures long { IfOk result (λ rows. length rows.items ≡ length (nodes_of flow.now)) }
     ensures rows { IfOk result (λ rows. AreFreeRows (loads_in flow.now.deck.now) flow.now.notes.now
-        (executed_in flow.now) (targets_in rows.items)) }
+        (nodes_of flow.now) (targets_in rows.items)) }
 {
     let mut rows = Vec::new(alloc);
-    for from in flow.executed() {
-        let row = free_row(alloc, flow, *from)?;
+    for node in 0..flow.size() {
+        let row = free_row(alloc, flow, node)?;
         rows.push(row)?;
     }
     Ok(rows)
 }
 
-/// The graph of the edges free of marks, whose nodes are the indices of the executed locations.
+/// The graph of the edges free of marks, whose nodes are the indices of those of the flow graph.
 pub fn free_graph(alloc: Global, flow: &Flow<'_>) -> Result<Graph, AllocError>
-    ensures size { IfOk result (λ graph. size graph ≡ length (executed_in flow.now)) }
+    ensures size { IfOk result (λ graph. size graph ≡ length (nodes_of flow.now)) }
     ensures rows { IfOk result (λ graph. AreFreeRows (loads_in flow.now.deck.now) flow.now.notes.now
-        (executed_in flow.now) (row graph)) }
+        (nodes_of flow.now) (row graph)) }
 {
     let rows = free_rows(alloc, flow)?;
     Ok(Graph::new(rows))

@@ -1,11 +1,12 @@
-//! An order of the executed locations in which every edge free of marks goes on, or a cycle of such
-//! edges.
+//! An order of the nodes in which every edge free of marks goes on, or a cycle of such edges.
 
-ghost use Rattle.std.specs.Prelude.{◌≡◌, ℕ, ◌<◌, map, length, slice_index, Contains, IfOk, IfErr};
+ghost use Rattle.std.specs.Prelude.{◌≡◌, ℕ, ◌<◌, map, length, Contains, IfOk, IfErr};
 ghost use Rattle.drum_core.specs.Loads.{loads_in};
-ghost use Rattle.drum_flow.specs.Flow.{executed_in, of_flow, AreExecuted, AreFound};
-ghost use Rattle.drum_flow.specs.Free.{AreFreeRows, IsFreeOrder, IsCycleRefusal};
-ghost use Rattle.drum_flow.specs.Graph.{row, size, AreDifferent, IsCycle};
+ghost use Rattle.drum_flow.specs.Executed.{AreAllNodes};
+ghost use Rattle.drum_flow.specs.Flow.{executed_in, nodes_of, of_flow, AreFound};
+ghost use Rattle.drum_flow.specs.Free.{those_at, AreFreeRows, IsFreeOrder, IsNodeOrder};
+ghost use Rattle.drum_flow.specs.Free.{IsCycleRefusal};
+ghost use Rattle.drum_flow.specs.Graph.{row, size, IsCycle};
 
 use crate::cycle::Cycle;
 use crate::flow_graph::Flow;
@@ -17,37 +18,53 @@ use crate::refusal::Refusal;
 use drum_core::Location;
 use std::alloc::{AllocError, Global};
 
-/// An order of the executed locations in which every edge free of marks goes on.
+/// An order of the nodes in which every edge free of marks goes on.
+#[derive(Debug, Drop)]
+pub struct FreeOrder {
+    /// The indices of the nodes.
+    pub nodes: Vec<usize>,
+    /// Their locations.
+    pub locations: Vec<Location>,
+}
+
+/// An order of the nodes in which every edge free of marks goes on.
 ///
 /// # Errors
 ///
 /// [`Refusal::Unbounded`] with a cycle of edges free of marks, where there is one;
 /// [`Refusal::Memory`] where there is no memory.
-pub fn free_order(alloc: Global, flow: &Flow<'_>) -> Result<Vec<Location>, Refusal>
-    requires { of_flow AreExecuted flow.now (executed_in flow.now) }
-    ensures order { IfOk result (λ order. IsFreeOrder
-        (loads_in flow.now.deck.now) flow.now.notes.now (executed_in flow.now)
-        (map (λ location. location.number) order.items)) }
+pub fn free_order(alloc: Global, flow: &Flow<'_>) -> Result<FreeOrder, Refusal>
+    requires nodes { of_flow AreAllNodes flow.now (nodes_of flow.now) }
+    requires found { of_flow AreFound flow.now (executed_in flow.now) }
+    ensures nodes { IfOk result (λ order. IsNodeOrder (loads_in flow.now.deck.now)
+        flow.now.notes.now (nodes_of flow.now) (those_at (nodes_of flow.now) order.nodes.items)) }
+    ensures order { IfOk result (λ order. IsFreeOrder (loads_in flow.now.deck.now)
+        flow.now.notes.now (executed_in flow.now)
+        (map (λ location. location.number) order.locations.items)) }
     ensures cycle { IfErr result (of_flow IsCycleRefusal flow.now) }
 {
     // What is known of notes: as yet no exit of theirs is open anywhere.
     let _calls = flow.notes.calls();
     let graph = free_graph(alloc, flow)?;
     match sort(alloc, &graph)? {
-        Sorted::Ordered(order) => Ok(locations_at(alloc, flow, &order)?),
+        Sorted::Ordered(nodes) => {
+            let locations = locations_at(alloc, flow, &nodes)?;
+            Ok(FreeOrder { nodes, locations })
+        }
         Sorted::Cyclic(cycle) => Err(unbounded(alloc, flow, &graph, &cycle)),
     }
 }
 
 /// The refusal for a cycle of the graph, whose nodes are indices.
 fn unbounded(alloc: Global, flow: &Flow<'_>, graph: &Graph, cycle: &[usize]) -> Refusal
-    requires size { size graph.now ≡ length (executed_in flow.now) }
+    requires size { size graph.now ≡ length (nodes_of flow.now) }
     requires rows { AreFreeRows (loads_in flow.now.deck.now) flow.now.notes.now
-        (executed_in flow.now) (row graph.now) }
+        (nodes_of flow.now) (row graph.now) }
     requires cycle { IsCycle (row graph.now) (size graph.now) cycle.now }
-    requires found { of_flow AreFound flow.now (executed_in flow.now) }
+    requires nodes { of_flow AreAllNodes flow.now (nodes_of flow.now) }
     ensures { of_flow IsCycleRefusal flow.now result }
 {
+    // What is known of notes: as yet no exit of theirs is open anywhere.
     let _calls = flow.notes.calls();
     match locations_at(alloc, flow, cycle) {
         Ok(locations) => Refusal::Unbounded(Cycle::turned(locations)),
@@ -55,21 +72,19 @@ fn unbounded(alloc: Global, flow: &Flow<'_>, graph: &Graph, cycle: &[usize]) -> 
     }
 }
 
-/// The locations at these indices of the order of discovery.
+/// The locations of the nodes with these indices.
 fn locations_at(
     alloc: Global,
     flow: &Flow<'_>,
-    places: &[usize],
+    indices: &[usize],
 ) -> Result<Vec<Location>, AllocError>
-    requires { (place : ℕ) → Contains places.now place → place < length (executed_in flow.now) }
-    ensures numbers { IfOk result (λ locations. map (λ location. location.number) locations.items
-        ≡ map (λ place. slice_index (executed_in flow.now) place) places.now) }
-    ensures different { AreDifferent (executed_in flow.now) }
+    requires { (index : ℕ) → Contains indices.now index → index < length (nodes_of flow.now) }
+    ensures { IfOk result (λ locations. map (λ location. location.number) locations.items
+        ≡ map (λ node. node.place) (those_at (nodes_of flow.now) indices.now)) }
 {
-    let executed = flow.executed();
     let mut locations = Vec::new(alloc);
-    for place in places {
-        locations.push(executed[*place])?;
+    for index in indices {
+        locations.push(flow.location(*index))?;
     }
     Ok(locations)
 }

@@ -1,17 +1,21 @@
-ghost use Rattle.std.specs.Prelude.{◌≡◌, ◌^◌, ◌<◌, ◌≤◌, [], ◌∷◌, ◌++◌, length, nat_eq};
+ghost use Rattle.std.specs.Prelude.{◌≡◌, ◌^◌, ◌<◌, ◌≤◌, List, [], ◌∷◌, ◌++◌, length, nat_eq};
 ghost use Rattle.std.specs.Option.{option_eq};
-ghost use Rattle.std.specs.Prelude.{option_map, slice_get, Some, IfOk, IfSome, OnOk};
+ghost use Rattle.std.specs.Prelude.{option_map, slice_get, Contains, Some, IfOk, IfSome, IfNone};
+ghost use Rattle.std.specs.Prelude.{OnOk};
 ghost use Rattle.std.specs.Cmp.Lexicographic.{pointwise};
 ghost use Rattle.drum_core.specs.Loads.{loads_in};
+ghost use Rattle.drum_times.specs.declared.notes.call.Call as said;
 ghost use Rattle.drum_machine.specs.Calls.{none_open};
 ghost use Rattle.drum_machine.specs.OpenIn.{open_in};
 ghost use Rattle.drum_flow.specs.Executed.{each_place, next_nodes, onward, same_node, with_new_by};
 ghost use Rattle.drum_flow.specs.Found.{places_of};
+ghost use Rattle.drum_flow.specs.Graph.{AreDifferent};
+ghost use Rattle.drum_flow.specs.Hops as graphs;
 ghost use Rattle.drum_flow.specs.Held.{AreHeld, ArePlacedIn, node_in, nodes_in, ways_in};
 
 use crate::executed::Executed;
 use crate::node::Node;
-use crate::openings::index_behind;
+use crate::openings::{behind, index_behind};
 use drum_core::{Deck, Location};
 use drum_machine::Open;
 use drum_times::{Call, Notes};
@@ -52,6 +56,48 @@ impl Nodes {
             return None;
         }
         self.nodes.get_index(place).copied()
+    }
+
+    /// How many there are.
+    pub fn len(&self) -> usize
+        ensures { result ≡ length self.now.nodes.keys }
+    {
+        self.nodes.len()
+    }
+
+    /// The node at an index of the order, from 0.
+    pub fn at(&self, index: usize) -> Node
+        requires { index < length self.now.nodes.keys }
+        ensures value { slice_get self.now.nodes.keys index ≡ Some result }
+        ensures different { (calls : List said.Call) → AreHeld calls self.now
+            → AreDifferent (nodes_in calls self.now) }
+    {
+        self.nodes.as_slice()[index]
+    }
+
+    /// The index of the node that an edge to a location leads to from a node; `None` where no step
+    /// may go along it, or that node isn't there.
+    pub fn index_onward(&self, notes: &Notes, from: Node, onto: Location) -> Option<usize>
+        requires held { AreHeld notes.now.calls self.now }
+        requires from { from.opening < length self.now.openings.items }
+        ensures found { IfSome result (λ index. (next : graphs.Node)
+            × (slice_get (nodes_in notes.now.calls self.now) index ≡ Some next)
+            × (onward notes.now (node_in notes.now.calls self.now from) onto.number ≡ next ∷ [])) }
+        ensures none { IfNone result ((next : graphs.Node)
+            → Contains (nodes_in notes.now.calls self.now) next → ¬ Contains
+            (onward notes.now (node_in notes.now.calls self.now from) onto.number) next) }
+    {
+        let calls = notes.calls();
+        if !self.openings[from.opening].may_go(calls, from.location, onto) {
+            return None;
+        }
+        let Ok(opening) = behind(&self.openings, calls, from.opening, from.location, onto) else {
+            return None;
+        };
+        self.nodes.get_index_of(&Node {
+            location: onto,
+            opening,
+        })
     }
 
     /// Adds the node that an edge to a location leads to from a node, if a step may go along it and

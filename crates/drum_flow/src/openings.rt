@@ -1,7 +1,7 @@
 //! What is open at the nodes of a flow graph, each once, by its index.
 
 ghost use Rattle.std.specs.Prelude.{◌≡◌, ℕ, ◌<◌, ◌≤◌, [], true, nat_eq, List, Option, length};
-ghost use Rattle.std.specs.Prelude.{slice_index_or, IfOk};
+ghost use Rattle.std.specs.Prelude.{slice_get, slice_index_or, Contains, Some, IfOk, IfErr, IfSome, IfNone};
 ghost use Rattle.std.specs.Option.{option_eq};
 ghost use Rattle.std.specs.Cmp.Lexicographic.{pointwise};
 ghost use Rattle.drum_machine.specs.Calls.{open_after};
@@ -22,20 +22,20 @@ fn is_same(calls: &[Call], one: &Open, other: &Open) -> bool
     one.ways[..calls.len()] == other.ways[..calls.len()]
 }
 
-/// The index of what is open among all that is, where it is added unless it is there.
-fn index_of(openings: &mut Vec<Open>, calls: &[Call], ways: &Open) -> Result<usize, AllocError>
+/// The index of what is open among all that is; `None` where it isn't there.
+fn index_of(openings: &[Open], calls: &[Call], ways: &Open) -> Option<usize>
     requires { length calls.now ≤ 64 }
-    ensures { IfOk result (λ index. ArePlacedIn calls.now openings.old.items openings.new.items
-        (open_in ways.now calls.now) index) }
+    ensures found { IfSome result (λ index. slice_get (ways_in calls.now openings.now) index
+        ≡ Some (open_in ways.now calls.now)) }
+    ensures none { IfNone result (¬ Contains (ways_in calls.now openings.now)
+        (open_in ways.now calls.now)) }
 {
     for (index, other) in openings.iter().enumerate() {
         if is_same(calls, ways, other) {
-            return Ok(index);
+            return Some(index);
         }
     }
-    let index = openings.len();
-    openings.push(*ways)?;
-    Ok(index)
+    None
 }
 
 /// Whether what is open stays so behind a step from the one location to the other: the edge is that
@@ -53,7 +53,40 @@ fn keeps_open(calls: &[Call], from: Location, onto: Location) -> bool
 }
 
 /// The index of what is open behind a step from the one location to the other, where what is open
-/// before it has the index `before`. It is added to what is open anywhere unless it is there.
+/// before it has the index `before`.
+///
+/// # Errors
+///
+/// What is open behind it, where that isn't there.
+pub(crate) fn behind(
+    openings: &[Open],
+    calls: &[Call],
+    before: usize,
+    from: Location,
+    onto: Location,
+) -> Result<usize, Open>
+    requires few { length calls.now ≤ 64 }
+    requires within { before < length openings.now }
+    ensures there { IfOk result (λ index. slice_get (ways_in calls.now openings.now) index
+        ≡ Some (open_after calls.now (between from onto)
+        (slice_index_or (ways_in calls.now openings.now) before []))) }
+    ensures new { IfErr result (λ after. (open_in after calls.now
+        ≡ open_after calls.now (between from onto)
+        (slice_index_or (ways_in calls.now openings.now) before []))
+        × ¬ Contains (ways_in calls.now openings.now) (open_in after calls.now)) }
+{
+    let open = &openings[before];
+    if keeps_open(calls, from, onto) {
+        return Ok(before);
+    }
+    let after = open.after(calls, from, onto);
+    match index_of(openings, calls, &after) {
+        Some(index) => Ok(index),
+        None => Err(after),
+    }
+}
+
+/// The same index, where what is open behind the step is added unless it is there.
 pub(crate) fn index_behind(
     openings: &mut Vec<Open>,
     calls: &[Call],
@@ -67,10 +100,12 @@ pub(crate) fn index_behind(
         (open_after calls.now (between from onto)
         (slice_index_or (ways_in calls.now openings.old.items) before [])) index) }
 {
-    let open = &openings[before];
-    if keeps_open(calls, from, onto) {
-        return Ok(before);
+    match behind(openings, calls, before, from, onto) {
+        Ok(index) => Ok(index),
+        Err(open) => {
+            let index = openings.len();
+            openings.push(open)?;
+            Ok(index)
+        }
     }
-    let after = open.after(calls, from, onto);
-    index_of(openings, calls, &after)
 }

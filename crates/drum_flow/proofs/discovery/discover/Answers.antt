@@ -1,13 +1,16 @@
-use Rattle.std.proofs.Common.{◌≡◌, ◌<◌, ◌≤◌, ℕ, zero, suc, List, [], ◌∷◌, length, Some, None, sym, ap, ◌∙◌, arith}
+use Rattle.std.proofs.Common.{◌≡◌, ◌<◌, ◌≤◌, ℕ, zero, suc, List, [], ◌∷◌, length, map, Option, Some, None, sym, ap, ◌∙◌, arith}
 use Rattle.std.proofs.Common.{inl, inr}
 use Rattle.std.specs.Prelude.{slice_get, option_map}
 use Rattle.std.proofs.lemmas.Bool.{cases_lt}
 use Rattle.std.proofs.lemmas.List.{length-map}
 use Rattle.std.proofs.lemmas.Option.{slice_get-map}
 use Rattle.drum_core.specs.Loads.{loads_in, start_in}
+use Rattle.drum_core.specs.declared.word.Word.{Word}
+use Rattle.drum_machine.specs.declared.open.Open.{Open}
+use Rattle.drum_times.specs.Allowed.{Notes}
 use Rattle.drum_times.specs.declared.notes.call.Call.{Call}
 use Rattle.drum_flow.specs.declared.node.Node as held
-use Rattle.drum_flow.specs.Executed.{each_place}
+use Rattle.drum_flow.specs.Executed.{each_place, found_after, AreAllNodes}
 use Rattle.drum_flow.specs.Held.{node_of, nodes_in}
 use Rattle.drum_flow.specs.Hops.{Node}
 use Rattle.drum_flow.proofs.Lists.{contains_from_get}
@@ -43,21 +46,28 @@ loop-node-preserved c =
       held = c.in_ok-add_next.ensures.held;
     }
 
+-- all nodes are found
+whole : (loads : ℕ → Option Word) (notes : Notes) (start : ℕ) (openings : List Open) (keys : List held.Node) (turn : ℕ)
+    → found_after loads notes start turn ≡ map (node_of notes.calls openings) keys → slice_get keys turn ≡ None
+    → AreAllNodes loads notes start (map (node_of notes.calls openings) keys)
+whole loads notes start openings keys turn after none = record {
+  count = turn;
+  after = after;
+  all = omega (arith, past_end keys turn none, length-map keys (node_of notes.calls openings));
+}
+
+pub returns-clause-nodes : goal.returns-clause-nodes
+returns-clause-nodes c =
+    let nodes = c.loop-node.nodes in
+    whole (loads_in c.args.deck.now) c.args.notes.now (start_in c.args.deck.now) nodes.openings.items nodes.nodes.keys
+    c.loop-node.turn c.loop-node.invariant.after (sym c.in_default.ensures.value)
+
 pub returns-clause-found : goal.returns-clause-found
 returns-clause-found c =
     let notes = c.args.notes.now in
     let nodes = c.loop-node.nodes in
-    let turn = c.loop-node.turn in
-    let none : slice_get nodes.nodes.keys turn ≡ None = sym c.in_default.ensures.value in
     all_found (loads_in c.args.deck.now) notes (start_in c.args.deck.now) (nodes_in notes.calls nodes)
-    (record {
-      count = turn;
-      after = c.loop-node.invariant.after;
-      all = omega (
-        arith,
-        past_end nodes.nodes.keys turn none,
-        length-map nodes.nodes.keys (node_of notes.calls nodes.openings.items),
-      );
-    }) _
-    (sym (c.in_ok-locations.ensures
+    (whole (loads_in c.args.deck.now) notes (start_in c.args.deck.now) nodes.openings.items nodes.nodes.keys
+    c.loop-node.turn c.loop-node.invariant.after (sym c.in_default.ensures.value)) _
+    (sym (c.in_ok-executed.ensures
     ∙ ap (λ (calls : List Call). each_place (nodes_in calls nodes)) c.calls-2.ensures.all))

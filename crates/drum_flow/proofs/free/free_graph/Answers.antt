@@ -1,10 +1,10 @@
 use Rattle.drum_core.specs.Loads.{loads_in}
-use Rattle.drum_flow.specs.Flow.{executed_in}
+use Rattle.drum_flow.specs.Flow.{nodes_of}
 use Rattle.drum_flow.proofs.FreeRows.{rows_within}
 use Rattle.drum_flow.proofs.free.free_graph.Goals as goal
 
 pub new-requires : goal.new-requires
 new-requires c =
     let flow = c.args.flow.now in
-    rows_within (loads_in flow.deck.now) flow.notes.now (executed_in flow) c.in_ok-rows.rows.items
+    rows_within (loads_in flow.deck.now) flow.notes.now (nodes_of flow) c.in_ok-rows.rows.items
     c.in_ok-rows.ensures.long c.in_ok-rows.ensures.rows

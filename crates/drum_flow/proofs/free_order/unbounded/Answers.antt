@@ -1,45 +1,57 @@
--- Of unbounded: a cycle of the graph is a cycle of locations by edges free of marks. Its indices
--- are different, and so are its locations, of which there are 2004 at most; so it can be turned to
--- begin with the smallest.
-use Rattle.std.proofs.Common.{◌<◌, ℕ, List, length, Contains, sym, ap, subst, arith}
-use Rattle.std.specs.Prelude.{slice_index}
+-- Of unbounded: a cycle of the graph is a cycle of nodes by edges free of marks. Without calls the
+-- locations are different, so there are 2004 at most; and they can be turned to begin with the smallest.
+use Rattle.std.proofs.Common.{ℕ, List, length, sym, ap, subst, arith}
 use Rattle.std.proofs.lemmas.List.{length-map}
 use Rattle.drum_core.specs.declared.location.Location.{Location}
 use Rattle.drum_core.specs.Loads.{loads_in, start_in}
-use Rattle.drum_flow.specs.Flow.{executed_in}
+use Rattle.drum_flow.specs.Flow.{nodes_of}
+use Rattle.drum_flow.specs.Free.{those_at}
 use Rattle.drum_flow.specs.Graph.{row, size, AreDifferent}
+use Rattle.drum_flow.specs.Hops.{Node}
 use Rattle.drum_flow.specs.Turned.{IsTurned}
 use Rattle.drum_flow.proofs.Founds.{numbers, few_locations}
-use Rattle.drum_flow.proofs.Translations.{cycle_free, cycle_some, different_at}
+use Rattle.drum_flow.proofs.Lists.{contains_from_get}
+use Rattle.drum_flow.proofs.Orders.{reached_different, reached_only}
+use Rattle.drum_flow.proofs.Plain.{places_different}
+use Rattle.drum_flow.proofs.Translations.{cycle_free, cycle_some, those_different, those_from, those_long}
 use Rattle.drum_flow.proofs.free_order.unbounded.Goals as goal
 
 pub locations_at-requires : goal.locations_at-requires
-locations_at-requires c place there = omega (arith, c.requires.cycle.within place there, c.requires.size)
+locations_at-requires c index there = omega (arith, c.requires.cycle.within index there, c.requires.size)
+
+-- the nodes of the cycle
+abbrev round : (c : goal.In-Ok) → List Node
+round c = those_at (nodes_of c.args.flow.now) c.args.cycle.now
 
 pub turned-requires-clause-some : goal.turned-requires-clause-some
 turned-requires-clause-some c =
-    let some : 0 < length c.args.cycle.now =
-    cycle_some (row c.args.graph.now) c.args.cycle.now c.requires.cycle.closed in
     let locations = c.in-Ok.locations in
     omega (
       arith,
-      some,
-      ap (λ (ns : List ℕ). length ns) c.in-Ok.ensures.numbers,
+      cycle_some (row c.args.graph.now) c.args.cycle.now c.requires.cycle.closed,
+      ap (λ (ns : List ℕ). length ns) c.in-Ok.ensures,
       length-map locations.items (λ (one : Location). one.number),
-      length-map c.args.cycle.now (λ (place : ℕ). slice_index (executed_in c.args.flow.now) place),
+      length-map (those_at (nodes_of c.args.flow.now) c.args.cycle.now) (λ (one : Node). one.place),
+      those_long (nodes_of c.args.flow.now) c.args.cycle.now
+          (λ index there. omega (arith, c.requires.cycle.within index there, c.requires.size)),
       locations.ok.0,
     )
 
 pub turned-requires-clause-few : goal.turned-requires-clause-few
 turned-requires-clause-few c =
     let flow = c.args.flow.now in
+    let loads = loads_in flow.deck.now in
+    let start = start_in flow.deck.now in
+    let nodes = nodes_of flow in
     let locations = c.in-Ok.locations in
-    let within : (place : ℕ) → Contains c.args.cycle.now place → place < length (executed_in flow) =
-    λ place there. omega (arith, c.requires.cycle.within place there, c.requires.size) in
     let different : AreDifferent (numbers locations.items) =
-    subst AreDifferent (sym c.in-Ok.ensures.numbers)
-    (different_at (loads_in flow.deck.now) flow.notes.now (executed_in flow) (row c.args.graph.now)
-    c.in-Ok.ensures.different c.requires.rows c.args.cycle.now within c.requires.cycle.distinct) in
+    subst AreDifferent (sym c.in-Ok.ensures)
+    (places_different loads flow.notes.now c.calls-calls.ensures.sound.without_calls start (round c)
+    (λ node there.
+    let found = those_from nodes c.args.cycle.now node there in
+    reached_only loads flow.notes.now start nodes c.requires.nodes node (contains_from_get nodes found.0 node found.2))
+    (those_different nodes c.args.cycle.now (reached_different loads flow.notes.now start nodes c.requires.nodes)
+    c.requires.cycle.distinct)) in
     omega (
       arith,
       few_locations locations.items different,
@@ -50,9 +62,8 @@ turned-requires-clause-few c =
 pub returns-in-Ok : goal.returns-in-Ok
 returns-in-Ok c =
     let flow = c.args.flow.now in
-    cycle_free (loads_in flow.deck.now) flow.notes.now (start_in flow.deck.now) (executed_in flow) (row c.args.graph.now) (size c.args.graph.now)
-    c.args.cycle.now (numbers c.turned.result.locations.items)
-    c.calls-calls.ensures.sound.without_calls c.requires.found c.in-Ok.ensures.different c.requires.rows c.requires.size
+    let turned = numbers c.turned.result.locations.items in
+    cycle_free (loads_in flow.deck.now) flow.notes.now (nodes_of flow) (row c.args.graph.now) c.requires.rows
+    (start_in flow.deck.now) c.requires.nodes (size c.args.graph.now) c.args.cycle.now turned c.requires.size
     c.requires.cycle
-    (subst (λ (ns : List ℕ). IsTurned ns (numbers c.turned.result.locations.items)) c.in-Ok.ensures.numbers
-    c.turned.ensures)
+    (subst (λ (ns : List ℕ). IsTurned ns turned) c.in-Ok.ensures c.turned.ensures)

@@ -1,47 +1,37 @@
-use Rattle.std.proofs.Common.{◌≡◌, ℕ, ◌≤◌, List, [], length, take, map, Option, Some, refl, ap, sym, ◌∙◌, subst, arith}
-use Rattle.std.specs.Prelude.{slice_index_or}
-use Rattle.std.proofs.lemmas.List.{append-nil, length-map, length-take}
-use Rattle.std.proofs.lemmas.Result.{IfOk-weaker}
-use Rattle.drum_core.specs.declared.location.Location.{Location}
+use Rattle.std.proofs.Common.{◌≡◌, ℕ, List, [], ◌∷◌, ◌++◌, length, Option, Some, sym, subst, arith}
+use Rattle.std.specs.Prelude.{slice_get, slice_index_or, Contains}
+use Rattle.std.proofs.lemmas.List.{append-nil}
+use Rattle.drum_machine.specs.declared.open.Open.{Open}
 use Rattle.drum_machine.specs.Calls.{open_after}
-use Rattle.drum_machine.specs.OpenIn.{between, number_of, open_in}
+use Rattle.drum_machine.specs.OpenIn.{between, open_in}
 use Rattle.drum_flow.specs.Held.{ways_in, ArePlacedIn}
-use Rattle.drum_flow.proofs.HeldNodes.{ways_of_one, ways_there}
+use Rattle.drum_flow.proofs.HeldNodes.{placed_last}
 use Rattle.drum_flow.proofs.openings.index_behind.Goals as goal
 
--- what is open has a way back, or none, for each call
-few_ways : (ways : List (Option Location)) (count : ℕ) → length (map number_of (take count ways)) ≤ count
-few_ways ways count = omega (arith, length-map (take count ways) number_of, length-take count ways)
+pub returns-in-Ok : goal.returns-in-Ok
+returns-in-Ok c = record {
+  here =
+      subst (λ (openings : List Open). slice_get (ways_in c.args.calls.now openings) c.in-Ok.index
+      ≡ Some (open_after c.args.calls.now (between c.args.from c.args.onto)
+      (slice_index_or (ways_in c.args.calls.now openings) c.args.before []))) c.deref.ensures.value c.in-Ok.ensures.there;
+  more = [];
+  kept = sym (append-nil c.args.openings.now.items);
+  different = λ different. different;
+}
 
-pub returns-then-keeps_open : goal.returns-then-keeps_open
-returns-then-keeps_open c =
+pub returns-in_ok-push-in-Err : goal.returns-in_ok-push-in-Err
+returns-in_ok-push-in-Err c =
     let calls = c.args.calls.now in
     let openings = c.args.openings.now.items in
-    let one = c.index-open.result.now in
-    let ways = slice_index_or (ways_in calls openings) c.args.before [] in
-    let same : ways ≡ open_in one calls =
-    ways_of_one calls openings c.args.before one c.requires.within c.index-open.ensures in
-    record {
-      here = ways_there calls openings c.args.before c.requires.within
-          ∙ ap Some (sym (c.if-keeps_open.ensures refl ways
-          (omega (arith, ap length same, few_ways one.ways (length calls)))));
-      more = [];
-      kept = sym (append-nil openings);
-      different = λ different. different;
-    }
-
-pub returns : goal.returns
-returns c =
-    let calls = c.args.calls.now in
-    let openings = c.args.openings.now.items in
-    let one = c.index-open.result.now in
-    let edge = between c.args.from c.args.onto in
-    let after = c.index_of.new.openings.items in
-    let same = c.after-after.ensures
-    ∙ ap (open_after calls edge)
-    (sym (ways_of_one calls openings c.args.before one c.requires.within c.index-open.ensures)) in
-    IfOk-weaker c.index_of.result (λ index. ArePlacedIn calls openings after (open_in c.after-after.result calls) index)
-    (λ index. ArePlacedIn calls openings after
-    (open_after calls edge (slice_index_or (ways_in calls openings) c.args.before [])) index)
-    (λ index placed. subst (λ (ways : List (Option ℕ)). ArePlacedIn calls openings after ways index) same placed)
-    c.index_of.ensures
+    let ways = open_after calls (between c.args.from c.args.onto)
+    (slice_index_or (ways_in calls openings) c.args.before []) in
+    let one = c.in-Err.open in
+    let new : (open_in one calls ≡ ways) × ¬ Contains (ways_in calls openings) (open_in one calls) =
+    subst (λ (os : List Open). (open_in one calls ≡ open_after calls (between c.args.from c.args.onto)
+    (slice_index_or (ways_in calls os) c.args.before [])) × ¬ Contains (ways_in calls os) (open_in one calls))
+    c.deref.ensures.value c.in-Err.ensures.new in
+    subst (λ (after : List Open). ArePlacedIn calls openings after ways c.len-index.result) (sym c.in_ok-push-in-Err.ensures.items)
+    (subst (λ (index : ℕ). ArePlacedIn calls openings (openings ++ one ∷ []) ways index)
+    (omega (arith, c.len-index.ensures, c.args.openings.now.ok.0))
+    (subst (λ (w : List (Option ℕ)). ArePlacedIn calls openings (openings ++ one ∷ []) w (length openings))
+    new.0 (placed_last calls openings one new.1)))

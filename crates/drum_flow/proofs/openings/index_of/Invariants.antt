@@ -7,4 +7,4 @@ use Rattle.drum_flow.proofs.openings.index_of.Given as goal
 -- none of those so far is the same
 abbrev pub invariant-loop-index : goal.invariant-loop-index
 invariant-loop-index l =
-    (k : ℕ) → k < l.index → ¬ (slice_get (ways_in l.calls l.fn.openings.items) k ≡ Some (open_in l.ways l.calls))
+    (k : ℕ) → k < l.index → ¬ (slice_get (ways_in l.calls l.openings) k ≡ Some (open_in l.ways l.calls))

@@ -5,8 +5,9 @@ use Rattle.drum_core.proofs.Handed.{handed}
 use Rattle.drum_core.specs.Loads.{loads_in, start_in}
 use Rattle.drum_flow.specs.Acceptance.{IsRefusal}
 use Rattle.drum_flow.specs.Accepted.{IsAccepted}
-use Rattle.drum_flow.specs.Flow.{executed_in}
-use Rattle.drum_flow.specs.Free.{IsFreeOrder}
+use Rattle.drum_flow.specs.Flow.{executed_in, nodes_of}
+use Rattle.drum_flow.specs.Executed.{AreAllNodes}
+use Rattle.drum_flow.specs.Free.{those_at, IsFreeOrder, IsNodeOrder}
 use Rattle.drum_flow.proofs.Acceptances.{is_admitted, moved, too_much, unbounded}
 use Rattle.drum_flow.proofs.Founds.{numbers}
 use Rattle.drum_flow.proofs.accepted_flow.AcceptedFlow.of.Goals as goal
@@ -44,13 +45,27 @@ returns-clause-accepted c =
     c.in_ok-flow.ensures.deck c.in_ok-flow.ensures.notes
     (record {
       admitted = is_admitted (loads_in deck) notes (start_in deck) (executed_in flow) c.in_ok-flow.ensures.executed
-          c.in_ok-flow.ensures.unaltered (numbers c.in_ok-order.order.items) c.in_ok-order.ensures.order;
+          c.in_ok-flow.ensures.unaltered (nodes_of flow)
+    (those_at (nodes_of flow) c.in_ok-order.order.nodes.items) c.in_ok-flow.ensures.nodes c.in_ok-order.ensures.nodes;
       small = c.in_ok-check_small.ensures.small;
     })
 
 pub returns-clause-order : goal.returns-clause-order
 returns-clause-order c =
     let flow = c.in_ok-flow.flow in
-    moved (λ d n. IsFreeOrder (loads_in d) n (executed_in flow) (numbers c.in_ok-order.order.items)) flow.deck.now
+    moved (λ d n. IsFreeOrder (loads_in d) n (executed_in flow) (numbers c.in_ok-order.order.locations.items)) flow.deck.now
     c.args.deck.now flow.notes.now c.args.notes.now
     c.in_ok-flow.ensures.deck c.in_ok-flow.ensures.notes c.in_ok-order.ensures.order
+
+pub returns-clause-nodes : goal.returns-clause-nodes
+returns-clause-nodes c =
+    let flow = c.in_ok-flow.flow in
+    moved (λ d n. AreAllNodes (loads_in d) n (start_in d) (nodes_of flow)) flow.deck.now c.args.deck.now flow.notes.now
+    c.args.notes.now c.in_ok-flow.ensures.deck c.in_ok-flow.ensures.notes c.in_ok-flow.ensures.nodes
+
+pub returns-clause-onward : goal.returns-clause-onward
+returns-clause-onward c =
+    let flow = c.in_ok-flow.flow in
+    moved (λ d n. IsNodeOrder (loads_in d) n (nodes_of flow) (those_at (nodes_of flow) c.in_ok-order.order.nodes.items))
+    flow.deck.now c.args.deck.now flow.notes.now c.args.notes.now
+    c.in_ok-flow.ensures.deck c.in_ok-flow.ensures.notes c.in_ok-order.ensures.nodes
