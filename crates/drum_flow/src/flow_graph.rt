@@ -81,7 +81,8 @@ impl<'a> Flow<'a> {
             → ¬ Contains (onward (notes_of self.now) from onto.number) next) }
         ensures different { AreDifferent (nodes_of self.now) }
     {
-        self.nodes.index_onward(self.notes, self.nodes.at(node), onto)
+        self.nodes
+            .index_onward(self.notes, self.nodes.at(node), onto)
     }
 
     /// The index of a location in the order of discovery, from 0; `None` for one that isn't

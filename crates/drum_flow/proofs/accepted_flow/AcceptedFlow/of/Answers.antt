@@ -46,7 +46,7 @@ returns-clause-accepted c =
     (record {
       admitted = is_admitted (loads_in deck) notes (start_in deck) (executed_in flow) c.in_ok-flow.ensures.executed
           c.in_ok-flow.ensures.unaltered (nodes_of flow)
-    (those_at (nodes_of flow) c.in_ok-order.order.nodes.items) c.in_ok-flow.ensures.nodes c.in_ok-order.ensures.nodes;
+          (those_at (nodes_of flow) c.in_ok-order.order.nodes.items) c.in_ok-flow.ensures.nodes c.in_ok-order.ensures.nodes;
       small = c.in_ok-check_small.ensures.small;
     })
 
