@@ -1,5 +1,6 @@
 pub mod Arrangements
 pub mod Backs
+pub mod Behinds
 pub mod Befores
 pub mod Closings
 pub mod Flags

@@ -3,9 +3,9 @@
 //!
 //! Code, from the bottom up. `arrangement` is a depth-first search that puts a graph's nodes into
 //! an order, and `arranging` runs it over all of them. `ranking` tells where each node stands
-//! there. `behind` tells which of a node's edges don't go on, and `closing` lists those as edges of
-//! the flow graph. `nesting` tells whether one loop stands inside another one. `laws` has laws of
-//! the definitions.
+//! there. `behind` tells where the edges that don't go on lead to from a location, and `closing`
+//! lists those as edges of the flow graph. `nesting` tells whether one loop stands inside another
+//! one. `laws` has laws of the definitions.
 //!
 //! Definitions, in the order to read them: `Loops` says which edges close the loops, `Nested` which
 //! loop stands inside another, and `Marked` what notes with more marks are. The others say how
@@ -14,9 +14,9 @@
 //! code's lists mean by these.
 //!
 //! Proofs. `Befores` has what stands before what in an order, `Paths` what leads along it,
-//! `Arrangements` the moves of the search, `Rankings` and `Backs` the edges that lead back, and
-//! `Closings` puts them together. `Markings` is on notes with more marks, and `Reachings` on what
-//! is reached past a loop's head.
+//! `Arrangements` the moves of the search, `Rankings`, `Behinds` and `Backs` the edges that lead
+//! back, and `Closings` puts them together. `Markings` is on notes with more marks, and `Reachings`
+//! on what is reached past a loop's head.
 #![tactic(auto)]
 
 mod arrangement;
