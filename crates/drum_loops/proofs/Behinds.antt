@@ -1,15 +1,24 @@
 -- The locations that edges lead back to.
 use Rattle.std.proofs.Common.{◌≡◌, ℕ, ◌+◌, ◌<◌, ◌≤◌, List, [], ◌∷◌, ◌++◌, Some, ap, sym, ◌∙◌, subst, inl, inr, ◌⊎◌}
-use Rattle.std.proofs.Common.{arith}
+use Rattle.std.proofs.Common.{arith, length, slice_index_or}
 use Rattle.std.specs.Prelude.{slice_get, slice_index, Contains}
 use Rattle.std.proofs.lemmas.Bool.{cases_lt}
-use Rattle.std.proofs.lemmas.List.Elements.{Contains-append_left, Contains-push, Contains-push_cases}
+use Rattle.std.proofs.lemmas.List.Elements.{Contains-append_left, Contains-get_or, Contains-push, Contains-push_cases}
 use Rattle.std.proofs.lemmas.Option.{same_Some}
+use Rattle.drum_flow.specs.declared.graph.Graph.{Graph}
 use Rattle.drum_flow.specs.Executed.{with_new}
+use Rattle.drum_flow.specs.Graph.{row, size}
 use Rattle.drum_flow.proofs.Lists.{contains_cases, contains_here, contains_none}
 use Rattle.drum_flow.proofs.Orders.{with_new_has, with_new_only}
 use Rattle.drum_loops.specs.Closing.{IsBehind, AreAdded, IsBack, AreTargets}
 use Rattle.drum_loops.proofs.Reachings.{stays}
+
+-- a node of the row is one of the graph's
+pub row_inside : (graph : Graph) (node k : ℕ) (items : List ℕ) → items ≡ row graph node → k < length items
+    → slice_index_or items k 0 < size graph
+row_inside graph node k items is below =
+    graph.within node (slice_index_or items k 0)
+    (subst (λ (nodes : List ℕ). Contains nodes (slice_index_or items k 0)) is (Contains-get_or items k 0 below))
 
 -- of no node, none
 pub none_added : (ranks places : List ℕ) (node : ℕ) (before : List ℕ) → AreAdded [] ranks places node before before
@@ -29,7 +38,8 @@ module _ (row ranks places : List ℕ) (node : ℕ) (before after : List ℕ) (n
     ends = is.ends;
   }
 
-  longer_only : (onto : ℕ) → Contains after onto → Contains before onto ⊎ IsBehind (row ++ next ∷ []) ranks places node onto
+  longer_only : (onto : ℕ) → Contains after onto
+      → Contains before onto ⊎ IsBehind (row ++ next ∷ []) ranks places node onto
   longer_only onto there =
       elim (added.only onto there) [ inl was ↦ inl was | inr is ↦ inr (behind_longer onto is) ]
 

@@ -1,6 +1,6 @@
 -- The edges that don't go on close the loops.
-use Rattle.std.proofs.Common.{◌≡◌, ℕ, ◌<◌, List, [], ◌∷◌, length, map, Option, Some, refl, ap, sym, ◌∙◌, subst, inl, inr}
-use Rattle.std.proofs.Common.{arith}
+use Rattle.std.proofs.Common.{◌≡◌, ℕ, ◌<◌, List, [], ◌∷◌, length, map, Option, Some, refl, ap, sym, ◌∙◌}
+use Rattle.std.proofs.Common.{subst, inl, inr, arith}
 use Rattle.std.specs.Prelude.{slice_get, slice_index, Contains}
 use Rattle.std.proofs.lemmas.Bool.{cases_lt}
 use Rattle.std.proofs.lemmas.Option.{same_Some, slice_get_within}
@@ -10,17 +10,16 @@ use Rattle.drum_flow.specs.Accepted.{IsFreeLink}
 use Rattle.drum_flow.specs.Executed.{AreAllNodes}
 use Rattle.drum_flow.specs.Flow.{AreFound}
 use Rattle.drum_flow.specs.Free.{those_at, AreFreeRows}
-use Rattle.drum_flow.specs.Graph.{LeadRound, IsClosed}
-use Rattle.drum_flow.specs.Hops.{IsNode, Node}
-use Rattle.drum_flow.proofs.FreeRows.{one_place}
+use Rattle.drum_flow.specs.Graph.{LeadRound}
+use Rattle.drum_flow.specs.Hops.{Node}
 use Rattle.drum_flow.proofs.Lists.{contains_at, contains_from_get}
-use Rattle.drum_flow.proofs.Orders.{has_reached, node_at, place_at, reached_different, reached_next, reached_only}
-use Rattle.drum_flow.proofs.Plain.{node_plain, plain}
+use Rattle.drum_flow.proofs.Orders.{has_reached, node_at, place_at, reached_next, reached_only}
 use Rattle.drum_flow.proofs.Translations.{those_first}
 use Rattle.drum_loops.specs.Arranged.{GoesOn, IsArranged}
 use Rattle.drum_loops.specs.Closing.{AreBack}
 use Rattle.drum_loops.specs.Loops.{LeadBy, IsFreeBeside, IsFreeBut, IsNeeded, AreClosing}
 use Rattle.drum_loops.specs.Ranks.{AreRanks}
+use Rattle.drum_loops.specs.Spared.{AreEnough, AreOneWay}
 use Rattle.drum_loops.proofs.Rankings.{before_ranked}
 
 -- Where others lead from the end of an edge back to its beginning, they lead round with it.
@@ -43,46 +42,40 @@ module _ (loads : ℕ → Option Word) (notes : Notes) (start : ℕ) (nodes : Li
     (rows : AreFreeRows loads notes nodes row) (long : size ≡ length nodes) (arranged : IsArranged row size order)
     (ranked : AreRanks order ranks)
     (back : AreBack row ranks (map (λ (node : Node). node.place) nodes) size executed edges) where
-  -- without calls the nodes of an edge are those of its locations
-  pub clear_plain : notes.calls ≡ [] → AreClear row order nodes edges
-  clear_plain none k j from onto on begins ends there =
-      let is = back.only from.place onto.place there in
-      omega (
-        arith,
-        before_ranked order ranks k j ranked on.1,
-        is.behind.back,
-        ap (λ (n : ℕ). slice_index ranks n) (one is.node k from is.begins begins),
-        ap (λ (n : ℕ). slice_index ranks n) (one is.behind.next j onto is.behind.ends ends),
-      )
-    where
-      one : (i k : ℕ) (node : Node) → slice_get (map (λ (node : Node). node.place) nodes) i ≡ Some node.place
-          → slice_get nodes k ≡ Some node → i ≡ k
-      one i k node other at =
-          let found = node_at nodes i node.place other in
-          let same : found.0 ≡ node =
-          sym (node_plain loads notes none start found.0
-          (reached_only loads notes start nodes are found.0 (contains_from_get nodes i found.0 found.1)))
-          ∙ ap plain found.2
-          ∙ node_plain loads notes none start node
-          (reached_only loads notes start nodes are node (contains_from_get nodes k node at)) in
-          one_place nodes i k node (reached_different loads notes start nodes are) (found.1 ∙ ap Some same) at
+  -- where no edge of locations both goes on and leads back
+  pub clear : AreOneWay row ranks (map (λ (node : Node). node.place) nodes) size executed
+      → AreClear row order nodes edges
+  clear one_way k j from onto on begins ends there =
+      one_way from.place onto.place (back.begins from.place onto.place there)
+      (record {
+        node = k;
+        early = omega (arith, slice_get_within nodes k from begins, long);
+        begins = place_at nodes k from begins;
+        ahead = record {
+          next = j;
+          edge = on.0;
+          ahead = before_ranked order ranks k j ranked on.1;
+          ends = place_at nodes j onto ends;
+        };
+      })
+      (back.only from.place onto.place there)
 
   -- edges that go on lead by others
   lead_beside : AreClear row order nodes edges → (k last : ℕ) (from to : Node) (through : List ℕ)
       → slice_get nodes k ≡ Some from → slice_get nodes last ≡ Some to → LeadBy (GoesOn row order) k through last
       → LeadBy (IsFreeBeside loads notes edges) from (those_at nodes through) to
-  lead_beside clear k last from to [] at ends lead = same_Some from to (sym at ∙ ap (slice_get nodes) lead ∙ ends)
-  lead_beside clear k last from to (next ∷ nexts) at ends lead =
+  lead_beside is_clear k last from to [] at ends lead = same_Some from to (sym at ∙ ap (slice_get nodes) lead ∙ ends)
+  lead_beside is_clear k last from to (next ∷ nexts) at ends lead =
       let edge = (rows k from at).free next lead.0.0 in
       subst (λ (xs : List Node). LeadBy (IsFreeBeside loads notes edges) from xs to)
       (sym (those_first nodes next edge.0 nexts edge.1)) (
-        (edge.2, clear k next from edge.0 lead.0 at edge.1),
-        lead_beside clear next last edge.0 to nexts edge.1 ends lead.1,
+        (edge.2, is_clear k next from edge.0 lead.0 at edge.1),
+        lead_beside is_clear next last edge.0 to nexts edge.1 ends lead.1,
       )
 
   led_back : AreClear row order nodes edges → (from onto : ℕ) → Contains edges (from, onto)
       → IsNeeded loads notes start edges (from, onto)
-  led_back clear from onto there =
+  led_back is_clear from onto there =
       let is = back.only from onto there in
       let at = node_at nodes is.node from is.begins in
       let edge = (rows is.node at.0 at.1).free is.behind.next is.behind.edge in
@@ -100,7 +93,7 @@ module _ (loads : ℕ → Option Word) (notes : Notes) (start : ℕ) (nodes : Li
               (λ (pair : ℕ × ℕ). LeadRound (IsFreeBut loads notes edges pair) edge.0 edge.0 (those_at nodes lead.0))
               (ap (λ (n : ℕ). (n, edge.0.place)) at.2 ∙ ap (λ (n : ℕ). (from, n)) ends)
               (round_back loads notes edges at.0 edge.0 edge.0 (those_at nodes lead.0)
-              (lead_beside clear is.behind.next is.node edge.0 at.0 lead.0 edge.1 at.1 lead.1) edge.2);
+              (lead_beside is_clear is.behind.next is.node edge.0 at.0 lead.0 edge.1 at.1 lead.1) edge.2);
         }
       ]
 
@@ -140,8 +133,7 @@ module _ (loads : ℕ → Option Word) (notes : Notes) (start : ℕ) (nodes : Li
       omega (arith, less, more)
 
   -- these edges are enough
-  pub enough : (first : Node) (others : List Node) → IsNode loads notes start first
-      → ¬ IsClosed (IsFreeBeside loads notes edges) (first ∷ others)
+  pub enough : AreEnough loads notes start edges
   enough first others is_node closed =
       let at : (k : ℕ) × (slice_get nodes k ≡ Some first) =
       contains_at nodes first (has_reached loads notes start nodes are first is_node) in
@@ -149,8 +141,8 @@ module _ (loads : ℕ → Option Word) (notes : Notes) (start : ℕ) (nodes : Li
       omega (arith, less)
 
   pub closes : AreClear row order nodes edges → AreClosing loads notes start edges
-  closes clear = record {
-    needed = λ edge there. led_back clear edge.0 edge.1 there;
+  closes is_clear = record {
+    needed = λ edge there. led_back is_clear edge.0 edge.1 there;
     enough = enough;
     apart = back.apart;
   }

@@ -8,7 +8,9 @@ ghost use Rattle.drum_loops.specs.Loops.{AreClosing};
 
 use crate::arranging::arrange;
 use crate::behind::targets_behind;
+use crate::one_way::are_one_way;
 use crate::ranking::ranks_in;
+use crate::sparing::only_needed;
 use drum_core::Location;
 use drum_flow::Flow;
 use drum_flow::free::free_graph;
@@ -50,8 +52,10 @@ fn edges_back(
 
 /// The edges that close the loops of a flow graph. With a mark on each of them, no list of edges
 /// that leads round is free of marks; and whichever of these marks is left out, some such list is.
-/// It takes the time of discovery, and besides a time that grows with the number of edges and with
-/// the square of the number of nodes.
+/// It takes the time of discovery, and besides a time that grows with the number of edges, and with
+/// that of the locations times that of the nodes. Where an edge of locations goes on from one node
+/// and leads back from another, marks may be spare: then it looks besides, once for each edge that
+/// it found, for every edge of nodes among them all.
 ///
 /// # Errors
 ///
@@ -61,10 +65,12 @@ pub fn closing_edges(alloc: Global, flow: &Flow<'_>) -> Result<Vec<Edge>, AllocE
     requires found { of_flow AreFound flow.now (executed_in flow.now) }
     ensures { IfOk result (λ edges. of_flow AreClosing flow.now (map edge_of edges.items)) }
 {
-    // What is known of notes: as yet no exit of theirs is open anywhere.
-    let _calls = flow.notes().calls();
     let graph = free_graph(alloc, flow)?;
     let order = arrange(alloc, &graph)?;
     let ranks = ranks_in(alloc, &order, graph.size())?;
-    edges_back(alloc, flow, &graph, &ranks)
+    let edges = edges_back(alloc, flow, &graph, &ranks)?;
+    if are_one_way(alloc, flow, &graph, &ranks)? {
+        return Ok(edges);
+    }
+    only_needed(alloc, flow, &graph, edges)
 }

@@ -1,26 +1,16 @@
 -- Of add_behind: the locations of the nodes so far are added, where their rank isn't above the
 -- node's.
-use Rattle.std.proofs.Common.{◌≡◌, ◌<◌, ◌+◌, ◌∷◌, [], ℕ, List, Some, length, slice_index_or, take, ap, sym, ◌∙◌, subst}
+use Rattle.std.proofs.Common.{◌≡◌, ◌+◌, ◌∷◌, [], ℕ, List, Some, slice_index_or, take, ap, sym, ◌∙◌, subst}
 use Rattle.std.proofs.Common.{arith}
-use Rattle.std.specs.Prelude.{slice_get, Contains}
+use Rattle.std.specs.Prelude.{slice_get}
 use Rattle.std.proofs.lemmas.List.{take_more, take_all}
-use Rattle.std.proofs.lemmas.List.Elements.{Contains-get_or}
-use Rattle.drum_flow.specs.declared.graph.Graph.{Graph}
 use Rattle.drum_flow.specs.Executed.{with_new}
 use Rattle.drum_flow.specs.Flow.{nodes_of}
 use Rattle.drum_flow.specs.Found.{places_of}
-use Rattle.drum_flow.specs.Graph.{row, size}
 use Rattle.drum_flow.proofs.Orders.{place_at}
 use Rattle.drum_loops.specs.Closing.{places_in, AreAdded}
-use Rattle.drum_loops.proofs.Behinds.{none_added, added_above, added_more}
+use Rattle.drum_loops.proofs.Behinds.{none_added, added_above, added_more, row_inside}
 use Rattle.drum_loops.proofs.behind.add_behind.Goals as goal
-
--- a node of the row is one of the graph's
-inside : (graph : Graph) (node k : ℕ) (items : List ℕ) → items ≡ row graph node → k < length items
-    → slice_index_or items k 0 < size graph
-inside graph node k items is below =
-    graph.within node (slice_index_or items k 0)
-    (subst (λ (nodes : List ℕ). Contains nodes (slice_index_or items k 0)) is (Contains-get_or items k 0 below))
 
 pub loop-next-init : goal.loop-next-init
 loop-next-init c = none_added c.args.ranks.now (places_in c.args.flow.now) c.args.node (places_of c.args.targets.now)
@@ -29,7 +19,7 @@ pub offset_bounds-ranks-next : goal.offset_bounds-ranks-next
 offset_bounds-ranks-next c =
     omega (
       arith,
-      inside c.args.graph.now c.args.node c.loop-next.next-index c.row-next-items.result.now
+      row_inside c.args.graph.now c.args.node c.loop-next.next-index c.row-next-items.result.now
           c.row-next-items.ensures c.loop-next-test.true,
       c.requires.ranks,
       c.type_inv.next-items c.loop-next.next-index,
@@ -39,7 +29,7 @@ pub bounds-ranks-next : goal.bounds-ranks-next
 bounds-ranks-next c =
     omega (
       arith,
-      inside c.args.graph.now c.args.node c.loop-next.next-index c.row-next-items.result.now
+      row_inside c.args.graph.now c.args.node c.loop-next.next-index c.row-next-items.result.now
           c.row-next-items.ensures c.loop-next-test.true,
       c.requires.ranks,
     )
@@ -60,7 +50,7 @@ pub location-requires : goal.location-requires
 location-requires c =
     omega (
       arith,
-      inside c.args.graph.now c.args.node c.loop-next.next-index c.row-next-items.result.now
+      row_inside c.args.graph.now c.args.node c.loop-next.next-index c.row-next-items.result.now
           c.row-next-items.ensures c.loop-next-test.true,
       c.requires.size,
     )

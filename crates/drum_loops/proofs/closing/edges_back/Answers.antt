@@ -19,7 +19,8 @@ pub loop-from-init : goal.loop-from-init
 loop-from-init c =
     let flow = c.args.flow.now in
     let graph = c.args.graph.now in
-    subst (λ (edges : List Edge). AreBack (row graph) c.args.ranks.now (places_in flow) (size graph) [] (map edge_of edges))
+    subst
+    (λ (edges : List Edge). AreBack (row graph) c.args.ranks.now (places_in flow) (size graph) [] (map edge_of edges))
     (sym c.new-edges.ensures.items)
     (none_back (row graph) c.args.ranks.now (places_in flow) (size graph))
 
@@ -44,7 +45,8 @@ loop-from-preserved c =
     (subst (λ (ns : List ℕ). Contains ns from.number) (sym were) there) in
     let added : map edge_of c.add_edges.new.edges.items ≡ edges ++ edges_onto from.number targets =
     c.in_ok-add_edges.ensures ∙ ap (λ (ns : List ℕ). edges ++ edges_onto from.number ns) c.locations.ensures.all in
-    subst (λ (froms : List ℕ). AreBack (row graph) ranks places (size graph) froms (map edge_of c.add_edges.new.edges.items))
+    subst
+    (λ (froms : List ℕ). AreBack (row graph) ranks places (size graph) froms (map edge_of c.add_edges.new.edges.items))
     (sym (numbers_more items k from c.loop-from-test.true c.from-item.is))
     (subst (λ (all : List (ℕ × ℕ)). AreBack (row graph) ranks places (size graph) (before ++ from.number ∷ []) all)
     (sym added)
