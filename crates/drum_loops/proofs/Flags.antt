@@ -1,9 +1,8 @@
 -- Flags that are set for the members of a list.
-use Rattle.std.proofs.Common.{◌≡◌, ℕ, ◌<◌, Bool, true, false, List, [], ◌∷◌, ◌++◌, length, set, replicate, Some}
+use Rattle.std.proofs.Common.{◌≡◌, ℕ, ◌<◌, Bool, true, false, List, [], length, set, replicate, Some}
 use Rattle.std.proofs.Common.{ap, sym, ◌∙◌, subst, inl, inr, ◌⊎◌}
 use Rattle.std.specs.Prelude.{slice_get, Contains}
 use Rattle.std.proofs.lemmas.Bool.{cases_eq}
-use Rattle.std.proofs.lemmas.List.Elements.{Contains-append_left, Contains-push, Contains-push_cases}
 use Rattle.drum_flow.proofs.Lists.{contains_none, get_written, get_other, get_replicated}
 use Rattle.drum_loops.specs.Flags.{AreFlags}
 
@@ -29,13 +28,6 @@ flags_more flags members more member inside f it keeps cases = record {
     | inr was ↦ flag_kept flags member other inside (f.all other was)
   ];
 }
-
-pub flags_push : (flags : List Bool) (members : List ℕ) (member : ℕ) → member < length flags → AreFlags flags members
-    → AreFlags (set flags member true) (members ++ member ∷ [])
-flags_push flags members member inside f =
-    flags_more flags members (members ++ member ∷ []) member inside f (Contains-push members member)
-    (λ z there. Contains-append_left members (member ∷ []) z there)
-    (λ z there. elim (Contains-push_cases members member z there) [ inl was ↦ inr was | inr same ↦ inl same ])
 
 -- no flag, no member
 pub none_flagged : (size : ℕ) → AreFlags (replicate size false) []

@@ -1,9 +1,13 @@
 pub mod Arrangements
 pub mod Backs
+pub mod Behinds
 pub mod Befores
+pub mod Besides
 pub mod Closings
 pub mod Flags
 pub mod Markings
+pub mod OneWays
 pub mod Paths
 pub mod Rankings
 pub mod Reachings
+pub mod Sparings

@@ -33,7 +33,7 @@ lead_push : (Link : ℕ → ℕ → Type 0) (node mid next : ℕ) (through : Lis
 lead_push Link node mid next [] lead edge = (subst (λ (n : ℕ). Link n next) (sym lead) edge, refl)
 lead_push Link node mid next (one ∷ through) lead edge = (lead.0, lead_push Link one mid next through lead.1 edge)
 
-stays : (places xs : List ℕ) (x : ℕ) → Contains places x → Contains (with_new places xs) x
+pub stays : (places xs : List ℕ) (x : ℕ) → Contains places x → Contains (with_new places xs) x
 stays places xs x there =
     let found : (k : ℕ) × (slice_get places k ≡ Some x) = contains_at places x there in
     contains_from_get (with_new places xs) found.0 x (with_new_keeps places xs found.0 x found.1)

@@ -6,3 +6,4 @@ pub mod Loops
 pub mod Marked
 pub mod Nested
 pub mod Ranks
+pub mod Spared

@@ -1,30 +1,58 @@
-ghost use Rattle.std.specs.Prelude.{◌≡◌, ℕ, ◌<◌, length, IfOk, Contains};
-ghost use Rattle.drum_loops.specs.Closing.{AreBehind};
+ghost use Rattle.std.specs.Prelude.{◌≡◌, ◌<◌, length, IfOk, OnOk};
+ghost use Rattle.drum_flow.specs.Flow.{nodes_of};
+ghost use Rattle.drum_flow.specs.Found.{places_of};
+ghost use Rattle.drum_flow.specs.Graph.{row, size};
+ghost use Rattle.drum_loops.specs.Closing.{places_in, AreAdded, AreTargets};
 
+use drum_core::Location;
+use drum_flow::Flow;
+use drum_flow::executed::Executed;
+use drum_flow::graph::Graph;
 use std::alloc::{AllocError, Global};
 
-/// The nodes of a node's row that its edges lead back to: those whose rank isn't above the node's.
-pub(crate) fn targets_behind(
-    alloc: Global,
-    row: &[usize],
+/// Adds the locations that a node's edges lead back to: those of nodes whose rank isn't above its
+/// own.
+fn add_behind(
+    targets: &mut Executed,
+    flow: &Flow<'_>,
+    graph: &Graph,
     ranks: &[usize],
     node: usize,
-) -> Result<Vec<usize>, AllocError>
-    requires here { node < length ranks.now }
-    requires within { (next : ℕ) → Contains row.now next → next < length ranks.now }
-    ensures { IfOk result (λ targets. AreBehind row.now ranks.now node targets.items) }
+) -> Result<(), AllocError>
+    requires size { size graph.now ≡ length (nodes_of flow.now) }
+    requires ranks { length ranks.now ≡ size graph.now }
+    requires here { node < size graph.now }
+    ensures { OnOk result (AreAdded (row graph.now node) ranks.now (places_in flow.now) node
+        (places_of targets.old) (places_of targets.new)) }
 {
-    let mut seen = vec![in alloc; false; ranks.len()]?;
-    let mut targets = Vec::new(alloc);
-    for next in row {
+    for next in graph.row(node) {
         if ranks[node] < ranks[*next] {
             continue;
         }
-        if seen[*next] {
+        targets.add(flow.location(*next))?;
+    }
+    Ok(())
+}
+
+/// The locations that the edges of the nodes at a location lead back to.
+pub(crate) fn targets_behind(
+    alloc: Global,
+    flow: &Flow<'_>,
+    graph: &Graph,
+    ranks: &[usize],
+    from: Location,
+) -> Result<Executed, AllocError>
+    requires size { size graph.now ≡ length (nodes_of flow.now) }
+    requires ranks { length ranks.now ≡ size graph.now }
+    ensures { IfOk result (λ targets. AreTargets (row graph.now) ranks.now (places_in flow.now)
+        (size graph.now) from.number (places_of targets)) }
+{
+    let mut targets = Executed::none(alloc);
+    for node in 0..graph.size() {
+        if flow.location(node).number() != from.number() {
             continue;
         }
-        targets.push(*next)?;
-        seen[*next] = true;
+        add_behind(&mut targets, flow, graph, ranks, node)?;
     }
     Ok(targets)
 }

@@ -3,29 +3,36 @@
 //!
 //! Code, from the bottom up. `arrangement` is a depth-first search that puts a graph's nodes into
 //! an order, and `arranging` runs it over all of them. `ranking` tells where each node stands
-//! there. `behind` tells which of a node's edges don't go on, and `closing` lists those as edges of
-//! the flow graph. `nesting` tells whether one loop stands inside another one. `laws` has laws of
-//! the definitions.
+//! there. `behind` tells where the edges that don't go on lead to from a location; marks on these
+//! edges of locations are enough. `one_way` tells whether each of them is needed because no edge of
+//! locations both goes on and leads back, as one can from several nodes at a location. Where one
+//! does, `sparing` tries each and leaves out those that aren't needed; `beside` looks whether marks
+//! on the others are enough. `closing` puts these together. `nesting` tells whether one loop stands
+//! inside another one. `laws` has laws of the definitions.
 //!
 //! Definitions, in the order to read them: `Loops` says which edges close the loops, `Nested` which
 //! loop stands inside another, and `Marked` what notes with more marks are. The others say how
 //! these edges are found: `Arranged` what an order of nodes is in which they are those that lead
-//! back, `Arranging` what is so of the search for it, and `Flags`, `Ranks` and `Closing` what the
-//! code's lists mean by these.
+//! back, `Arranging` what is so of the search for it, `Spared` when marks are enough and which are
+//! left out, and `Flags`, `Ranks` and `Closing` what the code's lists mean by these.
 //!
 //! Proofs. `Befores` has what stands before what in an order, `Paths` what leads along it,
-//! `Arrangements` the moves of the search, `Rankings` and `Backs` the edges that lead back, and
-//! `Closings` puts them together. `Markings` is on notes with more marks, and `Reachings` on what
-//! is reached past a loop's head.
+//! `Arrangements` the moves of the search, `Rankings`, `Behinds` and `Backs` the edges that lead
+//! back, `OneWays` those that go on too, and `Closings` puts them together. `Sparings` is on edges
+//! that are left out, and `Besides` on the graph without the others. `Markings` is on notes with
+//! more marks, and `Reachings` on what is reached past a loop's head.
 #![tactic(auto)]
 
 mod arrangement;
 mod arranging;
 mod behind;
+mod beside;
 mod closing;
 pub mod laws;
 mod nesting;
+mod one_way;
 mod ranking;
+mod sparing;
 
 pub use closing::closing_edges;
 pub use nesting::is_nested;

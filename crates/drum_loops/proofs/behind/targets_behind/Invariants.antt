@@ -1,12 +1,9 @@
-use Rattle.std.proofs.Common.{◌≡◌, length, take}
-use Rattle.drum_loops.specs.Flags.{AreFlags}
-use Rattle.drum_loops.specs.Closing.{AreBehind}
+use Rattle.drum_flow.specs.Found.{places_of}
+use Rattle.drum_flow.specs.Graph.{row}
+use Rattle.drum_loops.specs.Closing.{places_in, AreTargets}
 use Rattle.drum_loops.proofs.behind.targets_behind.Given as goal
 
--- the nodes so far that are behind
-abbrev pub invariant-loop-next : goal.invariant-loop-next
-invariant-loop-next l = record {
-  behind : AreBehind (take l.next-index l.row) l.ranks l.node l.targets.items;
-  long : length l.seen.items ≡ length l.ranks;
-  flags : AreFlags l.seen.items l.targets.items;
-}
+-- where the edges of the nodes so far lead back to
+abbrev pub invariant-loop-node : goal.invariant-loop-node
+invariant-loop-node l =
+    AreTargets (row l.graph) l.ranks (places_in l.flow) l.node l.from.number (places_of l.targets)

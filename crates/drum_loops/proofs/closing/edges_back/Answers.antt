@@ -1,85 +1,64 @@
--- Of edges_back: the edges are those of the nodes so far that don't go on. What one more node adds
--- leads from its own location, so no edge is there twice.
-use Rattle.std.proofs.Common.{◌≡◌, ◌<◌, ◌+◌, ◌++◌, ℕ, List, Some, length, map, sym, ap, ◌∙◌, subst, arith}
-use Rattle.std.specs.Prelude.{Contains, slice_get}
-use Rattle.std.proofs.lemmas.List.{length-map}
+-- Of edges_back: the edges are those from the locations so far. What one more location adds leads
+-- from it, so no edge is there twice.
+use Rattle.std.proofs.Common.{◌≡◌, ◌++◌, ◌∷◌, [], ℕ, List, Some, map, take, ap, sym, ◌∙◌, subst}
+use Rattle.std.specs.Prelude.{slice_get, Contains}
+use Rattle.std.proofs.lemmas.List.{take-map, take_all}
 use Rattle.drum_core.specs.declared.location.Location.{Location}
 use Rattle.drum_flow.specs.Flow.{executed_in}
+use Rattle.drum_flow.specs.Found.{places_of}
 use Rattle.drum_flow.specs.Graph.{row, size}
 use Rattle.drum_flow.proofs.Alterations.{number_at}
-use Rattle.drum_flow.proofs.Founds.{numbers}
-use Rattle.drum_loops.specs.Closing.{AreBehind, AreBack, edges_onto}
+use Rattle.drum_flow.proofs.Founds.{numbers, numbers_more}
+use Rattle.drum_loops.specs.Closing.{places_in, AreBack, edges_onto}
+use Rattle.drum_times.specs.declared.notes.edge.Edge.{Edge}
 use Rattle.drum_times.specs.EdgeOf.{edge_of}
-use Rattle.drum_loops.proofs.Backs.{back_more}
+use Rattle.drum_loops.proofs.Backs.{back_more, none_back, not_before}
 use Rattle.drum_loops.proofs.closing.edges_back.Goals as goal
 
-same_length : (locations : List Location) (places : List ℕ) → numbers locations ≡ places
-    → length locations ≡ length places
-same_length locations places same =
-    sym (length-map locations (λ (one : Location). one.number)) ∙ ap (λ (ns : List ℕ). length ns) same
+pub loop-from-init : goal.loop-from-init
+loop-from-init c =
+    let flow = c.args.flow.now in
+    let graph = c.args.graph.now in
+    subst
+    (λ (edges : List Edge). AreBack (row graph) c.args.ranks.now (places_in flow) (size graph) [] (map edge_of edges))
+    (sym c.new-edges.ensures.items)
+    (none_back (row graph) c.args.ranks.now (places_in flow) (size graph))
 
-pub targets_behind-requires-clause-within : goal.targets_behind-requires-clause-within
-targets_behind-requires-clause-within c next there =
-    let edge : Contains (row c.args.graph.now c.loop-node.node) next =
-    subst (λ (nodes : List ℕ). Contains nodes next) c.row.ensures there in
-    let inside : next < size c.args.graph.now = c.args.graph.now.within c.loop-node.node next edge in
-    omega (arith, inside, c.requires.ranks)
-
-pub add_edges-requires : goal.add_edges-requires
-add_edges-requires c next there =
-    let behind : AreBehind (row c.args.graph.now c.loop-node.node) c.args.ranks.now c.loop-node.node
-    c.in_ok-targets.targets.items =
-    subst (λ (nodes : List ℕ). AreBehind nodes c.args.ranks.now c.loop-node.node c.in_ok-targets.targets.items)
-    c.row.ensures c.in_ok-targets.ensures in
-    let target : Contains c.in_ok-targets.targets.items next =
-    subst (λ (nodes : List ℕ). Contains nodes next) c.deref.ensures.value there in
-    let inside : next < size c.args.graph.now =
-    c.args.graph.now.within c.loop-node.node next (behind.edge next target) in
-    omega (
-      arith,
-      inside,
-      c.requires.size,
-      same_length c.executed-executed.result.now (executed_in c.args.flow.now)
-          c.executed-executed.ensures.all,
-    )
-
-pub loop-node-preserved : goal.loop-node-preserved
-loop-node-preserved c =
-    let places = executed_in c.args.flow.now in
-    let executed = c.executed-executed.result.now in
+pub loop-from-preserved : goal.loop-from-preserved
+loop-from-preserved c =
+    let flow = c.args.flow.now in
     let graph = c.args.graph.now in
     let ranks = c.args.ranks.now in
-    let k = c.loop-node.node in
-    let from = c.index-executed-node.result in
-    let targets = c.in_ok-targets.targets.items in
-    let behind : AreBehind (row graph k) ranks k targets =
-    subst (λ (nodes : List ℕ). AreBehind nodes ranks k targets) c.row.ensures c.in_ok-targets.ensures in
-    let within : (next : ℕ) → Contains targets next → next < length places = λ next there.
-    omega (arith, c.args.graph.now.within k next (behind.edge next there), c.requires.size) in
-    let here : slice_get places k ≡ Some from.number =
-    number_at executed places k from c.executed-executed.ensures.all c.loop-node-test.true
-    c.index-executed-node.is in
-    let added : map edge_of c.add_edges.new.edges.items
-    ≡ map edge_of c.loop-node.edges.items ++ edges_onto places from.number targets =
-    c.in_ok-add_edges.ensures
-    ∙ ap (λ (nodes : List ℕ). map edge_of c.loop-node.edges.items ++ edges_onto (numbers executed) from.number nodes)
-    c.deref.ensures.value
-    ∙ ap (λ (ns : List ℕ). map edge_of c.loop-node.edges.items ++ edges_onto ns from.number targets)
-    c.executed-executed.ensures.all in
-    subst (λ (edges : List (ℕ × ℕ)). AreBack (row graph) ranks places (k + 1) edges) (sym added)
-    (back_more (row graph) ranks places k from.number (map edge_of c.loop-node.edges.items) targets
-    c.loop-node.invariant behind within here c.executed-executed.ensures.different)
+    let places = places_in flow in
+    let items = c.executed-from-items.result.now in
+    let k = c.loop-from.from-index in
+    let from = c.from-item.result in
+    let before = numbers (take k items) in
+    let edges = map edge_of c.loop-from.edges.items in
+    let targets = places_of c.in_ok-targets.targets in
+    let here : slice_get (executed_in flow) k ≡ Some from.number =
+    number_at items (executed_in flow) k from c.executed-from-items.ensures.all c.loop-from-test.true c.from-item.is in
+    let were : take k (executed_in flow) ≡ before =
+    ap (take k) (sym c.executed-from-items.ensures.all) ∙ take-map (λ (one : Location). one.number) k items in
+    let new : ¬ Contains before from.number = λ there.
+    not_before (executed_in flow) k from.number c.executed-from-items.ensures.different here
+    (subst (λ (ns : List ℕ). Contains ns from.number) (sym were) there) in
+    let added : map edge_of c.add_edges.new.edges.items ≡ edges ++ edges_onto from.number targets =
+    c.in_ok-add_edges.ensures ∙ ap (λ (ns : List ℕ). edges ++ edges_onto from.number ns) c.locations.ensures.all in
+    subst
+    (λ (froms : List ℕ). AreBack (row graph) ranks places (size graph) froms (map edge_of c.add_edges.new.edges.items))
+    (sym (numbers_more items k from c.loop-from-test.true c.from-item.is))
+    (subst (λ (all : List (ℕ × ℕ)). AreBack (row graph) ranks places (size graph) (before ++ from.number ∷ []) all)
+    (sym added)
+    (back_more (row graph) ranks places (size graph) before edges from.number targets c.loop-from.invariant new
+    c.in_ok-targets.ensures c.locations.ensures.different))
 
-pub returns-clause-edges : goal.returns-clause-edges
-returns-clause-edges c =
-    let places = executed_in c.args.flow.now in
-    let all : c.loop-node.node ≡ length places =
-    omega (
-      arith,
-      c.loop-node-test.false,
-      c.loop-node.auto.node-end,
-      same_length c.executed-executed.result.now places
-          c.executed-executed.ensures.all,
-    ) in
-    subst (λ (n : ℕ). AreBack (row c.args.graph.now) c.args.ranks.now places n (map edge_of c.loop-node.edges.items)) all
-    c.loop-node.invariant
+pub returns : goal.returns
+returns c =
+    let flow = c.args.flow.now in
+    let graph = c.args.graph.now in
+    subst
+    (λ (froms : List ℕ). AreBack (row graph) c.args.ranks.now (places_in flow) (size graph) froms
+    (map edge_of c.loop-from.edges.items))
+    (ap numbers (take_all c.loop-from.from-index c.executed-from-items.result.now c.loop-from-test.false)
+    ∙ c.executed-from-items.ensures.all) c.loop-from.invariant
