@@ -14,7 +14,7 @@ use Rattle.drum_core.specs.Op.{op_of}
 use Rattle.drum_times.specs.declared.notes.mark.Mark.{Mark}
 use Rattle.drum_times.specs.Marks.{mark_on}
 use Rattle.drum_machine.specs.Counts.{after_pass, is_inside, passed_from, AreWithin}
-use Rattle.drum_machine.specs.Since.{passes_of}
+use Rattle.drum_machine.specs.Since.{passes_of, Edge}
 use Rattle.drum_machine.specs.Ways.{Way, early, to, late}
 use Rattle.drum_flow.specs.Hops.{hops}
 use Rattle.drum_flow.specs.Longest.{longest}
@@ -25,9 +25,11 @@ use Rattle.drum_flow.proofs.LongestLaws.{longest_is_timed}
 use Rattle.drum_flow.proofs.Profiles.{hop_may_end}
 use Rattle.drum_rounds.specs.declared.change.Change.{Change}
 use Rattle.drum_rounds.specs.declared.change.Change.TheVariants.{Rise, SetBack}
+use Rattle.drum_rounds.specs.declared.opening.Opening.{Opening}
 use Rattle.drum_rounds.specs.Change.{all_followed, counts_after, over_rounds, passes_by, peaks}
 use Rattle.drum_rows.specs.Marked.{mark_by}
 use Rattle.drum_rounds.specs.InRounds.{takes}
+use Rattle.drum_rounds.specs.Opening.{AreBoth, AreRight}
 use Rattle.drum_rounds.specs.Pieces.{placed, repeated, PlacedHop}
 use Rattle.drum_rounds.specs.Stretch.{changes_by, edges_placed, laid, laid_one, next_by, ComeTo, GoOn, Span}
 use Rattle.drum_flow.specs.Longest.{units_by, wait_by}
@@ -35,6 +37,7 @@ use Rattle.drum_rounds.proofs.CountLaws.{at_followed, at_rounds, counts_followed
 use Rattle.drum_rounds.proofs.CountLaws.{long_followed, passes_followed, passes_rounds, within_first, within_followed}
 use Rattle.drum_rounds.proofs.CountLaws.{within_none, within_others, within_passed}
 use Rattle.drum_rounds.proofs.LaidLaws.{laid_append, time_append}
+use Rattle.drum_rounds.proofs.OpeningLaws.{both_right, rounds_right}
 
 -- how often a hop passes the mark with an index, by the index of the mark that it passes
 passes_one : (all : List Mark) (found : Option ℕ) (index : ℕ) (marks : List Mark) (k at : ℕ) (change : Change)
@@ -75,24 +78,37 @@ passes_one all (Some passed) index (mark ∷ marks) zero at change sum is =
 passes_one all (Some passed) index (mark ∷ marks) (suc k) at change sum is =
     passes_one all (Some passed) (index + 1) marks k at change (omega (arith, sum)) is
 
+-- the edges of hops, one after the other
+edges_append : (xs ys : List PlacedHop) → edges_placed (xs ++ ys) ≡ edges_placed xs ++ edges_placed ys
+edges_append xs ys = flat_map-append (λ (one : PlacedHop). edge_taken one.place one.hop.way) xs ys
+
+-- and over rounds
+edges_repeated : (times : ℕ) (hops : List PlacedHop)
+    → edges_placed (repeated times hops) ≡ repeated times (edges_placed hops)
+edges_repeated zero hops = refl
+edges_repeated (suc times) hops =
+    edges_append hops (repeated times hops)
+    ∙ ap (λ (es : List Edge). edges_placed hops ++ es) (edges_repeated times hops)
+
 -- passes along hops, one after the other
 passes_append : (marks : List Mark) (index : ℕ) (xs ys : List PlacedHop)
     → passes_of marks index (edges_placed (xs ++ ys))
     ≡ passes_of marks index (edges_placed xs) + passes_of marks index (edges_placed ys)
 passes_append marks index xs ys =
-    ap (passes_of marks index) (flat_map-append (λ (one : PlacedHop). edge_taken one.place one.hop.way) xs ys)
+    ap (passes_of marks index) (edges_append xs ys)
     ∙ sum_by-append _ (edges_placed xs) (edges_placed ys)
 
 -- no hop
-pub none_comes : (g : Setting) (place angle : ℕ)
+pub none_comes : (g : Setting) (place angle : ℕ) (openings : List Opening) → AreRight g.notes.calls [] openings
     → ComeTo g [] (record {
       from = place;
       angle = angle;
       onto = Some place;
       time = 0;
       changes = changes_by g.notes.marks None 0 g.notes.marks;
+      openings = openings;
     })
-none_comes g place angle =
+none_comes g place angle openings right =
     let marks = g.notes.marks in
     record {
       each = long_by marks None 0 marks;
@@ -106,6 +122,7 @@ none_comes g place angle =
           subst (λ (cs : List ℕ). IsWalkFrom g from place time cs rest) so.1
           (subst (λ (t : ℕ). IsWalkFrom g from place t (counts_after (changes_by marks None 0 marks) counts) rest) same
           goes);
+      opens = right;
     }
 
 -- what a pass of a mark does to counts, if one is passed
@@ -118,7 +135,8 @@ within_by marks None counts within = within_none marks 0 marks counts within
 within_by marks (Some passed) counts within = within_passed marks passed 0 marks counts within
 
 -- a hop of a place
-module _ (g : Setting) (place angle : ℕ) (ins : Instruction) (on_drum : angle < 50) (took : ℕ) where
+module _ (g : Setting) (place angle : ℕ) (ins : Instruction) (on_drum : angle < 50) (took : ℕ)
+    (openings : List Opening) where
   abbrev one_hop : Way → PlacedHop
   one_hop way = record { place = place; angle = angle; hop = record { ins = ins; way = way } }
 
@@ -129,6 +147,7 @@ module _ (g : Setting) (place angle : ℕ) (ins : Instruction) (on_drum : angle 
     onto = next_by way;
     time = took;
     changes = changes_by g.notes.marks (mark_by g.notes.marks place way) 0 g.notes.marks;
+    openings = openings;
   }
 
   -- it ends so much later, from each clock of its angle
@@ -189,8 +208,9 @@ module _ (g : Setting) (place angle : ℕ) (ins : Instruction) (on_drum : angle 
   )
 
   pub hop_comes : (way : Way) → Contains (hops g.loads g.notes place) (record { ins = ins; way = way })
-      → longest g.times place ins way angle ≡ angle + took → ComeTo g (one_hop way ∷ []) (one_span way)
-  hop_comes way has is = record {
+      → longest g.times place ins way angle ≡ angle + took → AreRight g.notes.calls (edge_taken place way) openings
+      → ComeTo g (one_hop way ∷ []) (one_span way)
+  hop_comes way has is right = record {
     each = long_by g.notes.marks (mark_by g.notes.marks place way) 0 g.notes.marks;
     passed = hop_passes way;
     lasts = omega (arith, is);
@@ -198,11 +218,14 @@ module _ (g : Setting) (place angle : ℕ) (ins : Instruction) (on_drum : angle 
         ap (λ (a : ℕ). record { place = place; angle = a; hop = record { ins = ins; way = way } } ∷ []) at;
     time = λ start time at. ends_later way is start time at;
     walks = hop_walks way has is;
+    opens =
+        subst (λ (es : List Edge). AreRight g.notes.calls es openings) (sym (append-nil (edge_taken place way))) right;
   }
 
 -- one stretch behind another
 module _ (g : Setting) (xs ys : List PlacedHop) (a b : Span) (onto : a.onto ≡ Some b.from)
-    (turn : (a.angle + a.time) % 50 ≡ b.angle) (first : ComeTo g xs a) (second : ComeTo g ys b) where
+    (turn : (a.angle + a.time) % 50 ≡ b.angle) (first : ComeTo g xs a) (second : ComeTo g ys b)
+    (all : List Opening) (are : AreBoth a.openings b.openings all) where
   abbrev both : Span
   both = record {
     from = a.from;
@@ -210,6 +233,7 @@ module _ (g : Setting) (xs ys : List PlacedHop) (a b : Span) (onto : a.onto ≡ 
     onto = b.onto;
     time = a.time + b.time;
     changes = all_followed a.changes b.changes;
+    openings = all;
   }
 
   long : length a.changes ≡ length b.changes
@@ -284,11 +308,16 @@ module _ (g : Setting) (xs ys : List PlacedHop) (a b : Span) (onto : a.onto ≡ 
     placed = then_placed;
     time = then_time;
     walks = then_walks;
+    opens =
+        subst (λ (es : List Edge). AreRight g.notes.calls es all) (sym (edges_append xs ys))
+        (both_right g.notes.calls (edges_placed xs) (edges_placed ys) a.openings b.openings all first.opens
+        second.opens are);
   }
 
 -- rounds of a stretch that ends where and as it begins
 module _ (g : Setting) (hops : List PlacedHop) (a : Span) (onto : a.onto ≡ Some a.from)
-    (turn : (a.angle + a.time) % 50 ≡ a.angle) (one : ComeTo g hops a) where
+    (turn : (a.angle + a.time) % 50 ≡ a.angle) (one : ComeTo g hops a) (all : List Opening)
+    (are : AreBoth a.openings a.openings all) where
   abbrev rounds : ℕ → Span
   rounds times = record {
     from = a.from;
@@ -296,6 +325,7 @@ module _ (g : Setting) (hops : List PlacedHop) (a : Span) (onto : a.onto ≡ Som
     onto = a.onto;
     time = times * a.time;
     changes = map (over_rounds times) a.changes;
+    openings = all;
   }
 
   rounds_passes : (times : ℕ) (index : ℕ)
@@ -318,6 +348,11 @@ module _ (g : Setting) (hops : List PlacedHop) (a : Span) (onto : a.onto ≡ Som
       ap passes_by so.2 ∙ passes_rounds times so.0
       ∙ ap (λ (n : ℕ). times * n) (one.passed index so.0 so.1) ∙ sym (rounds_passes times index)
 
+  rounds_open : (more : ℕ) → AreRight g.notes.calls (edges_placed (repeated (suc more) hops)) all
+  rounds_open more =
+      subst (λ (es : List Edge). AreRight g.notes.calls es all) (sym (edges_repeated (suc more) hops))
+      (rounds_right g.notes.calls (edges_placed hops) a.openings all one.opens are more)
+
   -- one round alone
   first_round : ComeTo g (hops ++ []) (rounds 1)
   first_round = record {
@@ -339,6 +374,7 @@ module _ (g : Setting) (hops : List PlacedHop) (a : Span) (onto : a.onto ≡ Som
         (sym (append-nil hops))
         (one.walks start time counts rest at
         (within_first 0 g.notes.marks a.changes counts one.each within) on);
+    opens = rounds_open 0;
   }
     where
       same : a.time ≡ 1 * a.time
@@ -416,6 +452,7 @@ module _ (g : Setting) (hops : List PlacedHop) (a : Span) (onto : a.onto ≡ Som
       placed = more_placed;
       time = more_time;
       walks = more_walks;
+      opens = rounds_open (suc more);
     }
 
   pub rounds_come : (more : ℕ) → ComeTo g (repeated (suc more) hops) (rounds (suc more))

@@ -4,10 +4,11 @@ use Rattle.std.proofs.Common.{refl, ap, sym, ◌∙◌, subst, arith, Option, So
 use Rattle.std.specs.Prelude.{slice_get, slice_index, sum_by}
 use Rattle.std.proofs.lemmas.Bool.{cases_lt}
 use Rattle.std.proofs.lemmas.List.{append-nil, length-append, length-map, take_more}
+use Rattle.drum_machine.specs.Calls.{none_open, GoBack}
 use Rattle.drum_machine.specs.Counts.{no_counts}
 use Rattle.drum_machine.specs.Since.{passes_of}
-use Rattle.drum_machine.proofs.Returning.{none_to_keep}
-use Rattle.drum_flow.specs.Walk.{IsWalkFrom, Setting, edges_taken}
+use Rattle.drum_times.specs.declared.notes.call.Call.{Call}
+use Rattle.drum_flow.specs.Walk.{IsWalkFrom, Setting}
 use Rattle.drum_rounds.specs.declared.piece.Piece.{Piece}
 use Rattle.drum_rounds.specs.declared.stretch.Stretch.{Stretch}
 use Rattle.drum_rounds.specs.Change.{counts_after, passes_by}
@@ -84,13 +85,13 @@ told_at {X = X} f (x ∷ xs) told first each (suc index) less =
     each (suc k) one at ∙ ap told same)
     index (omega (arith, less)) ∙ ap told next
 
--- The last piece is a walk, where it begins as one does and no count is ever above what its mark allows.
+-- The last piece is a walk, where it begins as one does, no count is ever above what its mark allows, and no exit has
+-- to be open at first.
 pub whole_walk : (g : Setting) (pieces : List Piece) (stretches : List Stretch) (whole : Stretch) (passes : List ℕ)
     → AreStretches g (spelled_behind [] pieces) stretches → slice_get stretches (length stretches - 1) ≡ Some whole
     → IsFromStart g (span_of whole) → passes ≡ map passes_by whole.changes.items → AreInOrder pieces
-    → g.notes.calls ≡ []
     → SpellOut g whole.angle pieces passes whole.time
-whole_walk g pieces stretches whole passes are last begins all order without =
+whole_walk g pieces stretches whole passes are last begins all order =
     let marks = g.notes.marks in
     let span = span_of whole in
     let hops = spelled pieces in
@@ -114,7 +115,10 @@ whole_walk g pieces stretches whole passes are last begins all order without =
       walk = record {
         on_drum = begins.on_drum;
         from_start = walk;
-        back = none_to_keep g.notes.calls _ (edges_taken taken) without;
+        back =
+            subst (GoBack g.notes.calls (none_open g.notes.calls)) (sym (edges_laid g angle 0 hops))
+            (come.opens.back (none_open g.notes.calls) (length-map g.notes.calls (λ (call : Call). None))
+            begins.closed);
       };
       longest = longest_laid g angle 0 hops;
       time = come.time angle 0 at ∙ omega arith;

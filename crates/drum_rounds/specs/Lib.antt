@@ -2,6 +2,7 @@ pub mod BracketOf
 pub mod Change
 pub mod InRounds
 pub mod OftenOf
+pub mod Opening
 pub mod Order
 pub mod OrderOf
 pub mod Pieces

@@ -2,9 +2,9 @@
 use Rattle.std.specs.Prelude.{◌≡◌, ℕ, ◌+◌, ◌-◌, ◌%◌, ◌==◌, if◌then◌else◌, List, [], ◌∷◌, ◌++◌}
 use Rattle.std.specs.Prelude.{flat_map, length, map, slice_get, sum_by, Option, Some, None, ◌<◌}
 use Rattle.drum_core.specs.declared.location.Location.{Location}
-use Rattle.drum_core.specs.declared.op.Op.{Op}
 use Rattle.drum_core.specs.Op.{op_of}
 use Rattle.drum_times.specs.declared.notes.mark.Mark.{Mark}
+use Rattle.drum_machine.specs.Calls.{none_open}
 use Rattle.drum_machine.specs.Counts.{is_inside, no_counts, AreWithin}
 use Rattle.drum_machine.specs.Since.{Edge, passes_of}
 use Rattle.drum_machine.specs.Ways.{Way, early, to, late}
@@ -13,19 +13,22 @@ use Rattle.drum_flow.specs.Walk.{edge_taken}
 use Rattle.drum_flow.specs.Walk.{Setting, Taken, IsWalkFrom, time_from}
 use Rattle.drum_rounds.specs.declared.change.Change.{Change}
 use Rattle.drum_rounds.specs.declared.change.Change.TheVariants.{Rise, SetBack}
+use Rattle.drum_rounds.specs.declared.opening.Opening.{Opening}
 use Rattle.drum_rounds.specs.declared.stretch.Stretch.{Stretch}
 use Rattle.drum_rounds.specs.Change.{counts_after, passes_by, peaks}
 use Rattle.drum_rounds.specs.InRounds.{takes}
+use Rattle.drum_rounds.specs.Opening.{AreRight, Meet}
 use Rattle.drum_rounds.specs.Pieces.{placed, spelled_at, PlacedHop}
 
--- where hops begin, at which angle, where the last leads if it goes on, how long they take, and
--- what they do to each mark's count
+-- where hops begin, at which angle, where the last leads if it goes on, how long they take, what
+-- they do to each mark's count, and what they ask and make of what is open at each call's exit
 pub record Span : Type 0 where
   pub from : ℕ
   pub angle : ℕ
   pub onto : Option ℕ
   pub time : ℕ
   pub changes : List Change
+  pub openings : List Opening
 
 abbrev pub number_of : Option Location → Option ℕ
 number_of None = None
@@ -38,6 +41,7 @@ span_of stretch = record {
   onto = number_of stretch.onto;
   time = stretch.time;
   changes = stretch.changes.items;
+  openings = stretch.openings.items;
 }
 
 -- the hop, begun at this time, as long as it can be
@@ -75,7 +79,8 @@ GoOn g angle time counts rest (Some next) = IsWalkFrom g angle next time counts 
 
 -- The hops come to this: from any time of the span's angle they begin at their own angles and take
 -- as long, and with what goes on behind them they are a walk, if the counts are never above what
--- the marks allow.
+-- the marks allow. They go back from exits as the calls have it, if what is open at first meets
+-- what they ask.
 pub record ComeTo (g : Setting) (hops : List PlacedHop) (span : Span) : Type 0 where
   pub each : length span.changes ≡ length g.notes.marks
   pub passed : (index : ℕ) (change : Change) → slice_get span.changes index ≡ Some change
@@ -90,6 +95,7 @@ pub record ComeTo (g : Setting) (hops : List PlacedHop) (span : Span) : Type 0 w
       → AreWithin g.notes.marks (peaks span.changes counts)
       → GoOn g angle (time + span.time) (counts_after span.changes counts) rest span.onto
       → IsWalkFrom g angle span.from time counts (laid g angle time hops ++ rest)
+  pub opens : AreRight g.notes.calls (edges_placed hops) span.openings
 
 -- what a pass of the mark with the index `passed`, if one is passed, does to the count of the mark
 -- with this index
@@ -112,8 +118,10 @@ pub record AreStretches (g : Setting) (pieces : List (List PlacedHop))
   pub come : (number : ℕ) (stretch : Stretch) → slice_get stretches number ≡ Some stretch
       → ComeTo g (spelled_at pieces number) (span_of stretch)
 
--- The span begins as a walk does, and no count is ever above what its mark allows.
+-- The span begins as a walk does, no count is ever above what its mark allows, and no exit has to
+-- be open at first.
 pub record IsFromStart (g : Setting) (span : Span) : Type 0 where
   pub starts : span.from ≡ g.start
   pub on_drum : span.angle < 50
   pub within : AreWithin g.notes.marks (peaks span.changes (no_counts g.notes.marks))
+  pub closed : Meet span.openings (none_open g.notes.calls)

@@ -9,13 +9,14 @@ ghost use Rattle.drum_rounds.specs.Pieces.{repeated, seen_placed, PlacedHop};
 ghost use Rattle.drum_rounds.specs.Stretch.{next_by, number_of, span_of, ComeTo};
 
 use crate::changes::{changes_by, followed, over_rounds};
+use crate::openings;
 use crate::piece::Placed;
 use crate::setting::Setting;
 use crate::stretch::Stretch;
 use drum_core::Location;
 use drum_flow::longest::longest;
 use drum_machine::Way;
-use drum_times::Mark;
+use drum_times::{Mark, Notes};
 use std::alloc::{AllocError, Global};
 
 /// Where a hop by this way goes on.
@@ -42,11 +43,11 @@ impl Stretch {
     /// No hop, of a location at an angle.
     pub fn none(
         alloc: Global,
-        marks: &[Mark],
+        notes: &Notes,
         from: Location,
         angle: u64,
     ) -> Result<Stretch, AllocError>
-        ensures { IfOk result (λ made. (g : walks.Setting) → g.notes.marks ≡ marks.now
+        ensures { IfOk result (λ made. (g : walks.Setting) → g.notes ≡ notes.now
             → ComeTo g [] (span_of made)) }
     {
         Ok(Stretch {
@@ -54,7 +55,8 @@ impl Stretch {
             angle,
             onto: Some(from),
             time: 0,
-            changes: changes_by(alloc, marks, None)?,
+            changes: changes_by(alloc, notes.marks(), None)?,
+            openings: openings::all_kept(alloc, notes.calls())?,
         })
     }
 
@@ -80,17 +82,21 @@ impl Stretch {
             onto: next_by(one.hop.way),
             time: u128::from(end - one.angle),
             changes: changes_by(alloc, marks, passed)?,
+            openings: openings::of_hop(alloc, by.notes.calls(), one.location, one.hop.way)?,
         }))
     }
 
     /// This stretch and then another; `None` where that doesn't begin where and when this one ends,
-    /// or there is no room for so much.
+    /// or asks what this one doesn't leave open, or there is no room for so much.
     pub fn then(&self, alloc: Global, next: &Stretch) -> Result<Option<Stretch>, AllocError>
         ensures { IfOk result (λ made. IfSome made (λ both. (g : walks.Setting)
             (hops others : List PlacedHop) → ComeTo g hops (span_of self.now)
             → ComeTo g others (span_of next.now) → ComeTo g (hops ++ others) (span_of both))) }
     {
-        if self.changes.len() != next.changes.len() || !self.leads_to(next) {
+        if self.changes.len() != next.changes.len() || self.openings.len() != next.openings.len() {
+            return Ok(None);
+        }
+        if !self.leads_to(next) {
             return Ok(None);
         }
         let Some(time) = self.time.checked_add(next.time) else {
@@ -99,17 +105,21 @@ impl Stretch {
         let Some(changes) = followed(alloc, &self.changes, &next.changes)? else {
             return Ok(None);
         };
+        let Some(openings) = openings::followed(alloc, &self.openings, &next.openings)? else {
+            return Ok(None);
+        };
         Ok(Some(Stretch {
             from: self.from,
             angle: self.angle,
             onto: next.onto,
             time,
             changes,
+            openings,
         }))
     }
 
-    /// So many rounds of this stretch; `None` where it doesn't end where and as it begins, or there
-    /// is no room for so much.
+    /// So many rounds of this stretch; `None` where it doesn't end where and as it begins, or a
+    /// second round would ask what the first doesn't leave open, or there is no room for so much.
     pub fn rounds(&self, alloc: Global, times: u16) -> Result<Option<Stretch>, AllocError>
         requires { 0 < times }
         ensures { IfOk result (λ made. IfSome made (λ all. (g : walks.Setting)
@@ -125,12 +135,16 @@ impl Stretch {
         let Some(changes) = over_rounds(alloc, &self.changes, times)? else {
             return Ok(None);
         };
+        let Some(openings) = openings::followed(alloc, &self.openings, &self.openings)? else {
+            return Ok(None);
+        };
         Ok(Some(Stretch {
             from: self.from,
             angle: self.angle,
             onto: self.onto,
             time,
             changes,
+            openings,
         }))
     }
 }

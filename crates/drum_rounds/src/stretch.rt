@@ -3,6 +3,7 @@
 ghost use Rattle.std.specs.Prelude.{◌≡◌, ◌+◌, ◌%◌, ◌<◌, length, IsTrue, Some};
 
 use crate::change::Change;
+use crate::opening::Opening;
 use drum_core::{Location, REVOLUTION};
 
 /// What hops, one after the other, come to.
@@ -18,6 +19,8 @@ pub struct Stretch {
     pub time: u128,
     /// What they do to the count of each mark.
     pub changes: Vec<Change>,
+    /// What they ask of what is open at the exit of each call, and how they leave it.
+    pub openings: Vec<Opening>,
 }
 
 impl Stretch {

@@ -9,6 +9,7 @@ ghost use Rattle.drum_rounds.specs.Stretch.{span_of, AreStretches, ComeTo, IsFro
 
 use crate::changes::{are_within, passes_of};
 use crate::in_rounds::InRounds;
+use crate::openings;
 use crate::order::Order;
 use crate::piece::{Piece, Rounds};
 use crate::setting::Setting;
@@ -41,7 +42,7 @@ impl Setting<'_> {
         let Some(first) = first_of(stretches, pieces) else {
             return Ok(None);
         };
-        let mut whole = Stretch::none(alloc, self.notes.marks(), first.from, first.angle)?;
+        let mut whole = Stretch::none(alloc, self.notes, first.from, first.angle)?;
         for number in pieces {
             let Some(next) = stretches.get(*number) else {
                 return Ok(None);
@@ -112,7 +113,8 @@ impl Setting<'_> {
         Ok(Some(stretches))
     }
 
-    /// Whether a stretch begins as a walk does, and no count is ever above what its mark allows.
+    /// Whether a stretch begins as a walk does, no count is ever above what its mark allows, and no
+    /// exit has to be open at first.
     fn is_from_start(&self, whole: &Stretch) -> bool
         ensures { IsTrue result → IsFromStart
             (setting self.now.deck.now self.now.times.now self.now.notes.now) (span_of whole.now) }
@@ -124,7 +126,7 @@ impl Setting<'_> {
         if whole.changes.len() != marks.len() {
             return false;
         }
-        are_within(marks, &whole.changes)
+        are_within(marks, &whole.changes) && openings::ask_nothing(&whole.openings)
     }
 
     /// The walk that the pieces spell out; `None` where that is none.
@@ -144,7 +146,6 @@ impl Setting<'_> {
         let Some(told) = Told::of(alloc, &pieces, &stretches)? else {
             return Ok(None);
         };
-        prove!(self.notes.calls().is_empty());
         Ok(Some(InRounds {
             angle: whole.angle,
             passes: passes_of(alloc, &whole.changes)?,

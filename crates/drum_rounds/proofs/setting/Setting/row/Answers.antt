@@ -1,4 +1,4 @@
-use Rattle.std.proofs.Common.{◌≡◌, ℕ, ◌+◌, List, [], ◌∷◌, ◌++◌, Some, get_or, take, sym, ap, ◌∙◌, subst}
+use Rattle.std.proofs.Common.{◌≡◌, ℕ, ◌+◌, List, [], ◌∷◌, ◌++◌, Some, get_or, take, refl, sym, ap, ◌∙◌, subst}
 use Rattle.std.specs.Prelude.{flat_map, length, slice_get}
 use Rattle.std.proofs.lemmas.Bool.{ltb-true}
 use Rattle.std.proofs.lemmas.Option.{slice_get-get_or}
@@ -12,7 +12,7 @@ use Rattle.drum_rounds.proofs.setting.Setting.row.Goals as goal
 pub loop-number-init : goal.loop-number-init
 loop-number-init c before are =
     let own = c.args.self.now in
-    c.in_ok-whole.ensures (setting own.deck.now own.times.now own.notes.now) (sym c.marks.ensures.all)
+    c.in_ok-whole.ensures (setting own.deck.now own.times.now own.notes.now) refl
 
 pub loop-number-preserved : goal.loop-number-preserved
 loop-number-preserved c before are =

@@ -37,6 +37,6 @@ returns c =
     (sym c.deref-3.ensures.value)
     (subst (AreStretches g (spelled_behind [] pieces)) (sym c.deref-4.ensures.value) are) in (
       whole_walk g pieces stretches whole c.in_ok-passes_of.field-0.items are last
-          (c.is_from_start.ensures c.if-not-is_from_start.false) all order c.calls.ensures.sound.without_calls,
+          (c.is_from_start.ensures c.if-not-is_from_start.false) all order,
       subst (λ (ps : List Piece). AreTold g.times ps lasting often) c.deref-3.ensures.value (told g near),
     )

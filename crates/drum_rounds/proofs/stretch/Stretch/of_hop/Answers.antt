@@ -1,13 +1,16 @@
 use Rattle.std.proofs.Common.{◌≡◌, ℕ, ◌+◌, List, [], ◌∷◌, Option, sym, ap, ◌∙◌, subst, arith}
 use Rattle.drum_core.specs.Loads.{loads_in}
 use Rattle.drum_times.specs.declared.notes.mark.Mark.{Mark}
+use Rattle.drum_times.specs.declared.notes.call.Call.{Call}
 use Rattle.drum_times.specs.Entries.{entry_in}
 use Rattle.drum_machine.specs.WaysLeft.{seen_way}
 use Rattle.drum_flow.specs.Longest.{longest}
 use Rattle.drum_flow.specs.SettingOf.{setting}
+use Rattle.drum_flow.specs.Walk.{edge_taken}
 use Rattle.drum_flow.proofs.Profiles.{hop_may_end}
 use Rattle.drum_rounds.specs.declared.change.Change.{Change}
 use Rattle.drum_rows.specs.Marked.{mark_by}
+use Rattle.drum_rounds.specs.Opening.{AreRight}
 use Rattle.drum_rounds.specs.Pieces.{seen_placed}
 use Rattle.drum_rounds.specs.Stretch.{changes_by, next_by, ComeTo}
 use Rattle.drum_rounds.proofs.Comings.{hop_comes}
@@ -36,16 +39,22 @@ returns c =
     ∙ ap (λ (k : Option ℕ). changes_by c.marks-marks.result.now k 0 c.marks-marks.result.now) c.mark_by-passed.ensures
     ∙ ap (λ (ms : List Mark). changes_by ms (mark_by ms place way) 0 ms) marks
     ) in
+    let calls : c.calls.result.now ≡ by.notes.now.calls = c.calls.ensures.all in
+    let openings = c.in_ok-of_hop.field-0.items in
+    let right : AreRight by.notes.now.calls (edge_taken place way) openings =
+    subst (λ (cs : List Call). AreRight cs (edge_taken place way) openings) calls c.in_ok-of_hop.ensures in
     let ends : longest (entry_in by.times.now) place one.hop.instruction way one.angle ≡ one.angle + took =
     omega (arith, c.longest-end.ensures.value, c.longest-end.ensures.later, c.from.ensures) in
     let is =
-    hop_comes g place one.angle one.hop.instruction one.on_drum took way (c.has_hop.ensures c.if-not-has_hop.false) ends in
+    hop_comes g place one.angle one.hop.instruction one.on_drum took openings way
+    (c.has_hop.ensures c.if-not-has_hop.false) ends right in
     subst (λ (onto : Option ℕ). ComeTo g (seen_placed one ∷ []) (record {
       from = place;
       angle = one.angle;
       onto = onto;
       time = took;
       changes = c.in_ok-changes_by.field-0.items;
+      openings = openings;
     })) (sym c.next_by.ensures)
     (subst (λ (cs : List Change). ComeTo g (seen_placed one ∷ []) (record {
       from = place;
@@ -53,4 +62,5 @@ returns c =
       onto = next_by way;
       time = took;
       changes = cs;
+      openings = openings;
     })) changes is)

@@ -1,6 +1,8 @@
 use Rattle.std.proofs.Common.{◌≡◌, ℕ, suc, ◌-◌, ◌*◌, List, sym, ap, ◌∙◌, subst, arith, map}
 use Rattle.drum_rounds.specs.declared.change.Change.{Change}
+use Rattle.drum_rounds.specs.declared.opening.Opening.{Opening}
 use Rattle.drum_rounds.specs.Change.{over_rounds}
+use Rattle.drum_rounds.specs.Opening.{AreBoth}
 use Rattle.drum_rounds.specs.Pieces.{repeated}
 use Rattle.drum_rounds.specs.Stretch.{number_of, span_of, ComeTo}
 use Rattle.drum_rounds.proofs.Comings.{rounds_come}
@@ -17,12 +19,18 @@ returns c g hops one =
     made ∙ ap (map (over_rounds times)) c.deref.ensures.value in
     let time : c.in-Some.time ≡ times * own.time =
     c.in-Some.ensures.1 ∙ ap (λ (n : ℕ). n * own.time) c.from.ensures in
+    let openings = c.in-Some-3.openings.items in
+    let joined = rw c.in-Some-3.is at c.in_ok-openings.ensures in
+    let are : AreBoth own.openings.items own.openings.items openings =
+    subst (λ (os : List Opening). AreBoth own.openings.items os openings) c.deref-3.ensures.value
+    (subst (λ (os : List Opening). AreBoth os c.deref-3.result.now openings) c.deref-2.ensures.value joined) in
     subst (λ (cs : List Change). ComeTo g (repeated times hops) (record {
       from = own.from.number;
       angle = own.angle;
       onto = number_of own.onto;
       time = c.in-Some.time;
       changes = cs;
+      openings = openings;
     })) (sym changes)
     (subst (λ (t : ℕ). ComeTo g (repeated times hops) (record {
       from = own.from.number;
@@ -30,6 +38,7 @@ returns c g hops one =
       onto = number_of own.onto;
       time = t;
       changes = map (over_rounds times) own.changes.items;
+      openings = openings;
     })) (sym time)
     (subst (λ (n : ℕ). ComeTo g (repeated n hops) (record {
       from = own.from.number;
@@ -37,5 +46,6 @@ returns c g hops one =
       onto = number_of own.onto;
       time = n * own.time;
       changes = map (over_rounds n) own.changes.items;
+      openings = openings;
     })) some
-    (rounds_come g hops (span_of own) leads.0 leads.1 one (times - 1))))
+    (rounds_come g hops (span_of own) leads.0 leads.1 one openings are (times - 1))))
