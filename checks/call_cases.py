@@ -3,13 +3,15 @@ of calls. checks/model-calls holds the plain model to them."""
 
 from collections import namedtuple
 
-# A deck's words as `LOC op d i`, and its start; the notes' marks as (from, to, most), its lists as
-# {location: [(op, d, i), ..]}, and its calls as (from, to, exit, back). Then how a run ends, without
-# its times, which locations are executed, how many nodes there are, and what a check tells: its
-# lines but for `idle`, and the edges that close loops.
+NOTES = 'programmed = "stop"\nload_cards = "none"'
+
+# A deck's words as `LOC op d i`, of which the first is its start; the notes' marks as (from, to,
+# most), their lists as {location: [(op, d, i), ..]}, and their calls as (from, to, exit, back). Then
+# how a run ends, without its times, which locations are executed, how many nodes there are, and what
+# a check tells: its lines but for `idle`, and the edges that close loops.
 Case = namedtuple("Case", "title words marks lists calls verdict executed nodes findings loops")
 
-# The deck of examples/subroutine, in small: two calls of one subroutine at 0010, whose exit is 0011.
+# As examples/subroutine, in small: two calls of one subroutine at 0010, whose exit is 0011.
 TWICE = """
 0000 69 0020 0001
 0001 24 0011 0010
@@ -176,6 +178,42 @@ CASES = [
 ]
 
 
+# Calls of notes as TOML, and all their faults, without the words `fault` and `notes`.
+CALL = "[[call]]\nfrom = %s\nto = %s\nexit = %s\nback = %s\n"
+FAULTS = [
+    ("", []),
+    ("call = []\n", []),
+    ("call = 1\n", ["16 kind call"]),
+    ("call = [1, {}]\n", [
+        "16 kind call.1", "13 missing call.2.from", "13 missing call.2.to",
+        "13 missing call.2.exit", "13 missing call.2.back",
+    ]),
+    (CALL % (0, 8003, 1999, 8000), []),
+    (CALL % (2000, -1, 8004, 9999), [
+        "15 range call.1." + key for key in ("from", "to", "exit", "back")
+    ]),
+    (CALL % ("true", "1.0", '"1"', "[]"), [
+        "16 kind call.1." + key for key in ("from", "to", "exit", "back")
+    ]),
+    (CALL % (1, 2, 3, 4) + "name = 1\nedges = 2\n", [
+        "14 unknown call.1.edges", "14 unknown call.1.name",
+    ]),
+    # The same edge and exit; then the same edge with another exit, and the same exit on another.
+    (CALL % (1, 2, 3, 4) + CALL % (1, 2, 3, 5), ["15 range call.2.exit"]),
+    (CALL % (1, 2, 3, 4) + CALL % (1, 2, 4, 4) + CALL % (2, 1, 3, 4), []),
+    # An earlier call counts whatever its way back is; one with another fault in its place doesn't.
+    (CALL % (1, 2, 3, -1) + CALL % (1, 2, 3, 4), ["15 range call.1.back", "15 range call.2.exit"]),
+    (CALL % (-1, 2, 3, 4) + CALL % (-1, 2, 3, 4), ["15 range call.1.from", "15 range call.2.from"]),
+    ("".join(CALL % (1, 2, exit, 4) for exit in range(64)), []),
+    ("".join(CALL % (1, 2, exit, 4) for exit in range(65)), ["15 range call"]),
+    # Calls come behind lists, and what is there twice comes last.
+    (CALL % (1, 2, 3, "''") + "[[list]]\n" + 2 * "[[mark]]\nfrom = 1\nto = 2\nmost = 1\n", [
+        "13 missing list.1.location", "13 missing list.1.pattern", "16 kind call.1.back",
+        "17 twomarks 0001 0002",
+    ]),
+]
+
+
 def deck_of(case):
     """The text of a case's deck, whose first word is its start."""
     lines = [line.split(" ") for line in case.words.strip().split("\n")]
@@ -185,7 +223,7 @@ def deck_of(case):
 
 def notes_of(case):
     """The text of a case's notes."""
-    lines = ['programmed = "stop"', 'load_cards = "none"']
+    lines = [NOTES]
     for source, target, most in case.marks:
         lines += ["[[mark]]", "from = %d" % source, "to = %d" % target, "most = %d" % most]
     for source, target, exit, back in case.calls:
@@ -196,3 +234,16 @@ def notes_of(case):
         form = "  { op = %d, d_from = %d, d_to = %d, i = %d },"
         lines += [form % (op, d, d, i) for op, d, i in patterns] + ["]"]
     return "\n".join(lines) + "\n"
+
+
+def many(exits):
+    """A deck that may open each of so many exits or not, and its notes."""
+    words, calls = [], ""
+    for at in range(exits):
+        place = 3 * at
+        words += ["%04d 45 %04d %04d" % (place, place + 1, place + 2)]
+        words += ["%04d 00 0000 %04d" % (one, place + 3) for one in (place + 1, place + 2)]
+        calls += CALL % (place + 1, place + 3, 1000 + at, 0)
+    words.append("%04d 01 0000 0000" % (3 * exits))
+    case = Case("", "\n".join(words), *[None] * 8)
+    return deck_of(case), NOTES + "\n" + calls

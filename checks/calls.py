@@ -29,8 +29,8 @@ def may_go(calls, ways, edge):
 
 
 def open_after(calls, ways, edge):
-    """What is open behind a step along an edge: it closes the exit that it stands at, and then opens
-    those of its calls."""
+    """What is open behind a step along an edge: it closes the exit that it stands at, and then
+    opens those of its calls."""
     opened = {call.exit: call.back for call in calls if call.edge == edge}
     left = [None if call.exit == edge[0] else way for call, way in zip(calls, ways)]
     return tuple(opened.get(call.exit, way) for call, way in zip(calls, left))

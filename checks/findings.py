@@ -122,8 +122,8 @@ class Flow:
         return edge[1] in self.targets.get(edge[0], [])
 
     def unused(self):
-        """Edges of marks that aren't there, lists of locations that aren't executed, and calls whose
-        edge isn't there, or whose exit isn't executed."""
+        """Edges of marks that aren't there, lists of locations that aren't executed, and calls
+        whose edge isn't there, or whose exit isn't executed."""
         for mark in self.marks:
             for edge in mark.edges:
                 if not self.is_there(edge):
@@ -345,9 +345,9 @@ def reached(edges, place):
 
 
 def are_closing(told, flow):
-    """Whether these are edges in order, without which no links go round, and each of which is needed
-    for that. In which order those stand that stand inside as many loops isn't known where notes
-    have calls."""
+    """Whether these are edges in order, without which no links go round, and each of which is
+    needed for that. Where notes have calls, those that stand inside as many loops may stand in any
+    order."""
     edges = [edge for edge in flow.free_edges() if edge in set(told)]
     is_in_order = told == flow.in_order(told if flow.calls else edges)
     are_those = is_in_order and sorted(told) == sorted(edges)
