@@ -200,10 +200,12 @@ def is_known(about, key):
     return is_wanted(about, key) or about == "notes" and OTHER_KEYS.fullmatch(key)
 
 
-def is_cycle(text):
-    """Whether locations begin with the smallest, and none of them stands twice."""
+def is_cycle(text, notes):
+    """Whether locations begin with the smallest, and none of them stands twice; where notes have
+    calls one may, with something else open."""
     places = text.split(" ")
-    return places[0] == min(places) and len(set(places)) == len(places)
+    may_come_again = bool(document_of(notes).get("call"))
+    return places[0] == min(places) and (may_come_again or len(set(places)) == len(places))
 
 
 def is_too_long(about, text):
@@ -228,7 +230,7 @@ def names_what_is_there(fault, files):
         "loaded": lambda: giving(deck, rest) == 1 and giving(inputs, rest) == 1,
         "notloaded": lambda: giving(deck, rest) == 0,
         "operation": lambda: not re.fullmatch(OP, "op." + rest[-2:]),
-        "cycle": lambda: is_cycle(rest),
+        "cycle": lambda: is_cycle(rest, files["notes"]),
         "product": lambda: int(rest) > KEYS,
         "toomany": lambda: Flow(files).are_too_many(),
         "toml": lambda: not is_document(text),

@@ -49,7 +49,7 @@ class Flow:
         for node in todo:
             place = node[0]
             nexts[place] = nexts.get(place) or list(dict.fromkeys(self.nexts_at(place)))
-            self.links[node] = list(self.onward(node, nexts[place]))
+            self.links[node] = list(self.links_from(node, nexts[place]))
             new = [onto for onto in self.links[node] if onto not in self.nodes]
             self.nodes.update(dict.fromkeys(new))
             todo += new
@@ -62,7 +62,7 @@ class Flow:
             for place in self.order
         }
 
-    def onward(self, node, nexts):
+    def links_from(self, node, nexts):
         """Where links lead from a node whose instructions go on at these locations."""
         place, opened = node
         for onto in nexts:
@@ -333,12 +333,12 @@ def names(op, d):
 
 def reached(edges, place):
     """What edges lead to from one place, or links from one node."""
-    onward = {}
+    nexts = {}
     for source, target in edges:
-        onward.setdefault(source, []).append(target)
+        nexts.setdefault(source, []).append(target)
     found, order = {place}, [place]
     for one in order:
-        new = [onto for onto in dict.fromkeys(onward.get(one, [])) if onto not in found]
+        new = [onto for onto in dict.fromkeys(nexts.get(one, [])) if onto not in found]
         found.update(new)
         order += new
     return found
