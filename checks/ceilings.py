@@ -4,6 +4,7 @@ table and notes that are admitted; and, by the plain model, whether the numbers 
 import re
 from math import prod
 
+from calls import none_open
 from findings import Flow
 from latest import Latest, Uncounted, worst
 from marks import is_inside, marks_of, place_on
@@ -79,10 +80,10 @@ def may_be_walk(told, files):
 def longest_by_passes(walks):
     """What the longest walk takes of those that pass each mark so often, for all such passes."""
     latest, none = Latest(walks, Uncounted()), (0,) * len(walks.marks)
-    start, begun = (walks.start, none), (walks.start + 1) % 50
+    begun = (walks.start + 1) % 50
     # The latest arrivals at each place with counts, and the latest end of a walk, by the passes.
-    arrivals, ended = {start: {none: begun}}, {none: begun}
-    for key in latest.behind(start):
+    arrivals, ended = {latest.start: {none: begun}}, {none: begun}
+    for key in latest.behind(latest.start):
         for passes, arrived in arrivals[key].items():
             at = found(key[0], arrived)
             for op, d, i, way, onto in latest.hops(key):
@@ -116,11 +117,11 @@ def passes_of(marks):
 
 
 def most_ceiling(files):
-    """What a ceiling can't be above: executed words, times the longest step of one with a search of
-    49 behind it, times one more than all passes of marks; None where there is too much to go
-    through."""
-    walks, executed = TextWalks(files), Flow(files).order
-    steps = [(place, *one) for place in executed for one in walks.instructions(place)]
+    """What a ceiling can't be above: executed words, each as often as there are nodes of it, times
+    the longest step of one with a search of 49 behind it, times one more than all passes of marks;
+    None where there is too much to go through."""
+    walks, flow = TextWalks(files), Flow(files)
+    steps = [(place, *one) for place in flow.order for one in walks.instructions(place)]
     if len(steps) > FEW_STEPS:
         return None
     longest = max(
@@ -129,7 +130,7 @@ def most_ceiling(files):
         for angle in range(50)
         if found(place, angle) == angle
     )
-    return len(executed) * longest * (1 + sum(passes_of(walks.marks)))
+    return len(flow.nodes) * longest * (1 + sum(passes_of(walks.marks)))
 
 
 def may_be_too_large(files):
@@ -147,24 +148,27 @@ def step_of(walks, angle, op, d, i):
 
 class Rounds:
     """The walks of a deck, from when an instruction is found until another one is: a node is a
-    location, the angle at which its instruction is found, and the counts of the marks."""
+    location, the angle at which its instruction is found, what is open at the exits of calls, and
+    the counts of the marks."""
 
     def __init__(self, walks):
         self.walks, self.hops, self.order = walks, {}, []
-        self.visit((walks.start, walks.start % 50, (0,) * len(walks.marks)))
+        counts = (0,) * len(walks.marks)
+        self.visit((walks.start, walks.start % 50, none_open(walks.calls), counts))
         self.order.reverse()
 
     def visit(self, node):
         """Goes through all nodes that are come to from one, each before those that lead to it."""
-        place, angle, counts = node
+        place, angle, opened, counts = node
         self.hops[node] = []
         for op, d, i in self.walks.instructions(place):
             ready = angle + self.walks.times[op]["before"]
             for way in self.walks.ways(op, d, i) - {"early", "late"}:
                 after = self.walks.passed(counts, place, way)
-                if after is not None:
+                behind = self.walks.onward(opened, place, way)
+                if after is not None and behind is not None:
                     then = found(way, max(self.walks.ends(op, d, ready)))
-                    onto = way, then % 50, after
+                    onto = way, then % 50, behind, after
                     mark = place_on(self.walks.marks, (place, way))
                     self.hops[node].append((onto, then - angle, mark))
                     if onto not in self.hops:
@@ -178,8 +182,8 @@ class Rounds:
 
     def are_paid(self, mark, prices):
         """Whether prices pay for each round of a mark: from where a pass leads until a pass leads
-        there again, the mark's price for each of its passes, and that of each other mark that
-        doesn't stand inside of it."""
+        there again, with the same open, the mark's price for each of its passes, and that of each
+        other mark that doesn't stand inside of it."""
         free = [is_inside(self.walks.marks, other, mark) for other in range(len(prices))]
         for head in self.heads(mark):
             owed = {head: 0}
@@ -187,7 +191,8 @@ class Rounds:
                 for onto, time, on in self.hops[node] if node in owed else []:
                     paid = 0 if on is None or free[on] else prices[on]
                     owed[onto] = max(owed[node] + time - paid, owed.get(onto, -(10**60)))
-                    if on == mark and onto[0] == head[0] and owed[node] + time > paid:
+                    is_round = on == mark and (onto[0], onto[2]) == (head[0], head[2])
+                    if is_round and owed[node] + time > paid:
                         return False
         return True
 

@@ -5,6 +5,7 @@ import re
 from collections import namedtuple
 
 from damage import FILES
+from findings import Flow
 from results import NUMBER, PLACE
 from toml_text import document_of
 
@@ -18,6 +19,7 @@ LINES = 4000
 
 # What stands behind the words of a fault's line: nothing, a number or locations, or a key.
 FORMS = dict.fromkeys(["nothing", "nopart", "open", "fail", "toml", "nostart", "toolong"], "")
+FORMS["toomany"] = ""
 FORMS.update(dict.fromkeys(["noline", "pastdrum", "repeated", "start", "product"], NUMBER))
 FORMS.update(dict.fromkeys(["twice", "loaded", "notloaded", "location"], PLACE))
 FORMS.update(dict.fromkeys(["missing", "known", "unknown"], "(?s:(.*))"))
@@ -43,6 +45,7 @@ FAULTS = [
     ("34 alters ", "analysis", "locations"),
     ("35 unbounded ", "analysis", "cycle"),
     ("36 toolarge ", "analysis", "product"),
+    ("37 toomany", "analysis", "toomany"),
     ("41 inputs read", "inputs", "fail"),
     ("42 inputs memory", "inputs", "fail"),
     ("43 inputs line ", "inputs", "noline"),
@@ -80,11 +83,12 @@ TIMES_KEYS = re.compile(
 )
 WANTED_KEYS = re.compile(
     r"programmed|load_cards|mark\.N\.(?:from|to|most)|list\.N\.(?:location|pattern)"
-    r"|list\.N\.pattern\.N\.(?:op|d_from|d_to|i)".replace("N", "[0-9]+")
+    r"|list\.N\.pattern\.N\.(?:op|d_from|d_to|i)"
+    r"|call\.N\.(?:from|to|exit|back)".replace("N", "[0-9]+")
 )
 OTHER_KEYS = re.compile(
     r"mark(?:\.N(?:\.inside|\.name|\.edges(?:\.N(?:\.[12])?)?)?)?"
-    r"|list(?:\.N(?:\.pattern\.N)?)?".replace("N", "[0-9]+")
+    r"|list(?:\.N(?:\.pattern\.N)?)?|call(?:\.N)?".replace("N", "[0-9]+")
 )
 
 # What a line of a deck and one of inputs may be.
@@ -196,10 +200,12 @@ def is_known(about, key):
     return is_wanted(about, key) or about == "notes" and OTHER_KEYS.fullmatch(key)
 
 
-def is_cycle(text):
-    """Whether locations begin with the smallest, and none of them stands twice."""
+def is_cycle(text, notes):
+    """Whether locations begin with the smallest, and none of them stands twice; where notes have
+    calls one may, with something else open."""
     places = text.split(" ")
-    return places[0] == min(places) and len(set(places)) == len(places)
+    may_come_again = bool(document_of(notes).get("call"))
+    return places[0] == min(places) and (may_come_again or len(set(places)) == len(places))
 
 
 def is_too_long(about, text):
@@ -224,8 +230,9 @@ def names_what_is_there(fault, files):
         "loaded": lambda: giving(deck, rest) == 1 and giving(inputs, rest) == 1,
         "notloaded": lambda: giving(deck, rest) == 0,
         "operation": lambda: not re.fullmatch(OP, "op." + rest[-2:]),
-        "cycle": lambda: is_cycle(rest),
+        "cycle": lambda: is_cycle(rest, files["notes"]),
         "product": lambda: int(rest) > KEYS,
+        "toomany": lambda: Flow(files).are_too_many(),
         "toml": lambda: not is_document(text),
         "nostart": lambda: not any(line.startswith(b"START ") for line in lines_of(text)),
         "toolong": lambda: is_too_long(about, text),

@@ -5,6 +5,7 @@ to what is asked of them: that they are enough, and that none can be spared."""
 import re
 from math import prod
 
+from calls import MOST_NODES, calls_of, none_open, onward
 from marks import Mark, are_short, is_inside, marks_of, place_on
 from model import is_location, suits
 from results import cards_of, entries_of, start_of
@@ -24,7 +25,8 @@ LONG = "# long notes (64 marks at most): for check, graph, ceiling and trace onl
 
 
 class Flow:
-    """The flow graph of a deck under its notes, whatever stands at its locations."""
+    """The flow graph of a deck under its notes, whatever stands at its locations. A node is a
+    location with what is open there at the exits of calls; a link leads from one to another."""
 
     def __init__(self, files):
         self.loaded = {
@@ -36,11 +38,40 @@ class Flow:
         self.notes = document_of(files["notes"])
         self.profile = set(entries_of(files["times"]))
         self.lists = {one["location"]: one["pattern"] for one in self.notes.get("list", [])}
-        self.marks = marks_of(self.notes)
-        self.led, self.targets, self.order = {}, {}, [start_of(files["deck"])]
-        for place in self.order:
-            self.targets[place] = list(dict.fromkeys(self.nexts_at(place)))
-            self.order += [onto for onto in self.targets[place] if onto not in self.order]
+        self.marks, self.calls, self.led = marks_of(self.notes), calls_of(self.notes), {}
+        self.discover((start_of(files["deck"]), none_open(self.calls)))
+
+    def discover(self, first):
+        """Finds the nodes, and of each where its links lead, from the first on; no more where there
+        are too many. The executed locations, and where edges lead from each, are those of nodes."""
+        self.nodes, self.links, nexts = {first: None}, {}, {}
+        todo = [first]
+        for node in todo:
+            place = node[0]
+            nexts[place] = nexts.get(place) or list(dict.fromkeys(self.nexts_at(place)))
+            self.links[node] = list(self.links_from(node, nexts[place]))
+            new = [onto for onto in self.links[node] if onto not in self.nodes]
+            self.nodes.update(dict.fromkeys(new))
+            todo += new
+            if len(todo) > MOST_NODES:
+                break
+        self.order = list(dict.fromkeys(place for place, _ in self.nodes))
+        led = {(node[0], onto[0]) for node in self.links for onto in self.links[node]}
+        self.targets = {
+            place: [onto for onto in nexts.get(place, []) if (place, onto) in led]
+            for place in self.order
+        }
+
+    def links_from(self, node, nexts):
+        """Where links lead from a node whose instructions go on at these locations."""
+        place, opened = node
+        for onto in nexts:
+            behind = onward(self.calls, opened, (place, onto))
+            if behind is not None:
+                yield onto, behind
+
+    def are_too_many(self):
+        return len(self.nodes) > MOST_NODES
 
     def instructions(self, place):
         if place in self.words:
@@ -84,20 +115,24 @@ class Flow:
         return min(len(self.order) * counts, 2**127)
 
     def too_large(self):
-        is_past = are_short(self.marks) and self.product() > KEYS
+        is_past = are_short(self.marks, self.calls) and self.product() > KEYS
         return ["toolarge %d" % self.product()] if is_past else []
 
     def is_there(self, edge):
         return edge[1] in self.targets.get(edge[0], [])
 
     def unused(self):
-        """Edges of marks that aren't there, and lists of locations that aren't executed."""
+        """Edges of marks that aren't there, lists of locations that aren't executed, and calls
+        whose edge isn't there, or whose exit isn't executed."""
         for mark in self.marks:
             for edge in mark.edges:
                 if not self.is_there(edge):
                     yield "unused mark %04d %04d" % edge
         for place in sorted(set(self.lists) - set(self.order)):
             yield "unused list %04d" % place
+        for call in self.calls:
+            if not self.is_there(call.edge) or call.exit not in self.targets:
+                yield "unused call %04d %04d" % call.edge
 
     def idle(self):
         """Loaded words that are neither executed nor named as data by an executed instruction."""
@@ -110,21 +145,33 @@ class Flow:
         for place in sorted(set(self.words) - set(self.order) - named):
             yield "idle %04d" % place
 
-    def reached_past(self, head, place):
-        """The locations that edges lead to from one, none of them onto the head."""
-        if (head, place) not in self.led:
-            edges = [(one, onto) for one in self.order for onto in self.targets[one]]
-            self.led[head, place] = reached([edge for edge in edges if edge[1] != head], place)
-        return self.led[head, place]
+    def all_links(self):
+        return [(node, onto) for node in self.links for onto in self.links[node]]
+
+    def reached_past(self, head, node):
+        """The nodes that links lead to from one, none of them onto one at the head."""
+        if (head, node) not in self.led:
+            links = [link for link in self.all_links() if link[1][0] != head]
+            self.led[head, node] = reached(links, node)
+        return self.led[head, node]
+
+    def goes_round(self, node, outer, inner):
+        """Whether links lead from a node at the inner loop's head round that loop, to this node
+        again, and to the outer edge, none of them onto the outer loop's head."""
+        led = self.reached_past(outer[1], node)
+        is_round = any(one[0] == inner[0] and node in self.links.get(one, []) for one in led)
+        nexts = {onto[0] for one in led if one[0] == outer[0] for onto in self.links.get(one, [])}
+        return is_round and outer[1] in nexts
 
     def is_nested(self, outer, inner):
         """Whether the loop of one edge stands inside that of another: past the outer loop's head
         the inner one's leads round its loop and to the outer edge, and the start leads to it
         through that head alone."""
-        head, place, start = outer[1], inner[1], self.order[0]
-        if place == head or not {inner[0], outer[0]} <= self.reached_past(head, place):
+        head, place, start = outer[1], inner[1], next(iter(self.nodes))
+        heads = [node for node in self.nodes if node[0] == place]
+        if place == head or not any(self.goes_round(node, outer, inner) for node in heads):
             return False
-        return start == head or place not in self.reached_past(head, start)
+        return start[0] == head or not self.reached_past(head, start) & set(heads)
 
     def around(self, edges, mark):
         """The edges of a mark inside whose loops that of one of these edges stands."""
@@ -198,7 +245,7 @@ class Flow:
         """The marks that are lacking, as TOML."""
         tables = self.pasted(told)
         marks = self.marks + [Mark(edges, None, None, None) for edges in tables]
-        yield from [LONG] if tables and not are_short(marks) else []
+        yield from [LONG] if tables and not are_short(marks, self.calls) else []
         insides = self.insides(tables) if self.is_few(told) else [[]] * len(tables)
         for edges, inside in zip(tables, insides):
             yield from ["[[mark]]", "most ="]
@@ -245,6 +292,9 @@ class Flow:
         edges = [(place, onto) for place in self.order for onto in self.targets[place]]
         return [edge for edge in edges if place_on(self.marks, edge) is None]
 
+    def free_links(self):
+        return [link for link in self.all_links() if place_on(self.marks, edge_of(link)) is None]
+
 
 def are_several_ways(around):
     """Whether edges of two different marks go back to one location, of those that are listed of
@@ -257,6 +307,11 @@ def parts_of(word):
     """Operation, data address and next address of a word."""
     number = int(word[1:])
     return number // 10**8, number // 10**4 % 10**4, number % 10**4
+
+
+def edge_of(link):
+    """The edge of a link's locations."""
+    return link[0][0], link[1][0]
 
 
 def writes(op, d):
@@ -277,28 +332,35 @@ def names(op, d):
 
 
 def reached(edges, place):
-    """The locations that edges lead to from one."""
-    onward = {}
+    """What edges lead to from one place, or links from one node."""
+    nexts = {}
     for source, target in edges:
-        onward.setdefault(source, []).append(target)
+        nexts.setdefault(source, []).append(target)
     found, order = {place}, [place]
     for one in order:
-        new = [onto for onto in dict.fromkeys(onward.get(one, [])) if onto not in found]
+        new = [onto for onto in dict.fromkeys(nexts.get(one, [])) if onto not in found]
         found.update(new)
         order += new
     return found
 
 
 def are_closing(told, flow):
-    """Whether these are edges in order, without which nothing is closed, and each of which is
-    needed for that."""
-    free = flow.free_edges()
-    left = [edge for edge in free if edge not in set(told)]
-    is_in_order = told == flow.in_order([edge for edge in free if edge in set(told)])
-    are_needed = all(source in reached(left, target) for source, target in told)
-    return is_in_order and are_needed and not any(
-        source in reached(left, target) for source, target in left
-    )
+    """Whether these are edges in order, without which no links go round, and each of which is
+    needed for that. Where notes have calls, those that stand inside as many loops may stand in any
+    order."""
+    edges = [edge for edge in flow.free_edges() if edge in set(told)]
+    is_in_order = told == flow.in_order(told if flow.calls else edges)
+    are_those = is_in_order and sorted(told) == sorted(edges)
+    links, left, closing = flow.free_links(), [], {edge: [] for edge in told}
+    for link in links:
+        closing.get(edge_of(link), left).append(link)
+    are_needed = all(go_round(left + ones, ones) for ones in closing.values())
+    return are_those and are_needed and not go_round(left, left)
+
+
+def go_round(links, ones):
+    """Whether links lead round with one of these among them."""
+    return any(source in reached(links, target) for source, target in ones)
 
 
 def is_check(text, files):

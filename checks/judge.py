@@ -3,6 +3,7 @@ checks/damaged-inputs holds to it the cases of checks/damage.py."""
 
 from collections import namedtuple
 
+from calls import calls_of
 from ceilings import bracket_of, ceiling_of, least_ceiling, may_be_too_large
 from damage import CHECKS, FILES, LEAST, PICTURES, files_of_joined, joined
 from faults import Fault, fault_of, has_its_form, is_accepted, names_what_is_there
@@ -324,7 +325,8 @@ def agrees_apart(asked, ran, told, run):
     if before or faults_of_notes(asked):
         # Which one of the notes is told is held to the model.
         return told.fault is not None and told.fault == (before or told.fault)
-    if are_short(marks_of(document_of(files["notes"]))):
+    notes = document_of(files["notes"])
+    if are_short(marks_of(notes), calls_of(notes)):
         return is_as_of_short(asked, ran, told, run)
     return agrees_of_long(asked, ran, told, run)
 

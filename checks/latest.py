@@ -6,6 +6,7 @@ is none. And the table of these latest arrivals."""
 import sys
 from collections import namedtuple
 
+from calls import none_open
 from marks import place_on
 from model import WAITS_FOR_DATA, found
 
@@ -122,11 +123,13 @@ def row_line(kind, row):
 
 
 class Latest:
-    """The latest arrivals at each location with counts of the marks, each with the tally of the
-    walks that make it; nothing is the tally of none of their hops."""
+    """The latest arrivals at each location, with what is open there at the exits of calls and with
+    counts of the marks, each with the tally of the walks that make it; nothing is the tally of none
+    of their hops."""
 
     def __init__(self, walks, nothing):
         self.walks, self.nothing = walks, nothing
+        self.start = walks.start, none_open(walks.calls), (0,) * len(walks.marks)
         self.arrivals, self.ended = {}, (0, MANY)
 
     def later(self, one, hop, tally):
@@ -142,13 +145,14 @@ class Latest:
     def hops(self, key):
         """The hops of a location with counts: the instruction, the way, and the location with
         counts behind it, if any."""
-        place, counts = key
+        place, opened, counts = key
         for op, d, i in self.walks.instructions(place):
             for way in self.walks.ways(op, d, i):
                 goes_on = way not in ("early", "late")
                 after = self.walks.passed(counts, place, way) if goes_on else counts
-                if after is not None:
-                    yield op, d, i, way, (way, after) if goes_on else None
+                then = self.walks.onward(opened, place, way) if goes_on else opened
+                if after is not None and then is not None:
+                    yield op, d, i, way, (way, then, after) if goes_on else None
 
     def order(self, key, seen, behind):
         """Each location with counts that a walk comes to, after all that lead from it to others."""
@@ -167,7 +171,7 @@ class Latest:
 
     def take(self, key):
         """Follows each hop of a location with counts from its latest arrival."""
-        place, _ = key
+        place = key[0]
         begun, tally = self.arrivals[key]
         at = found(place, begun)
         for op, d, i, way, onto in self.hops(key):
@@ -184,10 +188,9 @@ class Latest:
 
     def lines(self):
         """The lines of the tally, and the bound; None where the walks have more than one tally."""
-        start = self.walks.start, (0,) * len(self.walks.marks)
         angle = (self.walks.start + 1) % 50
-        self.arrivals[start] = angle, self.nothing
-        for key in self.behind(start):
+        self.arrivals[self.start] = angle, self.nothing
+        for key in self.behind(self.start):
             self.take(key)
         end, tally = self.ended
         return None if tally is MANY else tally.text() + ["bound %d" % (end - angle)]
@@ -215,19 +218,20 @@ class Uncounted:
 
 
 def worst(walks):
-    """The bound."""
-    return int(Latest(walks, Uncounted()).lines()[-1].removeprefix("bound "))
+    """The bound: 0 where no walk has a hop, as from an exit with nothing open."""
+    lines = Latest(walks, Uncounted()).lines()
+    return int(lines[-1].removeprefix("bound ")) if lines else 0
 
 
 def table(walks):
     """The lines of the table: when each location is come to at the latest, by the counts of the
-    marks."""
+    marks. Notes with calls have none."""
     latest = Latest(walks, Uncounted())
     latest.lines()
     first = (walks.start + 1) % 50
     rows = [
         (place, numbered(walks, counts), counts, arrived)
-        for (place, counts), (arrived, _) in latest.arrivals.items()
+        for (place, _, counts), (arrived, _) in latest.arrivals.items()
     ]
     return [
         "%04d angle %d counts%s time %d"

@@ -46,9 +46,9 @@ def marks_of(notes):
     return marks
 
 
-def are_short(marks):
-    """Whether notes with these marks are short."""
-    return len(marks) <= MOST_SHORT and all(mark.is_plain() for mark in marks)
+def are_short(marks, calls=()):
+    """Whether notes with these marks and calls are short."""
+    return len(marks) <= MOST_SHORT and all(mark.is_plain() for mark in marks) and not calls
 
 
 def place_on(marks, edge):

@@ -9,6 +9,7 @@ import sys
 import tomllib
 from math import prod
 
+from calls import calls_of, none_open, onward
 from coverage import Coverage
 from marks import is_inside, marks_of, place_on
 
@@ -307,7 +308,7 @@ class Walks:
         self.times = times
         self.programmed = notes["programmed"]
         self.has_load_cards = notes["load_cards"] == "any"
-        self.marks = marks_of(notes)
+        self.marks, self.calls = marks_of(notes), calls_of(notes)
         self.lists = {one["location"]: one["pattern"] for one in notes.get("list", [])}
 
     def size(self):
@@ -374,6 +375,11 @@ class Walks:
                     counts[inner] = 0
         return tuple(counts)
 
+    def onward(self, opened, place, onto):
+        """What is open behind a step along an edge, where this is open before it; None where it
+        may not be taken: it isn't the way back that is open at an exit."""
+        return onward(self.calls, opened, (place, onto))
+
     def longest(self):
         """The most word times of all walks from all start angles: through all instructions, units,
         waits and angles."""
@@ -381,7 +387,7 @@ class Walks:
         sys.setrecursionlimit(1_000_000)
 
         @functools.lru_cache(maxsize=None)
-        def behind(place, counts, angle):
+        def behind(place, opened, counts, angle):
             most = 0
             for op, d, i in self.instructions(place):
                 ready = found(place, angle) + self.times[op]["before"]
@@ -390,15 +396,17 @@ class Walks:
                         most = max(most, ready - angle)
                         continue
                     after = self.passed(counts, place, way) if way != "late" else counts
-                    if after is None:
+                    then = self.onward(opened, place, way) if way != "late" else opened
+                    if after is None or then is None:
                         continue
                     for end in self.ends(op, d, ready):
-                        more = 0 if way == "late" else behind(way, after, end % 50)
+                        more = 0 if way == "late" else behind(way, then, after, end % 50)
                         most = max(most, end - angle + more)
             return most
 
         nothing = (0,) * len(self.marks)
-        return max(behind(self.start, nothing, angle) for angle in range(50))
+        opened = none_open(self.calls)
+        return max(behind(self.start, opened, nothing, angle) for angle in range(50))
 
 
 def walks_of(deck, times, notes):
@@ -411,6 +419,7 @@ def traced(machine, walks, limit):
     """The lines of a run's trace, one by one. The last one is the verdict, which tells this limit of
     a run that keeps to the notes."""
     counts, coverage = (0,) * len(walks.marks), Coverage(walks.marks, walks.lists)
+    opened = none_open(walks.calls)
     if not walks.is_set(machine):
         yield "left switch step 0 used 0"
         return
@@ -428,6 +437,8 @@ def traced(machine, walks, limit):
             yield from coverage.lines()
             yield "kept used %d %s stop %s" % (machine.used, limit, why)
             return
+        elif (opened := walks.onward(opened, place, machine.sought)) is None:
+            left = "notback %04d %04d" % (place, machine.sought)
         else:
             left = "toooften %04d %04d" % (place, machine.sought)
             counts = walks.passed(counts, place, machine.sought)

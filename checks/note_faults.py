@@ -4,6 +4,7 @@ docs/FORMATS.md. checks/damaged-inputs holds the program's to them, by checks/ju
 import functools
 import re
 
+from calls import MOST as MOST_CALLS
 from faults import is_document
 from marks import MOST, MOST_SHORT
 from model import is_location
@@ -12,6 +13,7 @@ from toml_text import document_of
 NOTE_KEYS = ["programmed", "load_cards", "mark", "list"]
 LIST_KEYS = ["location", "pattern"]
 PATTERN_KEYS = ["op", "d_from", "d_to", "i"]
+CALL_KEYS = ["from", "to", "exit", "back"]
 NAME = re.compile("[A-Za-z0-9-]{1,20}")
 
 # How many patterns a list has at most, and how many edges a mark.
@@ -157,6 +159,19 @@ class Faults:
             self.tables("", document, "mark", 0, MOST_SHORT, self.short_mark)
         return [] if len(self.lines) > before else edges_at(document)
 
+    def call(self, at, table, earlier):
+        """A call of long notes, with the edges and exits of those before it."""
+        self.keys(at, table, CALL_KEYS, CALL_KEYS)
+        opening = opening_of(table)
+        is_new = lambda place: is_location(place) and (opening is None or opening not in earlier)
+        self.numbers(at, table, dict.fromkeys(["from", "to"], is_location))
+        self.numbers(at, table, {"exit": is_new, "back": is_location})
+
+    def calls(self, document):
+        openings = [opening_of(table) for table in tables_at(document, "call")]
+        check = lambda at, table, number: self.call(at, table, openings[: number - 1])
+        self.tables("", document, "call", 0, MOST_CALLS, check)
+
     def twice(self, number, what, ones, form):
         """What is there a second time."""
         for place, one in enumerate(ones):
@@ -164,12 +179,15 @@ class Faults:
                 self.add(number, what, form % one)
 
     def notes(self, document, is_long):
-        self.keys("", document, NOTE_KEYS, NOTE_KEYS[:2])
+        known = NOTE_KEYS + ["call"] if is_long else NOTE_KEYS
+        self.keys("", document, known, NOTE_KEYS[:2])
         for key, texts in [("programmed", ["stop", "run", "any"]), ("load_cards", ["none", "any"])]:
             if key in document:
                 self.text(key, document[key], lambda text, texts=texts: text in texts)
         edges = self.marks(document, is_long)
         self.tables("", document, "list", 0, None, self.list)
+        if is_long:
+            self.calls(document)
         self.twice(17, "twomarks", edges, "%04d %04d")
         self.twice(18, "twolists", locations_at(document), "%04d")
         return self.lines
@@ -178,6 +196,12 @@ class Faults:
 def lists_edges(table):
     """Whether a mark's table lists its edges."""
     return "edges" in table and "from" not in table and "to" not in table
+
+
+def opening_of(table):
+    """The edge and the exit of a call's table; None where one of their locations isn't right."""
+    places = [table.get(key) for key in CALL_KEYS[:3]]
+    return places if all(is_number(one) and is_location(one) for one in places) else None
 
 
 def text_in(table, key):

@@ -18,9 +18,8 @@ STOPS = "programmed|operation|operand|card|quotient|overflow|digit|next"
 BOUND = re.compile("bound %s\n" % NUMBER)
 KEPT = re.compile("kept used {0} (bound|ceiling) {0} stop ({1})\n".format(NUMBER, STOPS))
 LEFT = re.compile(
-    "left (?:switch|loadcard|unlisted {0} {1}|toooften {0} {0}) step {2} used {2}\n".format(
-        PLACE, WORD, NUMBER
-    )
+    "left (?:switch|loadcard|unlisted {0} {1}|(?:notback|toooften) {0} {0})"
+    " step {2} used {2}\n".format(PLACE, WORD, NUMBER)
 )
 SPENT = "visits {0} time {0}".format(NUMBER)
 CARD = re.compile("card ([0-9]{4}) " + SPENT)

@@ -4,6 +4,7 @@ out as the lines of a walk, where these are few enough."""
 import re
 from collections import namedtuple
 
+from calls import calls_of, none_open, onward
 from marks import is_inside, marks_of, place_on
 from results import NUMBER, PLACE, VISIT, number_of, waited_bound, waits_of_walk, walked_bound
 from toml_text import document_of
@@ -17,8 +18,9 @@ TOTALS = re.compile("reached {0}\nceiling {0}\n".format(NUMBER))
 # How many visits are spelled out at most.
 MOST_VISITS = 200_000
 
-# A stretch of a walk: when it begins and ends, and its visits, each the line and its moments.
-Stretch = namedtuple("Stretch", "begun ended visits")
+# A stretch of a walk: when it begins and ends, its visits, each the line and its moments, and when
+# each round in it begins and ends.
+Stretch = namedtuple("Stretch", "begun ended visits rounds")
 
 
 class Malformed(Exception):
@@ -41,7 +43,12 @@ def shifted(visits, by):
     """Visits so many word times later."""
     if len(visits) > MOST_VISITS:
         raise OverflowError
-    return [(line, [None if one is None else one + by for one in told]) for line, told in visits]
+    return [(line, later(told, by)) for line, told in visits]
+
+
+def later(moments, by):
+    """Moments so many word times later; None stays."""
+    return [None if one is None else one + by for one in moments]
 
 
 def moments_of(visit):
@@ -54,7 +61,7 @@ def visit_of(lines, visit):
     if told[0] != lines.time:
         raise Malformed("a visit begins at another time")
     lines.time = told[-1]
-    return Stretch(told[0], told[-1], [(visit.string.partition(" begun ")[0], told)])
+    return Stretch(told[0], told[-1], [(visit.string.partition(" begun ")[0], told)], [])
 
 
 def part_of(lines, number):
@@ -79,7 +86,8 @@ def part_again(lines, again):
     if (begun - part.begun) % 50:
         raise Malformed("a part comes again at another angle")
     lines.time = ended
-    return Stretch(begun, ended, shifted(part.visits, begun - part.begun))
+    by = begun - part.begun
+    return Stretch(begun, ended, shifted(part.visits, by), [later(one, by) for one in part.rounds])
 
 
 def rounds_of(lines, rounds):
@@ -101,12 +109,14 @@ def rounds_of(lines, rounds):
     if times * len(one.visits) > MOST_VISITS:
         raise OverflowError
     visits = [told for turn in range(times) for told in shifted(one.visits, turn * each)]
-    return Stretch(one.begun, lines.time, visits)
+    first = [*one.rounds, [one.begun, one.ended]]
+    all_rounds = [later(told, turn * each) for turn in range(times) for told in first]
+    return Stretch(one.begun, lines.time, visits, all_rounds)
 
 
 def stretch_of(lines):
     """The stretch of the lines from here on, up to an end."""
-    begun, visits = lines.time, []
+    begun, visits, all_rounds = lines.time, [], []
     while True:
         if visit := lines.take(VISIT):
             stretch = visit_of(lines, visit)
@@ -117,8 +127,9 @@ def stretch_of(lines):
         elif rounds := lines.take(ROUNDS):
             stretch = rounds_of(lines, rounds)
         else:
-            return Stretch(begun, lines.time, visits)
+            return Stretch(begun, lines.time, visits, all_rounds)
         visits += stretch.visits
+        all_rounds += stretch.rounds
         if len(visits) > MOST_VISITS:
             raise OverflowError
 
@@ -129,6 +140,12 @@ def line_of(visit):
     begun, at, ready, data, ended = told
     had = "" if data is None else " data %d" % data
     return "%s begun %d found %d ready %d%s ended %d\n" % (line, begun, at, ready, had, ended)
+
+
+def edge_of(line):
+    """The edge that a visit takes; None where it takes none."""
+    source, _, _, target = line[:4], *line.rpartition(" to ")
+    return (int(source), int(target)) if target.isdigit() and len(target) == 4 else None
 
 
 class Rounds:
@@ -145,7 +162,7 @@ class Rounds:
         whole = stretch_of(left)
         if left.lines or whole.ended != self.reached or self.reached > self.ceiling:
             raise Malformed("lines are left, or the time is another")
-        self.visits = whole.visits
+        self.visits, self.rounds = whole.visits, whole.rounds
 
     def walk(self):
         """The lines of the walk, each visit told, and its time as a bound."""
@@ -153,10 +170,20 @@ class Rounds:
 
     def edges(self):
         """The edges that it takes, in order."""
-        for line, _ in self.visits:
-            source, _, _, target = line[:4], *line.rpartition(" to ")
-            if target.isdigit() and len(target) == 4:
-                yield int(source), int(target)
+        return filter(None, (edge_of(line) for line, _ in self.visits))
+
+    def goes_back(self, files):
+        """Whether each step from the exit of a call goes to the way back that is open, and the same
+        is open where a round begins and where it ends."""
+        calls = calls_of(document_of(files["notes"]))
+        opened, at = none_open(calls), {}
+        for line, moments in self.visits:
+            at[moments[0]], edge = opened, edge_of(line)
+            opened = onward(calls, opened, edge) if edge else opened
+            if opened is None:
+                return False
+        at[self.reached] = opened
+        return all(at[begun] == at[ended] for begun, ended in self.rounds)
 
     def passes(self, files):
         """How often it passes each mark of the notes; None where it passes one too often."""
@@ -178,7 +205,8 @@ class Rounds:
 
 def rounded(text, files):
     """What a walk in rounds takes, where its lines are in order, and the visits that they stand for
-    are a walk that passes no mark too often; only what its last lines tell, where these are many."""
+    are a walk that passes no mark too often and goes back from each exit as its calls have it; only
+    what its last lines tell, where these are many."""
     try:
         told = Rounds(text)
     except Malformed:
@@ -186,7 +214,8 @@ def rounded(text, files):
     except OverflowError:
         return int(TOTALS.search(text).group(1))
     is_walk = walked_bound(told.walk(), files) == told.reached
-    return told.reached if is_walk and told.passes(files) is not None else None
+    is_kept = told.passes(files) is not None and told.goes_back(files)
+    return told.reached if is_walk and is_kept else None
 
 
 def passes_of(text, files):

@@ -23,12 +23,14 @@ class TextWalks(Walks):
     """The walks of a deck with its notes, of texts."""
 
     def __init__(self, files):
+        self.files = files
         deck, notes = files["deck"].decode("latin-1"), document_of(files["notes"])
         super().__init__(deck, entries_of(files["times"]), notes)
 
     def is_small(self):
         """Whether the model can go through all walks, which it knows under one switch alone."""
-        return self.programmed == "stop" and self.size() <= FEW
+        is_small = self.programmed == "stop" and self.size() <= FEW
+        return is_small and (not self.calls or len(Flow(self.files).nodes) <= FEW)
 
     def hops(self, op, d, i):
         """How many hops an instruction has: where both its ways lead to one location, two."""
