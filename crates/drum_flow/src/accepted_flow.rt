@@ -1,6 +1,6 @@
 //! The checks of acceptance, in their order, and what comes of a deck that they let pass.
 
-ghost use Rattle.std.specs.Prelude.{◌≡◌, ℕ, map, Contains, IfOk, IfErr};
+ghost use Rattle.std.specs.Prelude.{◌≡◌, ◌<◌, ℕ, length, map, Contains, IfOk, IfErr};
 ghost use Rattle.drum_core.specs.Loads.{loads_in, start_in};
 ghost use Rattle.drum_flow.specs.Acceptance.{IsAdmissionRefusal, IsRefusal};
 ghost use Rattle.drum_flow.specs.Accepted.{IsAccepted, IsAdmitted};
@@ -62,6 +62,9 @@ impl<'a> AcceptedFlow<'a> {
             (start_in deck.now) (executed_in accepted.flow)) }
         ensures nodes { IfOk result (λ accepted. AreAllNodes (loads_in deck.now) notes.now
             (start_in deck.now) (nodes_of accepted.flow)) }
+        ensures within { IfOk result (λ accepted. (index : ℕ)
+            → Contains accepted.order.nodes.items index
+            → index < length (nodes_of accepted.flow)) }
         ensures onward { IfOk result (λ accepted. IsNodeOrder (loads_in deck.now) notes.now
             (nodes_of accepted.flow) (nodes_in_order accepted)) }
         ensures order { IfOk result (λ accepted. IsFreeOrder (loads_in deck.now) notes.now
@@ -92,6 +95,9 @@ impl<'a> AcceptedFlow<'a> {
             (start_in deck.now) (executed_in accepted.flow)) }
         ensures nodes { IfOk result (λ accepted. AreAllNodes (loads_in deck.now) notes.now
             (start_in deck.now) (nodes_of accepted.flow)) }
+        ensures within { IfOk result (λ accepted. (index : ℕ)
+            → Contains accepted.order.nodes.items index
+            → index < length (nodes_of accepted.flow)) }
         ensures onward { IfOk result (λ accepted. IsNodeOrder (loads_in deck.now) notes.now
             (nodes_of accepted.flow) (nodes_in_order accepted)) }
         ensures order { IfOk result (λ accepted. IsFreeOrder (loads_in deck.now) notes.now

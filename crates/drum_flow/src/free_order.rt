@@ -36,6 +36,8 @@ pub struct FreeOrder {
 pub fn free_order(alloc: Global, flow: &Flow<'_>) -> Result<FreeOrder, Refusal>
     requires nodes { of_flow AreAllNodes flow.now (nodes_of flow.now) }
     requires found { of_flow AreFound flow.now (executed_in flow.now) }
+    ensures within { IfOk result (λ order. (index : ℕ) → Contains order.nodes.items index
+        → index < length (nodes_of flow.now)) }
     ensures nodes { IfOk result (λ order. IsNodeOrder (loads_in flow.now.deck.now)
         flow.now.notes.now (nodes_of flow.now) (those_at (nodes_of flow.now) order.nodes.items)) }
     ensures order { IfOk result (λ order. IsFreeOrder (loads_in flow.now.deck.now)

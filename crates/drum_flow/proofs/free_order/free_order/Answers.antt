@@ -37,3 +37,9 @@ returns-in-Ordered-clause-order c =
     (order_plain loads flow.notes.now c.calls-calls.ensures.sound.without_calls (start_in flow.deck.now) (nodes_of flow)
     (those_at (nodes_of flow) c.in-Ordered.nodes.items) (executed_in flow) c.requires.nodes c.requires.found
     (returns-in-Ordered-clause-nodes c))
+
+pub returns-in-Ordered-clause-within : goal.returns-in-Ordered-clause-within
+returns-in-Ordered-clause-within c index there =
+    let order : IsTopologicalOrder (row c.in_ok-graph.graph) (size c.in_ok-graph.graph) c.in-Ordered.nodes.items =
+    rw c.in-Ordered.is at c.in_ok-nodes.ensures in
+    omega (arith, order.within index there, c.in_ok-graph.ensures.size)
