@@ -2,6 +2,8 @@ pub mod Bands
 pub mod Marked
 pub mod Raised
 pub mod Rows
+pub mod SiteRows
+pub mod Sites
 pub mod Slot
 pub mod Slowest
 pub mod Steps

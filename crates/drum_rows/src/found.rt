@@ -1,6 +1,7 @@
 //! A location whose instruction is found at an angle, under notes and with a timing table.
 
 ghost use Rattle.std.specs.Prelude.{◌≡◌, ◌%◌, ◌<◌, ◌↔◌, IsSome, IsTrue};
+ghost use Rattle.drum_machine.specs.Timing.{found};
 
 use crate::slot::Slot;
 use drum_core::Location;
@@ -11,6 +12,15 @@ use drum_times::{Mark, Notes, Times};
 
 /// The most word times that the search for an instruction takes.
 pub const LONGEST_SEARCH: u64 = 49;
+
+/// Whether the instruction at a location is found at an angle: what is beside the drum isn't had at
+/// each.
+pub fn is_found_at(location: Location, angle: u64) -> bool
+    requires { angle < 50 }
+    ensures { IsTrue result ↔ (found location.number angle ≡ angle) }
+{
+    Seek::of(location).go(angle) == angle
+}
 
 /// Where hops begin: at a location, from when its instruction is found.
 #[derive(Clone, Copy, Debug)]
@@ -25,7 +35,6 @@ pub struct Found<'a> {
 
 impl<'a> Found<'a> {
     ghost use Rattle.drum_flow.specs.Flow.{notes_of};
-    ghost use Rattle.drum_machine.specs.Timing.{found};
     ghost use Rattle.drum_machine.specs.WaysLeft.{seen_way};
     ghost use Rattle.drum_rows.specs.Marked.{mark_by};
     ghost use Rattle.drum_rows.specs.Slot.{place_of};
@@ -45,12 +54,12 @@ impl<'a> Found<'a> {
         }
     }
 
-    /// Whether the instruction is found at this angle: what is beside the drum isn't had at each.
+    /// Whether the instruction is found at this angle.
     pub fn is_there(&self) -> bool
         ensures { IsTrue result
             ↔ (found self.now.location.number self.now.angle ≡ self.now.angle) }
     {
-        Seek::of(self.location).go(self.angle) == self.angle
+        is_found_at(self.location, self.angle)
     }
 
     /// Whether a hop of the location that ends by this way goes on along an edge with a mark.

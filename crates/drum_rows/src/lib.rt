@@ -23,10 +23,14 @@ mod found;
 mod raised;
 mod row;
 mod rows;
+mod site_row;
+mod sites;
 mod slot;
 mod slowest;
 mod taking;
 
 pub use row::{Edge, Row};
 pub use rows::rows_of;
+pub use site_row::{SiteEdge, SiteRow, site_rows};
+pub use sites::{Site, Sites};
 pub use slot::Slot;

@@ -1,0 +1,51 @@
+use Rattle.std.proofs.Common.{◌≡◌, ◌∙◌, ℕ, ◌<◌, Bool, true, false, List, refl, sym, subst, inl, inr, arith}
+use Rattle.std.specs.Prelude.{Contains}
+use Rattle.std.proofs.lemmas.Bool.{cases_lt}
+use Rattle.drum_machine.specs.Timing.{found}
+use Rattle.drum_rows.specs.declared.sites.Site.{Site}
+use Rattle.drum_rows.specs.Sites.{sites_in}
+use Rattle.drum_rows.proofs.SiteKeys.{key_added, key_kept, key_only}
+use Rattle.drum_rows.proofs.sites.Sites.add.Goals as goal
+
+pub loop-angle-preserved : goal.loop-angle-preserved
+loop-angle-preserved c =
+    let before = sites_in c.loop-angle.self in
+    let angle = c.loop-angle.angle in
+    let key : Site = record { node = c.args.node; angle = angle } in
+    let keys = c.in_ok-insert.ensures.keys in
+    let is = c.loop-angle.invariant in
+    record {
+      kept = λ site there. subst (λ (all : List Site). Contains all site) (sym keys) (key_kept before key site (is.kept site there));
+      added = λ one high at. elim (cases_lt one angle) [
+        | inl earlier ↦ subst (λ (all : List Site). Contains all (record { node = c.args.node; angle = one })) (sym keys)
+            (key_kept before key (record { node = c.args.node; angle = one }) (is.added one earlier at))
+        | inr last ↦ (
+            let same : angle ≡ one = omega (arith, high, last) in
+            subst (λ (a : ℕ). Contains c.insert.new.self.keys (record { node = c.args.node; angle = a })) same
+            (subst (λ (all : List Site). Contains all key) (sym keys) (key_added before key)))
+      ];
+      only = λ site there.
+          elim (key_only before key site (subst (λ (all : List Site). Contains all site) keys there)) [
+            | inl had ↦ is.only site had
+            | inr same ↦ inr (subst (λ (s : Site). (s.node ≡ c.args.node) × (s.angle < 50)
+                × (found c.args.location.number s.angle ≡ s.angle)) same
+                (refl, c.loop-angle-test.true, c.is_found_at.ensures.0 c.if-not-is_found_at.false))
+          ];
+    }
+
+pub loop-angle-preserved-then-not-is_found_at : goal.loop-angle-preserved-then-not-is_found_at
+loop-angle-preserved-then-not-is_found_at c =
+    let angle = c.loop-angle.angle in
+    let is = c.loop-angle.invariant in
+    record {
+      kept = is.kept;
+      added = λ one high at. elim (cases_lt one angle) [
+        | inl earlier ↦ is.added one earlier at
+        | inr last ↦ (
+            let same : one ≡ angle = omega (arith, high, last) in
+            let clash : ◌≡◌ {A = Bool} true false =
+            sym (c.is_found_at.ensures.1 (subst (λ (a : ℕ). found c.args.location.number a ≡ a) same at))
+            ∙ c.if-not-is_found_at.true in cc)
+      ];
+      only = is.only;
+    }
