@@ -3,7 +3,8 @@
 
 ghost use Rattle.std.specs.Prelude.{◌≡◌, ◌++◌, ◌+◌, ◌<◌, ◌↔◌, [], ℕ, List, map, All, IfOk};
 ghost use Rattle.std.specs.Prelude.{IsPermutation, IsTrue};
-ghost use Rattle.drum_flow.specs.Flow.{executed_in, of_flow, AreFound};
+ghost use Rattle.drum_flow.specs.Executed.{AreAllNodes};
+ghost use Rattle.drum_flow.specs.Flow.{executed_in, nodes_of, of_flow, AreFound};
 ghost use Rattle.drum_times.specs.EdgeOf.{edge_of};
 ghost use Rattle.drum_loops.specs.Loops.{AreClosing};
 ghost use Rattle.drum_check.specs.Findings.{closes};
@@ -220,7 +221,8 @@ fn told_in_order(
 /// there are have more than [`MOST_EDGES`], none is said to stand inside another one. It takes as
 /// long as [`closing_edges`], and at most some ten thousand times as long as discovery.
 pub fn unmarked_loops(alloc: Global, flow: &Flow<'_>) -> Result<Vec<Finding>, AllocError>
-    requires { of_flow AreFound flow.now (executed_in flow.now) }
+    requires nodes { of_flow AreAllNodes flow.now (nodes_of flow.now) }
+    requires found { of_flow AreFound flow.now (executed_in flow.now) }
     ensures { IfOk result (λ loops. (edges : List (ℕ × ℕ)) × of_flow AreClosing flow.now edges
         × of_flow AreLoops flow.now (executed_in flow.now) edges (map seen loops.items)) }
 {
