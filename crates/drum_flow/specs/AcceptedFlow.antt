@@ -5,9 +5,13 @@ use Rattle.drum_flow.specs.Flow.{nodes_of}
 use Rattle.drum_flow.specs.Free.{those_at}
 use Rattle.drum_flow.specs.Hops.{Node}
 
--- the nodes of the flow graph, in that order
+-- the indices of the nodes of the flow graph, in that order
+abbrev pub indices_in_order : AcceptedFlow → List ℕ
+indices_in_order accepted = accepted.order.nodes.items
+
+-- the nodes themselves
 abbrev pub nodes_in_order : AcceptedFlow → List Node
-nodes_in_order accepted = those_at (nodes_of accepted.flow) accepted.order.nodes.items
+nodes_in_order accepted = those_at (nodes_of accepted.flow) (indices_in_order accepted)
 
 -- their locations
 abbrev pub in_order : AcceptedFlow → List ℕ

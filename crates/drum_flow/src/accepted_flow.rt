@@ -5,11 +5,11 @@ ghost use Rattle.drum_core.specs.Loads.{loads_in, start_in};
 ghost use Rattle.drum_flow.specs.Acceptance.{IsAdmissionRefusal, IsRefusal};
 ghost use Rattle.drum_flow.specs.Accepted.{IsAccepted, IsAdmitted};
 ghost use Rattle.drum_flow.specs.Altering.{AltersNone};
-ghost use Rattle.drum_flow.specs.AcceptedFlow.{in_order, nodes_in_order};
+ghost use Rattle.drum_flow.specs.AcceptedFlow.{in_order, indices_in_order, nodes_in_order};
 ghost use Rattle.drum_flow.specs.Executed.{AreAllNodes};
 ghost use Rattle.drum_flow.specs.Flow.{deck_of, notes_of, nodes_of, executed_in, of_flow};
 ghost use Rattle.drum_flow.specs.Flow.{AreExecuted};
-ghost use Rattle.drum_flow.specs.Free.{those_at, IsFreeOrder, IsNodeOrder};
+ghost use Rattle.drum_flow.specs.Free.{IsFreeOrder, IsNodeOrder};
 
 use crate::altering::check_unaltered;
 use crate::discovery::flow;
@@ -63,7 +63,7 @@ impl<'a> AcceptedFlow<'a> {
         ensures nodes { IfOk result (λ accepted. AreAllNodes (loads_in deck.now) notes.now
             (start_in deck.now) (nodes_of accepted.flow)) }
         ensures within { IfOk result (λ accepted. (index : ℕ)
-            → Contains accepted.order.nodes.items index
+            → Contains (indices_in_order accepted) index
             → index < length (nodes_of accepted.flow)) }
         ensures onward { IfOk result (λ accepted. IsNodeOrder (loads_in deck.now) notes.now
             (nodes_of accepted.flow) (nodes_in_order accepted)) }
@@ -96,7 +96,7 @@ impl<'a> AcceptedFlow<'a> {
         ensures nodes { IfOk result (λ accepted. AreAllNodes (loads_in deck.now) notes.now
             (start_in deck.now) (nodes_of accepted.flow)) }
         ensures within { IfOk result (λ accepted. (index : ℕ)
-            → Contains accepted.order.nodes.items index
+            → Contains (indices_in_order accepted) index
             → index < length (nodes_of accepted.flow)) }
         ensures onward { IfOk result (λ accepted. IsNodeOrder (loads_in deck.now) notes.now
             (nodes_of accepted.flow) (nodes_in_order accepted)) }
@@ -126,7 +126,7 @@ impl<'a> AcceptedFlow<'a> {
 
     /// The indices of the nodes, in an order in which every edge free of marks goes on.
     pub fn nodes(&self) -> &[usize]
-        ensures { those_at (nodes_of self.now.flow) result.now ≡ nodes_in_order self.now }
+        ensures { result.now ≡ indices_in_order self.now }
     {
         &self.order.nodes
     }
