@@ -1,5 +1,5 @@
 -- A certificate bounds every walk, and every part of one.
-use Rattle.std.proofs.Common.{◌≡◌, ℕ, zero, suc, ◌+◌, ◌-◌, ◌*◌, ◌/◌, ◌%◌, ◌<◌, ◌≤◌, List, [], ◌∷◌}
+use Rattle.std.proofs.Common.{◌≡◌, ℕ, ◌+◌, ◌-◌, ◌*◌, ◌/◌, ◌%◌, ◌<◌, ◌≤◌, List, [], ◌∷◌, ◌++◌}
 use Rattle.std.proofs.Common.{Option, Some, None, refl, ap, sym, ◌∙◌, subst, arith}
 use Rattle.std.specs.Prelude.{Contains}
 use Rattle.drum_core.specs.declared.op.Op.{Op}
@@ -10,43 +10,36 @@ use Rattle.drum_machine.specs.Counts.{after_pass, no_counts, AreWithin}
 use Rattle.drum_machine.specs.Timing.{found}
 use Rattle.drum_machine.specs.Ways.{Way, early, to, late}
 use Rattle.drum_machine.proofs.Chained.{found_keeps_time}
-use Rattle.drum_flow.specs.Hops.{Hop, hops}
+use Rattle.drum_machine.specs.Calls.{open_after, GoBack, MayGo}
+use Rattle.drum_flow.specs.Hops.{edge_between, first_node, hops, Hop, Node}
 use Rattle.drum_flow.specs.Longest.{longest}
+use Rattle.drum_flow.specs.Walk.{edge_taken, edges_taken}
 use Rattle.drum_flow.specs.Walk.{FollowHop, IsTimed, IsWalk, IsWalkFrom, Setting, Taken, time_from, time_of}
 use Rattle.drum_flow.proofs.FromAngles.{found_angle, leap_time}
 use Rattle.drum_flow.proofs.LongestLaws.{longest_from_found, longest_later, longest_monotone, no_later}
 use Rattle.drum_rows.specs.Steps.{arrival}
-use Rattle.drum_ceiling.specs.Certificate.{IsCertificate, IsOpen, Pays}
+use Rattle.drum_rows.specs.SiteRows.{node_behind}
+use Rattle.drum_rows.proofs.Angles.{found_later}
+use Rattle.drum_ceiling.specs.Certificate.{IsAllowed, IsCertificate, Pays}
 
--- the search ends some revolutions later where it begins as many later
-pub found_later : (place k t : ℕ) → found place (t + 50 * k) ≡ found place t + 50 * k
-found_later place zero t =
-    let same : t + 50 * 0 ≡ t = omega arith in
-    let none : found place t ≡ found place t + 50 * 0 = omega arith in
-    ap (found place) same ∙ none
-found_later place (suc k) t =
-    let next : t + 50 * suc k ≡ t + 50 * k + 50 = omega arith in
-    let sum : found place t + 50 * k + 50 ≡ found place t + 50 * suc k = omega arith in
-    ap (found place) next ∙ (found_keeps_time place).periodic (t + 50 * k)
-    ∙ ap (λ (n : ℕ). n + 50) (found_later place k t) ∙ sum
-
--- At a place, whose instruction is found at this clock at the latest, so much is due; the clock is one at which it is
+-- At a node, whose instruction is found at this clock at the latest, so much is due; the clock is one at which it is
 -- found.
-pub record IsDue (g : Setting) (owed : ℕ → ℕ → List ℕ → Option ℕ) (angle place time : ℕ) (counts : List ℕ)
-    (clock due : ℕ) : Type 0 where
-  pub near : found place (angle + time) ≤ clock
-  pub stays : found place clock ≡ clock
+pub record IsDue (g : Setting) (owed : Node → ℕ → List ℕ → Option ℕ) (angle : ℕ) (node : Node) (time : ℕ)
+    (counts : List ℕ) (clock due : ℕ) : Type 0 where
+  pub near : found node.place (angle + time) ≤ clock
+  pub stays : found node.place clock ≡ clock
   pub within : AreWithin g.notes.marks counts
-  pub at : owed place (clock % 50) counts ≡ Some due
+  pub at : owed node (clock % 50) counts ≡ Some due
 
-module _ (g : Setting) (owed : ℕ → ℕ → List ℕ → Option ℕ) (total : ℕ) (is : IsCertificate g owed total)
+module _ (g : Setting) (owed : Node → ℕ → List ℕ → Option ℕ) (total : ℕ) (is : IsCertificate g owed total)
     (angle : ℕ) where
   -- What is owed pays at each later clock of its angle too.
-  pays_at : (place clock due : ℕ) (counts : List ℕ) → AreWithin g.notes.marks counts
-      → owed place (clock % 50) counts ≡ Some due → (hop : Hop) → Contains (hops g.loads g.notes place) hop
-      → IsOpen g.notes.marks place counts hop.way → Pays g owed place clock counts due hop
-  pays_at place clock due counts within at hop has may =
-      let one = is.pays place (clock % 50) due counts (omega arith) within at hop has may in
+  pays_at : (node : Node) (clock due : ℕ) (counts : List ℕ) → AreWithin g.notes.marks counts
+      → owed node (clock % 50) counts ≡ Some due → (hop : Hop) → Contains (hops g.loads g.notes node.place) hop
+      → IsAllowed g.notes node counts hop.way → Pays g owed node clock counts due hop
+  pays_at node clock due counts within at hop has may =
+      let place : ℕ = node.place in
+      let one = is.pays node (clock % 50) due counts (omega arith) within at hop has may in
       let whole : clock ≡ clock % 50 + 50 * (clock / 50) = omega arith in
       let from : ℕ = longest g.times place hop.ins hop.way (clock % 50) in
       let moved : longest g.times place hop.ins hop.way clock ≡ clock + (from - clock % 50) =
@@ -63,7 +56,8 @@ module _ (g : Setting) (owed : ℕ → ℕ → List ℕ → Option ℕ) (total :
             let turned : arrival g place clock hop next % 50 ≡ found next from % 50 =
             omega (arith, arrives) in (
               so.0,
-              ap (λ (n : ℕ). owed next n (after_pass g.notes.marks place next counts)) turned ∙ so.1,
+              ap (λ (n : ℕ). owed (node_behind g.notes node next) n (after_pass g.notes.marks place next counts)) turned
+                  ∙ so.1,
               omega (arith, so.2, arrives, whole),
             );
       }
@@ -88,22 +82,23 @@ module _ (g : Setting) (owed : ℕ → ℕ → List ℕ → Option ℕ) (total :
           )
 
   -- A hop that goes on is paid for: what is due next, with the clock then, is no more than before.
-  pub due_next : (place time : ℕ) (counts : List ℕ) (clock due : ℕ) (hop : Taken) (next : ℕ)
-      → IsDue g owed angle place time counts clock due → hop.place ≡ place → hop.begun ≡ time
-      → Contains (hops g.loads g.notes place) (record { ins = hop.ins; way = hop.way })
+  pub due_next : (node : Node) (time : ℕ) (counts : List ℕ) (clock due : ℕ) (hop : Taken) (next : ℕ)
+      → IsDue g owed angle node time counts clock due → hop.place ≡ node.place → hop.begun ≡ time
+      → Contains (hops g.loads g.notes node.place) (record { ins = hop.ins; way = hop.way })
       → IsTimed g.times angle hop (op_of hop.ins.op) → hop.way ≡ to next
-      → AreWithin g.notes.marks (after_pass g.notes.marks place next counts)
+      → MayGo g.notes.calls node.ways (edge_between node.place next)
+      → AreWithin g.notes.marks (after_pass g.notes.marks node.place next counts)
       → (later : ℕ) × (when : ℕ)
-      × IsDue g owed angle next hop.ended (after_pass g.notes.marks place next counts) when later × (when + later ≤ clock + due)
-      × (angle + hop.ended + 49 ≤ clock + due)
-  due_next place time counts clock due hop next is_due here begins allowed timed on within =
+      × IsDue g owed angle (node_behind g.notes node next) hop.ended (after_pass g.notes.marks node.place next counts) when
+      later × (when + later ≤ clock + due) × (angle + hop.ended + 49 ≤ clock + due)
+  due_next node time counts clock due hop next is_due here begins allowed timed on goes within =
       let one : Hop = record { ins = hop.ins; way = hop.way } in
-      let may : IsOpen g.notes.marks place counts hop.way =
-      subst (IsOpen g.notes.marks place counts) (sym on) within in
-      let pays = pays_at place clock due counts is_due.within is_due.at one allowed may in
+      let may : IsAllowed g.notes node counts hop.way =
+      subst (IsAllowed g.notes node counts) (sym on) (goes, within) in
+      let pays = pays_at node clock due counts is_due.within is_due.at one allowed may in
       let so = pays.goes_on next on in
-      let latest : ℕ = longest g.times place hop.ins hop.way clock in
-      let ended = ended_by place time clock hop here begins timed is_due.near in (
+      let latest : ℕ = longest g.times node.place hop.ins hop.way clock in
+      let ended = ended_by node.place time clock hop here begins timed is_due.near in (
         so.0,
         found next latest,
         record {
@@ -116,54 +111,69 @@ module _ (g : Setting) (owed : ℕ → ℕ → List ℕ → Option ℕ) (total :
         omega (arith, ended, pays.ends),
       )
 
+  -- what a walk is gone back by, behind a hop that goes on
+  pub back_next : (node : Node) (hop : Taken) (rest : List Taken) (next : ℕ) → hop.place ≡ node.place → hop.way ≡ to next
+      → GoBack g.notes.calls node.ways (edges_taken (hop ∷ rest))
+      → MayGo g.notes.calls node.ways (edge_between node.place next)
+      × GoBack g.notes.calls (node_behind g.notes node next).ways (edges_taken rest)
+  back_next node hop rest next here on back =
+      subst (λ (place : ℕ). MayGo g.notes.calls node.ways (edge_between place next)
+      × GoBack g.notes.calls (open_after g.notes.calls (edge_between place next) node.ways) (edges_taken rest)) here
+      (subst (λ (way : Way). GoBack g.notes.calls node.ways (edge_taken hop.place way ++ edges_taken rest)) on back)
+
   -- From where so much is due a walk ends 49 word times before the clock with that at the latest.
-  pub walk_below : (place time : ℕ) (counts : List ℕ) (hops : List Taken) (clock due limit : ℕ)
-      → IsWalkFrom g angle place time counts hops → IsDue g owed angle place time counts clock due
+  pub walk_below : (node : Node) (time : ℕ) (counts : List ℕ) (hops : List Taken) (clock due limit : ℕ)
+      → IsWalkFrom g angle node.place time counts hops → GoBack g.notes.calls node.ways (edges_taken hops)
+      → IsDue g owed angle node time counts clock due
       → angle + time + 49 ≤ limit → clock + due ≤ limit → angle + time_from time hops + 49 ≤ limit
-  walk_below place time counts [] clock due limit walk is_due used below = used
-  walk_below place time counts (hop ∷ hops) clock due limit walk is_due used below =
+  walk_below node time counts [] clock due limit walk back is_due used below = used
+  walk_below node time counts (hop ∷ hops) clock due limit walk back is_due used below =
       by (λ next from so_far. walk_below next from so_far hops) hop.way refl walk.1
     where
       one : Hop
       one = record { ins = hop.ins; way = hop.way }
 
-      stops : IsOpen g.notes.marks place counts hop.way → hops ≡ []
+      stops : IsAllowed g.notes node counts hop.way → hops ≡ []
           → angle + time_from hop.ended hops + 49 ≤ limit
       stops may last =
-          let pays = pays_at place clock due counts is_due.within is_due.at one walk.0.allowed may in
-          let ended = ended_by place time clock hop walk.0.here walk.0.begins walk.0.timed is_due.near in
+          let pays = pays_at node clock due counts is_due.within is_due.at one walk.0.allowed may in
+          let ended = ended_by node.place time clock hop walk.0.here walk.0.begins walk.0.timed is_due.near in
           omega (arith, ended, pays.ends, ap (time_from hop.ended) last, below)
 
-      Below : ℕ → ℕ → List ℕ → Type 0
-      Below next from so_far = (when later bound : ℕ) → IsWalkFrom g angle next from so_far hops
+      Below : Node → ℕ → List ℕ → Type 0
+      Below next from so_far = (when later bound : ℕ) → IsWalkFrom g angle next.place from so_far hops
+          → GoBack g.notes.calls next.ways (edges_taken hops)
           → IsDue g owed angle next from so_far when later → angle + from + 49 ≤ bound → when + later ≤ bound
           → angle + time_from from hops + 49 ≤ bound
 
-      by : ((next from : ℕ) (so_far : List ℕ) → Below next from so_far) → (way : Way) → hop.way ≡ way
+      by : ((next : Node) (from : ℕ) (so_far : List ℕ) → Below next from so_far) → (way : Way) → hop.way ≡ way
           → FollowHop way (λ next.
-          AreWithin g.notes.marks (after_pass g.notes.marks place next counts)
-          × IsWalkFrom g angle next hop.ended (after_pass g.notes.marks place next counts) hops) hops
+          AreWithin g.notes.marks (after_pass g.notes.marks node.place next counts)
+          × IsWalkFrom g angle next hop.ended (after_pass g.notes.marks node.place next counts) hops) hops
           → angle + time_from hop.ended hops + 49 ≤ limit
       by further early is_way last =
-          stops (subst (IsOpen g.notes.marks place counts) (sym is_way) tt) last
+          stops (subst (IsAllowed g.notes node counts) (sym is_way) tt) last
       by further (to next) is_way rest =
-          let so = due_next place time counts clock due hop next is_due walk.0.here walk.0.begins walk.0.allowed
-          walk.0.timed is_way rest.0 in
-          further next hop.ended (after_pass g.notes.marks place next counts) so.1 so.0 limit rest.1 so.2
-          (omega (arith, so.4, below)) (omega (arith, so.3, below))
+          let goes = back_next node hop hops next walk.0.here is_way back in
+          let so = due_next node time counts clock due hop next is_due walk.0.here walk.0.begins walk.0.allowed
+          walk.0.timed is_way goes.0 rest.0 in
+          further (node_behind g.notes node next) hop.ended (after_pass g.notes.marks node.place next counts) so.1 so.0
+          limit rest.1 goes.1 so.2 (omega (arith, so.4, below)) (omega (arith, so.3, below))
       by further late is_way last =
-          stops (subst (IsOpen g.notes.marks place counts) (sym is_way) tt) last
+          stops (subst (IsAllowed g.notes node counts) (sym is_way) tt) last
 
   -- what is due at the start
   pub due_first : g.start < 2000 → AreWithin g.notes.marks (no_counts g.notes.marks)
-      → IsDue g owed angle g.start 0 (no_counts g.notes.marks) (found g.start angle) total
+      → IsDue g owed angle (first_node g.notes g.start) 0 (no_counts g.notes.marks) (found g.start angle) total
   due_first below within =
       let same : angle + 0 ≡ angle = omega arith in
       record {
         near = omega (arith, ap (found g.start) same);
         stays = first_again (available_recurs g.start) angle;
         within = within;
-        at = ap (λ (n : ℕ). owed g.start n (no_counts g.notes.marks)) (found_angle g.start angle below) ∙ is.starts;
+        at =
+            ap (λ (n : ℕ). owed (first_node g.notes g.start) n (no_counts g.notes.marks)) (found_angle g.start angle below)
+            ∙ is.starts;
       }
 
   -- A walk takes no more than the total.
@@ -174,6 +184,6 @@ module _ (g : Setting) (owed : ℕ → ℕ → List ℕ → Option ℕ) (total :
       let clock : ℕ = found g.start angle in
       omega (
         arith,
-        walk_below g.start 0 (no_counts g.notes.marks) hops clock total (angle + 49 + total) walk.from_start
-            (due_first below within) (omega arith) (omega (arith, near)),
+        walk_below (first_node g.notes g.start) 0 (no_counts g.notes.marks) hops clock total (angle + 49 + total)
+            walk.from_start walk.back (due_first below within) (omega arith) (omega (arith, near)),
       )

@@ -1,5 +1,5 @@
 -- What is right of a ceiling, and of a size that is too large for one.
-use Rattle.std.proofs.Common.{ℕ, ◌+◌, ◌*◌, ◌^◌, ◌<◌, ◌≤◌, Bool, true, false, List, [], ◌∷◌, length, arith}
+use Rattle.std.proofs.Common.{◌≡◌, ℕ, ◌+◌, ◌*◌, ◌^◌, ◌<◌, ◌≤◌, Bool, true, false, List, [], ◌∷◌, length, Option, ap, sym, ◌∙◌, arith}
 use Rattle.std.proofs.Common.{inl, inr}
 use Rattle.std.specs.Prelude.{◌==◌, if◌then◌else◌, All}
 use Rattle.std.proofs.Math.Nat.{mul-le-mul_left, mul-le-mul_right}
@@ -12,6 +12,10 @@ use Rattle.drum_times.specs.declared.times.Times.{Times}
 use Rattle.drum_machine.specs.Counts.{is_inside}
 use Rattle.drum_machine.specs.Timing.{longest_step}
 use Rattle.drum_flow.specs.Accepted.{counts_of, product_of, IsAdmitted, IsSound}
+use Rattle.drum_core.specs.declared.word.Word.{Word}
+use Rattle.drum_flow.specs.Executed.{each_place, AreAllNodes}
+use Rattle.drum_flow.specs.Hops.{Node}
+use Rattle.drum_flow.proofs.Acceptances.{one_reached}
 use Rattle.drum_flow.specs.MostPasses.{factor, passes_from}
 use Rattle.drum_flow.specs.RunHops.{hops_taken}
 use Rattle.drum_flow.specs.SettingOf.{setting}
@@ -61,20 +65,28 @@ takes_farthest g executed = record {
 }
 
 -- Where the size is too large, so is the product.
-pub large_product : (g : Setting) (executed : List ℕ) → length g.notes.marks ≤ 64 → IsWithinSize g executed (2 ^ 127)
+pub large_product : (g : Setting) (nodes : List Node) (executed : List ℕ) → length g.notes.marks ≤ 64
+    → length nodes < 2 ^ 64 → 1 ≤ length executed → IsWithinSize g nodes (2 ^ 127)
     → 4000000 < product_of executed g.notes.marks
-large_product g executed few large = elim (cases_lt 4000000 (product_of executed g.notes.marks)) [
+large_product g nodes executed few short some large = elim (cases_lt 4000000 (product_of executed g.notes.marks)) [
   | inl more ↦ more
   | inr small ↦ (
       let counts = counts_of g.notes.marks in
-      let words = length executed in
+      let size = length nodes in
       let all : length g.notes.marks * counts ≤ 64 * counts = mul-le-mul_right counts few in
-      let passes : 1 + passes_together g.notes.marks 0 g.notes.marks ≤ 65 * counts =
-      omega (arith, together_few g.notes.marks 0 g.notes.marks, all, counts_positive g.notes.marks) in
-      let grows : words * farthest * (1 + passes_together g.notes.marks 0 g.notes.marks) ≤ words * farthest * (65 * counts) =
-      mul-le-mul_left (words * farthest) passes in
-      absurd (omega (arith, large farthest (takes_farthest g executed), grows, small)))
+      let once : 1 * counts ≤ length executed * counts = mul-le-mul_right counts some in
+      let passes : 1 + passes_together g.notes.marks 0 g.notes.marks ≤ 260000000 =
+      omega (arith, together_few g.notes.marks 0 g.notes.marks, all, counts_positive g.notes.marks, once, small) in
+      let grows : size * farthest * (1 + passes_together g.notes.marks 0 g.notes.marks) ≤ size * farthest * 260000000 =
+      mul-le-mul_left (size * farthest) passes in
+      absurd (omega (arith, large farthest (takes_farthest g (each_place nodes)), grows, short)))
 ]
+
+-- The executed locations are those of the nodes.
+pub executed_places : (loads : ℕ → Option Word) (notes : Notes) (start : ℕ) (executed : List ℕ) (nodes : List Node)
+    → IsAdmitted loads notes start executed → AreAllNodes loads notes start nodes → executed ≡ each_place nodes
+executed_places loads notes start executed nodes admitted are =
+    sym admitted.order.places ∙ ap each_place (one_reached loads notes start admitted.order.nodes nodes admitted.order.reached are)
 
 -- An admitted deck is sound.
 pub admitted_sound : (deck : Deck) (notes : Notes) (executed : List ℕ)
@@ -85,25 +97,27 @@ admitted_sound deck notes executed admitted = record {
 }
 
 -- Prices of a certificate with their total are a ceiling.
-pub is_ceiling : (deck : Deck) (times : Times) (notes : Notes) (executed prices : List ℕ) (total : ℕ) → AreSound notes
-    → IsAdmitted (loads_in deck) notes (start_in deck) executed
-    → IsWithinSize (setting deck times notes) executed total
-    → All (IsWithinSize (setting deck times notes) executed) prices → ArePrices (setting deck times notes) prices total
+pub is_ceiling : (deck : Deck) (times : Times) (notes : Notes) (nodes : List Node) (prices : List ℕ) (total : ℕ)
+    → AreSound notes → AreAllNodes (loads_in deck) notes (start_in deck) nodes
+    → IsAdmitted (loads_in deck) notes (start_in deck) (each_place nodes)
+    → IsWithinSize (setting deck times notes) nodes total
+    → All (IsWithinSize (setting deck times notes) nodes) prices → ArePrices (setting deck times notes) prices total
     → IsCeiling (setting deck times notes) prices total
-is_ceiling deck times notes executed prices total sound admitted low prices_low are =
+is_ceiling deck times notes nodes prices total sound reached admitted low prices_low are =
     let g = setting deck times notes in
     let proper = is_proper deck times notes sound in
     let below : (angle : ℕ) (hops : List Taken) → IsWalk g angle hops → time_of hops ≤ total =
     λ angle hops walk. walk_total g (owed_by notes.marks prices are.form) total are.certificate angle hops proper.starts
     (no_counts_within notes.marks) walk in
     record {
-      executed = executed;
+      nodes = nodes;
+      reached = reached;
       admitted = admitted;
       low = low;
       prices_low = prices_low;
       are = are;
       walks = below;
       kept = λ s steps first is_run kept.
-          let walked = kept_walk g executed s steps proper admitted first is_run kept in
+          let walked = kept_walk g (each_place nodes) s steps proper admitted first is_run kept in
           omega (arith, below s.first_angle (hops_taken steps) walked.0, walked.1);
     }

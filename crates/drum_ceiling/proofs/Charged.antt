@@ -8,7 +8,7 @@ use Rattle.drum_times.specs.declared.notes.mark.Mark.{Mark}
 use Rattle.drum_machine.specs.Counts.{no_counts}
 use Rattle.drum_ceiling.specs.Affine.{cost_left}
 use Rattle.drum_ceiling.specs.Charge.{charge_from, owed_anew}
-use Rattle.drum_ceiling.specs.AtSlot.{is_in}
+use Rattle.drum_ceiling.specs.AtSite.{is_in}
 
 -- A step without a mark is charged nothing where it stays in its regions.
 same_regions : (all : List Mark) (here : ℕ → Bool) (index : ℕ) (marks : List Mark) (prices : List ℕ)

@@ -1,15 +1,15 @@
--- The prices by the order of the executed locations: that they pay, and what they come to.
-use Rattle.std.proofs.Common.{◌≡◌, ℕ, ◌+◌, ◌*◌, ◌^◌, ◌<◌, ◌≤◌, List, [], length, map, refl, ap, sym, ◌∙◌, subst, arith, mul-add}
+-- The prices by the order of the nodes: that they pay, and what they come to.
+use Rattle.std.proofs.Common.{◌≡◌, ℕ, ◌+◌, ◌*◌, ◌^◌, ◌<◌, ◌≤◌, List, length, map, ap, sym, ◌∙◌, subst, arith, mul-add}
 use Rattle.std.specs.Prelude.{slice_index, All, Contains}
 use Rattle.std.proofs.Math.Nat.{mul-le-mul_left, mul-le-mul_right}
 use Rattle.drum_times.specs.declared.notes.mark.Mark.{Mark}
 use Rattle.drum_times.specs.Allowed.{StandInEarlier}
-use Rattle.drum_flow.specs.Accepted.{told, IsAdmitted}
-use Rattle.drum_flow.specs.Free.{IsFreeOrder}
-use Rattle.drum_flow.specs.Graph.{height}
+use Rattle.drum_flow.specs.Accepted.{told}
+use Rattle.drum_flow.specs.Executed.{each_place, AreAllNodes}
+use Rattle.drum_flow.specs.Free.{IsNodeOrder}
+use Rattle.drum_flow.specs.Hops.{first_node, Node}
 use Rattle.drum_flow.specs.Walk.{IsProper, Setting}
-use Rattle.drum_flow.proofs.Orders.{first_reached, order_found}
-use Rattle.drum_machine.specs.Calls.{none_open}
+use Rattle.drum_flow.proofs.Orders.{first_reached, has_reached}
 use Rattle.drum_flow.proofs.Products.{told_exact}
 use Rattle.drum_rows.specs.Steps.{TakesAtMost}
 use Rattle.drum_ceiling.specs.Affine.{owed_by}
@@ -17,7 +17,7 @@ use Rattle.drum_ceiling.specs.Certificate.{IsCertificate}
 use Rattle.drum_ceiling.specs.InRounds.{passes_in_all, passes_inside, priced, AreInRounds}
 use Rattle.drum_ceiling.specs.Right.{ArePrices}
 use Rattle.drum_ceiling.specs.Size.{passes_together, size_of}
-use Rattle.drum_ceiling.proofs.ByOrder.{certificate_by, form_by, prices_by, total_by, total_low}
+use Rattle.drum_ceiling.proofs.ByOrder.{certificate_by, form_by, high, prices_by, total_by, total_low}
 use Rattle.drum_ceiling.proofs.RoundSums.{inside_few, told_prices}
 use Rattle.drum_ceiling.proofs.Rounded.{rounds_paid}
 use Rattle.drum_ceiling.proofs.Shut.{owed_same, priced_long, prices_few, same_certificate}
@@ -49,24 +49,24 @@ size_low marks words longest passes more product rounds nested are all one is =
     let grows : words * longest * more ≤ size_of marks words longest = mul-le-mul_left (words * longest) few in
     omega (arith, told_few (words * longest * more) product is, grows)
 
-module _ (g : Setting) (executed order : List ℕ) (proper : IsProper g)
-    (admitted : IsAdmitted g.loads g.notes g.start executed)
-    (free : IsFreeOrder g.loads g.notes executed order) (longest : ℕ) (takes : TakesAtMost g executed longest)
+module _ (g : Setting) (nodes order : List Node) (proper : IsProper g)
+    (reached : AreAllNodes g.loads g.notes g.start nodes)
+    (free : IsNodeOrder g.loads g.notes nodes order) (longest : ℕ) (takes : TakesAtMost g (each_place nodes) longest)
     (rounds : List ℕ) (are : AreInRounds told g.notes.marks rounds) (passes more product : ℕ)
     (all : passes ≡ told (passes_in_all g.notes.marks rounds)) (one : more ≡ told (1 + passes))
-    (is : product ≡ told (length executed * longest * more)) (small : product < 2 ^ 127) where
+    (is : product ≡ told (length nodes * longest * more)) (small : product < 2 ^ 127) where
   abbrev pub words : ℕ
-  words = length executed
+  words = length nodes
 
   abbrev pub unit : ℕ
   unit = words * longest
 
-  -- some location is executed
+  -- some node is there
   some_words : 1 ≤ words
   some_words =
-      let there : Contains executed g.start =
-      (order_found g.loads g.notes g.start executed admitted.order).all g.start
-      (none_open g.notes.calls, first_reached g.loads g.notes g.start) in
+      let there : Contains nodes (first_node g.notes g.start) =
+      has_reached g.loads g.notes g.start nodes reached (first_node g.notes g.start)
+      (first_reached g.loads g.notes g.start) in
       omega (arith, there.1)
 
   exact : unit * more ≡ product
@@ -103,7 +103,7 @@ module _ (g : Setting) (executed order : List ℕ) (proper : IsProper g)
       omega (arith, few, exact, small))
 
   pub by_order : (prices : List ℕ) (total sum : ℕ) → prices ≡ priced told unit g.notes.marks rounds
-      → sum ≡ told (unit * passes) → total ≡ height order g.start * longest + sum
+      → sum ≡ told (unit * passes) → total ≡ high order (first_node g.notes g.start) * longest + sum
       → ArePrices g prices total × (total ≤ size_of g.notes.marks words longest)
       × All (λ price. price ≤ size_of g.notes.marks words longest) prices
   by_order prices total sum made summed is_total =
@@ -111,21 +111,21 @@ module _ (g : Setting) (executed order : List ℕ) (proper : IsProper g)
       ap (λ (n : ℕ). unit * n) more_is ∙ mul-add unit 1 (passes_in_all g.notes.marks rounds) in
       let sum_is : sum ≡ unit * passes_in_all g.notes.marks rounds =
       omega (arith, summed, ap (λ (n : ℕ). unit * n) passes_are, whole, exact, small) in
-      let same : total_by g executed order proper admitted free longest takes rounds are.long each ≡ total =
+      let same : total_by g nodes order proper reached free longest takes rounds are.long each ≡ total =
       omega (arith, is_total, sum_is) in
-      let low = total_low g executed order proper admitted free longest takes rounds are.long each in
+      let low = total_low g nodes order proper reached free longest takes rounds are.long each in
       let fits : unit * (1 + passes_in_all g.notes.marks rounds) ≡ unit * more = ap (λ (n : ℕ). unit * n) (sym more_is) in
       let grows : unit * (1 + passes_in_all g.notes.marks rounds) ≤ size_of g.notes.marks words longest =
       mul-le-mul_left unit (omega (arith, passes_few g.notes.marks rounds proper.notes.nested are)) in
       let certificate : IsCertificate g (owed_by g.notes.marks prices (form_by longest order)) total =
       same_certificate g (owed_by g.notes.marks (prices_by unit rounds) (form_by longest order))
       (owed_by g.notes.marks prices (form_by longest order)) total
-      (λ place angle counts.
-      ap (λ (all : List ℕ). owed_by g.notes.marks all (form_by longest order) place angle counts) made
-      ∙ owed_same unit g.notes.marks rounds (form_by longest order) place angle counts
-      ∙ ap (λ (all : List ℕ). owed_by g.notes.marks all (form_by longest order) place angle counts) prices_are)
+      (λ node angle counts.
+      ap (λ (all : List ℕ). owed_by g.notes.marks all (form_by longest order) node angle counts) made
+      ∙ owed_same unit g.notes.marks rounds (form_by longest order) node angle counts
+      ∙ ap (λ (all : List ℕ). owed_by g.notes.marks all (form_by longest order) node angle counts) prices_are)
       (subst (IsCertificate g (owed_by g.notes.marks (prices_by unit rounds) (form_by longest order))) same
-      (certificate_by g executed order proper admitted free longest takes rounds are.long each)) in (
+      (certificate_by g nodes order proper reached free longest takes rounds are.long each)) in (
         record {
           each = ap length made ∙ priced_long unit g.notes.marks rounds are.long;
           form = form_by longest order;

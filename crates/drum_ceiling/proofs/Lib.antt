@@ -5,8 +5,8 @@ pub mod Certified
 pub mod Charged
 pub mod Fallback
 pub mod Left
-pub mod Levels
 pub mod LongestRows
+pub mod Numbered
 pub mod Owing
 pub mod RoundLeft
 pub mod RoundSums

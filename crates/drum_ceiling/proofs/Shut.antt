@@ -9,26 +9,29 @@ use Rattle.std.proofs.lemmas.List.Elements.{All-cons, All-nil}
 use Rattle.drum_times.specs.declared.notes.mark.Mark.{Mark}
 use Rattle.drum_machine.specs.Counts.{after_pass, no_counts}
 use Rattle.drum_flow.specs.Accepted.{told}
+use Rattle.drum_flow.specs.Hops.{first_node, Node}
 use Rattle.drum_flow.specs.Walk.{Setting}
+use Rattle.drum_rows.specs.SiteRows.{node_behind}
 use Rattle.drum_rows.specs.Steps.{arrival}
 use Rattle.drum_ceiling.specs.Affine.{cost_left, owed_by, Affine}
 use Rattle.drum_ceiling.specs.Certificate.{IsCertificate}
 use Rattle.drum_ceiling.specs.InRounds.{passes_in_all, priced}
 
 -- where as much is owed everywhere as by a certificate, that is one too
-pub same_certificate : (g : Setting) (owed other : ℕ → ℕ → List ℕ → Option ℕ) (total : ℕ)
-    → ((place angle : ℕ) (counts : List ℕ) → other place angle counts ≡ owed place angle counts)
+pub same_certificate : (g : Setting) (owed other : Node → ℕ → List ℕ → Option ℕ) (total : ℕ)
+    → ((node : Node) (angle : ℕ) (counts : List ℕ) → other node angle counts ≡ owed node angle counts)
     → IsCertificate g owed total → IsCertificate g other total
 same_certificate g owed other total same is = record {
-  starts = same g.start (g.start % 50) (no_counts g.notes.marks) ∙ is.starts;
-  pays = λ place angle due counts on_drum few at hop has may.
-      let paid = is.pays place angle due counts on_drum few (sym (same place angle counts) ∙ at) hop has may in
+  starts = same (first_node g.notes g.start) (g.start % 50) (no_counts g.notes.marks) ∙ is.starts;
+  pays = λ node angle due counts on_drum few at hop has may.
+      let paid = is.pays node angle due counts on_drum few (sym (same node angle counts) ∙ at) hop has may in
       record {
         ends = paid.ends;
         goes_on = λ next on.
             let later = paid.goes_on next on in (
               later.0,
-              same next (arrival g place angle hop next % 50) (after_pass g.notes.marks place next counts) ∙ later.1,
+              same (node_behind g.notes node next) (arrival g node.place angle hop next % 50)
+                  (after_pass g.notes.marks node.place next counts) ∙ later.1,
               later.2,
             );
       };
@@ -57,14 +60,14 @@ left_same within unit index (mark ∷ marks) (round ∷ rounds) (count ∷ count
         rw none (omega arith)
 
 -- and so is owed the same
-pub owed_same : (unit : ℕ) (marks : List Mark) (rounds : List ℕ) (form : Affine) (place angle : ℕ) (counts : List ℕ)
-    → owed_by marks (priced told unit marks rounds) form place angle counts
-    ≡ owed_by marks (map (λ round. told (unit * round)) rounds) form place angle counts
-owed_same unit marks rounds form place angle counts =
-    ap (λ (left : ℕ). elim (form.level place angle) [
+pub owed_same : (unit : ℕ) (marks : List Mark) (rounds : List ℕ) (form : Affine) (node : Node) (angle : ℕ) (counts : List ℕ)
+    → owed_by marks (priced told unit marks rounds) form node angle counts
+    ≡ owed_by marks (map (λ round. told (unit * round)) rounds) form node angle counts
+owed_same unit marks rounds form node angle counts =
+    ap (λ (left : ℕ). elim (form.level node angle) [
       | None ↦ None
       | Some level ↦ Some (level + left - form.debt)
-    ]) (left_same (λ k. form.region k place angle) unit 0 marks rounds counts)
+    ]) (left_same (λ k. form.region k node angle) unit 0 marks rounds counts)
 
 -- each mark has a price
 pub priced_long : (unit : ℕ) (marks : List Mark) (rounds : List ℕ) → length rounds ≡ length marks

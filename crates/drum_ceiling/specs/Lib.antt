@@ -1,5 +1,5 @@
 pub mod Affine
-pub mod AtSlot
+pub mod AtSite
 pub mod CeilingOf
 pub mod Certificate
 pub mod Charge

@@ -2,6 +2,8 @@
 use Rattle.std.specs.Prelude.{◌≡◌, ℕ, ◌^◌, ◌<◌, ◌≤◌, List, length, All}
 use Rattle.drum_flow.specs.Accepted.{IsAdmitted}
 use Rattle.drum_flow.specs.Bounded.{IsBounded}
+use Rattle.drum_flow.specs.Executed.{each_place, AreAllNodes}
+use Rattle.drum_flow.specs.Hops.{Node}
 use Rattle.drum_flow.specs.Walk.{Setting, Taken, IsWalk, time_of}
 use Rattle.drum_ceiling.specs.Affine.{owed_by, Affine}
 use Rattle.drum_ceiling.specs.Certificate.{IsCertificate}
@@ -20,11 +22,12 @@ pub record ArePrices (g : Setting) (prices : List ℕ) (total : ℕ) : Type 0 wh
 -- The prices of the marks and the total, in word times, are those of a ceiling.
 pub record IsCeiling (g : Setting) (prices : List ℕ) (total : ℕ) : Type 0 where
   -- the deck with its notes is admitted, and the total is no higher than it need ever be
-  pub executed : List ℕ
-  pub admitted : IsAdmitted g.loads g.notes g.start executed
-  pub low : IsWithinSize g executed total
+  pub nodes : List Node
+  pub reached : AreAllNodes g.loads g.notes g.start nodes
+  pub admitted : IsAdmitted g.loads g.notes g.start (each_place nodes)
+  pub low : IsWithinSize g nodes total
   -- and neither is any price
-  pub prices_low : All (IsWithinSize g executed) prices
+  pub prices_low : All (IsWithinSize g nodes) prices
   pub are : ArePrices g prices total
   -- no walk of the flow graph takes more
   pub walks : (angle : ℕ) (hops : List Taken) → IsWalk g angle hops → time_of hops ≤ total
@@ -33,6 +36,7 @@ pub record IsCeiling (g : Setting) (prices : List ℕ) (total : ℕ) : Type 0 wh
 
 -- The deck with its notes is admitted, and what no ceiling is above comes to this number or more.
 pub record IsTooDear (g : Setting) (least : ℕ) : Type 0 where
-  pub executed : List ℕ
-  pub admitted : IsAdmitted g.loads g.notes g.start executed
-  pub large : IsWithinSize g executed least
+  pub nodes : List Node
+  pub reached : AreAllNodes g.loads g.notes g.start nodes
+  pub admitted : IsAdmitted g.loads g.notes g.start (each_place nodes)
+  pub large : IsWithinSize g nodes least

@@ -3,6 +3,8 @@ use Rattle.std.specs.Prelude.{◌≡◌, ℕ, ◌+◌, ◌<◌, ◌≤◌, if◌
 use Rattle.std.specs.Prelude.{slice_index, Option, Some, None}
 use Rattle.drum_times.specs.declared.notes.mark.Mark.{Mark}
 use Rattle.drum_times.specs.Marks.{mark_on}
+use Rattle.drum_times.specs.declared.notes.call.Call.{Call}
+use Rattle.drum_machine.specs.Calls.{none_open, open_along}
 use Rattle.drum_machine.specs.Counts.{is_inside}
 use Rattle.drum_machine.specs.Since.{Edge}
 use Rattle.drum_machine.specs.Timing.{found}
@@ -16,15 +18,21 @@ PassesLast marks index place hops = (earlier : List Taken) × (last : Taken)
     × (hops ≡ earlier ++ last ∷ []) × (last.way ≡ to place)
     × (mark_on marks last.place place ≡ Some index)
 
+-- what is open behind the first hops of a walk
+abbrev pub open_behind : List Call → List Taken → List (Option ℕ)
+open_behind calls hops = open_along calls (none_open calls) (edges_taken hops)
+
 -- A round of a mark in a walk: after the hops before it, a pass of the mark has led to a place on
--- the drum; the hops of the round come back there, the last of them by a pass of the mark. There
--- may be more passes of it between, and of any other mark.
+-- the drum; the hops of the round come back there, the last of them by a pass of the mark, and the
+-- same exits of calls are open then, with the same ways back. There may be more passes of the mark
+-- between, and of any other mark.
 pub record IsRound (g : Setting) (angle index place : ℕ) (before round : List Taken) : Type 0
   where
     pub walk : IsWalk g angle (before ++ round)
     pub on_drum : place < 2000
     pub begins : PassesLast g.notes.marks index place before
     pub ends : PassesLast g.notes.marks index place round
+    pub open_again : open_behind g.notes.calls (before ++ round) ≡ open_behind g.notes.calls before
 
 -- what a pass of a mark, if there is one, costs in a round of the mark with index `round`: its
 -- price; nothing where it stands inside of that mark, whose own price has it

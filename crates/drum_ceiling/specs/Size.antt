@@ -1,7 +1,10 @@
--- What no ceiling is above, neither its total nor a price: the executed words, times the longest
--- step of one, times one more than the passes that a walk has at most of all marks together.
+-- What no ceiling is above, neither its total nor a price: the nodes of the flow graph (without
+-- calls these are the executed words), times the longest step from one, times one more than the
+-- passes that a walk has at most of all marks together.
 use Rattle.std.specs.Prelude.{ℕ, ◌+◌, ◌*◌, ◌≤◌, List, [], ◌∷◌, length}
 use Rattle.drum_times.specs.declared.notes.mark.Mark.{Mark}
+use Rattle.drum_flow.specs.Executed.{each_place}
+use Rattle.drum_flow.specs.Hops.{Node}
 use Rattle.drum_flow.specs.MostPasses.{most_passes}
 use Rattle.drum_flow.specs.Walk.{Setting}
 use Rattle.drum_rows.specs.Steps.{TakesAtMost}
@@ -12,11 +15,11 @@ passes_together all index [] = 0
 passes_together all index (mark ∷ marks) =
     most_passes all index + passes_together all (index + 1) marks
 
--- so many words, times the longest step, times one more than all passes
+-- so many nodes, times the longest step, times one more than all passes
 abbrev pub size_of : List Mark → ℕ → ℕ → ℕ
-size_of marks words most = words * most * (1 + passes_together marks 0 marks)
+size_of marks nodes most = nodes * most * (1 + passes_together marks 0 marks)
 
 -- the number is no more than that, by every number that no step takes more than
-abbrev pub IsWithinSize : Setting → List ℕ → ℕ → Type 0
-IsWithinSize g executed number = (most : ℕ) → TakesAtMost g executed most
-    → number ≤ size_of g.notes.marks (length executed) most
+abbrev pub IsWithinSize : Setting → List Node → ℕ → Type 0
+IsWithinSize g nodes number = (most : ℕ) → TakesAtMost g (each_place nodes) most
+    → number ≤ size_of g.notes.marks (length nodes) most

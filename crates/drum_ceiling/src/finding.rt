@@ -2,14 +2,18 @@
 //! enough, and what they come to.
 
 ghost use Rattle.std.specs.Prelude.{◌≡◌, ◌⊎◌, ◌^◌, ◌≤◌, Some, None, IfOk, IfErr, IfSome, IfNone};
-ghost use Rattle.std.specs.Prelude.{All, MatchOption};
+ghost use Rattle.std.specs.Prelude.{◌<◌, ℕ, length, All, Contains, MatchOption};
+ghost use Rattle.drum_times.specs.declared.times.Times as tables;
 ghost use Rattle.drum_core.specs.Loads.{loads_in, start_in};
 ghost use Rattle.drum_flow.specs.Accepted as said;
 ghost use Rattle.drum_flow.specs.Accepted.{told, IsAdmitted};
-ghost use Rattle.drum_flow.specs.AcceptedFlow.{in_order};
-ghost use Rattle.drum_flow.specs.Flow.{deck_of, notes_of, executed_in};
-ghost use Rattle.drum_flow.specs.Free.{IsFreeOrder};
+ghost use Rattle.drum_flow.specs.AcceptedFlow.{indices_in_order, nodes_in_order};
+ghost use Rattle.drum_flow.specs.Executed.{AreAllNodes};
+ghost use Rattle.drum_flow.specs.Flow.{deck_of, nodes_of, notes_of, executed_in, of_flow};
+ghost use Rattle.drum_flow.specs.Flow.{AreFound};
+ghost use Rattle.drum_flow.specs.Free.{IsNodeOrder};
 ghost use Rattle.drum_flow.specs.SettingOf.{setting};
+ghost use Rattle.drum_rows.specs.Rows.{AreRows};
 ghost use Rattle.drum_ceiling.specs.CeilingOf.{IsCeilingOf, IsCeilingRefusal};
 ghost use Rattle.drum_ceiling.specs.Right.{ArePrices};
 ghost use Rattle.drum_ceiling.specs.Size.{IsWithinSize};
@@ -19,10 +23,10 @@ use crate::longest::longest_of;
 use crate::prices::{Prices, prices_by_order};
 use crate::search;
 use crate::size::Size;
-use drum_core::Deck;
+use drum_core::{Deck, REVOLUTION};
 use drum_flow::counts::product_of;
 use drum_flow::{AcceptedFlow, Refusal};
-use drum_rows::{Slot, rows_of};
+use drum_rows::{Row, Sites, rows_of, site_rows};
 use drum_times::{Mark, Notes, Times};
 use std::alloc::{AllocError, Global};
 
@@ -54,8 +58,33 @@ fn within(found: Option<Prices>, size: &Size) -> Option<Prices>
     }
 }
 
+/// Prices that the search finds by the rows of all sites, where they are a certificate.
+fn found_prices(
+    alloc: Global,
+    accepted: &AcceptedFlow<'_>,
+    rows: &[Option<Row>],
+) -> Result<Option<Prices>, AllocError>
+    requires nodes { of_flow AreAllNodes accepted.now.flow (nodes_of accepted.now.flow) }
+    requires found { of_flow AreFound accepted.now.flow (executed_in accepted.now.flow) }
+    ensures { IfOk result (λ made. (times : tables.Times)
+        → let g = setting (deck_of accepted.now.flow) times (notes_of accepted.now.flow) in
+        AreRows g (executed_in accepted.now.flow) rows.now
+        → IfSome made (λ found. ArePrices g found.prices.items found.total)) }
+{
+    let flow = accepted.flow();
+    let marks = flow.notes().marks();
+    let sites = Sites::of(alloc, flow)?;
+    let rows = site_rows(alloc, flow, &sites, rows)?;
+    let Some(start) = sites.number(0, u64::from(flow.deck().start().number) % REVOLUTION) else {
+        return Ok(None);
+    };
+    let order = sites.in_order(alloc, accepted.nodes())?;
+    let found = search::find(alloc, &rows, &order, start, marks)?;
+    Ok(found.checked(marks, &rows, start))
+}
+
 /// Prices and a total of an admitted deck: those that the search finds, where they are a
-/// certificate and none is above the size, or those by the order of the executed locations.
+/// certificate and none is above the size, or those by the order of the nodes.
 fn prices_of(
     alloc: Global,
     accepted: &AcceptedFlow<'_>,
@@ -64,24 +93,25 @@ fn prices_of(
     requires admitted { IsAdmitted (loads_in (deck_of accepted.now.flow))
         (notes_of accepted.now.flow) (start_in (deck_of accepted.now.flow))
         (executed_in accepted.now.flow) }
-    requires order { IsFreeOrder (loads_in (deck_of accepted.now.flow))
-        (notes_of accepted.now.flow) (executed_in accepted.now.flow) (in_order accepted.now) }
-    ensures { IfOk result (λ made.
+    requires nodes { of_flow AreAllNodes accepted.now.flow (nodes_of accepted.now.flow) }
+    requires within { (index : ℕ) → Contains (indices_in_order accepted.now) index
+        → index < length (nodes_of accepted.now.flow) }
+    requires order { IsNodeOrder (loads_in (deck_of accepted.now.flow))
+        (notes_of accepted.now.flow) (nodes_of accepted.now.flow) (nodes_in_order accepted.now) }
+    ensures made { IfOk result (λ made.
         let g = setting (deck_of accepted.now.flow) times.now (notes_of accepted.now.flow) in
-        let executed = executed_in accepted.now.flow in
-        MatchOption made (IsWithinSize g executed (2 ^ 127)) (λ found.
-        ArePrices g found.prices.items found.total × IsWithinSize g executed found.total
-        × All (IsWithinSize g executed) found.prices.items)) }
+        let nodes = nodes_of accepted.now.flow in
+        MatchOption made (IsWithinSize g nodes (2 ^ 127)) (λ found.
+        ArePrices g found.prices.items found.total × IsWithinSize g nodes found.total
+        × All (IsWithinSize g nodes) found.prices.items)) }
+    ensures few { IfOk result (λ made. length (nodes_of accepted.now.flow) < 2 ^ 64) }
 {
     let flow = accepted.flow();
-    let marks = flow.notes().marks();
-    let start = flow.deck().start();
     let rows = rows_of(alloc, flow, times)?;
     let longest = longest_of(&rows);
     let size = Size::of(alloc, flow, longest)?;
     let by_order = prices_by_order(alloc, accepted, longest, &size)?;
-    let found = search::find(alloc, &rows, accepted.order(), start, marks)?;
-    let found = within(found.checked(marks, &rows, Slot::of(start, 0)), &size);
+    let found = within(found_prices(alloc, accepted, &rows)?, &size);
     Ok(lower_of(found, by_order))
 }
 
@@ -98,9 +128,9 @@ fn product_of_flow(accepted: &AcceptedFlow<'_>, marks: &[Mark]) -> u128
 /// # Errors
 ///
 /// Those of [`accept`](drum_flow::accept), except that [`Refusal::TooLarge`] comes last, and only
-/// where the executed words, times the longest step of one with the next search, times one more
-/// than all passes of marks that a walk can have, are 2^127 or more; it has the product of executed
-/// words and counts, or 2^127 where that is more.
+/// where the nodes of the flow graph, times the longest step from one with the next search, times
+/// one more than all passes of marks that a walk can have, are 2^127 or more; it has the product of
+/// executed words and counts, or 2^127 where that is more.
 pub fn ceiling(alloc: Global, deck: &Deck, times: &Times, notes: &Notes) -> Result<Ceiling, Refusal>
     ensures given { IfOk result (IsCeilingOf deck.now times.now notes.now) }
     ensures refused { IfErr result (IsCeilingRefusal deck.now times.now notes.now) }

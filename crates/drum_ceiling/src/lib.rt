@@ -2,25 +2,25 @@
 //! counts are, and a price for each time round a mark's loop. It stands on the flow graph and its
 //! rows alone, and not on the analysis.
 //!
-//! Code, from the bottom up. The rows of `drum_rows` say what the hops from each slot take at most,
+//! Code, from the bottom up. The rows of `drum_rows` say what the hops from each site take at most,
 //! and where they lead; `longest` is the longest step of all. `search` finds prices of the marks,
-//! their regions and levels of the slots, and owes only that it ends. `certificate` looks whether
+//! their regions and levels of the sites, and owes only that it ends. `certificate` looks whether
 //! they pay for every hop, where `step` tells what the marks charge for it, by each `region`.
 //! `size` has what neither total nor price is above, by the passes `in_rounds` of the marks, and
 //! `prices` such prices as are surely high enough. `finding` takes the lower ones, and `answer` is
 //! what is handed out. `laws` has laws of the definitions.
 //!
-//! Definitions, in the order to read them: `Certificate` (what is owed for a place, an angle and
+//! Definitions, in the order to read them: `Certificate` (what is owed for a node, an angle and
 //! counts, so that it pays for every hop), `Affine` (the form of it that is looked for), `Rounds`
 //! (what a time round a mark's loop takes), `Size` (what no ceiling is above), `Right` (when a
 //! ceiling is right), `CeilingOf` (the same of what is handed out, and why there is none). The
-//! others say what the code's types mean by these: `AtSlot` (levels and regions at the numbers of
-//! slots), `Charge`, `Paying`, `InRounds` and `Sized`.
+//! others say what the code's types mean by these: `AtSite` (levels and regions at the numbers of
+//! sites), `Charge`, `Paying`, `InRounds` and `Sized`.
 //!
 //! Proofs. `Bounded` goes along a walk with what is owed, and `Rounded` round a mark's loop, where
 //! `RoundLeft` has what goes off what is left. `Left` shows that a hop is paid for whatever the
 //! counts are, `Charged` what it is charged, and `Certified` that what was looked at is a
-//! certificate, with `Levels` and `Owing`. `LongestRows` shows that no step is longer than the
+//! certificate, with `Numbered` and `Owing`. `LongestRows` shows that no step is longer than the
 //! rows' longest. `ByOrder` has a certificate of each admitted deck, `RoundSums` and `Together`
 //! what its passes come to, `Shut` that marks which may never be passed may cost nothing,
 //! `Fallback` all of these; and `CeilingLaws` what is right of a ceiling.

@@ -1,14 +1,14 @@
-//! Prices of marks with a total, and such as are surely high enough: by the order of the executed
-//! locations.
+//! Prices of marks with a total, and such as are surely high enough: by the order of the nodes.
 
-ghost use Rattle.std.specs.Prelude.{◌≡◌, ◌*◌, ◌^◌, ◌<◌, ◌≤◌, ◌==◌, if◌then◌else◌, length, map, All};
+ghost use Rattle.std.specs.Prelude.{◌≡◌, ◌*◌, ◌^◌, ◌<◌, ◌≤◌, ◌==◌, if◌then◌else◌, length, All, Contains, ℕ};
 ghost use Rattle.std.specs.Prelude.{IfOk, MatchOption};
 ghost use Rattle.drum_core.specs.Loads.{loads_in, start_in};
 ghost use Rattle.drum_times.specs.declared.times.Times as tables;
 ghost use Rattle.drum_flow.specs.Accepted.{told, IsAdmitted};
-ghost use Rattle.drum_flow.specs.AcceptedFlow.{in_order};
-ghost use Rattle.drum_flow.specs.Flow.{deck_of, notes_of, executed_in};
-ghost use Rattle.drum_flow.specs.Free.{IsFreeOrder};
+ghost use Rattle.drum_flow.specs.Executed.{AreAllNodes};
+ghost use Rattle.drum_flow.specs.AcceptedFlow.{indices_in_order, nodes_in_order};
+ghost use Rattle.drum_flow.specs.Flow.{deck_of, nodes_of, notes_of, executed_in, of_flow};
+ghost use Rattle.drum_flow.specs.Free.{IsNodeOrder};
 ghost use Rattle.drum_flow.specs.Graph.{height};
 ghost use Rattle.drum_flow.specs.SettingOf.{setting};
 ghost use Rattle.drum_rows.specs.Steps.{TakesAtMost};
@@ -18,7 +18,6 @@ ghost use Rattle.drum_ceiling.specs.Size.{size_of};
 ghost use Rattle.drum_ceiling.specs.Sized.{IsSizeBy};
 
 use crate::size::Size;
-use drum_core::Location;
 use drum_flow::AcceptedFlow;
 use drum_flow::counts::{LARGEST, product};
 use drum_times::Mark;
@@ -31,13 +30,13 @@ pub struct Prices {
     pub total: u128,
 }
 
-/// How far before the end of the order a location stands.
-fn height_of(order: &[Location], location: Location) -> usize
-    ensures value { result ≡ height (map (λ one. one.number) order.now) location.number }
+/// How far before the end of the order a node stands.
+fn height_of(order: &[usize], node: usize) -> usize
+    ensures value { result ≡ height order.now node }
     ensures low { result ≤ length order.now }
 {
     for (index, one) in order.iter().enumerate() {
-        if one.number == location.number {
+        if *one == node {
             return order.len() - index;
         }
     }
@@ -73,8 +72,8 @@ fn priced(
     Ok(prices)
 }
 
-/// Prices by the order of the executed locations: for each pass in a round of a mark, as much as
-/// it takes to go through each of them once, where no step takes more than `longest` word times.
+/// Prices by the order of the nodes: for each pass in a round of a mark, as much as it takes to go
+/// through each of them once, where no step takes more than `longest` word times.
 /// A mark that may never be passed costs nothing. `None` where the size is 2^127 or more.
 pub fn prices_by_order(
     alloc: Global,
@@ -85,15 +84,18 @@ pub fn prices_by_order(
     requires admitted { IsAdmitted (loads_in (deck_of accepted.now.flow))
         (notes_of accepted.now.flow) (start_in (deck_of accepted.now.flow))
         (executed_in accepted.now.flow) }
-    requires order { IsFreeOrder (loads_in (deck_of accepted.now.flow))
-        (notes_of accepted.now.flow) (executed_in accepted.now.flow) (in_order accepted.now) }
+    requires nodes { of_flow AreAllNodes accepted.now.flow (nodes_of accepted.now.flow) }
+    requires within { (index : ℕ) → Contains (indices_in_order accepted.now) index
+        → index < length (nodes_of accepted.now.flow) }
+    requires order { IsNodeOrder (loads_in (deck_of accepted.now.flow))
+        (notes_of accepted.now.flow) (nodes_of accepted.now.flow) (nodes_in_order accepted.now) }
     requires sized { IsSizeBy (notes_of accepted.now.flow).marks
-        (length (executed_in accepted.now.flow)) longest size.now }
+        (length (nodes_of accepted.now.flow)) longest size.now }
     ensures { IfOk result (λ made. (times : tables.Times) → TakesAtMost
         (setting (deck_of accepted.now.flow) times (notes_of accepted.now.flow))
         (executed_in accepted.now.flow) longest
         → let size = size_of (notes_of accepted.now.flow).marks
-        (length (executed_in accepted.now.flow)) longest in
+        (length (nodes_of accepted.now.flow)) longest in
         MatchOption made (2 ^ 127 ≤ size) (λ found. ArePrices
         (setting (deck_of accepted.now.flow) times (notes_of accepted.now.flow))
         found.prices.items found.total × (found.total ≤ size)
@@ -104,7 +106,7 @@ pub fn prices_by_order(
     }
     let flow = accepted.flow();
     let marks = flow.notes().marks();
-    let height = height_of(accepted.order(), flow.deck().start()) as u128;
+    let height = height_of(accepted.nodes(), 0) as u128;
     Ok(Some(Prices {
         prices: priced(alloc, size.unit, marks, &size.rounds)?,
         total: height * u128::from(longest) + product(size.unit, size.passes),

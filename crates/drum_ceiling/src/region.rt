@@ -1,7 +1,7 @@
 //! The regions of the marks, as bits of one number.
 
 ghost use Rattle.std.specs.Prelude.{◌≡◌, ◌<◌};
-ghost use Rattle.drum_ceiling.specs.AtSlot as said;
+ghost use Rattle.drum_ceiling.specs.AtSite as said;
 
 /// Whether the region of the mark with this index is among these.
 pub fn is_in(regions: u64, index: usize) -> bool

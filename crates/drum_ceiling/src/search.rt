@@ -5,10 +5,10 @@
 //! come, and `search/regions` where rounds of each mark pass; `search/graph` puts them together.
 //! `search/prices` tells what an edge takes at prices, `search/rounds` what a mark's price has to
 //! be, once others have theirs, and `search/settling` gives the marks their prices in an order.
-//! `search/levels` sums up what walks take on from each slot. `search/tries` looks for a better
+//! `search/levels` sums up what walks take on from each site. `search/tries` looks for a better
 //! order and higher prices.
 
-mod by_slot;
+mod by_site;
 mod cycles;
 mod graph;
 mod levels;
@@ -23,9 +23,8 @@ mod tries;
 mod ways;
 
 use crate::certificate::Certificate;
-use by_slot::{Bits, BySlot};
-use drum_core::Location;
-use drum_rows::Row;
+use by_site::{Bits, BySite};
+use drum_rows::SiteRow;
 use drum_times::Mark;
 use graph::Graph;
 use levels::Levels;
@@ -33,13 +32,13 @@ use marks::Standing;
 use std::alloc::{AllocError, Global};
 use tries::Tries;
 
-/// A certificate with a low ceiling, by the rows, an order of the locations in which every edge
-/// without a mark goes on, and the marks.
+/// A certificate with a low ceiling, by the rows, an order of the sites in which every edge without
+/// a mark goes on, and the marks.
 pub fn find(
     alloc: Global,
-    rows: &[Option<Row>],
-    order: &[Location],
-    start: Location,
+    rows: &[SiteRow],
+    order: &[usize],
+    start: usize,
     marks: &[Mark],
 ) -> Result<Certificate, AllocError> {
     let graph = Graph::of(alloc, rows, order, start, marks)?;
@@ -80,8 +79,8 @@ fn price_of(mark: Standing, price: i128) -> u128 {
     if mark.most == 0 { 0 } else { natural(price) }
 }
 
-/// What is owed at each slot, and the debt.
-fn raised(alloc: Global, owed: &BySlot, debt: i128) -> Result<Vec<Option<u128>>, AllocError> {
+/// What is owed at each site, and the debt.
+fn raised(alloc: Global, owed: &BySite, debt: i128) -> Result<Vec<Option<u128>>, AllocError> {
     let mut levels = Vec::new(alloc);
     for owed in &owed.entries {
         levels.push(owed.map(|owed| natural(owed.saturating_add(debt))))?;

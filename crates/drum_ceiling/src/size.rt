@@ -1,7 +1,7 @@
 //! What no ceiling is above: neither its total nor a price.
 
 ghost use Rattle.std.specs.Prelude.{◌≡◌, ◌≤◌, ◌↔◌, length, All, IfOk, IsTrue};
-ghost use Rattle.drum_flow.specs.Flow.{notes_of, executed_in};
+ghost use Rattle.drum_flow.specs.Flow.{nodes_of, notes_of};
 ghost use Rattle.drum_ceiling.specs.Sized.{IsSizeBy};
 
 use crate::in_rounds::{passes_in_all, rounds_of, sum};
@@ -16,7 +16,7 @@ pub struct Size {
     pub rounds: Vec<u128>,
     /// How many passes of all marks there are at most; 2^127 where that is more.
     pub passes: u128,
-    /// What it takes to go through each executed location once, at most.
+    /// What it takes to go through each node once, at most.
     pub unit: u128,
     /// As much for each pass, and once more; 2^127 where that is more.
     pub whole: u128,
@@ -26,12 +26,13 @@ impl Size {
     /// That of a flow none of whose steps takes more than `longest` word times.
     pub fn of(alloc: Global, flow: &Flow<'_>, longest: u32) -> Result<Size, AllocError>
         ensures { IfOk result (IsSizeBy (notes_of flow.now).marks
-            (length (executed_in flow.now)) longest) }
+            (length (nodes_of flow.now)) longest) }
     {
         let marks = flow.notes().marks();
         let rounds = rounds_of(alloc, marks)?;
         let passes = passes_in_all(marks, &rounds);
-        let unit = flow.executed().len() as u128 * u128::from(longest);
+        let nodes = flow.size();
+        let unit = nodes as u128 * u128::from(longest);
         let whole = product(unit, sum(1, passes));
         Ok(Size {
             rounds,

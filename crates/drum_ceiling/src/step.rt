@@ -21,7 +21,7 @@ pub struct Step<'a> {
 }
 
 impl Step<'_> {
-    ghost use Rattle.drum_ceiling.specs.AtSlot.{is_in};
+    ghost use Rattle.drum_ceiling.specs.AtSite.{is_in};
 
     /// How many passes of the mark with this index, and this most, it may owe anew where it ends.
     fn owed(&self, index: usize, most: u16) -> u16

@@ -46,7 +46,8 @@ no_ceiling documents (faults.Refused (refusal.TooLarge product)) none is = (
   none,
   is.0.2,
   record {
-    executed = is.1.executed;
+    nodes = is.1.nodes;
+    reached = is.1.reached;
     admitted = is.1.admitted;
     large = λ most takes. omega (arith, is.1.large most takes);
   },
@@ -65,7 +66,8 @@ no_ceiling documents (faults.Loaded location) none is = absurd is
 pub too_dear : (documents : Documents) (ceiling : Ceiling) (least : ℕ) → IsCeiling documents ceiling
     → least ≤ total_of ceiling → IsTooDear (setting_of documents) least
 too_dear documents ceiling least is large = record {
-  executed = is.executed;
+  nodes = is.nodes;
+  reached = is.reached;
   admitted = is.admitted;
   large = λ most takes. omega (arith, is.low most takes, large);
 }

@@ -1,15 +1,14 @@
 //! Cycles from head to head: the longest way from each head of a mark leads to a head.
 
-use super::by_slot::BySlot;
+use super::by_site::BySite;
 use super::ways::Ways;
-use drum_rows::Slot;
 use std::alloc::{AllocError, Global};
 
 /// The cycles of the longest ways from heads.
 #[derive(Debug, Drop)]
 pub struct Cycles {
-    /// By slot, the number of the head from which it was come to first.
-    seen: BySlot,
+    /// By site, the number of the head from which it was come to first.
+    seen: BySite,
 }
 
 /// What some ways take, and how many they are.
@@ -21,13 +20,13 @@ struct Lap {
 
 impl Cycles {
     /// None was gone along yet.
-    pub fn none(alloc: Global) -> Result<Cycles, AllocError> {
-        let seen = BySlot::none(alloc)?;
+    pub fn none(alloc: Global, count: usize) -> Result<Cycles, AllocError> {
+        let seen = BySite::none(alloc, count)?;
         Ok(Cycles { seen })
     }
 
     /// The most that a way takes on the average in one of the cycles, rounded up.
-    pub fn mean(&mut self, heads: &[Slot], ways: &Ways, ahead: &BySlot) -> i128 {
+    pub fn mean(&mut self, heads: &[usize], ways: &Ways, ahead: &BySite) -> i128 {
         for head in heads {
             self.seen.set(*head, None);
         }
@@ -41,7 +40,7 @@ impl Cycles {
     }
 
     /// A head at which ways from this one close a cycle that wasn't gone along yet.
-    fn closed(&mut self, number: i128, head: Slot, heads: usize, ways: &Ways) -> Option<Slot> {
+    fn closed(&mut self, number: i128, head: usize, heads: usize, ways: &Ways) -> Option<usize> {
         let mut at = head;
         for _ in 0..=heads {
             if let Some(before) = self.seen.at(at) {
@@ -55,7 +54,7 @@ impl Cycles {
 }
 
 /// Once around a cycle.
-fn once_around(on: Slot, heads: usize, ways: &Ways, ahead: &BySlot) -> Lap {
+fn once_around(on: usize, heads: usize, ways: &Ways, ahead: &BySite) -> Lap {
     let mut lap = Lap { time: 0, ways: 0 };
     let mut at = on;
     for _ in 0..heads {

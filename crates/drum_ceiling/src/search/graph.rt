@@ -1,11 +1,10 @@
 //! The graph that is searched: where walks come, the marks, and their regions.
 
-use super::by_slot::Bits;
+use super::by_site::Bits;
 use super::marks::{Marks, Standing, bit_of};
 use super::reached::Reached;
 use super::regions::{leads_of, regions_of};
-use drum_core::Location;
-use drum_rows::{Row, Slot};
+use drum_rows::SiteRow;
 use drum_times::Mark;
 use std::alloc::{AllocError, Global};
 
@@ -14,19 +13,19 @@ use std::alloc::{AllocError, Global};
 pub struct Graph<'a> {
     pub reached: Reached<'a>,
     pub marks: Marks,
-    /// By slot, the marks whose edges lead there.
+    /// By site, the marks whose edges lead there.
     pub leads: Bits,
-    /// By slot, the marks in whose region it is.
+    /// By site, the marks in whose region it is.
     pub regions: Bits,
 }
 
 impl<'a> Graph<'a> {
-    /// That of rows, for an order of the locations in which every edge without a mark goes on.
+    /// That of rows, for an order of the sites in which every edge without a mark goes on.
     pub fn of(
         alloc: Global,
-        rows: &'a [Option<Row>],
-        order: &[Location],
-        start: Location,
+        rows: &'a [SiteRow],
+        order: &[usize],
+        start: usize,
         marks: &[Mark],
     ) -> Result<Graph<'a>, AllocError> {
         let marks = Marks::of(alloc, marks)?;
@@ -41,22 +40,22 @@ impl<'a> Graph<'a> {
         })
     }
 
-    /// The slots of a mark's region, in the order.
-    pub fn region_of(&self, alloc: Global, bit: u64) -> Result<Vec<Slot>, AllocError> {
-        let mut slots = Vec::new(alloc);
-        for slot in &self.reached.order {
-            if self.regions.at(*slot) & bit != 0 {
-                slots.push(*slot)?;
+    /// The sites of a mark's region, in the order.
+    pub fn region_of(&self, alloc: Global, bit: u64) -> Result<Vec<usize>, AllocError> {
+        let mut sites = Vec::new(alloc);
+        for site in &self.reached.order {
+            if self.regions.at(*site) & bit != 0 {
+                sites.push(*site)?;
             }
         }
-        Ok(slots)
+        Ok(sites)
     }
 
-    /// The marks beside one whose regions have a slot of its region.
+    /// The marks beside one whose regions have a site of its region.
     pub fn sharing(&self, mark: Standing) -> u64 {
         let mut some = 0;
-        for slot in &self.reached.order {
-            let here = self.regions.at(*slot);
+        for site in &self.reached.order {
+            let here = self.regions.at(*site);
             if here & mark.bit != 0 {
                 some |= here;
             }
@@ -67,8 +66,8 @@ impl<'a> Graph<'a> {
     /// How many edges have a mark.
     pub fn edges_of(&self, bit: u64) -> usize {
         let mut edges: usize = 0;
-        for slot in &self.reached.order {
-            if let Some(row) = self.reached.row(*slot) {
+        for site in &self.reached.order {
+            if let Some(row) = self.reached.row(*site) {
                 let own = row
                     .edges
                     .iter()

@@ -1,6 +1,6 @@
 //! The marks, and how they stand in one another.
 
-use drum_rows::Edge;
+use drum_rows::SiteEdge;
 use drum_times::Mark;
 use std::alloc::{AllocError, Global};
 
@@ -96,7 +96,7 @@ impl Marks {
     }
 
     /// Whether walks may go along an edge.
-    pub fn lets(&self, edge: &Edge) -> bool {
+    pub fn lets(&self, edge: &SiteEdge) -> bool {
         match edge.mark {
             Some(mark) => self.shut & bit_of(mark) == 0,
             None => true,
@@ -105,7 +105,7 @@ impl Marks {
 
     /// Of which marks a round may go along an edge: not of the edge's mark, and not of those that
     /// stand inside of it.
-    pub fn going_on(&self, edge: &Edge) -> u64 {
+    pub fn going_on(&self, edge: &SiteEdge) -> u64 {
         let Some(mark) = edge.mark else {
             return u64::MAX;
         };

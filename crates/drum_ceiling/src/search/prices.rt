@@ -2,7 +2,7 @@
 
 use super::graph::Graph;
 use super::marks::Standing;
-use drum_rows::Edge;
+use drum_rows::SiteEdge;
 use std::alloc::{AllocError, Global};
 
 /// A price for each mark.
@@ -63,8 +63,8 @@ impl Prices {
         sum
     }
 
-    /// What an edge costs from a slot in the regions of some marks.
-    pub fn cost(&self, graph: &Graph<'_>, here: u64, edge: &Edge) -> Cost {
+    /// What an edge costs from a site in the regions of some marks.
+    pub fn cost(&self, graph: &Graph<'_>, here: u64, edge: &SiteEdge) -> Cost {
         let there = graph.regions.at(edge.onto);
         let marked = match edge.mark {
             Some(mark) => graph.marks.at(mark),
@@ -79,7 +79,7 @@ impl Prices {
         }
     }
 
-    /// What a pass of a mark costs, from a slot in the regions of some marks to one in those of
+    /// What a pass of a mark costs, from a site in the regions of some marks to one in those of
     /// others: those inside of it begin anew.
     fn cost_of_pass(&self, mark: u8, standing: Standing, here: u64, there: u64) -> Cost {
         let others = there & (!here | standing.inner) & !standing.bit;
@@ -105,7 +105,7 @@ impl Prices {
 
 impl Cost {
     /// What an edge takes that costs this, less what its mark's price pays.
-    pub fn along(self, edge: &Edge) -> i128 {
+    pub fn along(self, edge: &SiteEdge) -> i128 {
         let time = i128::from(edge.time).saturating_add(self.charge);
         time.saturating_sub(self.pay)
     }

@@ -1,95 +1,85 @@
 //! Where walks come, in an order in which every edge without a mark goes on.
 
-use super::by_slot::Bits;
+use super::by_site::Bits;
 use super::marks::Marks;
-use drum_core::{Location, REVOLUTION};
-use drum_rows::{Row, Slot};
+use drum_rows::SiteRow;
 use std::alloc::{AllocError, Global};
 
 /// The rows of where walks come.
 #[derive(Debug, Drop)]
 pub struct Reached<'a> {
-    rows: &'a [Option<Row>],
+    rows: &'a [SiteRow],
     /// Where the start is found.
-    pub start: Slot,
+    pub start: usize,
     /// Where walks come, in an order in which every edge without a mark goes on.
-    pub order: Vec<Slot>,
+    pub order: Vec<usize>,
 }
 
 impl<'a> Reached<'a> {
-    /// Where walks come from the start, for an order of the locations in which every edge without a
+    /// Where walks come from the start, for an order of the sites in which every edge without a
     /// mark goes on.
     pub fn of(
         alloc: Global,
-        rows: &'a [Option<Row>],
-        order: &[Location],
-        start: Location,
+        rows: &'a [SiteRow],
+        order: &[usize],
+        start: usize,
         marks: &Marks,
     ) -> Result<Reached<'a>, AllocError> {
         let mut reached = Reached {
             rows,
-            start: Slot::of(start, u64::from(start.number)),
+            start,
             order: Vec::new(alloc),
         };
-        let mut visits = Visits::none(alloc)?;
+        let mut visits = Visits::none(alloc, rows.len())?;
         visits.visit_all(&reached, marks)?;
-        for location in order {
-            reached.add(&visits, *location)?;
+        for site in order {
+            if visits.seen.at(*site) != 0 {
+                reached.order.push(*site)?;
+            }
         }
         Ok(reached)
     }
 
-    /// The row of where an instruction is found.
-    pub fn row(&self, slot: Slot) -> Option<&'a Row> {
-        match self.rows.get(usize::from(slot.number)) {
-            Some(Some(row)) => Some(row),
-            _ => None,
-        }
+    /// How many sites there are.
+    pub fn count(&self) -> usize {
+        self.rows.len()
     }
 
-    /// Adds where a location is found by walks.
-    fn add(&mut self, visits: &Visits, location: Location) -> Result<(), AllocError> {
-        let mut last = None;
-        for angle in 0..REVOLUTION {
-            let slot = Slot::of(location, angle);
-            if last != Some(slot) && visits.seen.at(slot) != 0 {
-                self.order.push(slot)?;
-            }
-            last = Some(slot);
-        }
-        Ok(())
+    /// The row of a site.
+    pub fn row(&self, site: usize) -> Option<&'a SiteRow> {
+        self.rows.get(site)
     }
 }
 
-/// Visits from slot to slot.
+/// Visits from site to site.
 #[derive(Debug, Drop)]
 struct Visits {
-    /// The slots that were met, each with some bit.
+    /// The sites that were met, each with some bit.
     seen: Bits,
     /// Those of them whose edges weren't followed yet.
-    ahead: Vec<Slot>,
+    ahead: Vec<usize>,
 }
 
 impl Visits {
     /// None yet.
-    fn none(alloc: Global) -> Result<Visits, AllocError> {
-        let seen = Bits::none(alloc)?;
+    fn none(alloc: Global, count: usize) -> Result<Visits, AllocError> {
+        let seen = Bits::none(alloc, count)?;
         Ok(Visits {
             seen,
             ahead: Vec::new(alloc),
         })
     }
 
-    /// Meets a slot.
-    fn meet(&mut self, slot: Slot) -> Result<(), AllocError> {
-        if self.seen.add(slot, 1) {
-            self.ahead.push(slot)?;
+    /// Meets a site.
+    fn meet(&mut self, site: usize) -> Result<(), AllocError> {
+        if self.seen.add(site, 1) {
+            self.ahead.push(site)?;
         }
         Ok(())
     }
 
     /// Follows the edges of a row.
-    fn follow(&mut self, marks: &Marks, row: &Row) -> Result<(), AllocError> {
+    fn follow(&mut self, marks: &Marks, row: &SiteRow) -> Result<(), AllocError> {
         for edge in &row.edges {
             if marks.lets(edge) {
                 self.meet(edge.onto)?;
@@ -98,14 +88,14 @@ impl Visits {
         Ok(())
     }
 
-    /// Meets the start, and follows the edges of all slots that are met. Each is met once.
+    /// Meets the start, and follows the edges of all sites that are met. Each is met once.
     fn visit_all(&mut self, reached: &Reached<'_>, marks: &Marks) -> Result<(), AllocError> {
         self.meet(reached.start)?;
-        for _ in 0..Slot::COUNT {
-            let Some(slot) = self.ahead.pop() else {
+        for _ in 0..reached.count() {
+            let Some(site) = self.ahead.pop() else {
                 break;
             };
-            if let Some(row) = reached.row(slot) {
+            if let Some(row) = reached.row(site) {
                 self.follow(marks, row)?;
             }
         }

@@ -1,14 +1,14 @@
-//! The regions of the marks: the slots on a way from where a pass of a mark leads back to its edge,
+//! The regions of the marks: the sites on a way from where a pass of a mark leads back to its edge,
 //! along edges without the mark and without those that it stands inside of. All marks are looked at
 //! together, each by its bit.
 
-use super::by_slot::Bits;
+use super::by_site::Bits;
 use super::marks::{Marks, bit_of};
 use super::reached::Reached;
-use drum_rows::{Edge, Row, Slot};
+use drum_rows::{SiteEdge, SiteRow};
 use std::alloc::{AllocError, Global};
 
-/// By slot, the marks in whose region it is.
+/// By site, the marks in whose region it is.
 pub fn regions_of(
     alloc: Global,
     reached: &Reached<'_>,
@@ -17,25 +17,25 @@ pub fn regions_of(
 ) -> Result<Bits, AllocError> {
     let mut regions = behind_passes(alloc, reached, marks)?;
     let before = before_passes(alloc, reached, marks, leads)?;
-    for slot in &reached.order {
-        regions.keep(*slot, before.at(*slot));
+    for site in &reached.order {
+        regions.keep(*site, before.at(*site));
     }
     Ok(regions)
 }
 
-/// By slot, the marks whose edges lead there.
+/// By site, the marks whose edges lead there.
 pub fn leads_of(alloc: Global, reached: &Reached<'_>, marks: &Marks) -> Result<Bits, AllocError> {
-    let mut leads = Bits::none(alloc)?;
-    for slot in &reached.order {
-        if let Some(row) = reached.row(*slot) {
+    let mut leads = Bits::none(alloc, reached.count())?;
+    for site in &reached.order {
+        if let Some(row) = reached.row(*site) {
             lead(&mut leads, marks, row);
         }
     }
     Ok(leads)
 }
 
-/// Tells the slots to which edges with marks of a row lead.
-fn lead(leads: &mut Bits, marks: &Marks, row: &Row) {
+/// Tells the sites to which edges with marks of a row lead.
+fn lead(leads: &mut Bits, marks: &Marks, row: &SiteRow) {
     for edge in &row.edges {
         if let Some(mark) = edge.mark
             && marks.lets(edge)
@@ -45,7 +45,7 @@ fn lead(leads: &mut Bits, marks: &Marks, row: &Row) {
     }
 }
 
-/// By slot, the marks from behind whose edges ways come there.
+/// By site, the marks from behind whose edges ways come there.
 fn behind_passes(alloc: Global, reached: &Reached<'_>, marks: &Marks) -> Result<Bits, AllocError> {
     let mut behind = leads_of(alloc, reached, marks)?;
     for _ in &reached.order {
@@ -59,18 +59,18 @@ fn behind_passes(alloc: Global, reached: &Reached<'_>, marks: &Marks) -> Result<
 /// Spreads marks along all edges. Whether one went back by the order, so that more may follow.
 fn spread_onward(behind: &mut Bits, reached: &Reached<'_>, marks: &Marks) -> bool {
     let mut has_more = false;
-    for slot in &reached.order {
-        if let Some(row) = reached.row(*slot) {
-            has_more |= spread_from(behind, marks, *slot, row);
+    for site in &reached.order {
+        if let Some(row) = reached.row(*site) {
+            has_more |= spread_from(behind, marks, *site, row);
         }
     }
     has_more
 }
 
-/// Spreads the marks of a slot along its edges. Whether an edge with a mark brought some that are
+/// Spreads the marks of a site along its edges. Whether an edge with a mark brought some that are
 /// new.
-fn spread_from(behind: &mut Bits, marks: &Marks, slot: Slot, row: &Row) -> bool {
-    let some = behind.at(slot);
+fn spread_from(behind: &mut Bits, marks: &Marks, site: usize, row: &SiteRow) -> bool {
+    let some = behind.at(site);
     let mut has_more = false;
     for edge in &row.edges {
         if some != 0 && marks.lets(edge) {
@@ -81,14 +81,14 @@ fn spread_from(behind: &mut Bits, marks: &Marks, slot: Slot, row: &Row) -> bool 
     has_more
 }
 
-/// By slot, the marks to whose edges ways lead from there.
+/// By site, the marks to whose edges ways lead from there.
 fn before_passes(
     alloc: Global,
     reached: &Reached<'_>,
     marks: &Marks,
     leads: &Bits,
 ) -> Result<Bits, AllocError> {
-    let mut before = Bits::none(alloc)?;
+    let mut before = Bits::none(alloc, reached.count())?;
     for _ in &reached.order {
         if !gather_all(&mut before, reached, marks, leads) {
             break;
@@ -97,21 +97,21 @@ fn before_passes(
     Ok(before)
 }
 
-/// Gathers marks at all slots from where their edges lead. Whether there are new ones at a slot
+/// Gathers marks at all sites from where their edges lead. Whether there are new ones at a site
 /// that an edge with a mark leads to, so that more may follow.
 fn gather_all(before: &mut Bits, reached: &Reached<'_>, marks: &Marks, leads: &Bits) -> bool {
     let mut has_more = false;
-    for slot in reached.order.iter().rev() {
-        if let Some(row) = reached.row(*slot) {
-            let is_new = before.add(*slot, gathered(before, marks, row));
-            has_more |= is_new && leads.at(*slot) != 0;
+    for site in reached.order.iter().rev() {
+        if let Some(row) = reached.row(*site) {
+            let is_new = before.add(*site, gathered(before, marks, row));
+            has_more |= is_new && leads.at(*site) != 0;
         }
     }
     has_more
 }
 
 /// The marks of a row's edges, and those of where its edges lead that may come back by them.
-fn gathered(before: &Bits, marks: &Marks, row: &Row) -> u64 {
+fn gathered(before: &Bits, marks: &Marks, row: &SiteRow) -> u64 {
     let mut some = 0;
     for edge in &row.edges {
         if marks.lets(edge) {
@@ -122,6 +122,6 @@ fn gathered(before: &Bits, marks: &Marks, row: &Row) -> u64 {
 }
 
 /// The bit of an edge's mark, if it has one.
-fn own(edge: &Edge) -> u64 {
+fn own(edge: &SiteEdge) -> u64 {
     edge.mark.map_or(0, bit_of)
 }

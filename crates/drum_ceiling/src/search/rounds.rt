@@ -1,12 +1,12 @@
 //! What the price of a mark has to be, once others have theirs: so much that no cycle of passes of
 //! it takes longer than its prices pay.
 
-use super::by_slot::BySlot;
+use super::by_site::BySite;
 use super::cycles::Cycles;
 use super::graph::Graph;
 use super::marks::bit_of;
 use super::ways::{Sought, Ways};
-use drum_rows::{Row, Slot};
+use drum_rows::SiteRow;
 use std::alloc::{AllocError, Global};
 
 /// How many times it is looked for cycles at most, for each head and beside.
@@ -18,15 +18,15 @@ pub struct Rounds {
     pub ways: Ways,
     cycles: Cycles,
     /// By head, the most that it takes on from there, less prices.
-    ahead: BySlot,
+    ahead: BySite,
 }
 
 impl Rounds {
     /// None was looked for yet.
-    pub fn none(alloc: Global) -> Result<Rounds, AllocError> {
-        let ways = Ways::none(alloc)?;
-        let cycles = Cycles::none(alloc)?;
-        let ahead = BySlot::none(alloc)?;
+    pub fn none(alloc: Global, count: usize) -> Result<Rounds, AllocError> {
+        let ways = Ways::none(alloc, count)?;
+        let cycles = Cycles::none(alloc, count)?;
+        let ahead = BySite::none(alloc, count)?;
         Ok(Rounds {
             ways,
             cycles,
@@ -39,23 +39,23 @@ impl Rounds {
         &mut self,
         alloc: Global,
         sought: Sought<'_>,
-        slots: &[Slot],
+        sites: &[usize],
         least: i128,
     ) -> Result<i128, AllocError> {
-        let heads = heads_of(alloc, sought.graph, sought.own, slots)?;
+        let heads = heads_of(alloc, sought.graph, sought.own, sites)?;
         for head in &heads {
             self.ahead.set(*head, Some(0));
         }
-        self.ways.follow(sought, slots, &self.ahead);
+        self.ways.follow(sought, sites, &self.ahead);
         let longest = self.longest(&heads);
         if heads.len() < 2 {
             return Ok(longest.max(least));
         }
-        Ok(self.price_of_many(sought, slots, &heads, longest, least))
+        Ok(self.price_of_many(sought, sites, &heads, longest, least))
     }
 
     /// The longest of the ways from heads; 0 where there is none.
-    fn longest(&self, heads: &[Slot]) -> i128 {
+    fn longest(&self, heads: &[usize]) -> i128 {
         let mut longest = 0;
         for head in heads {
             longest = self.ways.at(*head).map_or(0, |way| way.time).max(longest);
@@ -68,8 +68,8 @@ impl Rounds {
     fn price_of_many(
         &mut self,
         sought: Sought<'_>,
-        slots: &[Slot],
-        heads: &[Slot],
+        sites: &[usize],
+        heads: &[usize],
         longest: i128,
         least: i128,
     ) -> i128 {
@@ -79,13 +79,13 @@ impl Rounds {
             if !self.owe(heads, price) {
                 return price;
             }
-            self.ways.follow(sought, slots, &self.ahead);
+            self.ways.follow(sought, sites, &self.ahead);
         }
         longest.max(least)
     }
 
     /// Owes what it takes on from each head at this price. Whether that is more than before at one.
-    fn owe(&mut self, heads: &[Slot], price: i128) -> bool {
+    fn owe(&mut self, heads: &[usize], price: i128) -> bool {
         let mut is_more = false;
         for head in heads {
             let owed = self.ways.at(*head).map_or(0, |way| way.time);
@@ -99,17 +99,17 @@ impl Rounds {
     }
 }
 
-/// The slots to which edges of a mark lead within its region.
+/// The sites to which edges of a mark lead within its region.
 fn heads_of(
     alloc: Global,
     graph: &Graph<'_>,
     own: u64,
-    slots: &[Slot],
-) -> Result<Vec<Slot>, AllocError> {
-    let mut seen = BySlot::none(alloc)?;
+    sites: &[usize],
+) -> Result<Vec<usize>, AllocError> {
+    let mut seen = BySite::none(alloc, graph.reached.count())?;
     let mut heads = Vec::new(alloc);
-    for slot in slots {
-        if let Some(row) = graph.reached.row(*slot) {
+    for site in sites {
+        if let Some(row) = graph.reached.row(*site) {
             add_heads(&mut heads, &mut seen, graph, own, row)?;
         }
     }
@@ -118,11 +118,11 @@ fn heads_of(
 
 /// Adds those that edges of a row lead to.
 fn add_heads(
-    heads: &mut Vec<Slot>,
-    seen: &mut BySlot,
+    heads: &mut Vec<usize>,
+    seen: &mut BySite,
     graph: &Graph<'_>,
     own: u64,
-    row: &Row,
+    row: &SiteRow,
 ) -> Result<(), AllocError> {
     for edge in &row.edges {
         let bit = edge.mark.map_or(0, bit_of);

@@ -6,14 +6,13 @@ use super::marks::bit_of;
 use super::prices::Prices;
 use super::rounds::Rounds;
 use super::ways::Sought;
-use drum_rows::Slot;
 use std::alloc::{AllocError, Global};
 
 /// The regions of the marks, and the tables that prices are looked for with.
 #[derive(Debug, Drop)]
 pub struct Settling {
-    /// By mark, the slots of its region in the order.
-    regions: Vec<Vec<Slot>>,
+    /// By mark, the sites of its region in the order.
+    regions: Vec<Vec<usize>>,
     pub rounds: Rounds,
 }
 
@@ -24,7 +23,7 @@ impl Settling {
         for mark in &graph.marks.list {
             regions.push(graph.region_of(alloc, mark.bit)?)?;
         }
-        let rounds = Rounds::none(alloc)?;
+        let rounds = Rounds::none(alloc, graph.reached.count())?;
         Ok(Settling { regions, rounds })
     }
 
@@ -60,7 +59,7 @@ impl Settling {
         least: &[i128],
     ) -> Result<i128, AllocError> {
         let least = least.get(usize::from(mark)).copied().unwrap_or(0);
-        let Some(slots) = self.regions.get(usize::from(mark)) else {
+        let Some(sites) = self.regions.get(usize::from(mark)) else {
             return Ok(least);
         };
         let sought = Sought {
@@ -69,6 +68,6 @@ impl Settling {
             own: bit_of(mark),
             others: settled,
         };
-        self.rounds.price(alloc, sought, slots, least)
+        self.rounds.price(alloc, sought, sites, least)
     }
 }

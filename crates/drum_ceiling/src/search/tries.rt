@@ -1,4 +1,4 @@
-//! Tries of other orders of the marks, and of other prices: of marks whose regions share a slot
+//! Tries of other orders of the marks, and of other prices: of marks whose regions share a site
 //! each may pay for cycles through both.
 
 use super::graph::Graph;
@@ -46,8 +46,8 @@ impl<'a> Tries<'a> {
     /// The first: the marks pay that are passed the fewest times.
     pub fn new(alloc: Global, graph: &'a Graph<'a>) -> Result<Tries<'a>, AllocError> {
         let mut settling = Settling::new(alloc, graph)?;
-        let mut levels = Levels::none(alloc)?;
-        let tried = Levels::none(alloc)?;
+        let mut levels = Levels::none(alloc, graph.reached.count())?;
+        let tried = Levels::none(alloc, graph.reached.count())?;
         let order = by_passes(alloc, &graph.marks)?;
         let least = vec![in alloc; 0; graph.marks.list.len()]?;
         let prices = settling.settle(alloc, graph, &order, &least)?;
@@ -156,7 +156,7 @@ impl<'a> Tries<'a> {
         Ok(is_better)
     }
 
-    /// Tries each mark that shares slots with one beside.
+    /// Tries each mark that shares sites with one beside.
     fn move_all(&mut self) -> Result<bool, AllocError> {
         let mut is_better = false;
         for mark in &self.graph.marks.list {
@@ -167,7 +167,7 @@ impl<'a> Tries<'a> {
         Ok(is_better)
     }
 
-    /// Tries other prices of each mark that shares slots with one beside, or has several edges.
+    /// Tries other prices of each mark that shares sites with one beside, or has several edges.
     fn change_all(&mut self) -> Result<bool, AllocError> {
         let mut is_better = false;
         for (place, mark) in self.graph.marks.list.iter().enumerate() {

@@ -1,12 +1,10 @@
 //! The longest ways to a mark's edges, in its region.
 
-ghost use Rattle.std.specs.Prelude.{◌≡◌, vec_len};
-
-use super::by_slot::BySlot;
+use super::by_site::BySite;
 use super::graph::Graph;
 use super::marks::bit_of;
 use super::prices::Prices;
-use drum_rows::{Edge, Row, Slot};
+use drum_rows::{SiteEdge, SiteRow};
 use std::alloc::{AllocError, Global};
 
 /// A way that passes a mark with its last edge, and no other edge of it.
@@ -15,7 +13,7 @@ pub struct Round {
     /// The word times that it takes, less prices, with what is ahead of its end.
     pub time: i128,
     /// Where the last edge leads.
-    pub head: Slot,
+    pub head: usize,
 }
 
 impl Round {
@@ -29,13 +27,12 @@ impl Round {
     }
 }
 
-/// The longest way from each slot of a mark's region; none, where none was found.
+/// The longest way from each site of a mark's region; none, where none was found.
 #[derive(Debug, Drop)]
 pub struct Ways {
     entries: Vec<Option<Round>>,
     /// How many edges were looked at.
     pub looks: u64,
-    ghost long: { vec_len entries ≡ 2200 },
 }
 
 /// The ways that are looked for: to edges of a mark, along edges without marks and of some.
@@ -51,52 +48,57 @@ pub struct Sought<'a> {
 
 impl Ways {
     /// None was found yet.
-    pub fn none(alloc: Global) -> Result<Ways, AllocError> {
+    pub fn none(alloc: Global, count: usize) -> Result<Ways, AllocError> {
         Ok(Ways {
-            entries: vec![in alloc; None; Slot::COUNT]?,
+            entries: vec![in alloc; None; count]?,
             looks: 0,
         })
     }
 
-    /// The longest way from a slot.
-    pub fn at(&self, slot: Slot) -> Option<Round> {
-        self.entries[usize::from(slot.number)]
-    }
-
-    fn set(&mut self, slot: Slot, round: Option<Round>) {
-        self.entries[usize::from(slot.number)] = round;
-    }
-
-    /// Finds the longest ways from the slots of a region, in the order; what is ahead of where they
-    /// end is known.
-    pub fn follow(&mut self, sought: Sought<'_>, slots: &[Slot], ahead: &BySlot) {
-        for slot in slots {
-            self.set(*slot, None);
+    /// The longest way from a site.
+    pub fn at(&self, site: usize) -> Option<Round> {
+        match self.entries.get(site) {
+            Some(round) => *round,
+            None => None,
         }
-        for _ in 0..=slots.len() {
-            if !self.sweep(sought, slots, ahead) {
+    }
+
+    fn set(&mut self, site: usize, round: Option<Round>) {
+        if let Some(entry) = self.entries.get_mut(site) {
+            *entry = round;
+        }
+    }
+
+    /// Finds the longest ways from the sites of a region, in the order; what is ahead of where they
+    /// end is known.
+    pub fn follow(&mut self, sought: Sought<'_>, sites: &[usize], ahead: &BySite) {
+        for site in sites {
+            self.set(*site, None);
+        }
+        for _ in 0..=sites.len() {
+            if !self.sweep(sought, sites, ahead) {
                 break;
             }
         }
     }
 
-    /// Looks at all slots, the last first. Whether more may follow.
-    fn sweep(&mut self, sought: Sought<'_>, slots: &[Slot], ahead: &BySlot) -> bool {
+    /// Looks at all sites, the last first. Whether more may follow.
+    fn sweep(&mut self, sought: Sought<'_>, sites: &[usize], ahead: &BySite) -> bool {
         let mut has_more = false;
-        for slot in slots.iter().rev() {
-            if let Some(row) = sought.graph.reached.row(*slot) {
-                has_more |= self.look(sought, *slot, row, ahead);
+        for site in sites.iter().rev() {
+            if let Some(row) = sought.graph.reached.row(*site) {
+                has_more |= self.look(sought, *site, row, ahead);
             }
         }
         has_more
     }
 
-    /// Looks along the edges of a slot. Whether there is a longer way from a slot that an edge with
+    /// Looks along the edges of a site. Whether there is a longer way from a site that an edge with
     /// another mark leads to.
-    fn look(&mut self, sought: Sought<'_>, slot: Slot, row: &Row, ahead: &BySlot) -> bool {
+    fn look(&mut self, sought: Sought<'_>, site: usize, row: &SiteRow, ahead: &BySite) -> bool {
         self.looks = self.looks.saturating_add(row.edges.len() as u64);
-        let here = sought.graph.regions.at(slot);
-        let before = self.at(slot);
+        let here = sought.graph.regions.at(site);
+        let before = self.at(site);
         let mut longest = before;
         for edge in &row.edges {
             longest = Round::longer(longest, self.along(sought, here, edge, ahead));
@@ -104,12 +106,18 @@ impl Ways {
         if longest == before {
             return false;
         }
-        self.set(slot, longest);
-        sought.graph.leads.at(slot) & sought.others != 0
+        self.set(site, longest);
+        sought.graph.leads.at(site) & sought.others != 0
     }
 
-    /// The longest way that begins with an edge, from a slot in the regions of some marks.
-    fn along(&self, sought: Sought<'_>, here: u64, edge: &Edge, ahead: &BySlot) -> Option<Round> {
+    /// The longest way that begins with an edge, from a site in the regions of some marks.
+    fn along(
+        &self,
+        sought: Sought<'_>,
+        here: u64,
+        edge: &SiteEdge,
+        ahead: &BySite,
+    ) -> Option<Round> {
         let bit = edge.mark.map_or(0, bit_of);
         let there = sought.graph.regions.at(edge.onto);
         if there & sought.own == 0 || bit & !(sought.own | sought.others) != 0 {

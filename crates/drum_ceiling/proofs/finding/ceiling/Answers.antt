@@ -1,30 +1,33 @@
 -- Of ceiling: prices and total are those of a certificate, so its law bounds every run and walk by it; where there are none
 -- the size is 2^127 or more, and the refusal has the product.
-use Rattle.std.proofs.Common.{◌≡◌, ℕ, ◌^◌, List, Option, Some, None, ap, sym, subst, ◌∙◌, arith}
-use Rattle.std.specs.Prelude.{All, MatchOption}
+use Rattle.std.proofs.Common.{◌≡◌, ℕ, ◌^◌, ◌≤◌, List, length, Option, Some, None, ap, sym, subst, ◌∙◌, arith}
+use Rattle.std.specs.Prelude.{All, Contains, MatchOption}
 use Rattle.drum_core.specs.declared.deck.Deck.{Deck}
 use Rattle.drum_times.specs.Allowed.{Notes}
 use Rattle.drum_times.specs.declared.notes.mark.Mark.{Mark}
 use Rattle.drum_times.specs.declared.times.Times.{Times}
-use Rattle.drum_flow.specs.Accepted.{product_of, told}
-use Rattle.drum_flow.specs.Flow.{deck_of, notes_of, executed_in}
+use Rattle.drum_flow.specs.Accepted.{product_of, told, IsAdmitted}
+use Rattle.drum_flow.specs.Hops.{Node}
+use Rattle.drum_flow.specs.Flow.{deck_of, nodes_of, notes_of, executed_in}
 use Rattle.drum_flow.specs.SettingOf.{setting}
 use Rattle.drum_flow.proofs.Acceptances.{moved}
+use Rattle.drum_flow.proofs.Orders.{first_reached, order_found}
 use Rattle.drum_flow.proofs.Products.{told_many}
+use Rattle.drum_machine.specs.Calls.{none_open}
 use Rattle.drum_ceiling.specs.declared.prices.Prices.{Prices}
 use Rattle.drum_ceiling.specs.CeilingOf.{total_of}
 use Rattle.drum_ceiling.specs.Right.{ArePrices, IsCeiling}
 use Rattle.drum_ceiling.specs.Size.{IsWithinSize}
-use Rattle.drum_ceiling.proofs.CeilingLaws.{admitted_sound, is_ceiling, large_product}
+use Rattle.drum_ceiling.proofs.CeilingLaws.{admitted_sound, executed_places, is_ceiling, large_product}
 use Rattle.drum_ceiling.proofs.finding.ceiling.Goals as goal
 
 -- what was made of a deck, its timing table and its notes
-abbrev Made : Deck → Times → Notes → List ℕ → Option Prices → Type 0
-Made deck times notes executed made =
+abbrev Made : Deck → Times → Notes → List Node → Option Prices → Type 0
+Made deck times notes nodes made =
     let g = setting deck times notes in
-    MatchOption made (IsWithinSize g executed (2 ^ 127))
-    (λ one. ArePrices g one.prices.items one.total × IsWithinSize g executed one.total
-    × All (IsWithinSize g executed) one.prices.items)
+    MatchOption made (IsWithinSize g nodes (2 ^ 127))
+    (λ one. ArePrices g one.prices.items one.total × IsWithinSize g nodes one.total
+    × All (IsWithinSize g nodes) one.prices.items)
 
 pub returns-in-Some-clause-given : goal.returns-in-Some-clause-given
 returns-in-Some-clause-given c =
@@ -33,15 +36,19 @@ returns-in-Some-clause-given c =
     let notes = c.args.notes.now in
     let times = c.args.times.now in
     let executed = executed_in accepted.flow in
+    let nodes = nodes_of accepted.flow in
     let g = setting deck times notes in
-    let made : Made deck times notes executed c.in_ok-found.field-0 =
-    moved (λ d n. Made d times n executed c.in_ok-found.field-0) (deck_of accepted.flow) deck (notes_of accepted.flow) notes
-    c.in_ok-accepted.ensures.deck c.in_ok-accepted.ensures.notes c.in_ok-found.ensures in
+    let made : Made deck times notes nodes c.in_ok-found.field-0 =
+    moved (λ d n. Made d times n nodes c.in_ok-found.field-0) (deck_of accepted.flow) deck (notes_of accepted.flow) notes
+    c.in_ok-accepted.ensures.deck c.in_ok-accepted.ensures.notes c.in_ok-found.ensures.made in
     let found = c.in-Some.found in
-    let right : Made deck times notes executed (Some found) = subst (Made deck times notes executed) c.in-Some.is made in
+    let right : Made deck times notes nodes (Some found) = subst (Made deck times notes nodes) c.in-Some.is made in
     let is : IsCeiling g found.prices.items found.total =
-    is_ceiling deck times notes executed found.prices.items found.total c.marks-marks.ensures.sound
-    c.in_ok-accepted.ensures.admitted right.1 right.2 right.0 in
+    is_ceiling deck times notes nodes found.prices.items found.total c.marks-marks.ensures.sound
+    c.in_ok-accepted.ensures.nodes
+    (subst (IsAdmitted g.loads notes g.start)
+    (executed_places g.loads notes g.start executed nodes c.in_ok-accepted.ensures.admitted c.in_ok-accepted.ensures.nodes)
+    c.in_ok-accepted.ensures.admitted) right.1 right.2 right.0 in
     subst (λ (prices : List ℕ). IsCeiling g prices (total_of c.new.result)) (sym c.new.ensures.prices)
     (subst (λ (total : ℕ). IsCeiling g found.prices.items total) (sym c.new.ensures.total) is)
 
@@ -52,12 +59,17 @@ returns-clause-refused c =
     let notes = c.args.notes.now in
     let times = c.args.times.now in
     let executed = executed_in accepted.flow in
+    let nodes = nodes_of accepted.flow in
     let g = setting deck times notes in
     let admitted = c.in_ok-accepted.ensures.admitted in
-    let made : Made deck times notes executed c.in_ok-found.field-0 =
-    moved (λ d n. Made d times n executed c.in_ok-found.field-0) (deck_of accepted.flow) deck (notes_of accepted.flow) notes
-    c.in_ok-accepted.ensures.deck c.in_ok-accepted.ensures.notes c.in_ok-found.ensures in
-    let large : Made deck times notes executed None = subst (Made deck times notes executed) c.in-None.is made in
+    let made : Made deck times notes nodes c.in_ok-found.field-0 =
+    moved (λ d n. Made d times n nodes c.in_ok-found.field-0) (deck_of accepted.flow) deck (notes_of accepted.flow) notes
+    c.in_ok-accepted.ensures.deck c.in_ok-accepted.ensures.notes c.in_ok-found.ensures.made in
+    let large : Made deck times notes nodes None = subst (Made deck times notes nodes) c.in-None.is made in
+    let there : Contains executed g.start =
+    (order_found g.loads notes g.start executed admitted.order).all g.start
+    (none_open notes.calls, first_reached g.loads notes g.start) in
+    let some : 1 ≤ length executed = omega (arith, there.1) in
     let product : c.product_of_flow.result ≡ told (product_of executed notes.marks) =
     c.product_of_flow.ensures ∙ ap (λ (ms : List Mark). told (product_of executed ms)) c.marks-marks.ensures.all in (
       (
@@ -65,9 +77,9 @@ returns-clause-refused c =
         omega (
           arith,
           product,
-          told_many (product_of executed notes.marks) (large_product g executed c.marks-marks.ensures.sound.few_marks large),
+          told_many (product_of executed notes.marks) (large_product g nodes executed c.marks-marks.ensures.sound.few_marks c.in_ok-found.ensures.few some large),
         ),
         (executed, admitted.order, product),
       ),
-      record { executed = executed; admitted = admitted; large = large },
+      record { nodes = nodes; reached = c.in_ok-accepted.ensures.nodes; admitted = subst (IsAdmitted g.loads notes g.start) (executed_places g.loads notes g.start executed nodes admitted c.in_ok-accepted.ensures.nodes) admitted; large = large },
     )

@@ -1,30 +1,27 @@
 -- Of prices_of: what the search found was checked over rows that are right, and the others are by the order; no price and
 -- not the lower total is more than what no ceiling is above, whatever no step takes more than.
-use Rattle.std.proofs.Common.{◌≡◌, ◌⊎◌, ℕ, ◌+◌, ◌-◌, ◌*◌, ◌%◌, ◌^◌, ◌<◌, ◌≤◌, List, Option, Some, None, length, ap, sym, subst, ◌∙◌, refl, inl, inr, arith}
-use Rattle.std.specs.Prelude.{if◌then◌else◌, nat_lt, slice_get, All, IfNone, IfSome, MatchOption}
+use Rattle.std.proofs.Common.{◌≡◌, ◌⊎◌, ℕ, ◌*◌, ◌^◌, ◌<◌, ◌≤◌, List, Option, Some, None, length, ap, sym, subst, ◌∙◌, inl, inr, arith}
+use Rattle.std.specs.Prelude.{slice_get, All, IfNone, IfSome, MatchOption}
 use Rattle.std.proofs.Math.Nat.{mul-le-mul_left, mul-le-mul_right}
-use Rattle.std.proofs.lemmas.Bool.{lt-ltb}
 use Rattle.std.proofs.lemmas.List.Elements.{All-weaker}
-use Rattle.drum_core.specs.Loads.{start_in}
-use Rattle.drum_times.specs.Allowed.{Notes, AreSound}
+use Rattle.drum_core.specs.Loads.{loads_in, start_in}
 use Rattle.drum_flow.specs.declared.flow_graph.Flow.{Flow}
-use Rattle.drum_flow.specs.Flow.{deck_of, notes_of, executed_in}
+use Rattle.drum_flow.specs.Flow.{deck_of, nodes_of, notes_of, executed_in}
+use Rattle.drum_flow.specs.Executed.{each_place}
+use Rattle.drum_flow.specs.Hops.{Node}
 use Rattle.drum_flow.specs.SettingOf.{setting}
 use Rattle.drum_flow.specs.Walk.{Setting}
-use Rattle.drum_flow.proofs.Proper.{is_proper}
+use Rattle.drum_flow.proofs.Orders.{order_found}
 use Rattle.drum_rows.specs.declared.row.Row.{Row}
 use Rattle.drum_rows.specs.Rows.{AreRows}
 use Rattle.drum_rows.specs.Steps.{TakesAtMost}
 use Rattle.drum_ceiling.specs.declared.prices.Prices.{Prices}
 use Rattle.drum_ceiling.specs.Right.{ArePrices}
 use Rattle.drum_ceiling.specs.Size.{size_of, IsWithinSize}
-use Rattle.drum_ceiling.proofs.LongestRows.{executed_location, takes_at_most}
+use Rattle.drum_rows.proofs.Angles.{executed_location}
+use Rattle.drum_ceiling.proofs.CeilingLaws.{executed_places}
+use Rattle.drum_ceiling.proofs.LongestRows.{takes_at_most}
 use Rattle.drum_ceiling.proofs.finding.prices_of.Goals as goal
-
--- the start's number is its location
-start_number : (start slot : ℕ) → start < 2000
-    → slot ≡ (if nat_lt start 2000 then start else 2000 + (start - 8000) * 50 + 0 % 50) → start ≡ slot
-start_number start slot below is = sym (is ∙ rw (lt-ltb start 2000 below) refl)
 
 -- what is so of what there is
 mapped : {Is Other : Prices → Type 0} (made : Option Prices) → ((one : Prices) → Is one → Other one) → IfSome made Is
@@ -32,22 +29,22 @@ mapped : {Is Other : Prices → Type 0} (made : Option Prices) → ((one : Price
 mapped None so is = is
 mapped (Some one) so is = so one is
 
-module _ (g : Setting) (executed : List ℕ) (longest : ℕ)
-    (least : (most : ℕ) → TakesAtMost g executed most → longest ≤ most) where
+module _ (g : Setting) (nodes : List Node) (longest : ℕ)
+    (least : (most : ℕ) → TakesAtMost g (each_place nodes) most → longest ≤ most) where
   abbrev size : ℕ → ℕ
-  size most = size_of g.notes.marks (length executed) most
+  size most = size_of g.notes.marks (length nodes) most
 
   -- what is no more than the size by the longest step is no more than it by what no step takes more than
-  within_size : (number : ℕ) → number ≤ size longest → IsWithinSize g executed number
+  within_size : (number : ℕ) → number ≤ size longest → IsWithinSize g nodes number
   within_size number low most takes =
-      let words : length executed * longest ≤ length executed * most =
-      mul-le-mul_left (length executed) (least most takes) in
+      let words : length nodes * longest ≤ length nodes * most =
+      mul-le-mul_left (length nodes) (least most takes) in
       let grows : size longest ≤ size most = mul-le-mul_right _ words in
       omega (arith, low, grows)
 
   -- and of prices likewise
-  all_within : (prices : List ℕ) → All (λ price. price ≤ size longest) prices → All (IsWithinSize g executed) prices
-  all_within prices low = All-weaker (λ price. price ≤ size longest) (IsWithinSize g executed) within_size prices low
+  all_within : (prices : List ℕ) → All (λ price. price ≤ size longest) prices → All (IsWithinSize g nodes) prices
+  all_within prices low = All-weaker (λ price. price ≤ size longest) (IsWithinSize g nodes) within_size prices low
 
   -- prices of a certificate, none above the size
   abbrev pub Right : Prices → Type 0
@@ -74,9 +71,9 @@ module _ (g : Setting) (executed : List ℕ) (longest : ℕ)
   pub lower : (found by_order : Option Prices) → IfSome found Right → ByOrder by_order
       → (made : Option Prices) → IfNone made ((found ≡ None) × (by_order ≡ None))
       → IfSome made (λ one. (by_order ≡ Some one) ⊎ ((found ≡ Some one) × IfSome by_order (λ other. one.total ≤ other.total)))
-      → MatchOption made (IsWithinSize g executed (2 ^ 127))
-      (λ one. ArePrices g one.prices.items one.total × IsWithinSize g executed one.total
-      × All (IsWithinSize g executed) one.prices.items)
+      → MatchOption made (IsWithinSize g nodes (2 ^ 127))
+      (λ one. ArePrices g one.prices.items one.total × IsWithinSize g nodes one.total
+      × All (IsWithinSize g nodes) one.prices.items)
   lower found by_order right other None none some = within_size (2 ^ 127) (subst ByOrder none.1 other)
   lower found by_order right other (Some one) none (inl is) =
       let so = subst ByOrder is other in (so.0, within_size one.total so.1, all_within one.prices.items so.2)
@@ -89,11 +86,24 @@ module _ (g : Setting) (executed : List ℕ) (longest : ℕ)
       low are None large no_more = omega (arith, large, are.small)
       low are (Some given) large no_more = omega (arith, large.1, no_more)
 
-pub returns : goal.returns
-returns c =
+pub found_prices-requires-clause-found : goal.found_prices-requires-clause-found
+found_prices-requires-clause-found c =
+    let flow = c.args.accepted.now.flow in
+    order_found (loads_in (deck_of flow)) (notes_of flow) (start_in (deck_of flow)) (executed_in flow)
+    c.requires.admitted.order
+
+pub returns-clause-few : goal.returns-clause-few
+returns-clause-few c =
+    subst (λ (one : Flow). length (nodes_of one) < 2 ^ 64) c.flow-flow.ensures c.in_ok-size.ensures.few
+
+pub returns-clause-made : goal.returns-clause-made
+returns-clause-made c =
     let flow = c.args.accepted.now.flow in
     let g = setting (deck_of flow) c.args.times.now (notes_of flow) in
     let executed = executed_in flow in
+    let nodes = nodes_of flow in
+    let places : executed ≡ each_place nodes =
+    executed_places g.loads g.notes g.start executed nodes c.requires.admitted c.requires.nodes in
     let longest = c.longest_of-longest.result in
     let rows = c.in_ok-rows.rows.items in
     let are : AreRows g executed rows =
@@ -104,28 +114,21 @@ returns c =
     c.deref.ensures.value c.longest_of-longest.ensures.each in
     let takes : TakesAtMost g executed longest =
     takes_at_most g executed rows longest (executed_location flow) are c.longest_of-longest.ensures.some each in
-    let least : (most : ℕ) → TakesAtMost g executed most → longest ≤ most =
+    let least : (most : ℕ) → TakesAtMost g (each_place nodes) most → longest ≤ most =
     λ most other. c.longest_of-longest.ensures.least most other.some
     (λ slot row at. (are.each slot row
-    (ap (λ (all : List (Option Row)). slice_get all slot) (sym c.deref.ensures.value) ∙ at)).low most other) in
-    let same_notes : c.notes.result.now ≡ notes_of flow = c.notes.ensures ∙ ap notes_of c.flow-flow.ensures in
-    let marks : c.marks-marks.result.now ≡ (notes_of flow).marks =
-    c.marks-marks.ensures.all ∙ ap (λ (n : Notes). n.marks) same_notes in
-    let proper = is_proper (deck_of flow) c.args.times.now (notes_of flow)
-    (subst AreSound same_notes c.marks-marks.ensures.sound) in
-    let start : start_in (deck_of flow) ≡ c.start-start.result.number =
-    sym (c.start-start.ensures.held ∙ ap start_in (c.deck.ensures ∙ ap deck_of c.flow-flow.ensures)) in
-    let same_rows : AreRows g executed c.deref-3.result.now =
-    subst (AreRows g executed) (sym c.deref-3.ensures.value) are in
-    let from_start : start_in (deck_of flow) ≡ c.of-2.result.number =
-    start ∙ start_number c.start-start.result.number c.of-2.result.number c.start-start.ensures.on_drum c.of-2.ensures in
-    let checked : IfSome c.checked.result (λ one. ArePrices g one.prices.items one.total) =
-    mapped c.checked.result (λ one right. right g executed proper (sym marks) same_rows from_start) c.checked.ensures in
+    (ap (λ (all : List (Option Row)). slice_get all slot) (sym c.deref.ensures.value) ∙ at)).low most
+    (subst (λ (ps : List ℕ). TakesAtMost g ps most) (sym places) other)) in
+    let same_rows : AreRows g executed c.deref-2.result.now =
+    subst (AreRows g executed) (sym c.deref-2.ensures.value) are in
+    let checked : IfSome c.in_ok-found_prices.field-0 (λ one. ArePrices g one.prices.items one.total) =
+    c.in_ok-found_prices.ensures c.args.times.now same_rows in
     let size = c.in_ok-size.size in
-    let low : size.whole ≤ size_of (notes_of flow).marks (length executed) longest =
-    subst (λ (one : Flow). size.whole ≤ size_of (notes_of one).marks (length (executed_in one)) longest)
+    let low : size.whole ≤ size_of (notes_of flow).marks (length nodes) longest =
+    subst (λ (one : Flow). size.whole ≤ size_of (notes_of one).marks (length (nodes_of one)) longest)
     c.flow-flow.ensures c.in_ok-size.ensures.low in
-    let within : IfSome c.within-found.result (Right g executed longest least) =
-    kept g executed longest least size.whole low c.checked.result checked c.within-found.result c.within-found.ensures.some in
-    lower g executed longest least c.within-found.result c.in_ok-by_order.by_order within
+    let within : IfSome c.within-found.result (Right g nodes longest least) =
+    kept g nodes longest least size.whole low c.in_ok-found_prices.field-0 checked c.within-found.result
+    c.within-found.ensures.some in
+    lower g nodes longest least c.within-found.result c.in_ok-by_order.by_order within
     (c.in_ok-by_order.ensures c.args.times.now takes) c.lower_of.result c.lower_of.ensures.none c.lower_of.ensures.some

@@ -1,7 +1,7 @@
 use Rattle.std.proofs.Common.{◌≡◌, ◌⊎◌, List, Some, sym, ap, subst, ◌∙◌, inl, inr, arith}
 use Rattle.std.specs.Prelude.{Contains, slice_get}
 use Rattle.std.proofs.lemmas.Option.{slice_get-get_or}
-use Rattle.drum_rows.specs.declared.row.Edge.{Edge}
+use Rattle.drum_rows.specs.declared.site_row.SiteEdge.{SiteEdge}
 use Rattle.drum_rows.proofs.Pushed.{all_taken, taken_cases}
 use Rattle.drum_ceiling.specs.Paying.{IsEdgePaid, IsShut}
 use Rattle.drum_ceiling.proofs.certificate.Certificate.pays.Goals as goal
@@ -14,8 +14,8 @@ loop-edge-preserved c edge there =
     slice_get-get_or edges k c.edge-item.result c.loop-edge-test.true ∙ ap Some (sym c.edge-item.is) in
     elim (taken_cases edges k c.edge-item.result edge here there) [
       | inl before ↦ c.loop-edge.invariant edge before
-      | inr same ↦ subst (λ (one : Edge). IsShut c.args.marks.now one
-          ⊎ IsEdgePaid c.args.marks.now c.args.self.now c.args.slot.number c.args.level one) same
+      | inr same ↦ subst (λ (one : SiteEdge). IsShut c.args.marks.now one
+          ⊎ IsEdgePaid c.args.marks.now c.args.self.now c.args.number c.args.level one) same
           (c.pays_edge.ensures c.if-not-pays_edge.false)
     ]
 
@@ -24,7 +24,7 @@ returns c stop = record {
   ends = grind arith;
   edges = λ edge there.
       c.loop-edge.invariant edge
-      (subst (λ (all : List Edge). Contains all edge)
+      (subst (λ (all : List SiteEdge). Contains all edge)
       (sym c.deref-edge-items.ensures.value
       ∙ sym (all_taken c.deref-edge-items.result.now c.loop-edge.edge-index c.loop-edge-test.false)) there);
 }

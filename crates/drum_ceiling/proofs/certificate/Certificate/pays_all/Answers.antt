@@ -1,16 +1,30 @@
-use Rattle.std.proofs.Common.{◌≡◌, subst, inl, inr, arith}
+use Rattle.std.proofs.Common.{◌≡◌, ℕ, Some, ap, sym, subst, ◌∙◌, inl, inr, arith}
+use Rattle.std.specs.Prelude.{slice_get}
 use Rattle.std.proofs.lemmas.Bool.{cases_lt}
-use Rattle.drum_ceiling.specs.Paying.{IsSlotPaid}
+use Rattle.std.proofs.lemmas.Option.{same_Some, slice_get-get_or, slice_get_within}
+use Rattle.drum_rows.specs.declared.site_row.SiteRow.{SiteRow}
+use Rattle.drum_ceiling.specs.AtSite.{at_number}
+use Rattle.drum_ceiling.specs.Paying.{IsPaid}
 use Rattle.drum_ceiling.proofs.certificate.Certificate.pays_all.Goals as goal
 
 pub loop-number-preserved : goal.loop-number-preserved
-loop-number-preserved c slot high = elim (cases_lt slot c.loop-number.number) [
-  | inl before ↦ c.loop-number.invariant slot before
+loop-number-preserved c number high level row at there = elim (cases_lt number c.loop-number.number) [
+  | inl before ↦ c.loop-number.invariant number before level row at there
   | inr last ↦ (
-      let same : c.loop-number.number ≡ slot = omega (arith, high, last) in
-      subst (IsSlotPaid c.args.marks.now c.args.self.now c.args.rows.now) same
-      (c.pays_at.ensures c.if-not-pays_at.false))
+      let rows = c.args.rows.now in
+      let here = c.loop-number.number in
+      let same : here ≡ number = omega (arith, high, last) in
+      let own = c.index-rows-number.result in
+      let is : slice_get rows here ≡ Some own =
+      slice_get-get_or rows here own c.loop-number-test.true ∙ ap Some (sym c.index-rows-number.is) in
+      let row_is : own ≡ row = same_Some own row (sym is ∙ ap (slice_get rows) same ∙ there) in
+      subst (λ (n : ℕ). IsPaid c.args.marks.now c.args.self.now n level row) same
+      (subst (λ (r : SiteRow). IsPaid c.args.marks.now c.args.self.now here level r) row_is
+      (c.pays_at.ensures c.if-not-pays_at.false level
+      (ap (at_number c.args.self.now.levels.items) same ∙ at))))
 ]
 
 pub returns : goal.returns
-returns c _ slot below = c.loop-number.invariant slot (omega (arith, below, c.loop-number-test.false))
+returns c _ number level row at there =
+    c.loop-number.invariant number
+    (omega (arith, slice_get_within c.args.rows.now number row there, c.loop-number-test.false)) level row at there

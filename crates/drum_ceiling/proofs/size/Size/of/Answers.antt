@@ -1,11 +1,9 @@
 -- Of Size::of: the passes are those in rounds of the flow's marks, and each number is told of no more than the size.
-use Rattle.std.proofs.Common.{◌≡◌, ℕ, ◌+◌, ◌*◌, List, length, ap, sym, ◌∙◌, subst}
-use Rattle.std.proofs.lemmas.List.{length-map}
-use Rattle.drum_core.specs.declared.location.Location.{Location}
+use Rattle.std.proofs.Common.{◌≡◌, ℕ, ◌+◌, ◌*◌, List, length, ap, ◌∙◌, subst, arith}
 use Rattle.drum_times.specs.declared.notes.mark.Mark.{Mark}
 use Rattle.drum_times.specs.Allowed.{Notes, AreSound}
 use Rattle.drum_flow.specs.Accepted.{told}
-use Rattle.drum_flow.specs.Flow.{notes_of, executed_in}
+use Rattle.drum_flow.specs.Flow.{nodes_of, notes_of}
 use Rattle.drum_ceiling.specs.InRounds.{passes_in_all, AreInRounds}
 use Rattle.drum_ceiling.proofs.Fallback.{size_low}
 use Rattle.drum_ceiling.proofs.size.Size.of.Goals as goal
@@ -23,19 +21,17 @@ returns c =
     let passes : c.passes_in_all-passes.result ≡ told (passes_in_all marks rounds) =
     c.passes_in_all-passes.ensures ∙ ap (λ (all : List ℕ). told (passes_in_all c.marks-marks.result.now all)) c.deref.ensures.value
     ∙ ap (λ (ms : List Mark). told (passes_in_all ms rounds)) same_marks in
-    let words : length c.executed.result.now ≡ length (executed_in flow) =
-    sym (length-map c.executed.result.now (λ (one : Location). one.number))
-    ∙ ap (λ (all : List ℕ). length all) c.executed.ensures.all in
-    let unit : length c.executed.result.now * c.from.result ≡ length (executed_in flow) * c.args.longest =
-    ap (λ (n : ℕ). n * c.from.result) words ∙ ap (λ (n : ℕ). length (executed_in flow) * n) c.from.ensures in
-    let whole : c.product-whole.result ≡ told (length c.executed.result.now * c.from.result * told (1 + c.passes_in_all-passes.result)) =
-    c.product-whole.ensures ∙ ap (λ (n : ℕ). told (length c.executed.result.now * c.from.result * n)) c.sum.ensures in
+    let unit : c.size-nodes.result * c.from.result ≡ length (nodes_of flow) * c.args.longest =
+    ap (λ (n : ℕ). n * c.from.result) c.size-nodes.ensures ∙ ap (λ (n : ℕ). length (nodes_of flow) * n) c.from.ensures in
+    let whole : c.product-whole.result ≡ told (c.size-nodes.result * c.from.result * told (1 + c.passes_in_all-passes.result)) =
+    c.product-whole.ensures ∙ ap (λ (n : ℕ). told (c.size-nodes.result * c.from.result * n)) c.sum.ensures in
     record {
       rounds = are;
       passes = passes;
       unit = unit;
       whole = whole;
-      low = size_low marks (length (executed_in flow)) c.args.longest c.passes_in_all-passes.result c.sum.result
+      low = size_low marks (length (nodes_of flow)) c.args.longest c.passes_in_all-passes.result c.sum.result
           c.product-whole.result rounds sound.nested are passes c.sum.ensures
           (c.product-whole.ensures ∙ ap (λ (n : ℕ). told (n * c.sum.result)) unit);
+      few = omega (arith, c.size-nodes.ensures);
     }

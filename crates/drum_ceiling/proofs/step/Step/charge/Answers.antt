@@ -2,7 +2,7 @@
 use Rattle.std.proofs.Common.{◌≡◌, ◌*◌, ℕ, ap, ◌∙◌, arith}
 use Rattle.std.specs.Prelude.{not, if◌then◌else◌, slice_index}
 use Rattle.drum_ceiling.specs.Charge.{owed_anew}
-use Rattle.drum_ceiling.specs.AtSlot.{is_in}
+use Rattle.drum_ceiling.specs.AtSite.{is_in}
 use Rattle.drum_ceiling.proofs.Charged.{charge_more, stays}
 use Rattle.drum_ceiling.proofs.step.Step.charge.Goals as goal
 

@@ -1,6 +1,6 @@
 use Rattle.std.proofs.Common.{◌≡◌, ◌+◌, drop}
 use Rattle.drum_ceiling.specs.Charge.{charge_from}
-use Rattle.drum_ceiling.specs.AtSlot.{is_in}
+use Rattle.drum_ceiling.specs.AtSite.{is_in}
 use Rattle.drum_ceiling.proofs.step.Step.charge.Given as goal
 
 -- the charge so far, and that of the marks that are left
