@@ -23,36 +23,27 @@ mod walks;
 use crate::piece::Piece;
 use crate::setting::Setting;
 use building::Building;
-use drum_core::{Location, REVOLUTION};
-use drum_rows::{Row, Slot};
+use drum_core::REVOLUTION;
+use drum_rows::SiteRow;
 use loops::Loops;
-use passings::{Passings, slots_of};
+use passings::Passings;
 use sources::Sources;
 use std::alloc::{AllocError, Global};
 use walks::Walks;
 
-/// The row of where an instruction is found.
-fn row_at(rows: &[Option<Row>], slot: Slot) -> Option<&Row> {
-    match rows.get(usize::from(slot.number)) {
-        Some(Some(row)) => Some(row),
-        _ => None,
-    }
-}
-
-/// The pieces of a walk that takes as long as was found, by the rows and an order of the locations
-/// in which every edge without a mark goes on; none, where no walk was found.
+/// The pieces of a walk that takes as long as was found, by the rows of sites, an order of them in
+/// which every edge without a mark goes on, and the start's; none, where no walk was found.
 pub fn find(
     alloc: Global,
     by: &Setting<'_>,
-    rows: &[Option<Row>],
-    order: &[Location],
+    rows: &[SiteRow],
+    sites: &[usize],
+    first: usize,
 ) -> Result<Vec<Piece>, AllocError> {
     let start = by.deck.start();
     let marks = by.notes.marks();
-    let slots = slots_of(alloc, rows, order)?;
-    let passings = Passings::of(alloc, rows, &slots)?;
-    let first = Slot::of(start, u64::from(start.number));
-    let sources = Sources::of(alloc, rows, &slots, first, &passings, marks)?;
+    let passings = Passings::of(alloc, rows, sites)?;
+    let sources = Sources::of(alloc, rows, sites, first, &passings, marks)?;
     let mut walks = Walks::new(alloc)?;
     let found = Loops::new(alloc, marks, &passings, &sources)?.longest(&mut walks)?;
     let Some(whole) = found else {

@@ -5,7 +5,7 @@ use super::sources::Sources;
 use super::walks::{Walk, Walks};
 use crate::piece::Piece;
 use crate::setting::Setting;
-use drum_rows::Row;
+use drum_rows::SiteRow;
 use indexmap::IndexMap;
 use std::alloc::{AllocError, Global};
 
@@ -32,7 +32,7 @@ impl<'a> Building<'a> {
     pub fn new(
         alloc: Global,
         by: &'a Setting<'a>,
-        rows: &'a [Option<Row>],
+        rows: &'a [SiteRow],
         sources: &'a Sources,
         walks: &'a Walks,
     ) -> Building<'a> {

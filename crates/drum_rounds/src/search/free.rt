@@ -1,21 +1,18 @@
 //! The longest ways free of marks.
 
-ghost use Rattle.std.specs.Prelude.{◌≡◌, vec_len};
-
-use super::row_at;
-use drum_rows::{Row, Slot};
+use drum_rows::SiteRow;
 use std::alloc::{AllocError, Global};
 
 /// A step along an edge.
 #[derive(Clone, Copy, Debug)]
 pub struct Step {
     /// Where it begins.
-    pub from: Slot,
+    pub from: usize,
     /// The place of the edge in the row there; `None` for the last hop.
     pub edge: Option<usize>,
 }
 
-/// A way to a slot.
+/// A way to a site.
 #[derive(Clone, Copy, Debug)]
 pub struct Way {
     /// The word times that it takes.
@@ -30,29 +27,28 @@ pub struct Last {
     /// The word times until it ends, and 49 more.
     pub time: u64,
     /// Where its instruction is found.
-    pub from: Slot,
+    pub from: usize,
 }
 
-/// The longest ways free of marks from a slot to each; none, where no way leads.
+/// The longest ways free of marks from a site to each; none, where no way leads.
 #[derive(Debug, Drop)]
 pub struct Free {
     entries: Vec<Option<Way>>,
     /// The last hop that ends last; none, where all ways pass marks.
     pub last: Option<Last>,
-    ghost long: { vec_len entries ≡ 2200 },
 }
 
 impl Free {
-    /// Those from a slot, by one sweep over the slots in an order in which every edge without a
+    /// Those from a site, by one sweep over the sites in an order in which every edge without a
     /// mark goes on.
     pub fn from(
         alloc: Global,
-        rows: &[Option<Row>],
-        slots: &[Slot],
-        source: Slot,
+        rows: &[SiteRow],
+        sites: &[usize],
+        source: usize,
     ) -> Result<Free, AllocError> {
         let mut free = Free {
-            entries: vec![in alloc; None; Slot::COUNT]?,
+            entries: vec![in alloc; None; rows.len()]?,
             last: None,
         };
         free.raise(
@@ -62,33 +58,43 @@ impl Free {
                 before: None,
             },
         );
-        for slot in slots {
-            if let (Some(way), Some(row)) = (free.at(*slot), row_at(rows, *slot)) {
-                free.follow(*slot, way.time, row);
-                free.end(*slot, way.time, row);
+        for site in sites {
+            if let (Some(way), Some(row)) = (free.at(*site), rows.get(*site)) {
+                free.follow(*site, way.time, row);
+                free.end(*site, way.time, row);
             }
         }
         Ok(free)
     }
 
-    /// The way to a slot.
-    pub fn at(&self, slot: Slot) -> Option<Way> {
-        self.entries[usize::from(slot.number)]
+    /// The way to a site.
+    pub fn at(&self, site: usize) -> Option<Way> {
+        match self.entries.get(site) {
+            Some(way) => *way,
+            None => None,
+        }
     }
 
-    /// Takes a way to a slot, if it is longer than the one that is known.
-    fn raise(&mut self, slot: Slot, way: Way) {
-        let is_longer = match self.at(slot) {
+    /// Takes a way to a site, if it is longer than the one that is known.
+    fn raise(&mut self, site: usize, way: Way) {
+        let is_longer = match self.at(site) {
             Some(known) => known.time < way.time,
             None => true,
         };
         if is_longer {
-            self.entries[usize::from(slot.number)] = Some(way);
+            self.put(site, way);
+        }
+    }
+
+    /// Puts down a way to a site.
+    fn put(&mut self, site: usize, way: Way) {
+        if let Some(entry) = self.entries.get_mut(site) {
+            *entry = Some(way);
         }
     }
 
     /// Follows the edges of a row that have no mark.
-    fn follow(&mut self, from: Slot, time: u64, row: &Row) {
+    fn follow(&mut self, from: usize, time: u64, row: &SiteRow) {
         for (index, edge) in row.edges.iter().enumerate() {
             if edge.mark.is_none() {
                 let step = Step {
@@ -105,7 +111,7 @@ impl Free {
     }
 
     /// Takes the last hop of a row, if it ends later than the one that is known.
-    fn end(&mut self, from: Slot, time: u64, row: &Row) {
+    fn end(&mut self, from: usize, time: u64, row: &SiteRow) {
         let time = time.saturating_add(u64::from(row.stop));
         let known = self.last.map_or(0, |last| last.time);
         if row.last.is_some() && known < time {
@@ -113,11 +119,11 @@ impl Free {
         }
     }
 
-    /// The steps of the way to a slot, and then one more.
+    /// The steps of the way to a site, and then one more.
     pub fn steps(&self, alloc: Global, last: Step) -> Result<Vec<Step>, AllocError> {
         let mut steps = Vec::new(alloc);
         let mut next = Some(last);
-        for _ in 0..=Slot::COUNT {
+        for _ in 0..=self.entries.len() {
             let Some(step) = next else {
                 break;
             };

@@ -2,13 +2,12 @@
 
 use super::free::Step;
 use super::numbering::in_order;
-use super::row_at;
 use crate::piece::{Piece, Placed, Rounds};
 use crate::setting::Setting;
 use crate::stretch::Stretch;
 use drum_core::REVOLUTION;
 use drum_flow::Hop;
-use drum_rows::{Row, Slot};
+use drum_rows::SiteRow;
 use indexmap::IndexMap;
 use std::alloc::{AllocError, Global};
 
@@ -24,8 +23,8 @@ pub struct Laid {
 /// A step whose hop begins at an angle.
 #[derive(Clone, Copy, Debug, PartialEq, Eq, Hash)]
 struct Begun {
-    /// The number of the slot.
-    slot: u16,
+    /// The number of the site.
+    site: usize,
     /// The place of the edge.
     edge: Option<usize>,
     angle: u64,
@@ -36,7 +35,7 @@ struct Begun {
 pub struct Laying<'a> {
     alloc: Global,
     by: &'a Setting<'a>,
-    rows: &'a [Option<Row>],
+    rows: &'a [SiteRow],
     pieces: Vec<Piece>,
     hops: IndexMap<Begun, Laid>,
     /// How many pieces are named by others, in all.
@@ -51,7 +50,7 @@ impl<'a> Laying<'a> {
     const MOST_NAMED: usize = 1_000_000;
 
     /// Without pieces.
-    pub fn new(alloc: Global, by: &'a Setting<'a>, rows: &'a [Option<Row>]) -> Laying<'a> {
+    pub fn new(alloc: Global, by: &'a Setting<'a>, rows: &'a [SiteRow]) -> Laying<'a> {
         Laying {
             alloc,
             by,
@@ -124,7 +123,7 @@ impl<'a> Laying<'a> {
 
     /// The hop of a step.
     fn hop_of(&self, step: Step) -> Option<Hop> {
-        let row = row_at(self.rows, step.from)?;
+        let row = self.rows.get(step.from)?;
         match step.edge {
             Some(edge) => Some(row.edges.get(edge)?.hop),
             None => row.last,
@@ -134,7 +133,7 @@ impl<'a> Laying<'a> {
     /// A step that begins at an angle.
     fn step(&mut self, step: Step, angle: u64) -> Result<Option<Laid>, AllocError> {
         let begun = Begun {
-            slot: step.from.number,
+            site: step.from,
             edge: step.edge,
             angle,
         };
@@ -150,14 +149,14 @@ impl<'a> Laying<'a> {
 
     /// A step that begins at an angle, of which there is no piece yet.
     fn new_step(&mut self, step: Step, angle: u64) -> Result<Option<Laid>, AllocError> {
-        let Some(hop) = self.hop_of(step) else {
+        let (Some(hop), Some(row)) = (self.hop_of(step), self.rows.get(step.from)) else {
             return Ok(None);
         };
         if angle >= REVOLUTION {
             return Ok(None);
         }
         let placed = Placed {
-            location: step.from.location(),
+            location: row.location,
             angle,
             hop,
         };

@@ -4,7 +4,6 @@ use super::loops::Loops;
 use super::passings::Passing;
 use super::table::Table;
 use super::walks::Walks;
-use drum_rows::Slot;
 use std::alloc::AllocError;
 
 /// A loop as it stands among those of other marks: its table, and its mark's place in the order of
@@ -111,7 +110,7 @@ impl Loops<'_> {
     }
 
     /// Whether a way free of marks leads from this source to where a pass begins.
-    fn leads(&self, source: Slot, passing: Passing) -> bool {
+    fn leads(&self, source: usize, passing: Passing) -> bool {
         let Some(index) = self.sources.index_of(source) else {
             return false;
         };

@@ -1,21 +1,19 @@
 //! The edges with marks, in the order of the flow.
 
-use super::row_at;
-use drum_core::{Location, REVOLUTION};
-use drum_rows::{Row, Slot};
+use drum_rows::SiteRow;
 use std::alloc::{AllocError, Global};
 
 /// An edge with a mark.
 #[derive(Clone, Copy, Debug)]
 pub struct Passing {
     /// Where it begins.
-    pub from: Slot,
+    pub from: usize,
     /// Its place among the edges of the row there.
     pub edge: usize,
     /// The index of its mark.
     pub mark: usize,
     /// Where it leads.
-    pub onto: Slot,
+    pub onto: usize,
     /// The most word times that it takes.
     pub time: u64,
     /// The most until its hop ends, and 49 more.
@@ -28,51 +26,21 @@ pub struct Passings {
     pub list: Vec<Passing>,
 }
 
-/// Where the locations are found, in their order.
-pub fn slots_of(
-    alloc: Global,
-    rows: &[Option<Row>],
-    order: &[Location],
-) -> Result<Vec<Slot>, AllocError> {
-    let mut slots = Vec::new(alloc);
-    for location in order {
-        add_slots(&mut slots, rows, *location)?;
-    }
-    Ok(slots)
-}
-
-/// Adds where a location is found.
-fn add_slots(
-    slots: &mut Vec<Slot>,
-    rows: &[Option<Row>],
-    location: Location,
-) -> Result<(), AllocError> {
-    let mut last = None;
-    for angle in 0..REVOLUTION {
-        let slot = Slot::of(location, angle);
-        if last != Some(slot) && row_at(rows, slot).is_some() {
-            slots.push(slot)?;
-        }
-        last = Some(slot);
-    }
-    Ok(())
-}
-
 impl Passings {
-    /// Those of the rows, in the order of their slots.
-    pub fn of(alloc: Global, rows: &[Option<Row>], slots: &[Slot]) -> Result<Passings, AllocError> {
+    /// Those of the rows, in the order of their sites.
+    pub fn of(alloc: Global, rows: &[SiteRow], sites: &[usize]) -> Result<Passings, AllocError> {
         let list = Vec::new(alloc);
         let mut passings = Passings { list };
-        for slot in slots {
-            if let Some(row) = row_at(rows, *slot) {
-                passings.add(*slot, row)?;
+        for site in sites {
+            if let Some(row) = rows.get(*site) {
+                passings.add(*site, row)?;
             }
         }
         Ok(passings)
     }
 
     /// Adds those of a row.
-    fn add(&mut self, from: Slot, row: &Row) -> Result<(), AllocError> {
+    fn add(&mut self, from: usize, row: &SiteRow) -> Result<(), AllocError> {
         for (index, edge) in row.edges.iter().enumerate() {
             if let Some(mark) = edge.mark {
                 self.list.push(Passing {

@@ -2,14 +2,14 @@
 
 use super::free::Free;
 use super::passings::Passings;
-use drum_rows::{Row, Slot};
+use drum_rows::SiteRow;
 use drum_times::Mark;
 use std::alloc::{AllocError, Global};
 
 /// The sources, the start first, with the longest ways free of marks from each.
 #[derive(Debug, Drop)]
 pub struct Sources {
-    pub list: Vec<Slot>,
+    pub list: Vec<usize>,
     pub free: Vec<Free>,
 }
 
@@ -17,12 +17,12 @@ impl Sources {
     /// How many there are at most; others are left out.
     const MOST: usize = 96;
 
-    /// Those that walks come to, by the rows, the slots in their order, and the edges with marks.
+    /// Those that walks come to, by the rows, the sites in their order, and the edges with marks.
     pub fn of(
         alloc: Global,
-        rows: &[Option<Row>],
-        slots: &[Slot],
-        start: Slot,
+        rows: &[SiteRow],
+        sites: &[usize],
+        start: usize,
         passings: &Passings,
         marks: &[Mark],
     ) -> Result<Sources, AllocError> {
@@ -36,7 +36,7 @@ impl Sources {
             let Some(source) = sources.list.get(index).copied() else {
                 break;
             };
-            let free = Free::from(alloc, rows, slots, source)?;
+            let free = Free::from(alloc, rows, sites, source)?;
             sources.add_behind(&free, passings, marks)?;
             sources.free.push(free)?;
         }
@@ -44,8 +44,8 @@ impl Sources {
     }
 
     /// The index of a source.
-    pub fn index_of(&self, slot: Slot) -> Option<usize> {
-        self.list.iter().position(|source| *source == slot)
+    pub fn index_of(&self, site: usize) -> Option<usize> {
+        self.list.iter().position(|source| *source == site)
     }
 
     /// Adds where passes lead to which there is a way.
@@ -65,9 +65,9 @@ impl Sources {
     }
 
     /// Adds a source that isn't there yet, as long as there is room.
-    fn add(&mut self, slot: Slot) -> Result<(), AllocError> {
-        if self.list.len() < Sources::MOST && !self.list.contains(&slot) {
-            self.list.push(slot)?;
+    fn add(&mut self, site: usize) -> Result<(), AllocError> {
+        if self.list.len() < Sources::MOST && !self.list.contains(&site) {
+            self.list.push(site)?;
         }
         Ok(())
     }
