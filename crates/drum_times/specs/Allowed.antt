@@ -1,7 +1,7 @@
 -- Which instructions the notes allow at a location.
 use Rattle.std.specs.Prelude.{◌≡◌, ℕ, suc, ◌-◌, ◌≤◌, ◌==◌, if◌then◌else◌, Bool, List, [], ◌∷◌, ◌++◌}
 use Rattle.std.specs.Prelude.{map, flat_map, Option, Some, None, is_some, ◌+◌, ◌<◌, false}
-use Rattle.std.specs.Prelude.{IsTrue, length}
+use Rattle.std.specs.Prelude.{◌&&◌, IsTrue, length}
 use Rattle.std.specs.List.{range_with_len, list_any, AllByRecursion}
 use Rattle.drum_core.specs.declared.instruction.Instruction.{Instruction}
 use Rattle.drum_core.specs.declared.word.Word.{Word}
@@ -11,7 +11,8 @@ use Rattle.drum_times.specs.declared.notes.call.Call.{Call}
 use Rattle.drum_times.specs.declared.notes.mark.Mark.{Mark}
 use Rattle.drum_times.specs.declared.notes.pattern.Pattern.{Pattern}
 use Rattle.drum_times.specs.declared.notes.programmed.Programmed.{Programmed}
-use Rattle.drum_times.specs.Edges.{StandOnce}
+use Rattle.drum_times.specs.EdgeOf.{edge_of}
+use Rattle.drum_times.specs.Edges.{StandOnce, leads}
 use Rattle.drum_times.specs.Marks.{edges_of}
 
 -- a list of the notes: what may stand at a location whose word the program alters
@@ -43,9 +44,21 @@ abbrev pub StandInEarlier : ℕ → List Mark → Type 0
 StandInEarlier index [] = Unit {0}
 StandInEarlier index (mark ∷ marks) = IsEarlier index mark.inside × StandInEarlier (index + 1) marks
 
+-- the two calls are made by one edge, and have one exit
+abbrev pub is_same_call : Call → Call → Bool
+is_same_call call other = call.exit.number == other.exit.number
+    && leads call.edge.from.number call.edge.onto.number (edge_of other.edge)
+
+-- no call is there twice, whatever its way back is
+abbrev pub HaveOwnExits : List Call → Type 0
+HaveOwnExits [] = Unit {0}
+HaveOwnExits (call ∷ calls) =
+    (list_any (is_same_call call) calls ≡ false) × HaveOwnExits calls
+
 -- What holds of all notes. There are at most 64 marks; no edge is there twice among theirs, and
 -- each mark stands inside of an earlier one or of none. Each list is for a location, no two are for
--- the same one, and each has 1 to 64 patterns. There are at most 64 calls; as yet there are none.
+-- the same one, and each has 1 to 64 patterns. There are at most 64 calls, no two of which are made
+-- by one edge and have one exit.
 pub record AreSound (notes : Notes) : Type 0 where
   pub few_marks : length notes.marks ≤ 64
   pub own_edges : StandOnce (flat_map edges_of notes.marks)
@@ -55,7 +68,7 @@ pub record AreSound (notes : Notes) : Type 0 where
   pub patterns : AllByRecursion
       (λ list. (1 ≤ length list.patterns) × (length list.patterns ≤ 64)) notes.lists
   pub few_calls : length notes.calls ≤ 64
-  pub without_calls : notes.calls ≡ []
+  pub own_exits : HaveOwnExits notes.calls
 
 -- the instruction has the pattern's operation and I, and its D is within the pattern's range
 pub record Matches (pattern : Pattern) (ins : Instruction) : Type 0 where

@@ -55,7 +55,7 @@ fn are_plain(marks: &[Mark]) -> bool
 impl Notes {
     /// The notes that say this: where the programmed switch stands, whether load cards are read,
     /// the marks, at most 64, no edge there twice, each inside of an earlier one or of none, the
-    /// lists, no two for one location, and the calls, at most 64.
+    /// lists, no two for one location, and the calls, at most 64, no two with one edge and one exit.
     pub fn new(
         programmed: Programmed,
         load_cards: bool,
@@ -100,7 +100,7 @@ impl Notes {
         &self.lists
     }
 
-    /// The calls, at most 64, in order.
+    /// The calls, at most 64, in order. No two have one edge and one exit.
     pub fn calls(&self) -> &[Call]
         ensures all { result.now ≡ self.now.calls }
         ensures sound { said.AreSound self.now }
