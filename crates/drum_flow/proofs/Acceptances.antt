@@ -10,7 +10,7 @@ use Rattle.drum_times.specs.Allowed.{Notes}
 use Rattle.drum_flow.specs.declared.fixed.Fixed.{Fixed}
 use Rattle.drum_flow.specs.declared.refusal.Refusal.{Refusal}
 use Rattle.drum_flow.specs.declared.refusal.Refusal.TheVariants.{Memory, NotLoaded, NotInProfile, Alters, Unbounded}
-use Rattle.drum_flow.specs.declared.refusal.Refusal.TheVariants.{TooLarge}
+use Rattle.drum_flow.specs.declared.refusal.Refusal.TheVariants.{TooMany, TooLarge}
 use Rattle.drum_flow.specs.Acceptance.{IsAdmissionRefusal, IsRefusal}
 use Rattle.drum_flow.specs.Accepted.{counts_of, product_of, told, IsFreeLink, IsAdmitted, IsGood, IsMet, IsSound}
 use Rattle.drum_flow.specs.Altering.{FlagsFixed, AltersNone}
@@ -66,14 +66,14 @@ module _ (loads : ℕ → Option Word) (notes : Notes) where
     one_order a b p q =
         sym p.places ∙ ap each_place (one_reached p.nodes q.nodes p.reached q.reached) ∙ q.places
 
-    -- what stands at a turn stands there in the end
-    met_at : (nodes : List Node) (are : AreAllNodes loads notes start nodes) (turn : ℕ) (node : Node)
-        → slice_get (found_after loads notes start turn) turn ≡ Some node → slice_get nodes turn ≡ Some node
-    met_at nodes are turn node at = elim (cases_lt turn are.count) [
-      | inl less ↦ stays_there loads notes start nodes are turn turn node (omega (arith, less)) at
+    -- what stands somewhere after some turns stands there in the end
+    pub in_the_end : (nodes : List Node) (are : AreAllNodes loads notes start nodes) (turn k : ℕ) (node : Node)
+        → slice_get (found_after loads notes start turn) k ≡ Some node → slice_get nodes k ≡ Some node
+    in_the_end nodes are turn k node at = elim (cases_lt turn are.count) [
+      | inl less ↦ stays_there loads notes start nodes are turn k node (omega (arith, less)) at
       | inr past ↦ (let same : found_after loads notes start turn ≡ found_after loads notes start are.count =
           stays are.count turn (omega (arith, ap (λ (xs : List Node). length xs) are.after, are.all)) past in
-          sym (ap (λ (xs : List Node). slice_get xs turn) (same ∙ are.after)) ∙ at)
+          sym (ap (λ (xs : List Node). slice_get xs k) (same ∙ are.after)) ∙ at)
     ]
 
     -- Where discovery meets a location that isn't good, with those good that it met before, those before it in
@@ -88,7 +88,7 @@ module _ (loads : ℕ → Option Word) (notes : Notes) where
         node = record { place = place; ways = met.ways }
 
         here : slice_get is.nodes met.count ≡ Some node
-        here = met_at is.nodes is.reached met.count node met.member
+        here = in_the_end is.nodes is.reached met.count met.count node met.member
 
         at : (turn : ℕ) × (slice_get order turn ≡ Some place)
         at =
@@ -147,6 +147,7 @@ module _ (loads : ℕ → Option Word) (notes : Notes) where
             → IsRefusal loads notes start refusal
         too_much (TooLarge product) wrong =
             (sound, subst (λ (n : ℕ). 4000000 < n) (sym wrong.0) wrong.1, (executed, e.found.order, wrong.0))
+        too_much TooMany wrong = absurd wrong
         too_much Memory wrong = absurd wrong
         too_much (NotLoaded location) wrong = absurd wrong
         too_much (NotInProfile location op) wrong = absurd wrong
@@ -156,16 +157,19 @@ module _ (loads : ℕ → Option Word) (notes : Notes) where
         pub not_admitted : (refusal : Refusal) → IsCycleRefusal loads notes start refusal
             → IsAdmissionRefusal loads notes start refusal
         not_admitted (Unbounded cycle) wrong = record { sound = sound; round = wrong }
+        not_admitted TooMany wrong = absurd wrong
         not_admitted Memory wrong = tt
         not_admitted (NotLoaded location) wrong = absurd wrong
         not_admitted (NotInProfile location op) wrong = absurd wrong
         not_admitted (Alters writer word) wrong = absurd wrong
         not_admitted (TooLarge product) wrong = absurd wrong
 
-        pub is_admitted : (nodes order : List Node) → AreAllNodes loads notes start nodes
+        pub is_admitted : (nodes order : List Node) → AreAllNodes loads notes start nodes → length nodes ≤ 65536
             → IsNodeOrder loads notes nodes order → IsAdmitted loads notes start executed
-        is_admitted nodes order are free = record {
+        is_admitted nodes order are few free = record {
           order = e.found.order;
+          few = subst (λ (ns : List Node). length ns ≤ 65536)
+              (one_reached nodes e.found.order.nodes are e.found.order.reached) few;
           there = λ place is_executed. (e.good place (e.found.all place is_executed)).0;
           profile = λ place is_executed. (e.good place (e.found.all place is_executed)).1;
           unaltered =
@@ -185,6 +189,7 @@ module _ (loads : ℕ → Option Word) (notes : Notes) where
                 (one_order executed other e.found.order order) small;
             round = record { sound = sound; round = wrong };
           }
+          unbounded TooMany wrong = absurd wrong
           unbounded Memory wrong = tt
           unbounded (NotLoaded location) wrong = absurd wrong
           unbounded (NotInProfile location op) wrong = absurd wrong

@@ -161,6 +161,34 @@ slots_below (k ∷ ks) q e = go (eqb q (slot k.number)) refl e (slots_below ks q
     go true same h others = omega (arith, slot_below k, eqb-true q (slot k.number) same)
     go false ne h others = others h
 
+-- different numbers below another one are no more than that
+some_apart : (k : ℕ) (ks : List ℕ) → ¬ Contains ks k → AllByRecursion (λ s. eqb k s ≡ false) ks
+some_apart k [] apart = tt
+some_apart k (x ∷ ks) apart = (
+  elim (eqb_tells k x) [
+    | inl same ↦ absurd (apart (subst (λ (n : ℕ). Contains (x ∷ ks) n) (sym same.1) (contains_here x ks)))
+    | inr ne ↦ ne.0
+  ],
+  some_apart k ks (λ there. apart (contains_there x k ks there)),
+)
+
+distinct_from : (ks : List ℕ) → AreDifferent ks → IsDistinct eqb ks
+unfolding IsDistinct
+distinct_from [] d = tt
+distinct_from (k ∷ ks) d = IsDistinct-cons eqb k ks (some_apart k ks d.0) (distinct_from ks d.1)
+
+all_below : (ks : List ℕ) (n q : ℕ) → ((k : ℕ) → Contains ks k → k < n) → list_any (eqb q) ks ≡ true → q < n
+all_below [] n q inside e = cc
+all_below (k ∷ ks) n q inside e =
+    go (eqb q k) refl e (all_below ks n q (λ one there. inside one (contains_there k one ks there)))
+  where
+    go : (b : Bool) → eqb q k ≡ b → (b || list_any (eqb q) ks) ≡ true → (list_any (eqb q) ks ≡ true → q < n) → q < n
+    go true same h others = omega (arith, inside k (contains_here k ks), eqb-true q k same)
+    go false ne h others = others h
+
+pub few_below : (ks : List ℕ) (n : ℕ) → AreDifferent ks → ((k : ℕ) → Contains ks k → k < n) → length ks ≤ n
+few_below ks n d inside = length-le_from_distinct_below ks n (distinct_from ks d) (λ q. all_below ks n q inside)
+
 -- there are no more than 2004 locations
 pub few_locations : (ks : List Location) → AreDifferent (numbers ks) → length (numbers ks) ≤ 2004
 few_locations ks d =

@@ -1,19 +1,19 @@
 -- The order of discovery: its members are the nodes that are reached, and their locations the executed
 -- ones.
 use Rattle.std.proofs.Common.{◌≡◌, ℕ, zero, suc, ◌+◌, ◌<◌, ◌≤◌, true, eqb, List, [], ◌∷◌, ◌++◌, length}
-use Rattle.std.proofs.Common.{map, Option, Some, None, refl, ap, sym, ◌∙◌, subst, inl, inr, ◌⊎◌, arith}
+use Rattle.std.proofs.Common.{map, take, get_or, Option, Some, None, refl, ap, sym, ◌∙◌, subst, inl, inr, ◌⊎◌, arith}
 use Rattle.std.specs.Prelude.{slice_get, Contains}
 use Rattle.std.specs.List.{list_any}
 use Rattle.std.proofs.lemmas.Bool.{cases_lt}
 use Rattle.std.proofs.lemmas.Bool.Decides.{Decides-eqb}
-use Rattle.std.proofs.lemmas.Option.{slice_get_within, slice_get_past}
+use Rattle.std.proofs.lemmas.Option.{slice_get_within, slice_get_past, slice_get-get_or}
 use Rattle.drum_core.specs.declared.word.Word.{Word}
 use Rattle.drum_times.specs.Allowed.{Notes}
 use Rattle.drum_flow.specs.declared.refusal.Refusal.{Refusal}
 use Rattle.drum_flow.specs.declared.refusal.Refusal.TheVariants.{Memory, NotLoaded, NotInProfile, Alters, Unbounded}
-use Rattle.drum_flow.specs.declared.refusal.Refusal.TheVariants.{TooLarge}
-use Rattle.drum_flow.specs.Accepted.{IsGood, IsMet, IsNotLoaded, IsNotInProfile}
-use Rattle.drum_flow.specs.Refused.{IsWrong, IsFlowRefusal}
+use Rattle.drum_flow.specs.declared.refusal.Refusal.TheVariants.{TooMany, TooLarge}
+use Rattle.drum_flow.specs.Accepted.{IsGood, IsMet, IsNotLoaded, IsNotInProfile, IsTooMany}
+use Rattle.drum_flow.specs.Refused.{IsFirstWrong, IsWrong, IsFlowRefusal}
 use Rattle.drum_flow.specs.Executed.{with_new, added_by, each_place, found_after, next_nodes}
 use Rattle.drum_flow.specs.Executed.{same_node, with_new_by, AreAllNodes, IsOrder}
 use Rattle.drum_flow.specs.Flow.{AreFound}
@@ -92,6 +92,49 @@ node_at (one ∷ nodes) zero place e = (one, refl, same)
     same : one.place ≡ place
     same = cc
 node_at (one ∷ nodes) (suc k) place e = node_at nodes k place e
+
+-- where a location stands first among nodes, each location of which stands once in these, with those before it
+pub first_of : (nodes : List Node) (places : List ℕ) → each_place nodes ≡ places → (turn place : ℕ)
+    → slice_get places turn ≡ Some place
+    → (k : ℕ) × (node : Node) × (slice_get nodes k ≡ Some node) × (node.place ≡ place)
+    × ((j : ℕ) (other : Node) → j < k → slice_get nodes j ≡ Some other
+    → (i : ℕ) × (i < turn) × (slice_get places i ≡ Some other.place))
+first_of nodes places same turn place at =
+    let from = grown_from eqb Decides-eqb [] (map (λ (one : Node). one.place) nodes) turn place (omega arith)
+    (ap (λ (xs : List ℕ). slice_get xs turn) same ∙ at) in
+    let node = node_at nodes from.0 place from.1 in (
+      from.0,
+      node.0,
+      node.1,
+      node.2,
+      λ j other less there.
+          let before = from.2 j other.place less (place_at nodes j other there) in (
+            before.0,
+            before.1,
+            sym (ap (λ (xs : List ℕ). slice_get xs before.0) same) ∙ before.2,
+          ),
+    )
+
+-- the members of the first part of a list, and where they stand
+pub taken_there : {X : Type 0} (n : ℕ) (xs : List X) (k : ℕ) (x : X) → slice_get (take n xs) k ≡ Some x
+    → slice_get xs k ≡ Some x
+taken_there zero xs k x at = cc
+taken_there (suc n) [] k x at = cc
+taken_there (suc n) (y ∷ xs) zero x at = at
+taken_there (suc n) (y ∷ xs) (suc k) x at = taken_there n xs k x at
+
+pub taken_low : {X : Type 0} (n : ℕ) (xs : List X) (k : ℕ) (x : X) → slice_get (take n xs) k ≡ Some x → k < n
+taken_low zero xs k x at = cc
+taken_low (suc n) [] k x at = cc
+taken_low (suc n) (y ∷ xs) zero x at = omega arith
+taken_low (suc n) (y ∷ xs) (suc k) x at = omega (arith, taken_low n xs k x at)
+
+pub there_taken : {X : Type 0} (n : ℕ) (xs : List X) (k : ℕ) (x : X) → k < n → slice_get xs k ≡ Some x
+    → slice_get (take n xs) k ≡ Some x
+there_taken zero xs k x low at = absurd (omega (arith, low))
+there_taken (suc n) [] k x low at = cc
+there_taken (suc n) (y ∷ xs) zero x low at = at
+there_taken (suc n) (y ∷ xs) (suc k) x low at = there_taken n xs k x (omega (arith, low)) at
 
 module _ (loads : ℕ → Option Word) (notes : Notes) (start : ℕ) where
   abbrev after : ℕ → List Node
@@ -239,6 +282,16 @@ module _ (loads : ℕ → Option Word) (notes : Notes) (start : ℕ) where
       only = λ place there. has_only place (subst (λ (xs : List ℕ). Contains xs place) (sym same) there);
     }
 
+  -- what is there after as many turns or fewer stays where it was, and nothing else comes there
+  pub same_there : (one other k : ℕ) (x : Node) → k < length (after one) → slice_get (after other) k ≡ Some x
+      → slice_get (after one) k ≡ Some x
+  same_there one other k x inside at = elim (cases_lt one other) [
+    | inr later ↦ found_later other one k x later at
+    | inl earlier ↦ (let here : slice_get (after one) k ≡ Some (get_or (after one) k x) =
+        slice_get-get_or (after one) k x inside in
+        here ∙ sym (found_later one other k (get_or (after one) k x) (omega (arith, earlier)) here) ∙ at)
+  ]
+
   -- of an order of discovery
   module _ (order : List ℕ) (is : IsOrder loads notes start order) where
     pub order_found : AreFound loads notes start order
@@ -253,60 +306,72 @@ module _ (loads : ℕ → Option Word) (notes : Notes) (start : ℕ) where
         → (k : ℕ) × (node : Node) × (slice_get is.nodes k ≡ Some node) × (node.place ≡ place)
         × ((j : ℕ) (other : Node) → j < k → slice_get is.nodes j ≡ Some other
         → (i : ℕ) × (i < turn) × (slice_get order i ≡ Some other.place))
-    first_node_at turn place at =
-        let from = grown_from eqb Decides-eqb [] (map (λ (one : Node). one.place) is.nodes) turn place (omega arith)
-        (ap (λ (xs : List ℕ). slice_get xs turn) is.places ∙ at) in
-        let node = node_at is.nodes from.0 place from.1 in (
-          from.0,
-          node.0,
-          node.1,
-          node.2,
-          λ j other less there.
-              let before = from.2 j other.place less (place_at is.nodes j other there) in (
-                before.0,
-                before.1,
-                sym (ap (λ (xs : List ℕ). slice_get xs before.0) is.places) ∙ before.2,
-              ),
-        )
+    first_node_at = first_of is.nodes order is.places
 
--- what is wrong with a location, where those found before it are good, refuses the flow
-pub wrong_met : (loads : ℕ → Option Word) (notes : Notes) (start turn place : ℕ) (places : List ℕ) (refusal : Refusal)
-    → AreFound loads notes start places
-    → ((k other : ℕ) → k < turn → slice_get places k ≡ Some other → IsGood loads notes other)
-    → slice_get places turn ≡ Some place → IsWrong loads notes place refusal
-    → IsFlowRefusal loads notes start refusal
-wrong_met loads notes start turn place places refusal found good here wrong = go refusal wrong
+-- What is wrong with a location of the first nodes that were met, where the locations before it are good, refuses
+-- the flow.
+pub wrong_met : (loads : ℕ → Option Word) (notes : Notes) (start count : ℕ) (places : List ℕ) (refusal : Refusal)
+    → each_place (take 65536 (found_after loads notes start count)) ≡ places
+    → IsFirstWrong loads notes places refusal → IsFlowRefusal loads notes start refusal
+wrong_met loads notes start count places refusal same (turn, place, here, good, wrong) = go refusal wrong
   where
-    order : IsOrder loads notes start places
-    order = found.order
+    found : List Node
+    found = found_after loads notes start count
 
-    first : (k : ℕ) × (node : Node) × (slice_get order.nodes k ≡ Some node) × (node.place ≡ place)
-        × ((j : ℕ) (other : Node) → j < k → slice_get order.nodes j ≡ Some other
+    first : (k : ℕ) × (node : Node) × (slice_get (take 65536 found) k ≡ Some node) × (node.place ≡ place)
+        × ((j : ℕ) (other : Node) → j < k → slice_get (take 65536 found) j ≡ Some other
         → (i : ℕ) × (i < turn) × (slice_get places i ≡ Some other.place))
-    first = first_node_at loads notes start places order turn place here
+    first = first_of (take 65536 found) places same turn place here
 
-    early : first.0 < order.reached.count
-    early = omega (arith, slice_get_within order.nodes first.0 first.1 first.2, order.reached.all)
+    there : slice_get found first.0 ≡ Some first.1
+    there = taken_there 65536 found first.0 first.1 first.2
+
+    inside : first.0 < length found
+    inside = slice_get_within found first.0 first.1 there
+
+    low : first.0 < 65536
+    low = taken_low 65536 found first.0 first.1 first.2
 
     met : IsMet loads notes start place
     met = record {
       count = first.0;
       ways = first.1.ways;
-      member = was loads notes start order.nodes order.reached first.0 first.1 first.2
+      member = (elim (cases_lt first.0 count) [
+        | inl early ↦ member_at loads notes start count first.0 first.1 early there
+        | inr late ↦ found_later loads notes start count first.0 first.0 first.1 late there
+      ])
           ∙ ap (λ (p : ℕ). let made : Node = record { place = p; ways = first.1.ways } in Some made) first.3;
       before = λ k other lt at.
-          let there = stays_there loads notes start order.nodes order.reached first.0 k other (omega (arith, early)) at in
-          let i = first.4 k other lt there in
+          let then = same_there loads notes start count first.0 k other (omega (arith, lt, inside)) at in
+          let i = first.4 k other lt (there_taken 65536 found k other (omega (arith, lt, low)) then) in
           good i.0 other.place i.1 i.2;
     }
 
     go : (one : Refusal) → IsWrong loads notes place one → IsFlowRefusal loads notes start one
     go (NotLoaded location) w = subst (IsNotLoaded loads notes start) (sym w.0) (met, w.1)
     go (NotInProfile location op) w = subst (λ (p : ℕ). IsNotInProfile loads notes start p op) (sym w.0) (met, w.1, w.2)
+    go TooMany w = absurd w
     go Memory w = tt
     go (Alters writer word) w = w
     go (Unbounded cycle) w = w
     go (TooLarge product) w = w
+
+-- where the locations of the first nodes that were met are good, and there are more, there are too many
+pub many_met : (loads : ℕ → Option Word) (notes : Notes) (start count : ℕ) (places : List ℕ)
+    → each_place (take 65536 (found_after loads notes start count)) ≡ places
+    → ((place : ℕ) → Contains places place → IsGood loads notes place)
+    → 65536 < length (found_after loads notes start count) → IsTooMany loads notes start
+many_met loads notes start count places same good many = record {
+  count = count;
+  many = many;
+  good = λ k node low at.
+      let found = found_after loads notes start count in
+      good node.place
+      (subst (λ (xs : List ℕ). Contains xs node.place) same
+      (with_new_has [] (map (λ (one : Node). one.place) (take 65536 found)) node.place
+      (place_of_node (take 65536 found) node
+      (contains_from_get (take 65536 found) k node (there_taken 65536 found k node low at)))));
+}
 
 -- the next turn
 pub found_next : (loads : ℕ → Option Word) (notes : Notes) (start turn : ℕ) (node : Node) (nodes more : List Node)

@@ -1,20 +1,21 @@
 -- A deck that is accepted with its notes isn't refused.
-use Rattle.std.proofs.Common.{◌≡◌, ℕ, ◌*◌, ◌≤◌, List, [], ◌∷◌, ◌++◌, length, Option, refl, sym, subst, arith}
-use Rattle.std.specs.Prelude.{Contains, IsSome, IsNone}
+use Rattle.std.proofs.Common.{◌≡◌, ℕ, ◌*◌, ◌≤◌, List, [], ◌∷◌, ◌++◌, length, Option, Some, get_or, refl, sym, subst, arith}
+use Rattle.std.specs.Prelude.{slice_get, Contains, IsSome, IsNone}
+use Rattle.std.proofs.lemmas.Option.{slice_get_within, slice_get-get_or}
 use Rattle.drum_core.specs.declared.instruction.Instruction.{Instruction}
 use Rattle.drum_core.specs.declared.word.Word.{Word}
 use Rattle.drum_core.specs.Op.{op_of}
 use Rattle.drum_times.specs.Allowed.{Notes, allowed}
 use Rattle.drum_flow.specs.declared.refusal.Refusal.{Refusal}
 use Rattle.drum_flow.specs.declared.refusal.Refusal.TheVariants.{Memory, NotLoaded, NotInProfile, Alters, Unbounded}
-use Rattle.drum_flow.specs.declared.refusal.Refusal.TheVariants.{TooLarge}
+use Rattle.drum_flow.specs.declared.refusal.Refusal.TheVariants.{TooMany, TooLarge}
 use Rattle.drum_flow.specs.Acceptance.{IsRefusal}
 use Rattle.drum_flow.specs.Accepted.{IsAccepted, IsMet, IsFirstIn, IsFreeLink, counts_of, Alters as AltersOne}
 use Rattle.drum_flow.specs.Graph.{IsClosed}
 use Rattle.drum_flow.specs.Executed.{found_after, IsOrder}
-use Rattle.drum_flow.specs.Hops.{IsExecuted, IsNode, Node}
+use Rattle.drum_flow.specs.Hops.{first_node, IsExecuted, IsNode, Node}
 use Rattle.drum_flow.proofs.Products.{many_told}
-use Rattle.drum_flow.proofs.Acceptances.{one_order}
+use Rattle.drum_flow.proofs.Acceptances.{in_the_end, one_order}
 use Rattle.drum_flow.proofs.Lists.{contains_here, contains_there, contains_from_get}
 use Rattle.drum_flow.proofs.Orders.{only_reached, order_found}
 
@@ -73,4 +74,16 @@ module _ (loads : ℕ → Option Word) (notes : Notes) (start : ℕ) where
       absurd (omega (arith, many_told (length other * counts_of notes.marks) (omega (arith, large, number)), small))
   only_memory executed (Unbounded cycle) accepted is =
       absurd (not_closed executed is.round.round.nodes accepted is.round.round.within is.round.round.closed)
+  only_memory executed TooMany accepted is =
+      let order = accepted.admitted.order in
+      let found = found_after loads notes start is.count in
+      let last : slice_get found 65536 ≡ Some (get_or found 65536 (first_node notes start)) =
+      slice_get-get_or found 65536 (first_node notes start) is.many in
+      absurd (omega (
+        arith,
+        accepted.admitted.few,
+        slice_get_within order.nodes 65536 (get_or found 65536 (first_node notes start))
+            (in_the_end loads notes start order.nodes order.reached is.count 65536
+            (get_or found 65536 (first_node notes start)) last),
+      ))
   only_memory executed Memory accepted is = refl

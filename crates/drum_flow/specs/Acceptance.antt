@@ -4,8 +4,9 @@ use Rattle.drum_core.specs.declared.word.Word.{Word}
 use Rattle.drum_times.specs.Allowed.{Notes}
 use Rattle.drum_flow.specs.declared.refusal.Refusal.{Refusal}
 use Rattle.drum_flow.specs.declared.refusal.Refusal.TheVariants.{Memory, NotLoaded, NotInProfile}
-use Rattle.drum_flow.specs.declared.refusal.Refusal.TheVariants.{Alters, Unbounded, TooLarge}
-use Rattle.drum_flow.specs.Accepted.{IsNotLoaded, IsNotInProfile, IsAltered, IsFreeRound}
+use Rattle.drum_flow.specs.declared.refusal.Refusal.TheVariants.{TooMany, Alters, Unbounded}
+use Rattle.drum_flow.specs.declared.refusal.Refusal.TheVariants.{TooLarge}
+use Rattle.drum_flow.specs.Accepted.{IsNotLoaded, IsNotInProfile, IsTooMany, IsAltered, IsFreeRound}
 use Rattle.drum_flow.specs.Accepted.{IsTooLarge, IsUnbounded}
 
 -- the refusal is that of the deck with its notes, or there is no memory
@@ -13,6 +14,7 @@ abbrev pub IsRefusal : (ℕ → Option Word) → Notes → ℕ → Refusal → T
 IsRefusal loads notes start (NotLoaded location) = IsNotLoaded loads notes start location.number
 IsRefusal loads notes start (NotInProfile location op) =
     IsNotInProfile loads notes start location.number op
+IsRefusal loads notes start TooMany = IsTooMany loads notes start
 IsRefusal loads notes start (Alters writer word) =
     IsAltered loads notes start writer.number word.number
 IsRefusal loads notes start (TooLarge product) = IsTooLarge loads notes start product
@@ -27,6 +29,7 @@ IsAdmissionRefusal loads notes start (NotLoaded location) =
     IsNotLoaded loads notes start location.number
 IsAdmissionRefusal loads notes start (NotInProfile location op) =
     IsNotInProfile loads notes start location.number op
+IsAdmissionRefusal loads notes start TooMany = IsTooMany loads notes start
 IsAdmissionRefusal loads notes start (Alters writer word) =
     IsAltered loads notes start writer.number word.number
 IsAdmissionRefusal loads notes start (TooLarge product) = ⊥

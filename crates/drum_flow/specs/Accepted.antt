@@ -50,12 +50,13 @@ abbrev pub told : ℕ → ℕ
 told product = min product (2 ^ 127)
 
 -- Admitted, whatever the size: each executed location is loaded or listed, has operations of the
--- profile alone, and is written by an executed instruction only if it has a list; and from no node
--- of the flow graph do edges free of marks lead round. These are the executed locations, in the
--- order of discovery.
+-- profile alone, and is written by an executed instruction only if it has a list; the flow graph
+-- has 65,536 nodes at most; and from none of them do edges free of marks lead round. These are the
+-- executed locations, in the order of discovery.
 pub record IsAdmitted (loads : ℕ → Option Word) (notes : Notes) (start : ℕ)
     (executed : List ℕ) : Type 0 where
   pub order : IsOrder loads notes start executed
+  pub few : length order.nodes ≤ 65536
   pub there : (place : ℕ) → IsExecuted loads notes start place → IsThere loads notes place
   pub profile : (place : ℕ) → IsExecuted loads notes start place → IsInProfile loads notes place
   pub unaltered : (place : ℕ) (ins : Instruction) (at : ℕ) → IsExecuted loads notes start place
@@ -115,6 +116,19 @@ abbrev pub IsNotInProfile : (ℕ → Option Word) → Notes → ℕ → ℕ → 
 IsNotInProfile loads notes start place op =
     IsMet loads notes start place × IsThere loads notes place
     × IsFirstOutside loads notes place op
+
+-- discovery meets more than 65,536 nodes
+abbrev pub HasManyNodes : (ℕ → Option Word) → Notes → ℕ → Type 0
+HasManyNodes loads notes start =
+    (count : ℕ) × (65536 < length (found_after loads notes start count))
+
+-- TooMany: discovery meets more than 65,536 nodes, and the locations of the first so many are good.
+pub record IsTooMany (loads : ℕ → Option Word) (notes : Notes) (start : ℕ) : Type 0 where
+  pub count : ℕ
+  pub many : 65536 < length (found_after loads notes start count)
+  pub good : (k : ℕ) (node : Node) → k < 65536
+      → slice_get (found_after loads notes start count) k ≡ Some node
+      → IsGood loads notes node.place
 
 -- the word is the lowest that the instruction alters
 pub record IsLowestAltered (loads : ℕ → Option Word) (notes : Notes) (start : ℕ) (ins : Instruction)

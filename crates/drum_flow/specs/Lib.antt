@@ -4,6 +4,7 @@ pub mod AcceptedFlow
 pub mod Alike
 pub mod Altering
 pub mod Bounded
+pub mod Discovered
 pub mod Executed
 pub mod Fixed
 pub mod Flow

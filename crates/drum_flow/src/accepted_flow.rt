@@ -1,6 +1,6 @@
 //! The checks of acceptance, in their order, and what comes of a deck that they let pass.
 
-ghost use Rattle.std.specs.Prelude.{◌≡◌, ◌<◌, ℕ, length, map, Contains, IfOk, IfErr};
+ghost use Rattle.std.specs.Prelude.{◌≡◌, ◌<◌, ◌≤◌, ℕ, [], length, map, Contains, IfOk, IfErr};
 ghost use Rattle.drum_core.specs.Loads.{loads_in, start_in};
 ghost use Rattle.drum_flow.specs.Acceptance.{IsAdmissionRefusal, IsRefusal};
 ghost use Rattle.drum_flow.specs.Accepted.{IsAccepted, IsAdmitted};
@@ -28,6 +28,7 @@ fn sound_flow<'a>(alloc: Global, deck: &'a Deck, notes: &'a Notes) -> Result<Flo
     ensures deck { IfOk result (λ flow. deck_of flow ≡ deck.now) }
     ensures notes { IfOk result (λ flow. notes_of flow ≡ notes.now) }
     ensures nodes { IfOk result (λ flow. of_flow AreAllNodes flow (nodes_of flow)) }
+    ensures few { IfOk result (λ flow. length (nodes_of flow) ≤ 65536) }
     ensures executed { IfOk result (λ flow. of_flow AreExecuted flow (executed_in flow)) }
     ensures unaltered { IfOk result (λ flow. (place : ℕ) → Contains (executed_in flow) place
         → of_flow AltersNone flow place) }
@@ -67,8 +68,9 @@ impl<'a> AcceptedFlow<'a> {
             → index < length (nodes_of accepted.flow)) }
         ensures onward { IfOk result (λ accepted. IsNodeOrder (loads_in deck.now) notes.now
             (nodes_of accepted.flow) (nodes_in_order accepted)) }
-        ensures order { IfOk result (λ accepted. IsFreeOrder (loads_in deck.now) notes.now
-            (executed_in accepted.flow) (in_order accepted)) }
+        ensures order { IfOk result (λ accepted. notes.now.calls ≡ []
+            → IsFreeOrder (loads_in deck.now) notes.now (executed_in accepted.flow)
+            (in_order accepted)) }
         ensures refused { IfErr result (IsRefusal (loads_in deck.now) notes.now
             (start_in deck.now)) }
     {
@@ -100,8 +102,9 @@ impl<'a> AcceptedFlow<'a> {
             → index < length (nodes_of accepted.flow)) }
         ensures onward { IfOk result (λ accepted. IsNodeOrder (loads_in deck.now) notes.now
             (nodes_of accepted.flow) (nodes_in_order accepted)) }
-        ensures order { IfOk result (λ accepted. IsFreeOrder (loads_in deck.now) notes.now
-            (executed_in accepted.flow) (in_order accepted)) }
+        ensures order { IfOk result (λ accepted. notes.now.calls ≡ []
+            → IsFreeOrder (loads_in deck.now) notes.now (executed_in accepted.flow)
+            (in_order accepted)) }
         ensures refused { IfErr result (IsAdmissionRefusal (loads_in deck.now) notes.now
             (start_in deck.now)) }
     {
@@ -131,7 +134,8 @@ impl<'a> AcceptedFlow<'a> {
         &self.order.nodes
     }
 
-    /// The locations of the nodes, in that order.
+    /// The locations of the nodes, in that order: each executed location once, where the notes have
+    /// no calls.
     pub fn order(&self) -> &[Location]
         ensures { map (λ location. location.number) result.now ≡ in_order self.now }
     {

@@ -3,20 +3,20 @@ ghost use Rattle.drum_flow.specs.Turned.{IsLeastAt, IsTurned};
 
 use drum_core::Location;
 
-/// Locations without repeats, each with an edge free of marks to the next, and the last with one to
-/// the first. The smallest is the first.
+/// Locations, each with an edge free of marks to the next, and the last with one to the first. The
+/// smallest is the first. None is there twice with the same open at the exits of calls.
 #[derive(Debug, Drop, PartialEq, Eq)]
 pub struct Cycle {
-    /// The locations, 2004 at most.
+    /// The locations, 65,536 at most.
     pub locations: Vec<Location>,
-    pub ghost few: { vec_len locations ≤ 2004 },
+    pub ghost few: { vec_len locations ≤ 65536 },
 }
 
 impl Cycle {
     /// The cycle of these locations, turned so that the smallest is the first.
     pub(crate) fn turned(mut locations: Vec<Location>) -> Cycle
         requires some { 0 < vec_len locations }
-        requires few { vec_len locations ≤ 2004 }
+        requires few { vec_len locations ≤ 65536 }
         ensures { IsTurned (map (λ location. location.number) locations.items)
             (map (λ location. location.number) result.locations.items) }
     {

@@ -1,3 +1,4 @@
+ghost use Rattle.std.specs.Prelude.{◌≤◌, length};
 ghost use Rattle.drum_flow.specs.Held.{AreHeld};
 ghost use Rattle.drum_flow.specs.OneProof.{one_proof};
 
@@ -16,6 +17,7 @@ pub struct Flow<'a> {
     pub(crate) nodes: Nodes,
     pub(crate) executed: Executed,
     ghost held: { AreHeld notes.now.calls nodes } by { Prim.hlevel one_proof },
+    ghost few: { length nodes.nodes.keys ≤ 65536 },
 }
 
 impl<'a> Flow<'a> {
@@ -51,7 +53,8 @@ impl<'a> Flow<'a> {
         self.notes
     }
 
-    /// How many nodes it has: locations with what is open there at the exits of calls.
+    /// How many nodes it has, at most 65,536: locations with what is open there at the exits of
+    /// calls.
     pub fn size(&self) -> usize
         ensures { result ≡ length (nodes_of self.now) }
     {

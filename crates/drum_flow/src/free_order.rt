@@ -1,6 +1,6 @@
 //! An order of the nodes in which every edge free of marks goes on, or a cycle of such edges.
 
-ghost use Rattle.std.specs.Prelude.{◌≡◌, ℕ, ◌<◌, map, length, Contains, IfOk, IfErr};
+ghost use Rattle.std.specs.Prelude.{◌≡◌, ℕ, ◌<◌, [], map, length, Contains, IfOk, IfErr};
 ghost use Rattle.drum_core.specs.Loads.{loads_in};
 ghost use Rattle.drum_flow.specs.Executed.{AreAllNodes};
 ghost use Rattle.drum_flow.specs.Flow.{executed_in, nodes_of, of_flow, AreFound};
@@ -40,13 +40,11 @@ pub fn free_order(alloc: Global, flow: &Flow<'_>) -> Result<FreeOrder, Refusal>
         → index < length (nodes_of flow.now)) }
     ensures nodes { IfOk result (λ order. IsNodeOrder (loads_in flow.now.deck.now)
         flow.now.notes.now (nodes_of flow.now) (those_at (nodes_of flow.now) order.nodes.items)) }
-    ensures order { IfOk result (λ order. IsFreeOrder (loads_in flow.now.deck.now)
-        flow.now.notes.now (executed_in flow.now)
+    ensures order { IfOk result (λ order. flow.now.notes.now.calls ≡ []
+        → IsFreeOrder (loads_in flow.now.deck.now) flow.now.notes.now (executed_in flow.now)
         (map (λ location. location.number) order.locations.items)) }
     ensures cycle { IfErr result (of_flow IsCycleRefusal flow.now) }
 {
-    // What is known of notes: as yet no exit of theirs is open anywhere.
-    let _calls = flow.notes.calls();
     let graph = free_graph(alloc, flow)?;
     match sort(alloc, &graph)? {
         Sorted::Ordered(nodes) => {
@@ -66,8 +64,6 @@ fn unbounded(alloc: Global, flow: &Flow<'_>, graph: &Graph, cycle: &[usize]) -> 
     requires nodes { of_flow AreAllNodes flow.now (nodes_of flow.now) }
     ensures { of_flow IsCycleRefusal flow.now result }
 {
-    // What is known of notes: as yet no exit of theirs is open anywhere.
-    let _calls = flow.notes.calls();
     match locations_at(alloc, flow, cycle) {
         Ok(locations) => Refusal::Unbounded(Cycle::turned(locations)),
         Err(_) => Refusal::Memory,

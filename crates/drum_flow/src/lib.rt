@@ -9,9 +9,10 @@
 //! location with what is open there at the exits of calls; `nodes` is a set of them, and `openings`
 //! finds what is open behind a step. `place` says whether one location is in order (faults 32 and
 //! 33). `discovery` has `discover`, which makes the `Flow` of `flow_graph` whatever stands at its
-//! locations, and `flow`, which looks whether they are in order. `graph` is a graph of numbered
-//! nodes, and knows nothing of marks and hops: `graph/search` is its depth-first search, one move a
-//! method, which finds the cycle where there is one, and `graph/sort` runs it from every node.
+//! locations, `rediscover`, for where it was made before, and `flow`, which looks whether they are
+//! in order; each gives up past 65,536 nodes (fault 37). `graph` is a graph of numbered nodes, and
+//! knows nothing of marks and hops: `graph/search` is its depth-first search, one move a method,
+//! which finds the cycle where there is one, and `graph/sort` runs it from every node.
 //! `accepted_flow` is what comes of an accepted deck, a flow with an order. Its maker goes through
 //! the checks: `altering` (with `fixed`; fault 34), `size` (with `counts`; fault 36) and
 //! `free_order` (with `free`, the graph of the edges free of marks, and `cycle`, which turns one to
@@ -28,7 +29,7 @@
 //! raises the counts), `WalkTime` (what a walk's time depends on) and `Slower` (a timing table that
 //! is nowhere quicker than another) have the words of laws. The others say what the code's types
 //! and loops mean by these: of hops `Patterns`, `Instructions`, `HopsLeft`, `Seen` and `Alike`; of
-//! discovery `Held`, `Found`, `Refused` and `Flow`; of the checks `Altering`, `Fixed`, `Size`,
+//! discovery `Held`, `Discovered`, `Found`, `Refused` and `Flow`; of the checks `Altering`, `Fixed`, `Size`,
 //! `Free`, `Turned` and `AcceptedFlow`; of graphs `Rows` and `Search`; of walks `SettingOf`.
 //!
 //! Proofs. `Checks` evaluates definitions on a deck of two words. These have laws that other crates
@@ -69,7 +70,7 @@ mod successors;
 pub use acceptance::accept;
 pub use accepted_flow::AcceptedFlow;
 pub use cycle::Cycle;
-pub use discovery::{discover, flow};
+pub use discovery::{discover, flow, rediscover};
 pub use flow_graph::Flow;
 pub use hops::{Hop, Hops};
 pub use refusal::Refusal;

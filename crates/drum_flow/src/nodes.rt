@@ -1,7 +1,7 @@
 ghost use Rattle.std.specs.Prelude.{◌≡◌, ◌^◌, ◌<◌, ◌≤◌, List, [], ◌∷◌, ◌++◌, length, nat_eq};
 ghost use Rattle.std.specs.Option.{option_eq};
 ghost use Rattle.std.specs.Prelude.{option_map, slice_get, Contains, Some, IfOk, IfSome, IfNone};
-ghost use Rattle.std.specs.Prelude.{OnOk};
+ghost use Rattle.std.specs.Prelude.{OnOk, take};
 ghost use Rattle.std.specs.Cmp.Lexicographic.{pointwise};
 ghost use Rattle.drum_core.specs.Loads.{loads_in};
 ghost use Rattle.drum_times.specs.declared.notes.call.Call as said;
@@ -30,6 +30,9 @@ pub struct Nodes {
 }
 
 impl Nodes {
+    /// How many a flow graph has at most.
+    pub const MOST: usize = 65_536;
+
     /// The node of the start alone, where nothing is open.
     pub fn new(alloc: Global, calls: &[Call], start: Location) -> Result<Nodes, AllocError>
         requires { length calls.now ≤ 64 }
@@ -149,13 +152,21 @@ impl Nodes {
         Ok(())
     }
 
-    /// The locations of the nodes, each once.
+    /// The first of them, as many as a flow graph has at most.
+    fn first(&self) -> &[Node]
+        ensures { result.now ≡ take 65536 self.now.nodes.keys }
+    {
+        let count = Nodes::MOST.min(self.nodes.len());
+        &self.nodes.as_slice()[..count]
+    }
+
+    /// The locations of the first nodes, of as many as a flow graph has at most, each once.
     pub fn locations(&self, alloc: Global, calls: &[Call]) -> Result<Executed, AllocError>
         ensures { IfOk result (λ executed. places_of executed
-            ≡ each_place (nodes_in calls.now self.now)) }
+            ≡ each_place (take 65536 (nodes_in calls.now self.now))) }
     {
         let mut executed = Executed::none(alloc);
-        for node in self.nodes.as_slice() {
+        for node in self.first() {
             executed.add(node.location)?;
         }
         Ok(executed)

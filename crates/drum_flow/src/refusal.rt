@@ -20,6 +20,10 @@ pub enum Refusal {
     /// `word`, which isn't listed. The two may be one.
     #[error("{writer} alters {word}, which isn't listed")]
     Alters { writer: Location, word: Location },
+    /// Discovery meets more than 65,536 nodes: locations with what is open there at the exits of
+    /// calls.
+    #[error("there are too many locations with what is open there")]
+    TooMany,
     /// Edges free of marks lead round: nothing bounds how often this cycle is gone through.
     #[error("a cycle is free of marks")]
     Unbounded(Cycle),

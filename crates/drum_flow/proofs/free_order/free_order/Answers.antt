@@ -28,13 +28,13 @@ returns-in-Ordered-clause-nodes c =
     (start_in flow.deck.now) c.requires.nodes (size graph) c.in-Ordered.nodes.items c.in_ok-graph.ensures.size order
 
 pub returns-in-Ordered-clause-order : goal.returns-in-Ordered-clause-order
-returns-in-Ordered-clause-order c =
+returns-in-Ordered-clause-order c none =
     let flow = c.args.flow.now in
     let loads = loads_in flow.deck.now in
     subst (IsFreeOrder loads flow.notes.now (executed_in flow))
     (sym (c.in_ok-locations-in-Ordered.ensures
     ∙ ap (λ (ks : List ℕ). map (λ (node : Node). node.place) (those_at (nodes_of flow) ks)) c.deref.ensures.value))
-    (order_plain loads flow.notes.now c.calls-calls.ensures.sound.without_calls (start_in flow.deck.now) (nodes_of flow)
+    (order_plain loads flow.notes.now none (start_in flow.deck.now) (nodes_of flow)
     (those_at (nodes_of flow) c.in-Ordered.nodes.items) (executed_in flow) c.requires.nodes c.requires.found
     (returns-in-Ordered-clause-nodes c))
 

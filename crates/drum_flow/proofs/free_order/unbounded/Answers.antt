@@ -1,19 +1,17 @@
--- Of unbounded: a cycle of the graph is a cycle of nodes by edges free of marks. Without calls the
--- locations are different, so there are 2004 at most; and they can be turned to begin with the smallest.
-use Rattle.std.proofs.Common.{ℕ, List, length, sym, ap, subst, arith}
+-- Of unbounded: a cycle of the graph is a cycle of nodes by edges free of marks. It has no node twice, so
+-- there are no more than the flow graph has; and they can be turned to begin with the smallest.
+use Rattle.std.proofs.Common.{ℕ, ◌<◌, List, length, Contains, ap, subst, arith}
 use Rattle.std.proofs.lemmas.List.{length-map}
 use Rattle.drum_core.specs.declared.location.Location.{Location}
 use Rattle.drum_core.specs.Loads.{loads_in, start_in}
 use Rattle.drum_flow.specs.Flow.{nodes_of}
 use Rattle.drum_flow.specs.Free.{those_at}
-use Rattle.drum_flow.specs.Graph.{row, size, AreDifferent}
+use Rattle.drum_flow.specs.Graph.{row, size}
+use Rattle.drum_flow.specs.Held.{node_of}
 use Rattle.drum_flow.specs.Hops.{Node}
 use Rattle.drum_flow.specs.Turned.{IsTurned}
-use Rattle.drum_flow.proofs.Founds.{numbers, few_locations}
-use Rattle.drum_flow.proofs.Lists.{contains_from_get}
-use Rattle.drum_flow.proofs.Orders.{reached_different, reached_only}
-use Rattle.drum_flow.proofs.Plain.{places_different}
-use Rattle.drum_flow.proofs.Translations.{cycle_free, cycle_some, those_different, those_from, those_long}
+use Rattle.drum_flow.proofs.Founds.{few_below, numbers}
+use Rattle.drum_flow.proofs.Translations.{cycle_free, cycle_some, those_long}
 use Rattle.drum_flow.proofs.free_order.unbounded.Goals as goal
 
 pub locations_at-requires : goal.locations_at-requires
@@ -40,21 +38,17 @@ turned-requires-clause-some c =
 pub turned-requires-clause-few : goal.turned-requires-clause-few
 turned-requires-clause-few c =
     let flow = c.args.flow.now in
-    let loads = loads_in flow.deck.now in
-    let start = start_in flow.deck.now in
-    let nodes = nodes_of flow in
     let locations = c.in-Ok.locations in
-    let different : AreDifferent (numbers locations.items) =
-    subst AreDifferent (sym c.in-Ok.ensures)
-    (places_different loads flow.notes.now c.calls-calls.ensures.sound.without_calls start (round c)
-    (λ node there.
-    let found = those_from nodes c.args.cycle.now node there in
-    reached_only loads flow.notes.now start nodes c.requires.nodes node (contains_from_get nodes found.0 node found.2))
-    (those_different nodes c.args.cycle.now (reached_different loads flow.notes.now start nodes c.requires.nodes)
-    c.requires.cycle.distinct)) in
+    let inside : (index : ℕ) → Contains c.args.cycle.now index → index < length (nodes_of flow) =
+    λ index there. omega (arith, c.requires.cycle.within index there, c.requires.size) in
     omega (
       arith,
-      few_locations locations.items different,
+      few_below c.args.cycle.now (length (nodes_of flow)) c.requires.cycle.distinct inside,
+      flow.few,
+      length-map flow.nodes.nodes.keys (node_of flow.notes.now.calls flow.nodes.openings.items),
+      those_long (nodes_of flow) c.args.cycle.now inside,
+      ap (λ (ns : List ℕ). length ns) c.in-Ok.ensures,
+      length-map (those_at (nodes_of flow) c.args.cycle.now) (λ (one : Node). one.place),
       length-map locations.items (λ (one : Location). one.number),
       locations.ok.0,
     )

@@ -1,3 +1,4 @@
+use Rattle.std.proofs.Common.{◌≡◌, []}
 -- Of AcceptedFlow::of: the flow is of this deck and these notes, so what is shown of the flow's
 -- deck holds of the argument's (moved): that it is too large, that edges free of marks lead round,
 -- or that it is accepted, with its order.
@@ -46,14 +47,16 @@ returns-clause-accepted c =
     (record {
       admitted = is_admitted (loads_in deck) notes (start_in deck) (executed_in flow) c.in_ok-flow.ensures.executed
           c.in_ok-flow.ensures.unaltered (nodes_of flow)
-          (those_at (nodes_of flow) c.in_ok-order.order.nodes.items) c.in_ok-flow.ensures.nodes c.in_ok-order.ensures.nodes;
+          (those_at (nodes_of flow) c.in_ok-order.order.nodes.items) c.in_ok-flow.ensures.nodes
+          c.in_ok-flow.ensures.few c.in_ok-order.ensures.nodes;
       small = c.in_ok-check_small.ensures.small;
     })
 
 pub returns-clause-order : goal.returns-clause-order
 returns-clause-order c =
     let flow = c.in_ok-flow.flow in
-    moved (λ d n. IsFreeOrder (loads_in d) n (executed_in flow) (numbers c.in_ok-order.order.locations.items)) flow.deck.now
+    moved (λ d n. n.calls ≡ [] → IsFreeOrder (loads_in d) n (executed_in flow) (numbers c.in_ok-order.order.locations.items))
+    flow.deck.now
     c.args.deck.now flow.notes.now c.args.notes.now
     c.in_ok-flow.ensures.deck c.in_ok-flow.ensures.notes c.in_ok-order.ensures.order
 

@@ -1,3 +1,4 @@
+use Rattle.std.proofs.Common.{◌≡◌, []}
 use Rattle.drum_core.proofs.Handed.{handed}
 use Rattle.drum_core.specs.Loads.{loads_in, start_in}
 use Rattle.drum_flow.specs.Acceptance.{IsAdmissionRefusal}
@@ -30,12 +31,14 @@ returns-clause-admitted c =
     c.in_ok-flow.ensures.deck c.in_ok-flow.ensures.notes
     (is_admitted (loads_in deck) notes (start_in deck) (executed_in flow) c.in_ok-flow.ensures.executed
     c.in_ok-flow.ensures.unaltered (nodes_of flow)
-    (those_at (nodes_of flow) c.in_ok-order.order.nodes.items) c.in_ok-flow.ensures.nodes c.in_ok-order.ensures.nodes)
+    (those_at (nodes_of flow) c.in_ok-order.order.nodes.items) c.in_ok-flow.ensures.nodes
+    c.in_ok-flow.ensures.few c.in_ok-order.ensures.nodes)
 
 pub returns-clause-order : goal.returns-clause-order
 returns-clause-order c =
     let flow = c.in_ok-flow.flow in
-    moved (λ d n. IsFreeOrder (loads_in d) n (executed_in flow) (numbers c.in_ok-order.order.locations.items)) flow.deck.now
+    moved (λ d n. n.calls ≡ [] → IsFreeOrder (loads_in d) n (executed_in flow) (numbers c.in_ok-order.order.locations.items))
+    flow.deck.now
     c.args.deck.now flow.notes.now c.args.notes.now
     c.in_ok-flow.ensures.deck c.in_ok-flow.ensures.notes c.in_ok-order.ensures.order
 

@@ -1,6 +1,6 @@
 use Rattle.std.proofs.Common.{◌≡◌, ℕ, List, [], ◌∷◌, ◌++◌, map, take, length, eqb, ap, sym, ◌∙◌, subst, get_or, ◌<◌, ◌≤◌}
 use Rattle.std.proofs.lemmas.Bool.Decides.{Decides-eqb}
-use Rattle.std.proofs.lemmas.List.{map-append, map_more, take_all}
+use Rattle.std.proofs.lemmas.List.{map-append, map_more, take_all, take-map}
 use Rattle.drum_flow.specs.declared.node.Node as held
 use Rattle.drum_flow.specs.Executed.{each_place, with_new}
 use Rattle.drum_flow.specs.Held.{node_of}
@@ -17,11 +17,11 @@ each_more nodes node =
 
 pub loop-node-preserved : goal.loop-node-preserved
 loop-node-preserved c =
-    let keys = c.args.self.now.nodes.keys in
+    let keys = take 65536 c.args.self.now.nodes.keys in
     let view : held.Node → Node = node_of c.args.calls.now c.args.self.now.openings.items in
     let k = c.loop-node.node-index in
     let node = c.node-item.result in
-    let items = c.as_slice-node-items.ensures.keys in
+    let items = c.first-node-items.ensures in
     let here : node ≡ get_or keys k node = c.node-item.is ∙ ap (λ (ns : List held.Node). get_or ns k node) items in
     c.in_ok-add.ensures
     ∙ ap (λ (places : List ℕ). with_new places (c.node-item.result.location.number ∷ [])) c.loop-node.invariant
@@ -32,8 +32,10 @@ loop-node-preserved c =
 pub returns : goal.returns
 returns c =
     let view : held.Node → Node = node_of c.args.calls.now c.args.self.now.openings.items in
+    let keys = c.args.self.now.nodes.keys in
     c.loop-node.invariant
     ∙ ap (λ (ns : List held.Node). each_place (map view ns))
-    (take_all c.loop-node.node-index c.args.self.now.nodes.keys
-    (subst (λ (ns : List held.Node). length ns ≤ c.loop-node.node-index) c.as_slice-node-items.ensures.keys
+    (take_all c.loop-node.node-index (take 65536 keys)
+    (subst (λ (ns : List held.Node). length ns ≤ c.loop-node.node-index) c.first-node-items.ensures
     c.loop-node-test.false))
+    ∙ ap each_place (sym (take-map view 65536 keys))

@@ -1,0 +1,23 @@
+use Rattle.std.proofs.Common.{List, ℕ, take, sym, ap, ◌∙◌, subst}
+use Rattle.drum_core.proofs.Handed.{handed}
+use Rattle.drum_core.specs.Loads.{loads_in, start_in}
+use Rattle.drum_times.specs.declared.notes.call.Call.{Call}
+use Rattle.drum_flow.specs.Held.{nodes_in}
+use Rattle.drum_flow.specs.Executed.{each_place}
+use Rattle.drum_flow.specs.Hops.{Node}
+use Rattle.drum_flow.specs.Refused.{IsFirstWrong}
+use Rattle.drum_flow.proofs.Orders.{wrong_met}
+use Rattle.drum_flow.proofs.discovery.good_locations.Goals as goal
+
+pub returns-in_err-check_places-clause-refused : goal.returns-in_err-check_places-clause-refused
+returns-in_err-check_places-clause-refused c =
+    let loads = loads_in c.args.deck.now in
+    let notes = c.args.notes.now in
+    let refusal = c.in_err-check_places.field-0.0 in
+    handed c.from_residual-in_err-check_places.result _ refusal c.from_residual-in_err-check_places.ensures.1
+    (wrong_met loads notes (start_in c.args.deck.now) c.requires.0 _ refusal
+    (ap (λ (ns : List Node). each_place (take 65536 ns)) c.requires.1
+    ∙ sym (c.in_ok-executed.ensures
+    ∙ ap (λ (calls : List Call). each_place (take 65536 (nodes_in calls c.args.nodes.now))) c.calls.ensures.all))
+    (subst (λ (places : List ℕ). IsFirstWrong loads notes places refusal) c.locations-2.ensures.all
+    c.in_err-check_places.ensures.refused))
