@@ -29,8 +29,9 @@
 //! raises the counts), `WalkTime` (what a walk's time depends on) and `Slower` (a timing table that
 //! is nowhere quicker than another) have the words of laws. The others say what the code's types
 //! and loops mean by these: of hops `Patterns`, `Instructions`, `HopsLeft`, `Seen` and `Alike`; of
-//! discovery `Held`, `Discovered`, `Found`, `Refused` and `Flow`; of the checks `Altering`, `Fixed`, `Size`,
-//! `Free`, `Turned` and `AcceptedFlow`; of graphs `Rows` and `Search`; of walks `SettingOf`.
+//! discovery `Held`, `Discovered`, `Found`, `Refused` and `Flow`; of the checks `Altering`,
+//! `Fixed`, `Size`, `Free`, `Turned` and `AcceptedFlow`; of graphs `Rows` and `Search`; of walks
+//! `SettingOf`.
 //!
 //! Proofs. `Checks` evaluates definitions on a deck of two words. These have laws that other crates
 //! use: `LongestLaws`, of the latest ends; `FromAngles`, how long a hop takes from an angle;
