@@ -10,7 +10,7 @@ use Rattle.drum_times.specs.Allowed.{Notes}
 use Rattle.drum_flow.specs.declared.fixed.Fixed.{Fixed}
 use Rattle.drum_flow.specs.declared.refusal.Refusal.{Refusal}
 use Rattle.drum_flow.specs.declared.refusal.Refusal.TheVariants.{Memory, NotLoaded, NotInProfile, Alters, Unbounded}
-use Rattle.drum_flow.specs.declared.refusal.Refusal.TheVariants.{TooMany, TooLarge}
+use Rattle.drum_flow.specs.declared.refusal.Refusal.TheVariants.{HasCalls, TooMany, TooLarge}
 use Rattle.drum_flow.specs.Acceptance.{IsAdmissionRefusal, IsRefusal}
 use Rattle.drum_flow.specs.Accepted.{counts_of, product_of, told, IsFreeLink, IsAdmitted, IsGood, IsMet, IsSound}
 use Rattle.drum_flow.specs.Altering.{FlagsFixed, AltersNone}
@@ -148,6 +148,7 @@ module _ (loads : ℕ → Option Word) (notes : Notes) where
         too_much (TooLarge product) wrong =
             (sound, subst (λ (n : ℕ). 4000000 < n) (sym wrong.0) wrong.1, (executed, e.found.order, wrong.0))
         too_much TooMany wrong = absurd wrong
+        too_much HasCalls wrong = absurd wrong
         too_much Memory wrong = absurd wrong
         too_much (NotLoaded location) wrong = absurd wrong
         too_much (NotInProfile location op) wrong = absurd wrong
@@ -158,6 +159,7 @@ module _ (loads : ℕ → Option Word) (notes : Notes) where
             → IsAdmissionRefusal loads notes start refusal
         not_admitted (Unbounded cycle) wrong = record { sound = sound; round = wrong }
         not_admitted TooMany wrong = absurd wrong
+        not_admitted HasCalls wrong = absurd wrong
         not_admitted Memory wrong = tt
         not_admitted (NotLoaded location) wrong = absurd wrong
         not_admitted (NotInProfile location op) wrong = absurd wrong
@@ -190,6 +192,7 @@ module _ (loads : ℕ → Option Word) (notes : Notes) where
             round = record { sound = sound; round = wrong };
           }
           unbounded TooMany wrong = absurd wrong
+          unbounded HasCalls wrong = absurd wrong
           unbounded Memory wrong = tt
           unbounded (NotLoaded location) wrong = absurd wrong
           unbounded (NotInProfile location op) wrong = absurd wrong

@@ -11,7 +11,7 @@ use Rattle.drum_core.specs.declared.word.Word.{Word}
 use Rattle.drum_times.specs.Allowed.{Notes}
 use Rattle.drum_flow.specs.declared.refusal.Refusal.{Refusal}
 use Rattle.drum_flow.specs.declared.refusal.Refusal.TheVariants.{Memory, NotLoaded, NotInProfile, Alters, Unbounded}
-use Rattle.drum_flow.specs.declared.refusal.Refusal.TheVariants.{TooMany, TooLarge}
+use Rattle.drum_flow.specs.declared.refusal.Refusal.TheVariants.{HasCalls, TooMany, TooLarge}
 use Rattle.drum_flow.specs.Accepted.{IsGood, IsMet, IsNotLoaded, IsNotInProfile, IsTooMany}
 use Rattle.drum_flow.specs.Refused.{IsFirstWrong, IsWrong, IsFlowRefusal}
 use Rattle.drum_flow.specs.Executed.{with_new, added_by, each_place, found_after, next_nodes}
@@ -350,6 +350,7 @@ wrong_met loads notes start count places refusal same (turn, place, here, good, 
     go : (one : Refusal) → IsWrong loads notes place one → IsFlowRefusal loads notes start one
     go (NotLoaded location) w = subst (IsNotLoaded loads notes start) (sym w.0) (met, w.1)
     go (NotInProfile location op) w = subst (λ (p : ℕ). IsNotInProfile loads notes start p op) (sym w.0) (met, w.1, w.2)
+    go HasCalls w = w
     go TooMany w = absurd w
     go Memory w = tt
     go (Alters writer word) w = w

@@ -8,7 +8,7 @@ use Rattle.drum_core.specs.Op.{op_of}
 use Rattle.drum_times.specs.Allowed.{Notes, allowed}
 use Rattle.drum_flow.specs.declared.refusal.Refusal.{Refusal}
 use Rattle.drum_flow.specs.declared.refusal.Refusal.TheVariants.{Memory, NotLoaded, NotInProfile, Alters, Unbounded}
-use Rattle.drum_flow.specs.declared.refusal.Refusal.TheVariants.{TooMany, TooLarge}
+use Rattle.drum_flow.specs.declared.refusal.Refusal.TheVariants.{HasCalls, TooMany, TooLarge}
 use Rattle.drum_flow.specs.Acceptance.{IsRefusal}
 use Rattle.drum_flow.specs.Accepted.{IsAccepted, IsMet, IsFirstIn, IsFreeLink, counts_of, Alters as AltersOne}
 use Rattle.drum_flow.specs.Graph.{IsClosed}
@@ -74,6 +74,7 @@ module _ (loads : ℕ → Option Word) (notes : Notes) (start : ℕ) where
       absurd (omega (arith, many_told (length other * counts_of notes.marks) (omega (arith, large, number)), small))
   only_memory executed (Unbounded cycle) accepted is =
       absurd (not_closed executed is.round.round.nodes accepted is.round.round.within is.round.round.closed)
+  only_memory executed HasCalls accepted is = absurd (is accepted.plain)
   only_memory executed TooMany accepted is =
       let order = accepted.admitted.order in
       let found = found_after loads notes start is.count in

@@ -1,11 +1,11 @@
 -- Why a deck with its notes isn't accepted.
-use Rattle.std.specs.Prelude.{ℕ, map, Option}
+use Rattle.std.specs.Prelude.{◌≡◌, ℕ, [], map, Option}
 use Rattle.drum_core.specs.declared.word.Word.{Word}
 use Rattle.drum_times.specs.Allowed.{Notes}
 use Rattle.drum_flow.specs.declared.refusal.Refusal.{Refusal}
 use Rattle.drum_flow.specs.declared.refusal.Refusal.TheVariants.{Memory, NotLoaded, NotInProfile}
 use Rattle.drum_flow.specs.declared.refusal.Refusal.TheVariants.{TooMany, Alters, Unbounded}
-use Rattle.drum_flow.specs.declared.refusal.Refusal.TheVariants.{TooLarge}
+use Rattle.drum_flow.specs.declared.refusal.Refusal.TheVariants.{TooLarge, HasCalls}
 use Rattle.drum_flow.specs.Accepted.{IsNotLoaded, IsNotInProfile, IsTooMany, IsAltered, IsFreeRound}
 use Rattle.drum_flow.specs.Accepted.{IsTooLarge, IsUnbounded}
 
@@ -20,10 +20,11 @@ IsRefusal loads notes start (Alters writer word) =
 IsRefusal loads notes start (TooLarge product) = IsTooLarge loads notes start product
 IsRefusal loads notes start (Unbounded cycle) =
     IsUnbounded loads notes start (map (λ location. location.number) cycle.locations.items)
+IsRefusal loads notes start HasCalls = ¬ (notes.calls ≡ [])
 IsRefusal loads notes start Memory = Unit {0}
 
--- the refusal is that of the deck with its notes, where the size isn't looked at; or there is no
--- memory
+-- the refusal is that of the deck with its notes, where the notes may have calls, and the size
+-- isn't looked at; or there is no memory
 abbrev pub IsAdmissionRefusal : (ℕ → Option Word) → Notes → ℕ → Refusal → Type 0
 IsAdmissionRefusal loads notes start (NotLoaded location) =
     IsNotLoaded loads notes start location.number
@@ -35,4 +36,5 @@ IsAdmissionRefusal loads notes start (Alters writer word) =
 IsAdmissionRefusal loads notes start (TooLarge product) = ⊥
 IsAdmissionRefusal loads notes start (Unbounded cycle) =
     IsFreeRound loads notes start (map (λ location. location.number) cycle.locations.items)
+IsAdmissionRefusal loads notes start HasCalls = ⊥
 IsAdmissionRefusal loads notes start Memory = Unit {0}

@@ -65,11 +65,13 @@ pub record IsAdmitted (loads : ℕ → Option Word) (notes : Notes) (start : ℕ
   pub bounded : (first : Node) (others : List Node) → IsNode loads notes start first
       → ¬ IsClosed (IsFreeLink loads notes) (first ∷ others)
 
--- The deck with its notes is accepted: it is admitted, and small.
+-- The deck with its notes is accepted, for a bound: it is admitted, and small, and the notes have no
+-- calls.
 pub record IsAccepted (loads : ℕ → Option Word) (notes : Notes) (start : ℕ)
     (executed : List ℕ) : Type 0 where
   pub admitted : IsAdmitted loads notes start executed
   pub small : product_of executed notes.marks ≤ 4000000
+  pub plain : notes.calls ≡ []
 
 -- The location is loaded or listed, and each operation there is in the profile.
 abbrev pub IsGood : (ℕ → Option Word) → Notes → ℕ → Type 0

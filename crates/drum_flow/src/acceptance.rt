@@ -17,9 +17,10 @@ use std::alloc::Global;
 ///
 /// # Errors
 ///
-/// The first that applies: [`Refusal::NotLoaded`], [`Refusal::NotInProfile`] or
-/// [`Refusal::TooMany`], as discovery meets them; [`Refusal::Alters`]; [`Refusal::TooLarge`];
-/// [`Refusal::Unbounded`]. [`Refusal::Memory`] may come before any, where there is no memory.
+/// The first that applies: [`Refusal::HasCalls`]; [`Refusal::NotLoaded`],
+/// [`Refusal::NotInProfile`] or [`Refusal::TooMany`], as discovery meets them; [`Refusal::Alters`];
+/// [`Refusal::TooLarge`]; [`Refusal::Unbounded`]. [`Refusal::Memory`] may come before any, where
+/// there is no memory.
 pub fn accept<'a>(alloc: Global, deck: &'a Deck, notes: &'a Notes) -> Result<Flow<'a>, Refusal>
     ensures deck { IfOk result (λ flow. deck_of flow ≡ deck.now) }
     ensures notes { IfOk result (λ flow. notes_of flow ≡ notes.now) }

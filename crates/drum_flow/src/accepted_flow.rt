@@ -68,12 +68,14 @@ impl<'a> AcceptedFlow<'a> {
             → index < length (nodes_of accepted.flow)) }
         ensures onward { IfOk result (λ accepted. IsNodeOrder (loads_in deck.now) notes.now
             (nodes_of accepted.flow) (nodes_in_order accepted)) }
-        ensures order { IfOk result (λ accepted. notes.now.calls ≡ []
-            → IsFreeOrder (loads_in deck.now) notes.now (executed_in accepted.flow)
-            (in_order accepted)) }
+        ensures order { IfOk result (λ accepted. IsFreeOrder (loads_in deck.now) notes.now
+            (executed_in accepted.flow) (in_order accepted)) }
         ensures refused { IfErr result (IsRefusal (loads_in deck.now) notes.now
             (start_in deck.now)) }
     {
+        if !notes.calls().is_empty() {
+            return Err(Refusal::HasCalls);
+        }
         let flow = sound_flow(alloc, deck, notes)?;
         check_small(&flow)?;
         let order = free_order(alloc, &flow)?;
@@ -81,11 +83,12 @@ impl<'a> AcceptedFlow<'a> {
     }
 
     /// The accepted flow of a deck under its notes, where the deck with its notes is admitted: it
-    /// meets all that makes it accepted, except that it may be of any size.
+    /// meets all that makes it accepted, except that it may be of any size, and the notes may have
+    /// calls.
     ///
     /// # Errors
     ///
-    /// Those of [`accept`](crate::accept) but [`Refusal::TooLarge`].
+    /// Those of [`accept`](crate::accept) but [`Refusal::HasCalls`] and [`Refusal::TooLarge`].
     pub fn of_any_size(
         alloc: Global,
         deck: &'a Deck,
@@ -102,9 +105,6 @@ impl<'a> AcceptedFlow<'a> {
             → index < length (nodes_of accepted.flow)) }
         ensures onward { IfOk result (λ accepted. IsNodeOrder (loads_in deck.now) notes.now
             (nodes_of accepted.flow) (nodes_in_order accepted)) }
-        ensures order { IfOk result (λ accepted. notes.now.calls ≡ []
-            → IsFreeOrder (loads_in deck.now) notes.now (executed_in accepted.flow)
-            (in_order accepted)) }
         ensures refused { IfErr result (IsAdmissionRefusal (loads_in deck.now) notes.now
             (start_in deck.now)) }
     {

@@ -13,11 +13,12 @@
 //! in order; each gives up past 65,536 nodes (fault 37). `graph` is a graph of numbered nodes, and
 //! knows nothing of marks and hops: `graph/search` is its depth-first search, one move a method,
 //! which finds the cycle where there is one, and `graph/sort` runs it from every node.
-//! `accepted_flow` is what comes of an accepted deck, a flow with an order. Its maker goes through
-//! the checks: `altering` (with `fixed`; fault 34), `size` (with `counts`; fault 36) and
-//! `free_order` (with `free`, the graph of the edges free of marks, and `cycle`, which turns one to
-//! its smallest location; fault 35), or, where the size may be any, without the size. `refusal` is
-//! what a check that fails tells. `acceptance` has `accept`, which hands out the flow alone.
+//! `accepted_flow` is what comes of an accepted deck, a flow with an order. Its maker looks that the
+//! notes have no calls, and goes through the checks: `altering` (with `fixed`; fault 34), `size`
+//! (with `counts`; fault 36) and `free_order` (with `free`, the graph of the edges free of marks,
+//! and `cycle`, which turns one to its smallest location; fault 35); or, where the notes may have
+//! calls and the size may be any, through these without the size. `refusal` is what a check that
+//! fails tells. `acceptance` has `accept`, which hands out the flow alone.
 //! `longest` is the latest end of a hop. `laws` has laws of the definitions.
 //!
 //! Definitions, in the order to read them: `Hops` (hops, edges, nodes, and what is executed),

@@ -9,6 +9,9 @@ pub enum Refusal {
     /// There is no memory for the analysis, or for what is made of it.
     #[error("there is no memory for the analysis")]
     Memory,
+    /// The notes have calls: with them a deck has a ceiling, and no bound.
+    #[error("the notes have calls")]
+    HasCalls,
     /// At this executed location an operation is allowed, with this number of two digits, that is
     /// outside the profile.
     #[error("operation {1:02} at {0} is outside the profile")]

@@ -1,8 +1,12 @@
-use Rattle.std.proofs.Common.{◌≡◌, []}
 -- Of AcceptedFlow::of: the flow is of this deck and these notes, so what is shown of the flow's
 -- deck holds of the argument's (moved): that it is too large, that edges free of marks lead round,
 -- or that it is accepted, with its order.
+use Rattle.std.proofs.Common.{◌≡◌, List, [], ◌∷◌, length, refl, ap, sym, ◌∙◌, arith}
+use Rattle.std.specs.Prelude.{◌==◌}
+use Rattle.std.proofs.lemmas.Bool.{eqb-true}
 use Rattle.drum_core.proofs.Handed.{handed}
+use Rattle.drum_times.specs.declared.notes.call.Call.{Call}
+use Rattle.drum_times.specs.Allowed.{Notes}
 use Rattle.drum_core.specs.Loads.{loads_in, start_in}
 use Rattle.drum_flow.specs.Acceptance.{IsRefusal}
 use Rattle.drum_flow.specs.Accepted.{IsAccepted}
@@ -37,6 +41,18 @@ returns-in_err-order-clause-refused c =
     (unbounded (loads_in deck) notes (start_in deck) (executed_in flow) c.in_ok-flow.ensures.executed
     c.in_ok-flow.ensures.unaltered c.in_ok-check_small.ensures.small refusal c.in_err-order.ensures.cycle))
 
+-- the notes have no calls
+no_calls : (c : goal.In_ok-order) → c.args.notes.now.calls ≡ []
+no_calls c =
+    let calls = c.calls.result.now in
+    let empty : c.is_empty.result ≡ (length calls == 0) = c.is_empty.ensures in
+    let all : calls ≡ c.args.notes.now.calls = c.calls.ensures.all in
+    sym all ∙ none calls (eqb-true (length calls) 0 (sym empty ∙ c.if-not-is_empty.false))
+  where
+    none : (calls : List Call) → length calls ≡ 0 → calls ≡ []
+    none [] long = refl
+    none (call ∷ calls) long = absurd (omega (arith, long))
+
 pub returns-clause-accepted : goal.returns-clause-accepted
 returns-clause-accepted c =
     let flow = c.in_ok-flow.flow in
@@ -50,15 +66,17 @@ returns-clause-accepted c =
           (those_at (nodes_of flow) c.in_ok-order.order.nodes.items) c.in_ok-flow.ensures.nodes
           c.in_ok-flow.ensures.few c.in_ok-order.ensures.nodes;
       small = c.in_ok-check_small.ensures.small;
+      plain = ap (λ (n : Notes). n.calls) c.in_ok-flow.ensures.notes ∙ no_calls c;
     })
 
 pub returns-clause-order : goal.returns-clause-order
 returns-clause-order c =
     let flow = c.in_ok-flow.flow in
-    moved (λ d n. n.calls ≡ [] → IsFreeOrder (loads_in d) n (executed_in flow) (numbers c.in_ok-order.order.locations.items))
+    moved (λ d n. IsFreeOrder (loads_in d) n (executed_in flow) (numbers c.in_ok-order.order.locations.items))
     flow.deck.now
     c.args.deck.now flow.notes.now c.args.notes.now
-    c.in_ok-flow.ensures.deck c.in_ok-flow.ensures.notes c.in_ok-order.ensures.order
+    c.in_ok-flow.ensures.deck c.in_ok-flow.ensures.notes
+    (c.in_ok-order.ensures.order (ap (λ (n : Notes). n.calls) c.in_ok-flow.ensures.notes ∙ no_calls c))
 
 pub returns-clause-nodes : goal.returns-clause-nodes
 returns-clause-nodes c =

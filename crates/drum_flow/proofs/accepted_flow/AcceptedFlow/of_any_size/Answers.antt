@@ -1,13 +1,11 @@
-use Rattle.std.proofs.Common.{◌≡◌, []}
 use Rattle.drum_core.proofs.Handed.{handed}
 use Rattle.drum_core.specs.Loads.{loads_in, start_in}
 use Rattle.drum_flow.specs.Acceptance.{IsAdmissionRefusal}
 use Rattle.drum_flow.specs.Accepted.{IsAdmitted}
 use Rattle.drum_flow.specs.Flow.{executed_in, nodes_of}
 use Rattle.drum_flow.specs.Executed.{AreAllNodes}
-use Rattle.drum_flow.specs.Free.{those_at, IsFreeOrder, IsNodeOrder}
+use Rattle.drum_flow.specs.Free.{those_at, IsNodeOrder}
 use Rattle.drum_flow.proofs.Acceptances.{is_admitted, moved, not_admitted}
-use Rattle.drum_flow.proofs.Founds.{numbers}
 use Rattle.drum_flow.proofs.accepted_flow.AcceptedFlow.of_any_size.Goals as goal
 
 pub returns-in_err-order-clause-refused : goal.returns-in_err-order-clause-refused
@@ -33,14 +31,6 @@ returns-clause-admitted c =
     c.in_ok-flow.ensures.unaltered (nodes_of flow)
     (those_at (nodes_of flow) c.in_ok-order.order.nodes.items) c.in_ok-flow.ensures.nodes
     c.in_ok-flow.ensures.few c.in_ok-order.ensures.nodes)
-
-pub returns-clause-order : goal.returns-clause-order
-returns-clause-order c =
-    let flow = c.in_ok-flow.flow in
-    moved (λ d n. n.calls ≡ [] → IsFreeOrder (loads_in d) n (executed_in flow) (numbers c.in_ok-order.order.locations.items))
-    flow.deck.now
-    c.args.deck.now flow.notes.now c.args.notes.now
-    c.in_ok-flow.ensures.deck c.in_ok-flow.ensures.notes c.in_ok-order.ensures.order
 
 pub returns-clause-nodes : goal.returns-clause-nodes
 returns-clause-nodes c =
