@@ -1,5 +1,5 @@
 -- The order of an accepted deck's executed locations is one that keys can be made of.
-use Rattle.std.proofs.Common.{◌≡◌, ℕ, ◌*◌, ◌≤◌, List, [], ◌∷◌, ◌++◌, length, refl, ap, sym, subst}
+use Rattle.std.proofs.Common.{◌≡◌, ℕ, ◌*◌, ◌≤◌, List, length, ap, sym, subst}
 use Rattle.std.proofs.Common.{Option, arith}
 use Rattle.drum_core.specs.declared.deck.Deck.{Deck}
 use Rattle.drum_core.specs.declared.word.Word.{Word}
@@ -38,10 +38,11 @@ module _ (loads : ℕ → Option Word) (notes : Notes) (start : ℕ) (executed :
       different = free.different;
       closed = λ place next has edge.
           free.all next (are_executed.all next
-          (executed_next loads notes sound.without_calls start place next (are_executed.only place (free.only place has))
+          (executed_next loads notes accepted.plain start place next (are_executed.only place (free.only place has))
           edge));
       onward = free.onward;
       sound = sound;
+      plain = accepted.plain;
       few = few;
     }
       where

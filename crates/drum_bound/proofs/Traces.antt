@@ -228,7 +228,7 @@ module _ (g : Setting) (order : List ℕ) (cells : List (Option Latest)) (last :
         record {
           on_drum = omega arith;
           from_start = subst (IsWalkFrom g (start_angle g.start) g.start 0 (no_counts g.notes.marks)) (sym is.1) tt;
-          back = none_to_keep g.notes.calls _ (edges_taken hops) ordered.sound.without_calls;
+          back = none_to_keep g.notes.calls _ (edges_taken hops) ordered.plain;
         },
         ap time_of is.1 ∙ omega (arith, now, ap (λ (one : Latest). one.clock) is.0),
       )
@@ -247,7 +247,7 @@ module _ (g : Setting) (order : List ℕ) (cells : List (Option Latest)) (last :
           on_drum = omega arith;
           from_start =
               subst (λ (time : ℕ). IsWalkFrom g angle g.start time (no_counts g.notes.marks) hops) nothing unpassed;
-          back = none_to_keep g.notes.calls _ (edges_taken hops) ordered.sound.without_calls;
+          back = none_to_keep g.notes.calls _ (edges_taken hops) ordered.plain;
         },
         ap (λ (time : ℕ). time_from time hops) (sym nothing) ∙ is.time,
       )

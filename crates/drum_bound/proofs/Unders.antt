@@ -9,7 +9,7 @@ use Rattle.drum_machine.specs.Keeps.{IsKept}
 use Rattle.drum_machine.specs.Run.{Stride, IsRun, IsFirstState}
 use Rattle.drum_machine.specs.Step.{State, Stepped, on, stopped}
 use Rattle.drum_machine.specs.Ways.{Way, early, to, late}
-use Rattle.drum_flow.specs.Accepted.{IsAdmitted, IsFixed}
+use Rattle.drum_flow.specs.Accepted.{IsAccepted, IsFixed}
 use Rattle.drum_flow.specs.RunHops.{hop_of, hops_taken}
 use Rattle.drum_machine.proofs.Returning.{none_to_keep}
 use Rattle.drum_flow.specs.Walk.{Setting, Taken, IsProper, FollowHop, IsWalkFrom, IsWalk, edges_taken}
@@ -190,11 +190,11 @@ module _ (g : Setting) where
 -- Each step of a kept run that goes on arrives under an entry of the table.
 pub arrive_under : (g : Setting) (rows : List Row) (executed : List ℕ) (s : State) (strides : List Stride) → IsTable g rows
     → IsProper g
-    → IsAdmitted g.loads g.notes g.start executed → IsFirstState g.loads (IsFixed g.loads g.notes g.start) g.start s
+    → IsAccepted g.loads g.notes g.start executed → IsFirstState g.loads (IsFixed g.loads g.notes g.start) g.start s
     → IsRun g.times s strides
     → IsKept g.loads g.notes s strides → ArriveUnder g.notes rows (no_counts g.notes.marks) strides
 arrive_under g rows executed s strides table proper accepted first is_run kept =
     let walk : IsWalk g s.first_angle (hops_taken strides) =
-    (kept_walk g executed s strides proper accepted first is_run kept).0 in
-    turns_under g rows table s.first_angle walk.on_drum proper.notes.without_calls strides [] g.start 0
+    (kept_walk g executed s strides proper accepted.admitted first is_run kept).0 in
+    turns_under g rows table s.first_angle walk.on_drum accepted.plain strides [] g.start 0
     (no_counts g.notes.marks) tt (refl, refl, refl) walk.from_start

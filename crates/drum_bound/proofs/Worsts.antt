@@ -44,7 +44,7 @@ module _ (g : Setting) (order : List ℕ) (cells : List (Option Latest)) (last :
             walk = record {
               on_drum = omega arith;
               from_start = comes.1;
-              back = none_to_keep g.notes.calls _ (edges_taken comes.0) ordered.sound.without_calls;
+              back = none_to_keep g.notes.calls _ (edges_taken comes.0) ordered.plain;
             };
             time =
                 comes.2;

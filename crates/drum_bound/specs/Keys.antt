@@ -1,8 +1,8 @@
 -- Keys: an index in an order of the executed locations, and counts of the marks, as one number. The
 -- counts, read with the first mark's leading, are the whole part of its division by the number of
 -- locations, and the index is the rest.
-use Rattle.std.specs.Prelude.{◌≡◌, ℕ, ◌*◌, ◌/◌, ◌%◌, ◌<◌, ◌≤◌, List, length, slice_index, Option}
-use Rattle.std.specs.Prelude.{Contains}
+use Rattle.std.specs.Prelude.{◌≡◌, ℕ, ◌*◌, ◌/◌, ◌%◌, ◌<◌, ◌≤◌, List, [], length, slice_index}
+use Rattle.std.specs.Prelude.{Contains, Option}
 use Rattle.drum_core.specs.declared.word.Word.{Word}
 use Rattle.drum_times.specs.declared.notes.mark.Mark.{Mark}
 use Rattle.drum_times.specs.Allowed.{Notes, AreSound}
@@ -31,8 +31,8 @@ pub record IsKey (marks : List Mark) (order : List ℕ) (key place : ℕ) (count
   pub passed : counts_at marks order key ≡ counts
 
 -- What is so of the order: it has the start, no location twice, and with each location those that
--- its hops go on at; an edge that no mark stands on leads to a later location; the notes are sound,
--- and the keys few.
+-- its hops go on at; an edge that no mark stands on leads to a later location; the notes are sound
+-- and without calls, and the keys few.
 pub record IsOrdered (loads : ℕ → Option Word) (notes : Notes) (start : ℕ) (order : List ℕ) : Type
     0 where
   pub starts : Contains order start
@@ -41,4 +41,5 @@ pub record IsOrdered (loads : ℕ → Option Word) (notes : Notes) (start : ℕ)
       → Contains order next
   pub onward : GoOn (IsFree loads notes) order
   pub sound : AreSound notes
+  pub plain : notes.calls ≡ []
   pub few : keys_of notes.marks order ≤ 4000000

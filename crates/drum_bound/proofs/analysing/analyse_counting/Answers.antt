@@ -56,5 +56,5 @@ returns-clause-analysed g c =
           omega (arith, is.worst.most s.first_angle (hops_taken strides) walked.0, walked.1);
       under = λ s strides first is_run kept.
           arrive_under (setting deck times notes) (rows_of analysis) (executed_in accepted.flow) s strides is.table proper
-          ensures.accepted.admitted first is_run kept;
+          ensures.accepted first is_run kept;
     }
