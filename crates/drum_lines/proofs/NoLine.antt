@@ -1,5 +1,5 @@
 -- Replies that are no fault's line.
-use Rattle.std.proofs.Common.{◌≡◌, ℕ, List, None}
+use Rattle.std.proofs.Common.{ℕ, List, None}
 use Rattle.drum_lines.specs.declared.status.Status as statuses
 use Rattle.drum_lines.specs.Reply.{IsLineOfFault, lists, says}
 

@@ -67,7 +67,8 @@ note_text name (note.TwoLists location) =
 abbrev pub next_location : Location → List ℕ
 next_location location = codes " " ++ digits_of 4 location.number
 
--- the analysis refuses the deck; of an alteration the writer's location comes first
+-- The analysis refuses the deck; of an alteration the writer's location comes first. Of notes with
+-- calls, for which there is no bound, the line is that of notes that may have none.
 abbrev pub refusal_text : refused.Refusal → List ℕ
 refusal_text refusal.Memory = codes "fault 31 memory\n"
 refusal_text (refusal.NotInProfile location op) =
@@ -82,6 +83,8 @@ refusal_text (refusal.Unbounded cycle) =
     codes "fault 35 unbounded" ++ flat_map next_location cycle.locations.items ++ codes "\n"
 refusal_text (refusal.TooLarge product) =
     codes "fault 36 toolarge " ++ decimal product ++ codes "\n"
+refusal_text refusal.TooMany = codes "fault 37 toomany\n"
+refusal_text refusal.HasCalls = codes "fault 14 notes unknown call\n"
 
 -- the inputs are refused
 abbrev pub input_text : InputFault → List ℕ

@@ -40,6 +40,8 @@ pub fn write_refusal<O: Output>(output: &mut O, refusal: &Refusal) -> Result<(),
             let pieces: [&[u8]; 3] = [b"fault 36 toolarge ", number, b"\n"];
             write_line(output, &pieces)
         }
+        Refusal::TooMany => write_text(output, b"fault 37 toomany\n"),
+        Refusal::HasCalls => write_text(output, b"fault 14 notes unknown call\n"),
     }
 }
 
