@@ -127,10 +127,11 @@ fn product_of_flow(accepted: &AcceptedFlow<'_>, marks: &[Mark]) -> u128
 ///
 /// # Errors
 ///
-/// Those of [`accept`](drum_flow::accept), except that [`Refusal::TooLarge`] comes last, and only
-/// where the nodes of the flow graph, times the longest step from one with the next search, times
-/// one more than all passes of marks that a walk can have, are 2^127 or more; it has the product of
-/// executed words and counts, or 2^127 where that is more.
+/// Those of [`accept`](drum_flow::accept) but [`Refusal::HasCalls`], except that
+/// [`Refusal::TooLarge`] comes last, and only where the nodes of the flow graph, times the longest
+/// step from one with the next search, times one more than all passes of marks that a walk can
+/// have, are 2^127 or more; it has the product of executed words and counts, or 2^127 where that is
+/// more.
 pub fn ceiling(alloc: Global, deck: &Deck, times: &Times, notes: &Notes) -> Result<Ceiling, Refusal>
     ensures given { IfOk result (IsCeilingOf deck.now times.now notes.now) }
     ensures refused { IfErr result (IsCeilingRefusal deck.now times.now notes.now) }
