@@ -39,7 +39,7 @@ use Rattle.drum_loops.specs.Loops.{AreClosing}
 use Rattle.drum_documents.specs.declared.documents.Documents.{Documents}
 use Rattle.drum_documents.specs.Documents.{Say, Texts, setting_of}
 use Rattle.drum_documents.specs.Limits.{AreShort, HaveNoBound, IsAnalysisFault, IsBound, IsBracket}
-use Rattle.drum_documents.specs.Limits.{IsCeilingFault, IsWorstWalk}
+use Rattle.drum_documents.specs.Limits.{IsCeilingFault, IsDiscoveryFault, IsWorstWalk}
 use Rattle.drum_toml.specs.declared.notes.notes_read.NotesRead.TheVariants.{Long}
 
 -- ---- what is said
@@ -215,7 +215,7 @@ Says Draw = ByEither SaysPicture SaysPictureInRounds
 Says Ceiling = SaysCeiling
 
 -- why nothing is said of them: the deck with its notes is refused; of the flow graph and its
--- outline, which any deck has, that the program is out of memory, and nothing else
+-- outline, which any deck has, that there are too many nodes, or no memory
 abbrev pub Refuses : Question → Documents → Fault → Type 0
 Refuses Bound = IsAnalysisFault
 Refuses Report = IsAnalysisFault
@@ -223,8 +223,8 @@ Refuses Walk = IsCeilingFault
 Refuses Waits = IsCeilingFault
 Refuses Table = IsAnalysisFault
 Refuses Size = IsAnalysisFault
-Refuses Graph = λ documents. IsWanting
-Refuses Outline = λ documents. IsWanting
+Refuses Graph = IsDiscoveryFault
+Refuses Outline = IsDiscoveryFault
 Refuses Draw = IsCeilingFault
 Refuses Ceiling = IsCeilingFault
 
@@ -248,3 +248,9 @@ SaysCheck files texts inputs reply =
     ((lines : List ℕ) × (lines ≢ []) × AreLinesOfFaults files texts inputs lines
     × (reply ≡ lists lines))
     ⊎ ((documents : Documents) × Say Long texts documents × SaysFindings documents reply)
+
+-- why nothing is said of them: that the program is out of memory; or of the deck that they say, that
+-- there are too many nodes
+abbrev pub RefusesCheck : Texts → Fault → Type 0
+RefusesCheck texts fault = IsWanting fault
+    ⊎ ((documents : Documents) × Say Long texts documents × IsDiscoveryFault documents fault)

@@ -2,10 +2,9 @@
 
 ghost use Rattle.std.specs.Prelude.{◌≡◌, ◌^◌, ◌≤◌, IfOk, IfErr};
 ghost use Rattle.drum_documents.specs.Limits.{HaveNoBound, IsAnalysisFault, IsBracket};
-ghost use Rattle.drum_documents.specs.Limits.{IsCeilingFault};
+ghost use Rattle.drum_documents.specs.Limits.{IsCeilingFault, IsDiscoveryFault};
 ghost use Rattle.drum_lines.specs.Does.{Does};
 ghost use Rattle.drum_lines.specs.Output.{Device, device};
-ghost use Rattle.drum_lines.specs.FaultStatus.{IsWanting};
 ghost use Rattle.drum_answers.specs.Basis.{IsBasis};
 ghost use Rattle.drum_answers.specs.declared.basis.Basis.TheVariants as bases;
 ghost use Rattle.drum_answers.specs.Says.{ByEither, Refuses, Says, SaysBound};
@@ -180,7 +179,8 @@ fn say_size<O: Output>(alloc: Global, documents: &Documents, out: &mut O) -> Res
 /// Writes the flow graph.
 fn say_graph<O: Output>(alloc: Global, documents: &Documents, out: &mut O) -> Result<Status, Fault>
     requires { O.called out.old ≤ 2 ^ 62 }
-    ensures does { (err : Device) → Does (SaysGraph documents.now) IsWanting
+    ensures does { (err : Device) → Does (SaysGraph documents.now)
+        (IsDiscoveryFault documents.now)
         (device (O.written out.old) (O.failed out.old))
         (device (O.written out.new) (O.failed out.new)) err err result }
     ensures spared { IfErr result (λ _. out.new ≡ out.old) }
@@ -196,7 +196,8 @@ fn say_outline<O: Output>(
     out: &mut O,
 ) -> Result<Status, Fault>
     requires { O.called out.old ≤ 2 ^ 62 }
-    ensures does { (err : Device) → Does (SaysOutline documents.now) IsWanting
+    ensures does { (err : Device) → Does (SaysOutline documents.now)
+        (IsDiscoveryFault documents.now)
         (device (O.written out.old) (O.failed out.old))
         (device (O.written out.new) (O.failed out.new)) err err result }
     ensures spared { IfErr result (λ _. out.new ≡ out.old) }

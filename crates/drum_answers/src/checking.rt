@@ -12,7 +12,8 @@ ghost use Rattle.drum_toml.specs.declared.notes.notes_read.NotesRead.TheVariants
 ghost use Rattle.drum_answers.specs.Checked.{AreLacking, IsChecked, IsMemoryOfText, IsShort};
 ghost use Rattle.drum_documents.specs.TextsOf.{inputs_in, texts_in};
 ghost use Rattle.drum_documents.specs.Asked.{name_in};
-ghost use Rattle.drum_answers.specs.Says.{AreLinesOfFaults};
+ghost use Rattle.drum_answers.specs.Says.{AreLinesOfFaults, RefusesCheck};
+ghost use Rattle.drum_documents.specs.Limits.{IsDiscoveryFault};
 ghost use Rattle.drum_lines.specs.FaultStatus.{IsWanting};
 
 use drum_check::{Findings, Lacking};
@@ -21,7 +22,6 @@ use drum_core::laws::not_refused;
 use drum_documents::{Documents, Texts};
 use drum_faults::laws::sound_where_none;
 use drum_faults::{NamedText, fault_lines};
-use drum_flow::Refusal;
 use drum_lines::Fault;
 use drum_toml::NotesRead;
 use drum_toml::laws::{says_long_notes, says_times};
@@ -85,7 +85,7 @@ fn findings_of(alloc: Global, documents: &Documents) -> Result<(Findings, Lackin
         ≡ are_long documents.now.notes (found_in checked.0)) }
     ensures lacking { IfOk result (λ checked.
         words_in checked.1 ≡ words_altered (found_in checked.0)) }
-    ensures wanting { IfErr result (λ fault. fault ≡ Fault.Refused Refusal.Memory) }
+    ensures refused { IfErr result (IsDiscoveryFault documents.now) }
 {
     let findings = Findings::of(alloc, &documents.deck, &documents.notes)?;
     let lacking = Lacking::of(alloc, &findings)?;
@@ -128,7 +128,8 @@ fn sound_documents(
 ///
 /// # Errors
 ///
-/// Where the program is out of memory.
+/// Where the program is out of memory; or where there are too many nodes
+/// ([`Refusal::TooMany`](drum_flow::Refusal::TooMany)).
 pub fn check(
     alloc: Global,
     files: Files<'_>,
@@ -139,7 +140,7 @@ pub fn check(
         (IsChecked files.entry (texts_in texts.now) (option_map named inputs.entry)) }
     ensures lacking { IfOk result AreLacking }
     ensures short { IfOk result IsShort }
-    ensures wanting { IfErr result IsWanting }
+    ensures refused { IfErr result (RefusesCheck (texts_in texts.now)) }
 {
     let lines = lines_of(alloc, files, texts, inputs)?;
     if !lines.is_empty() {

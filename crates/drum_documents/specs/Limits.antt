@@ -7,6 +7,7 @@ use Rattle.drum_flow.specs.declared.refusal.Refusal.TheVariants.{TooLarge}
 use Rattle.drum_flow.specs.Acceptance.{IsAdmissionRefusal, IsRefusal}
 use Rattle.drum_flow.specs.Accepted.{IsTooLarge, product_of, told}
 use Rattle.drum_flow.specs.Executed.{IsOrder}
+use Rattle.drum_flow.specs.Refused.{IsDiscoveryRefusal}
 use Rattle.drum_times.specs.Short.{is_short}
 use Rattle.drum_bound.specs.BoundOf as of_setting
 use Rattle.drum_bound.specs.Visited.{AreLongest, Visited, IsWalkOf}
@@ -49,6 +50,11 @@ IsRefusedFor Is _ = ⊥
 abbrev pub IsAnalysisFault : Documents → Fault → Type 0
 IsAnalysisFault documents =
     IsRefusedFor (IsRefusal (loads_in documents.deck) documents.notes (start_in documents.deck))
+
+-- why their flow graph isn't drawn, nor looked at: it has too many nodes, or there is no memory
+abbrev pub IsDiscoveryFault : Documents → Fault → Type 0
+IsDiscoveryFault documents = IsRefusedFor
+    (IsDiscoveryRefusal (loads_in documents.deck) documents.notes (start_in documents.deck))
 
 -- why they have no ceiling: the deck with its notes is refused, but for its size; or what no
 -- ceiling is above is 2 ^ 127 or more

@@ -9,7 +9,7 @@ use crate::documents::Documents;
 use drum_bound::{Refusal, bound};
 use drum_ceiling::{Ceiling, ceiling};
 use drum_flow::counts::product_of;
-use drum_flow::discover;
+use drum_flow::rediscover;
 use drum_lines::{Fault, Limit};
 use drum_rounds::{Bracket, reached};
 use std::alloc::Global;
@@ -98,6 +98,6 @@ fn product(alloc: Global, documents: &Documents) -> Result<u128, Fault>
     ensures product { IfOk result (IsProduct documents.now) }
     ensures memory { IfErr result (λ fault. fault ≡ Fault.Refused Refusal.Memory) }
 {
-    let flow = discover(alloc, &documents.deck, &documents.notes)?;
+    let flow = rediscover(alloc, &documents.deck, &documents.notes)?;
     Ok(product_of(flow.executed().len(), documents.notes.marks()))
 }

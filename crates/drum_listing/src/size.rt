@@ -8,7 +8,7 @@ ghost use Rattle.drum_listing.specs.SizeText.{hops_among, size_text};
 
 use drum_bound::Analysis;
 use drum_core::{Deck, Location};
-use drum_flow::{Flow, discover};
+use drum_flow::{Flow, rediscover};
 use drum_times::Notes;
 use itoa::Buffer;
 use std::alloc::{AllocError, Global};
@@ -86,7 +86,7 @@ impl Size {
         ensures { IfOk result (IsSizeOf (loads_in deck.now) notes.now (start_in deck.now)
             analysis.now) }
     {
-        let flow = discover(alloc, deck, notes)?;
+        let flow = rediscover(alloc, deck, notes)?;
         Ok(Size {
             words: flow.executed().len() as u64,
             hops: hops_of(&flow),

@@ -4,7 +4,7 @@ use crate::operations::Operations;
 use crate::parts::data_of;
 use drum_bound::Visit;
 use drum_core::{Deck, Instruction, Location};
-use drum_flow::discover;
+use drum_flow::rediscover;
 use drum_times::Notes;
 use std::alloc::{AllocError, Global};
 
@@ -111,7 +111,7 @@ impl Tallies {
         deck: &Deck,
         notes: &Notes,
     ) -> Result<(), AllocError> {
-        let flow = discover(alloc, deck, notes)?;
+        let flow = rediscover(alloc, deck, notes)?;
         for location in flow.executed() {
             self.note_executed(*location);
         }

@@ -1,6 +1,6 @@
 -- Faults of no file: the refusal of a deck with its notes, that of a run, and lack of memory. None
 -- of them says that a read failed.
-use Rattle.std.proofs.Common.{◌≡◌, ℕ, None, Result, Ok, Err, IfErr, refl}
+use Rattle.std.proofs.Common.{◌≡◌, ℕ, None, Result, Ok, Err, IfErr, inl, inr, refl}
 use Rattle.drum_command.specs.declared.command.Question.{Question}
 use Rattle.drum_command.specs.declared.command.Question.TheVariants.{Bound, Report, Walk, Waits, Table, Size, Graph, Outline, Draw, Ceiling}
 use Rattle.drum_flow.specs.declared.refusal.Refusal.{Refusal}
@@ -14,11 +14,11 @@ use Rattle.drum_lines.specs.FaultStatus.{failed_by}
 use Rattle.drum_documents.specs.declared.documents.Documents.{Documents}
 use Rattle.drum_documents.specs.Asked.{part_of}
 use Rattle.drum_documents.specs.Limits.{IsLimit, IsLimitRefusal, IsRefusedFor}
-use Rattle.drum_documents.specs.Documents.{setting_of}
+use Rattle.drum_documents.specs.Documents.{setting_of, Texts}
 use Rattle.drum_tool.specs.DoesCommand.{IsOfNoFile}
 use Rattle.drum_replay.specs.Replay.{Given, IsReplayFault, IsRunFault, IsTraceFault}
 use Rattle.drum_lines.specs.FaultStatus.{IsWanting}
-use Rattle.drum_answers.specs.Says.{Refuses}
+use Rattle.drum_answers.specs.Says.{Refuses, RefusesCheck}
 
 pub refused_of_none : (Is : Refusal → Type 0) (fault : Fault) → IsRefusedFor Is fault → IsOfNoFile fault
 refused_of_none Is (faults.Refused refusal) is = record { part = refl; reads = refl }
@@ -31,7 +31,7 @@ refused_of_none Is (faults.Notes fault) is = absurd is
 refused_of_none Is (faults.Inputs fault) is = absurd is
 refused_of_none Is (faults.Loaded location) is = absurd is
 
-pub wanting_of_none : (fault : Fault) → IsWanting fault → IsOfNoFile fault
+wanting_of_none : (fault : Fault) → IsWanting fault → IsOfNoFile fault
 wanting_of_none (faults.Refused refusal) is = record { part = refl; reads = refl }
 wanting_of_none faults.NoPart is = absurd is
 wanting_of_none (faults.Part part what) is = absurd is
@@ -41,6 +41,10 @@ wanting_of_none (faults.Times fault) is = absurd is
 wanting_of_none (faults.Notes fault) is = absurd is
 wanting_of_none (faults.Inputs fault) is = absurd is
 wanting_of_none (faults.Loaded location) is = absurd is
+
+pub check_of_none : (texts : Texts) (fault : Fault) → RefusesCheck texts fault → IsOfNoFile fault
+check_of_none texts fault (inl is) = wanting_of_none fault is
+check_of_none texts fault (inr is) = refused_of_none _ fault is.2
 
 run_of_none : (g : Setting) (given : Given) (Refuses : Refusal → Type 0) (IsLimited : Type 0) (fault : Fault)
     → IsRunFault g given Refuses IsLimited fault → IsOfNoFile fault
@@ -72,8 +76,8 @@ question_of_none Walk documents fault is = refused_of_none _ fault is
 question_of_none Waits documents fault is = refused_of_none _ fault is
 question_of_none Table documents fault is = refused_of_none _ fault is
 question_of_none Size documents fault is = refused_of_none _ fault is
-question_of_none Graph documents fault is = wanting_of_none fault is
-question_of_none Outline documents fault is = wanting_of_none fault is
+question_of_none Graph documents fault is = refused_of_none _ fault is
+question_of_none Outline documents fault is = refused_of_none _ fault is
 question_of_none Draw documents fault is = refused_of_none _ fault is
 question_of_none Ceiling documents fault is = refused_of_none _ fault is
 

@@ -108,6 +108,8 @@ after_refusal_fault (refusal.NotLoaded location) = inl refl
 after_refusal_fault (refusal.Alters writer word) = inl refl
 after_refusal_fault (refusal.Unbounded cycle) = inl refl
 after_refusal_fault (refusal.TooLarge product) = inl refl
+after_refusal_fault refusal.TooMany = inl refl
+after_refusal_fault refusal.HasCalls = inl refl
 
 after_fault : (fault : Fault) → IsBad (status_after fault)
 after_fault faults.NoPart = inl refl

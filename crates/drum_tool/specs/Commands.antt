@@ -22,8 +22,7 @@ use Rattle.drum_documents.specs.TextsHeld.{AreNoneHeld, AreTextsHeld, IsInputsTe
 use Rattle.drum_replay.specs.Given.{given}
 use Rattle.drum_documents.specs.Limits.{IsAnalysisFault}
 use Rattle.drum_replay.specs.Replay.{Given, IsReplayFault, IsTraceFault}
-use Rattle.drum_lines.specs.FaultStatus.{IsWanting}
-use Rattle.drum_answers.specs.Says.{Refuses, Says, SaysBound, SaysCheck}
+use Rattle.drum_answers.specs.Says.{Refuses, RefusesCheck, Says, SaysBound, SaysCheck}
 use Rattle.drum_lines.specs.Reply.{Reply}
 use Rattle.drum_replay.specs.RunReply.{SaysRunPicture, SaysTrace, SaysVerdict}
 use Rattle.drum_lines.specs.Reply.{fault_reply}
@@ -61,7 +60,7 @@ abbrev pub AnswersCheck : Held → Files → Option (List ℕ) → ℕ → Reply
 AnswersCheck held files name =
     Replies {A = Texts × Option printed.Named}
     (λ read. AreTextsHeld held read.0 × IsInputsText held name read.1) (AreNoneHeld held name)
-    (λ read. SaysCheck files read.0 read.1) (λ read. IsWanting)
+    (λ read. SaysCheck files read.0 read.1) (λ read. RefusesCheck read.0)
 
 -- To a command that lets the deck run: of the documents, where such notes are read, and the inputs,
 -- what it says of the run that the inputs fix.

@@ -19,7 +19,7 @@ use Rattle.drum_lines.specs.Reply.{lists}
 use Rattle.drum_documents.specs.TextsHeld.{IsInputsText}
 use Rattle.drum_lines.proofs.NoLine.{no_line, no_line_of_lists}
 use Rattle.drum_tool.proofs.Looking.{of_file, of_none}
-use Rattle.drum_tool.proofs.OfNoFile.{wanting_of_none}
+use Rattle.drum_tool.proofs.OfNoFile.{check_of_none}
 use Rattle.drum_tool.proofs.commands.check_files.Goals as goal
 
 pub returns-in_err-texts-clause-does : goal.returns-in_err-texts-clause-does
@@ -36,7 +36,7 @@ returns-in_err-checked-clause-does g c =
     let read : Texts × Option Named = (texts_in c.in_ok-texts.texts, inputs_in name (option_map (λ bytes. bytes.items) c.in_ok-texts.inputs)) in
     rw (p.1, p.2) (λ held told. inr (
       c.in_err-checked.field-0.0,
-      inr (read, (texts.texts held told, texts.inputs held told), c.in_err-checked.ensures.wanting),
+      inr (read, (texts.texts held told, texts.inputs held told), c.in_err-checked.ensures.refused),
       refl,
       refl,
     ))
@@ -94,12 +94,12 @@ returns-in_err-texts-clause-asked g c =
 pub returns-in_err-checked-clause-asked : goal.returns-in_err-checked-clause-asked
 returns-in_err-checked-clause-asked g c =
     let p = err_from_is_err_and c.from_residual-in_err-checked.result c.from_residual-in_err-checked.ensures.1 in
-    let of = wanting_of_none c.in_err-checked.field-0.0 c.in_err-checked.ensures.wanting in
+    let of = check_of_none (texts_in c.in_ok-texts.texts) c.in_err-checked.field-0.0 c.in_err-checked.ensures.refused in
     rw (p.1, p.2) (of_none (named_with c.args.files (name_in c.args.name)) (g.S.Source.asked c.args.source.now)
     (g.S.Source.asked c.texts_with_inputs.new.source) c.in_err-checked.field-0.0 of.part c.in_ok-texts.ensures.asked)
 
 pub returns-in_err-checked-clause-counted : goal.returns-in_err-checked-clause-counted
 returns-in_err-checked-clause-counted g c =
     let p = err_from_is_err_and c.from_residual-in_err-checked.result c.from_residual-in_err-checked.ensures.1 in
-    let of = wanting_of_none c.in_err-checked.field-0.0 c.in_err-checked.ensures.wanting in
+    let of = check_of_none (texts_in c.in_ok-texts.texts) c.in_err-checked.field-0.0 c.in_err-checked.ensures.refused in
     rw (p.1, p.2) (omega (arith, c.in_ok-texts.ensures.counted, of.reads))
