@@ -10,7 +10,8 @@ use Rattle.drum_core.specs.Location.{is_location}
 use Rattle.drum_toml.specs.declared.document.value.ValueFault.{ValueFault}
 use Rattle.drum_times.specs.declared.fault.NoteFault.{NoteFault}
 use Rattle.drum_toml.specs.declared.times.read_entry.Form.{Form}
-use Rattle.drum_toml.specs.AllFaults.{Adds, location_of, location_in, locations_at}
+use Rattle.drum_toml.specs.AllFaults.{Adds}
+use Rattle.drum_toml.specs.Document.{location_of, location_in, locations_at}
 use Rattle.drum_toml.specs.Document.{Fault, kind, missing, range, unknown_in, missing_in, at_key, array_faults}
 use Rattle.drum_toml.specs.Document.{element_faults, number_faults, is_among, text}
 use Rattle.drum_toml.specs.TimesDocument.{key_of, keys_of, form_of, entry_faults, plain_faults, rest_faults}

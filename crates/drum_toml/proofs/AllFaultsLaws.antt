@@ -9,7 +9,8 @@ use Rattle.drum_times.specs.declared.entry.Entry.{Entry}
 use Rattle.drum_times.specs.declared.fault.NoteFault.{NoteFault}
 use Rattle.drum_times.specs.declared.fault.NoteFault.TheVariants.{Toml, Memory, Missing, Unknown, Range, Kind, TwoMarks}
 use Rattle.drum_times.specs.declared.fault.NoteFault.TheVariants.{TwoLists}
-use Rattle.drum_toml.specs.AllFaults.{Tells, TellEach, AreAllFaults, location_in, locations_at}
+use Rattle.drum_toml.specs.AllFaults.{Tells, TellEach, AreAllFaults}
+use Rattle.drum_toml.specs.Document.{location_in, locations_at}
 use Rattle.drum_toml.specs.Document.{Fault, in_turn, range, is_count, count_of, array_faults}
 use Rattle.drum_toml.specs.Document.{elements_faults, number_at}
 use Rattle.drum_toml.specs.NotesDocument as said
@@ -73,7 +74,7 @@ none_of_times bytes all = let none = nothing_told times_faults bytes all in
     (none.0, none.1, times_said none.0 none.2)
 
 -- a location that a table has is its one at the key
-location_found : (key : List ℕ) (fields : Members) (n : ℕ) → HasNumber fields key n → is_location n ≡ true
+pub location_found : (key : List ℕ) (fields : Members) (n : ℕ) → HasNumber fields key n → is_location n ≡ true
     → locations_at key fields ≡ n ∷ []
 location_found key fields n has is = ap location_in has ∙ ap (λ (b : Bool). cond b (n ∷ []) []) is
 

@@ -66,7 +66,7 @@ none_said : (check : Data → List Fault) (found : Option Data) (value : Data) �
     → said_of check found ≡ [] → check value ≡ []
 none_said check found value is none = ap (said_of check) (sym is) ∙ none
 
-number_there : (at key : List ℕ) (fields : Members) (holds : ℕ → Bool) (value : Data)
+pub number_there : (at key : List ℕ) (fields : Members) (holds : ℕ → Bool) (value : Data)
     → get_member key fields ≡ Some value → said_of (number_faults (at ++ key) holds) (get_member key fields) ≡ []
     → (n : ℕ) × HasNumber fields key n × (holds n ≡ true)
 number_there at key fields holds value has none =

@@ -1,6 +1,9 @@
 mod Added
 mod Adding
 mod AllFaultsLaws
+mod CallChecks
+mod CallsSaid
+mod CallsSound
 mod Choices
 mod EdgeValues
 mod EntryFaults

@@ -10,6 +10,7 @@ use Rattle.drum_times.specs.declared.notes.programmed.Programmed.TheVariants.{St
 use Rattle.drum_times.specs.Allowed.{Notes}
 use Rattle.drum_times.specs.Marks.{edges_of}
 use Rattle.drum_times.specs.Names.{is_name}
+use Rattle.drum_toml.specs.Calls.{IsCall, call_faults}
 use Rattle.drum_toml.specs.Document.{range, at_key, count_of, is_count, is_among, missing_in}
 use Rattle.drum_toml.specs.LongNotes.{AreEdges, HasEdges, HasName, IsEdgeValue, IsLongMark, IsLongNotes, StandsIn}
 use Rattle.drum_toml.specs.LongNotes.{edge_checks, edge_value_faults, edges_faults, is_name_of, is_named, listed_edge_faults}
@@ -17,6 +18,8 @@ use Rattle.drum_toml.specs.LongNotes.{lists_edges, long_mark_checks, long_mark_f
 use Rattle.drum_toml.specs.LongNotes.{long_notes_faults, name_faults, names_in, outer_faults, wanted_keys}
 use Rattle.drum_toml.specs.NotesDocument as said
 use Rattle.drum_toml.proofs.Added.{key_some}
+use Rattle.drum_toml.proofs.CallsSaid.{call_said}
+use Rattle.drum_toml.proofs.CallsSound.{own_exits}
 use Rattle.drum_toml.proofs.Faultless.{each_none, number_said, text_there, value_there, whole_there}
 use Rattle.drum_toml.proofs.LongSaid.{edges_counted}
 use Rattle.drum_toml.proofs.LongSound.{long_edges_same, long_nested}
@@ -291,25 +294,28 @@ long_notes_said D none =
     let marks = array_said (IsLongMark D) (λ _. Unit {0}) (long_mark_faults D) (long_mark_said D) 0 (Some 64)
     (codes "mark") (get_member (codes "mark") D) each.1.1.1.1.0 in
     let lists = array_said (λ place fields listed. said.IsListed fields listed) IsFine said.list_faults list_said 0 None
-    (codes "list") (get_member (codes "list") D) each.1.1.1.1.1.0 in (
-      record { programmed = programmed.0; load_cards = load_cards.0; marks = marks.0; lists = lists.0; calls = [] },
+    (codes "list") (get_member (codes "list") D) each.1.1.1.1.1.0 in
+    let calls = array_said (IsCall D) (λ _. Unit {0}) (call_faults D) (call_said D) 0 (Some 64)
+    (codes "call") (get_member (codes "call") D) each.1.1.1.1.1.1.0 in (
+      record { programmed = programmed.0; load_cards = load_cards.0; marks = marks.0; lists = lists.0; calls = calls.0 },
       record {
         only = each.0;
         programmed = programmed.1;
         load_cards = load_cards.1;
         marks = marks.1;
         lists = lists.1;
+        calls = calls.1;
         sound = record {
           few_marks = few_found (IsLongMark D) 64 (get_member (codes "mark") D) marks.0 marks.1 marks.2;
           own_edges = own_edges [] (flat_map edges_of marks.0) (ap (said.edge_faults [])
-              (sym (long_edges_same D D marks.0 marks.1)) ∙ each.1.1.1.1.1.1.0);
+              (sym (long_edges_same D D marks.0 marks.1)) ∙ each.1.1.1.1.1.1.1.0);
           nested = long_nested D D marks.0 marks.1;
           own_locations = own_locations [] lists.0 (ap (said.location_faults []) (sym (places_same D lists.0 lists.1))
-              ∙ each.1.1.1.1.1.1.1.0);
+              ∙ each.1.1.1.1.1.1.1.1.0);
           locations = fine_places lists.0 lists.3;
           patterns = fine_patterns lists.0 lists.3;
-          few_calls = omega arith;
-          without_calls = refl;
+          few_calls = few_found (IsCall D) 64 (get_member (codes "call") D) calls.0 calls.1 calls.2;
+          own_exits = own_exits D calls.0 calls.1;
         };
       },
     )

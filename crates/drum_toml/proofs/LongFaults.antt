@@ -48,15 +48,15 @@ pub those_where : (document : Members) → mark_tables_faults document ≡ []
 those_where document none = ap (edges_where document) none
 
 abbrev long_values_of : Members → List Fault
-long_values_of D = in_turn (take 6 (long_notes_checks D))
+long_values_of D = in_turn (take 7 (long_notes_checks D))
 
-long_split : (D : Members) → long_notes_faults D ≡ long_values_of D ++ in_turn (drop 6 (long_notes_checks D))
-long_split D = in_turn_append (take 6 (long_notes_checks D)) (drop 6 (long_notes_checks D))
+long_split : (D : Members) → long_notes_faults D ≡ long_values_of D ++ in_turn (drop 7 (long_notes_checks D))
+long_split D = in_turn_append (take 7 (long_notes_checks D)) (drop 7 (long_notes_checks D))
 
 -- where no value by itself has a fault, the faults are those of the first
 same_long_faults : (D : Members) → long_values_of D ≡ [] → all_long_faults D ≡ long_notes_faults D
 same_long_faults D none =
-    let each = each_none (take 6 (long_notes_checks D)) none in
+    let each = each_none (take 7 (long_notes_checks D)) none in
     let edges = those_where D each.1.1.1.1.0 in
     let places = lists_same (codes "list") (get_member (codes "list") D) each.1.1.1.1.1.0 in
     append_assoc (long_values_of D) (repeated_edges D) (repeated_locations D)
@@ -69,7 +69,7 @@ same_long_faults D none =
 long_alike : (D : Members) (one : Fault) → Begin (all_long_faults D) one → Begin (long_notes_faults D) one
 long_alike D one begin =
     begin_alike (long_values_of D) (repeated_edges D) (repeated_locations D)
-    (in_turn (drop 6 (long_notes_checks D))) (long_notes_faults D) one (long_split D) (same_long_faults D) begin
+    (in_turn (drop 7 (long_notes_checks D))) (long_notes_faults D) one (long_split D) (same_long_faults D) begin
 
 pub first_of_long : (bytes : List ℕ) (fault : NoteFault) (others : List NoteFault)
     → AreAllFaults all_long_faults bytes (fault ∷ others) → IsRefused long_notes_faults bytes fault

@@ -8,6 +8,7 @@ use Rattle.drum_core.specs.Location.{is_location}
 use Rattle.drum_times.specs.declared.notes.mark.Mark.{Mark}
 use Rattle.drum_times.specs.Allowed.{Notes}
 use Rattle.drum_times.specs.Marks.{edges_of}
+use Rattle.drum_toml.specs.Calls.{IsCall, call_faults}
 use Rattle.drum_toml.specs.Document.{range, number_faults, at_key, count_of, is_count, missing_in, location}
 use Rattle.drum_toml.specs.LongNotes.{AreEdges, HasEdges, HasName, IsEdgeValue, IsLongMark, IsLongNotes, IsOuter, StandsIn}
 use Rattle.drum_toml.specs.LongNotes.{edge_checks, edge_value_faults, edges_faults, is_name_of, is_named, listed_edge_faults}
@@ -16,6 +17,7 @@ use Rattle.drum_toml.specs.LongNotes.{name_faults, names_in, outer_faults, wante
 use Rattle.drum_toml.specs.NotesDocument as said
 use Rattle.drum_toml.specs.TimesDocument.{HasNumber}
 use Rattle.drum_toml.proofs.Added.{key_none, key_some}
+use Rattle.drum_toml.proofs.CallsSaid.{call_right}
 use Rattle.drum_toml.proofs.LongChecks.{none_wrong}
 use Rattle.drum_toml.proofs.LongSound.{long_edges_same}
 use Rattle.drum_toml.proofs.NotesFaults.{either_true, is_location_true, none_in}
@@ -163,13 +165,19 @@ long_right D notes is =
                     (fine_lists notes.lists is.sound.locations is.sound.patterns)
                     (le-leb 0 (length notes.lists) (omega arith)) is.lists,
                 (
-                  ap (said.edge_faults []) (long_edges_same D D notes.marks is.marks)
-                      ∙ edges_right [] (flat_map edges_of notes.marks) (none_earlier (flat_map edges_of notes.marks))
-                      is.sound.own_edges,
+                  tables_right (IsCall D) (λ _. Unit {0}) (call_faults D)
+                      (λ place at fields call fine says. call_right D place at fields call says) 0 (Some 64) []
+                      (codes "call") D notes.calls (all_fine notes.calls)
+                      (upto (length notes.calls) is.sound.few_calls) is.calls,
                   (
-                    ap (said.location_faults []) (places_same D notes.lists is.lists)
-                        ∙ locations_right [] notes.lists (none_before_them notes.lists) is.sound.own_locations,
-                    tt,
+                    ap (said.edge_faults []) (long_edges_same D D notes.marks is.marks)
+                        ∙ edges_right [] (flat_map edges_of notes.marks)
+                        (none_earlier (flat_map edges_of notes.marks)) is.sound.own_edges,
+                    (
+                      ap (said.location_faults []) (places_same D notes.lists is.lists)
+                          ∙ locations_right [] notes.lists (none_before_them notes.lists) is.sound.own_locations,
+                      tt,
+                    ),
                   ),
                 ),
               ),

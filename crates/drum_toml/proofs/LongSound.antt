@@ -13,8 +13,10 @@ use Rattle.drum_times.specs.Marks.{edges_of}
 use Rattle.drum_toml.specs.declared.notes.long_mark.LongMark.{LongMark}
 use Rattle.drum_toml.specs.LongNotes.{AreEdges, HasEdges, IsLongMark, StandsIn, edge_of_value, edges_by, edges_found}
 use Rattle.drum_toml.specs.LongNotes.{edges_listed, edges_said, lists_edges, names_in}
+use Rattle.drum_toml.specs.Calls.{IsCall}
 use Rattle.drum_toml.specs.Document.{is_count}
 use Rattle.drum_toml.specs.NotesDocument as said
+use Rattle.drum_toml.proofs.CallsSound.{own_exits}
 use Rattle.drum_toml.proofs.NotesLaws.{number_is, pair_is}
 use Rattle.drum_toml.proofs.NotesSound.{few_found, on_locations, own_edges, own_places, some_patterns}
 use Rattle.toml.specs.Data.{Data, array, table, Items, no_items, item, Members, get_member}
@@ -116,16 +118,17 @@ pub sound_long : (document : Members) (programmed : Programmed) (load_cards : Bo
     (lists : List Listing) → said.HasTables (IsLongMark document) document (codes "mark") marks → length marks ≤ 64
     → said.edge_faults [] (flat_map edges_of marks) ≡ []
     → said.location_faults [] (map (λ list. list.location.number) lists) ≡ []
-    → (calls : List Call) → calls ≡ [] → AreSound (notes_of programmed load_cards marks lists calls)
-sound_long document programmed load_cards marks lists has few no_edge no_location calls none = record {
+    → (calls : List Call) → said.HasTables (IsCall document) document (codes "call") calls → length calls ≤ 64
+    → AreSound (notes_of programmed load_cards marks lists calls)
+sound_long document programmed load_cards marks lists has few no_edge no_location calls called few_called = record {
   few_marks = few;
   own_edges = own_edges [] (flat_map edges_of marks) no_edge;
   nested = long_nested document document marks has;
   own_locations = own_places lists no_location;
   locations = on_locations lists;
   patterns = some_patterns lists;
-  few_calls = omega (arith, ap length none);
-  without_calls = none;
+  few_calls = few_called;
+  own_exits = own_exits document calls called;
 }
 
 -- the same of marks as they were read
@@ -136,8 +139,10 @@ pub sound_marks : (document : Members) (programmed : Programmed) (load_cards : B
     → marks ≡ map mark_in longs
     → said.edge_faults [] (flat_map edges_of marks) ≡ []
     → said.location_faults [] (map (λ list. list.location.number) lists) ≡ []
-    → (calls : List Call) → calls ≡ [] → AreSound (notes_of programmed load_cards marks lists calls)
-sound_marks document programmed load_cards longs marks lists has count are no_edge no_location calls none =
+    → (calls : List Call) → said.HasTables (IsCall document) document (codes "call") calls
+    → (IsSome (get_member (codes "call") document) → is_count 0 (Some 64) (length calls) ≡ true)
+    → AreSound (notes_of programmed load_cards marks lists calls)
+sound_marks document programmed load_cards longs marks lists has count are no_edge no_location calls called calls_count =
     sound_long document programmed load_cards marks lists
     (subst (said.HasTables (IsLongMark document) document (codes "mark")) (sym are) (long_said document document longs has))
     (omega (
@@ -146,4 +151,5 @@ sound_marks document programmed load_cards longs marks lists has count are no_ed
       length-map longs mark_in,
       few_found (SaysLong document) 64 (get_member (codes "mark") document) longs has count,
     ))
-    no_edge no_location calls none
+    no_edge no_location calls called
+    (few_found (IsCall document) 64 (get_member (codes "call") document) calls called calls_count)

@@ -9,6 +9,7 @@ use Rattle.std.proofs.lemmas.Map.Text.{is_eq-slice_cmp}
 use Rattle.std.proofs.lemmas.Slice.Eq.{bytes_eq-Decides}
 use Rattle.drum_toml.specs.LongNotes.{is_name_of, is_named, name_said, names_said}
 use Rattle.toml.proofs.Views.{items_view-drop}
+use Rattle.toml.specs.Data.{Data, Items, no_items, item}
 use Rattle.toml.specs.View.{view, items_view}
 use Rattle.toml.specs.declared.value.Value.{Value}
 
@@ -62,28 +63,33 @@ named_there vs place v name says within is same holds =
     ∙ ap (λ (one : Value). Some (name_said (view one))) (sym is)
     ∙ ap (λ (said : Option (List ℕ)). Some said) (is_that name (name_said (view v)) (sym same ∙ holds))
 
-names_length : (vs : List Value) → length (names_said (items_view vs)) ≡ length vs
-names_length [] = refl
-names_length (v ∷ vs) = ap suc (names_length vs)
+-- what elements say, one after the other, of the first of them, as many as there are
+module _ {A : Type 0} (says : Data → A) (all : Items → List A) (none : all no_items ≡ [])
+    (one : (value : Data) (items : Items) → all (item value items) ≡ says value ∷ all items) where
+  said_length : (vs : List Value) → length (all (items_view vs)) ≡ length vs
+  said_length [] = ap (λ (xs : List A). length xs) none
+  said_length (v ∷ vs) =
+      ap (λ (xs : List A). length xs) (one (view v) (items_view vs)) ∙ ap suc (said_length vs)
 
-names_take : (count : ℕ) (vs : List Value)
-    → names_said (items_view (take count vs)) ≡ take count (names_said (items_view vs))
-names_take zero vs = refl
-names_take (suc count) [] = refl
-names_take (suc count) (v ∷ vs) = ap (λ (names : List (Option (List ℕ))). name_said (view v) ∷ names) (names_take count vs)
+  said_take : (count : ℕ) (vs : List Value) → all (items_view (take count vs)) ≡ take count (all (items_view vs))
+  said_take zero vs = none
+  said_take (suc count) [] = none ∙ ap (λ (xs : List A). take (suc count) xs) (sym none)
+  said_take (suc count) (v ∷ vs) =
+      one (view v) (items_view (take count vs))
+      ∙ ap (λ (xs : List A). says (view v) ∷ xs) (said_take count vs)
+      ∙ ap (λ (xs : List A). take (suc count) xs) (sym (one (view v) (items_view vs)))
 
--- the names of the first elements, as many as there are
-pub names_first : (count least : ℕ) (vs : List Value) → least ≡ min count (length vs)
-    → names_said (items_view (take least vs)) ≡ take count (names_said (items_view vs))
-names_first count least vs is = elim (cases_lt count (length vs)) [
-  | inl below ↦ ap (λ (n : ℕ). names_said (items_view (take n vs))) (is ∙ min-eq_left (omega (arith, below)))
-      ∙ names_take count vs
-  | inr past ↦
-      let whole : least ≡ length vs = is ∙ min_comm count (length vs) ∙ min-eq_left past in
-      ap (λ (n : ℕ). names_said (items_view (take n vs))) whole
-      ∙ ap (λ (ws : List Value). names_said (items_view ws)) (take_all (length vs) vs (omega arith))
-      ∙ sym (take_all count (names_said (items_view vs)) (omega (arith, names_length vs, past)))
-]
+  pub said_first : (count least : ℕ) (vs : List Value) → least ≡ min count (length vs)
+      → all (items_view (take least vs)) ≡ take count (all (items_view vs))
+  said_first count least vs is = elim (cases_lt count (length vs)) [
+    | inl below ↦ ap (λ (n : ℕ). all (items_view (take n vs))) (is ∙ min-eq_left (omega (arith, below)))
+        ∙ said_take count vs
+    | inr past ↦
+        let whole : least ≡ length vs = is ∙ min_comm count (length vs) ∙ min-eq_left past in
+        ap (λ (n : ℕ). all (items_view (take n vs))) whole
+        ∙ ap (λ (ws : List Value). all (items_view ws)) (take_all (length vs) vs (omega arith))
+        ∙ sym (take_all count (all (items_view vs)) (omega (arith, said_length vs, past)))
+  ]
 
 -- one is found where one says it
 pub found_so : (found : Option ℕ) (says is : Bool) → is ≡ is_some found → IfNone found (says ≡ false)

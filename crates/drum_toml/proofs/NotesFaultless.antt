@@ -245,6 +245,7 @@ notes_said D none =
         marks = marks.1;
         few = few_marks D marks.0 marks.1 marks.2;
         lists = lists.1;
+        without_calls = refl;
         sound = record {
           few_marks = omega (arith, few_marks D marks.0 marks.1 marks.2);
           own_edges = own_edges [] (flat_map edges_of marks.0) (ap (said.edge_faults []) (sym (edges_same D marks.0 marks.1))
@@ -255,7 +256,7 @@ notes_said D none =
           locations = fine_places lists.0 lists.3;
           patterns = fine_patterns lists.0 lists.3;
           few_calls = omega arith;
-          without_calls = refl;
+          own_exits = tt;
         };
       },
     )

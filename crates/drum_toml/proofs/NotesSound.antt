@@ -8,7 +8,7 @@ use Rattle.drum_core.specs.Location.{is_location}
 use Rattle.drum_times.specs.declared.notes.listing.Listing.{Listing}
 use Rattle.drum_times.specs.declared.notes.mark.Mark.{Mark}
 use Rattle.drum_times.specs.declared.notes.programmed.Programmed.{Programmed}
-use Rattle.drum_times.specs.Allowed.{Listed, HaveOwnLocations, IsEarlier, StandInEarlier, AreSound}
+use Rattle.drum_times.specs.Allowed.{Listed, HaveOwnExits, HaveOwnLocations, IsEarlier, StandInEarlier, AreSound}
 use Rattle.drum_times.specs.Edges.{StandOnce}
 use Rattle.drum_times.specs.Marks.{edges_of}
 use Rattle.drum_toml.specs.Document.{Fault, two_marks, two_lists, is_count}
@@ -25,7 +25,7 @@ untested true fault rest none = cc
 untested false fault rest none = refl
 
 -- and the test of one in the middle is
-in_middle : {K : Type 0} (test : K → Bool) (before : List K) (one : K) (behind : List K)
+pub in_middle : {K : Type 0} (test : K → Bool) (before : List K) (one : K) (behind : List K)
     → list_any test (before ++ one ∷ behind) ≡ false → test one ≡ false
 in_middle test [] one behind h = go (test one) h
   where
@@ -39,7 +39,7 @@ in_middle test (first ∷ before) one behind h = go (test first) h (λ rest. in_
     go true e further = cc
     go false e further = further e
 
-both_false : (a b : Bool) → a ≡ false → b ≡ false → (a || b) ≡ false
+pub both_false : (a b : Bool) → a ≡ false → b ≡ false → (a || b) ≡ false
 both_false true b p q = cc
 both_false false b p q = q
 
@@ -176,5 +176,5 @@ sound_notes fields programmed load_cards marks lists has count no_edge no_locati
   locations = on_locations lists;
   patterns = some_patterns lists;
   few_calls = omega (arith, ap length none);
-  without_calls = none;
+  own_exits = subst HaveOwnExits (sym none) tt;
 }

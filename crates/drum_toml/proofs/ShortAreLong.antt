@@ -10,10 +10,11 @@ use Rattle.std.specs.Prelude.{codes, is_some, not, pos}
 use Rattle.drum_times.specs.declared.notes.mark.Mark.{Mark}
 use Rattle.drum_times.specs.Allowed.{Notes}
 use Rattle.drum_times.specs.Marks.{edges_of}
+use Rattle.drum_toml.specs.Calls.{IsCall}
 use Rattle.drum_toml.specs.Document.{unknown, is_among, unknown_in}
 use Rattle.drum_toml.specs.LongNotes.{HasEdges, HasName, IsLongMark, IsLongNotes, StandsIn, lists_edges, long_mark_keys}
-use Rattle.drum_toml.specs.LongNotes.{names_in}
-use Rattle.drum_toml.specs.NotesDocument.{AreFound, AreTables, HasInside, IsMark, IsNotes, mark_keys}
+use Rattle.drum_toml.specs.LongNotes.{long_note_keys, names_in}
+use Rattle.drum_toml.specs.NotesDocument.{AreFound, AreTables, HasInside, IsMark, IsNotes, mark_keys, note_keys}
 use Rattle.drum_toml.proofs.Sequences.{none_behind}
 use Rattle.toml.specs.Data.{Data, integer, Items, no_items, item, Members, no_members, member, get_member, same_key}
 
@@ -24,22 +25,31 @@ one_more false false true d e among = refl
 one_more false false false true e among = refl
 one_more false false false false e among = cc
 
--- the keys of a mark with one edge are among those of long notes
-known_too : (fields : Members) → unknown_in [] mark_keys fields ≡ [] → unknown_in [] (long_mark_keys false) fields ≡ []
-known_too no_members known = refl
-known_too (member key value fields) known =
-    go (is_among key mark_keys) refl known (λ rest. known_too fields rest)
+-- where the keys of a table are among these, they are among others that have these
+known_too : (keys others : List (List ℕ)) → ((key : List ℕ) → is_among key keys ≡ true → is_among key others ≡ true)
+    → (fields : Members) → unknown_in [] keys fields ≡ [] → unknown_in [] others fields ≡ []
+known_too keys others more no_members known = refl
+known_too keys others more (member key value fields) known =
+    go (is_among key keys) refl known (λ rest. known_too keys others more fields rest)
   where
-    go : (among : Bool) → is_among key mark_keys ≡ among
-        → cond among [] (unknown key ∷ []) ++ unknown_in [] mark_keys fields ≡ []
-        → (unknown_in [] mark_keys fields ≡ [] → unknown_in [] (long_mark_keys false) fields ≡ [])
-        → unknown_in [] (long_mark_keys false) (member key value fields) ≡ []
+    go : (among : Bool) → is_among key keys ≡ among
+        → cond among [] (unknown key ∷ []) ++ unknown_in [] keys fields ≡ []
+        → (unknown_in [] keys fields ≡ [] → unknown_in [] others fields ≡ [])
+        → unknown_in [] others (member key value fields) ≡ []
     go true is h further =
-        ap (λ (b : Bool). cond b [] (unknown key ∷ []) ++ unknown_in [] (long_mark_keys false) fields)
-        (one_more (same_key (codes "from") key) (same_key (codes "to") key) (same_key (codes "most") key)
-        (same_key (codes "inside") key) (same_key (codes "name") key) is)
-        ∙ further h
+        ap (λ (b : Bool). cond b [] (unknown key ∷ []) ++ unknown_in [] others fields) (more key is) ∙ further h
     go false is h further = cc
+
+-- those of a mark with one edge, and of notes, are among those of long notes
+mark_keys_too : (key : List ℕ) → is_among key mark_keys ≡ true → is_among key (long_mark_keys false) ≡ true
+mark_keys_too key =
+    one_more (same_key (codes "from") key) (same_key (codes "to") key) (same_key (codes "most") key)
+    (same_key (codes "inside") key) (same_key (codes "name") key)
+
+note_keys_too : (key : List ℕ) → is_among key note_keys ≡ true → is_among key long_note_keys ≡ true
+note_keys_too key =
+    one_more (same_key (codes "programmed") key) (same_key (codes "load_cards") key) (same_key (codes "mark") key)
+    (same_key (codes "list") key) (same_key (codes "call") key)
 
 -- a key that isn't known isn't there
 not_there : (keys : List (List ℕ)) (key : List ℕ) (fields : Members) → is_among key keys ≡ false
@@ -78,7 +88,8 @@ mark_is_long : (document : Members) (index : ℕ) (fields : Members) (mark : Mar
     → IsLongMark document index fields mark
 mark_is_long document index fields mark is =
     let single = one_edge fields (not_there mark_keys (codes "edges") fields refl is.only) in record {
-      only = subst (λ (b : Bool). unknown_in [] (long_mark_keys b) fields ≡ []) (sym single) (known_too fields is.only);
+      only = subst (λ (b : Bool). unknown_in [] (long_mark_keys b) fields ≡ []) (sym single)
+          (known_too mark_keys (long_mark_keys false) mark_keys_too fields is.only);
       edges = subst (λ (b : Bool). HasEdges b fields (edges_of mark)) (sym single) (
         mark.from.number,
         mark.onto.number,
@@ -109,10 +120,12 @@ found_are_long document (Some value) marks (items, is, are) = (items, is, marks_
 
 pub short_are_long : (document : Members) (notes : Notes) → IsNotes document notes → IsLongNotes document notes
 short_are_long document notes is = record {
-  only = is.only;
+  only = known_too note_keys long_note_keys note_keys_too document is.only;
   programmed = is.programmed;
   load_cards = is.load_cards;
   marks = found_are_long document (get_member (codes "mark") document) notes.marks is.marks;
   lists = is.lists;
+  calls = subst (λ (found : Option Data). AreFound (IsCall document) found notes.calls)
+      (sym (not_there note_keys (codes "call") document refl is.only)) is.without_calls;
   sound = is.sound;
 }

@@ -1,17 +1,15 @@
 -- All faults of a document, where Refused has its first.
-use Rattle.std.specs.Prelude.{◌≡◌, ℕ, ◌⊎◌, if◌then◌else◌, List, [], ◌∷◌, ◌++◌, flat_map, take}
-use Rattle.std.specs.Prelude.{codes, pos, Option, Some, None, string_bytes}
-use Rattle.drum_core.specs.declared.location.Location.{Location}
-use Rattle.drum_core.specs.Location.{is_location}
+use Rattle.std.specs.Prelude.{◌≡◌, ℕ, ◌⊎◌, List, [], ◌∷◌, ◌++◌, flat_map, take}
+use Rattle.std.specs.Prelude.{codes, Some, string_bytes}
 use Rattle.drum_times.specs.declared.fault.NoteFault.{NoteFault}
 use Rattle.drum_times.specs.declared.fault.NoteFault.TheVariants.{Toml, Memory, Missing, Unknown}
 use Rattle.drum_times.specs.declared.fault.NoteFault.TheVariants.{Range, Kind, TwoMarks, TwoLists}
 use Rattle.drum_toml.specs.Document.{Fault, missing, unknown, range, kind, two_marks, two_lists}
-use Rattle.drum_toml.specs.Document.{in_turn, tables}
+use Rattle.drum_toml.specs.Document.{in_turn, locations_at, tables}
 use Rattle.drum_toml.specs.LongNotes.{edges_said, long_mark_faults, long_notes_checks}
 use Rattle.drum_toml.specs.NotesDocument.{tables_at, edge_faults, location_faults}
 use Rattle.drum_toml.specs.Refused.{IsDocument}
-use Rattle.toml.specs.Data.{Data, integer, table, Members, get_member}
+use Rattle.toml.specs.Data.{Data, table, Members}
 
 -- The fault that the code states is this one of a table. (Toml and Memory are none of a table.)
 abbrev pub Tells : NoteFault → Fault → Type 0
@@ -44,18 +42,6 @@ pub record Adds (old new : List NoteFault) (faults : List Fault) : Type 0 where
   pub is : new ≡ old ++ told
   pub tell : TellEach told faults
 
--- the location that a value is, and the one at a key, if there is one
-abbrev pub location_of : Data → List ℕ
-location_of (integer (pos n)) = if is_location n then n ∷ [] else []
-location_of _ = []
-
-abbrev pub location_in : Option Data → List ℕ
-location_in None = []
-location_in (Some value) = location_of value
-
-abbrev pub locations_at : List ℕ → Members → List ℕ
-locations_at key fields = location_in (get_member key fields)
-
 -- the table that an element is, if it is one
 abbrev pub table_of : Data → List Members
 table_of (table fields) = fields ∷ []
@@ -83,10 +69,5 @@ repeated_edges document =
 
 -- The faults of long notes, in their order, all of which have a meaning.
 abbrev pub all_long_faults : Members → List Fault
-all_long_faults document = in_turn (take 6 (long_notes_checks document))
+all_long_faults document = in_turn (take 7 (long_notes_checks document))
     ++ repeated_edges document ++ repeated_locations document
-
--- the number of a location that there may be
-abbrev pub numbers_of : Option Location → List ℕ
-numbers_of None = []
-numbers_of (Some location) = location.number ∷ []

@@ -3,6 +3,7 @@
 use Rattle.std.specs.Prelude.{ℕ, suc, ◌+◌, ◌&&◌, Bool, if◌then◌else◌, nat_le, List, [], ◌∷◌, ◌++◌}
 use Rattle.std.specs.Prelude.{flat_map, codes, decimal, pos, negsuc, Option, Some, None, is_some}
 use Rattle.std.specs.List.{list_any}
+use Rattle.drum_core.specs.declared.location.Location.{Location}
 use Rattle.drum_core.specs.Location.{is_location}
 use Rattle.toml.specs.Data.{Data, string, integer, array, table, Items, no_items, item, Members}
 use Rattle.toml.specs.Data.{no_members, member, get_member, same_key}
@@ -79,6 +80,23 @@ number_in _ = 0
 
 abbrev pub number_at : List ℕ → Members → ℕ
 number_at key fields = elim (get_member key fields) [ None ↦ 0 | Some value ↦ number_in value ]
+
+-- the location that a value is, and the one at a key, if there is one
+abbrev pub location_of : Data → List ℕ
+location_of (integer (pos n)) = if is_location n then n ∷ [] else []
+location_of _ = []
+
+abbrev pub location_in : Option Data → List ℕ
+location_in None = []
+location_in (Some value) = location_of value
+
+abbrev pub locations_at : List ℕ → Members → List ℕ
+locations_at key fields = location_in (get_member key fields)
+
+-- the number of a location that there may be
+abbrev pub numbers_of : Option Location → List ℕ
+numbers_of None = []
+numbers_of (Some location) = location.number ∷ []
 
 abbrev pub count_of : Items → ℕ
 count_of no_items = 0

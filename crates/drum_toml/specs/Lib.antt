@@ -1,8 +1,10 @@
 pub mod AllFaults
+pub mod Calls
 pub mod Complaint
 pub mod Document
 pub mod LongNotes
 pub mod NotesDocument
+pub mod Opened
 pub mod Refused
 pub mod Says
 pub mod TimesDocument

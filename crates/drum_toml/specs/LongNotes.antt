@@ -1,5 +1,5 @@
 -- Long notes as a document, where they differ from short ones: up to 64 marks, which may have
--- several edges, and names.
+-- several edges, and names; and calls.
 use Rattle.std.specs.Prelude.{◌≡◌, ℕ, ◌+◌, ◌-◌, ◌<◌, ◌≤◌, ◌&&◌, ◌||◌, not, nat_le, Bool, true}
 use Rattle.std.specs.Prelude.{false, if◌then◌else◌, IsTrue, List, [], ◌∷◌, ◌++◌, flat_map, take}
 use Rattle.std.specs.Prelude.{length, slice_get, codes, decimal, pos, Option, Some, None, is_some}
@@ -10,14 +10,19 @@ use Rattle.drum_times.specs.declared.notes.mark.Mark.{Mark}
 use Rattle.drum_times.specs.Allowed.{Notes, AreSound}
 use Rattle.drum_times.specs.Marks.{edges_of}
 use Rattle.drum_times.specs.Names.{is_name}
+use Rattle.drum_toml.specs.Calls.{IsCall, call_faults}
 use Rattle.drum_toml.specs.Document.{Fault, range, kind, in_turn, unknown_in, missing_in, at_key}
 use Rattle.drum_toml.specs.Document.{whole, location, tables, number_in, number_faults}
 use Rattle.drum_toml.specs.Document.{is_count, count_of}
-use Rattle.drum_toml.specs.NotesDocument.{IsListed, HasTables, note_keys, text_of, load_text_of}
+use Rattle.drum_toml.specs.NotesDocument.{IsListed, HasTables, text_of, load_text_of}
 use Rattle.drum_toml.specs.NotesDocument.{edge_in, notes_checks_by, tables_at}
 use Rattle.drum_toml.specs.TimesDocument.{HasNumber}
 use Rattle.toml.specs.Data.{Data, string, integer, array, Items, no_items, item, Members}
 use Rattle.toml.specs.Data.{get_member, same_key, as_array, as_str, as_table}
+
+abbrev pub long_note_keys : List (List ℕ)
+long_note_keys =
+    codes "programmed" ∷ codes "load_cards" ∷ codes "mark" ∷ codes "list" ∷ codes "call" ∷ []
 
 -- whether a mark's table lists its edges: it has the key for that, and neither `from` nor `to`
 abbrev pub lists_edges : Members → Bool
@@ -123,7 +128,7 @@ pub record IsLongMark (document : Members) (index : ℕ) (fields : Members) (mar
 
 -- The document says these long notes, and nothing else.
 pub record IsLongNotes (document : Members) (notes : Notes) : Type 0 where
-  pub only : unknown_in [] note_keys document ≡ []
+  pub only : unknown_in [] long_note_keys document ≡ []
   pub programmed : get_member (codes "programmed") document
       ≡ Some (string (text_of notes.programmed))
   pub load_cards : get_member (codes "load_cards") document
@@ -131,6 +136,7 @@ pub record IsLongNotes (document : Members) (notes : Notes) : Type 0 where
   pub marks : HasTables (IsLongMark document) document (codes "mark") notes.marks
   pub lists : HasTables (λ place fields listed. IsListed fields listed) document
       (codes "list") notes.lists
+  pub calls : HasTables (IsCall document) document (codes "call") notes.calls
   pub sound : AreSound notes
 
 -- the faults of a value that is to be an edge: an array of two locations
@@ -214,7 +220,9 @@ edges_said fields = edges_by (lists_edges fields) fields
 -- it is refused. A later one may be no fault at all, as those of short notes.
 abbrev pub long_notes_checks : Members → List (List Fault)
 long_notes_checks document =
-    notes_checks_by (tables 0 (Some 64) (long_mark_faults document) [] (codes "mark") document)
+    notes_checks_by long_note_keys
+    (tables 0 (Some 64) (long_mark_faults document) [] (codes "mark") document)
+    (tables 0 (Some 64) (call_faults document) [] (codes "call") document ∷ [])
     (flat_map edges_said (tables_at (codes "mark") document)) document
 
 abbrev pub long_notes_faults : Members → List Fault

@@ -90,7 +90,7 @@ pub record IsListed (fields : Members) (listed : Listed) : Type 0 where
   pub patterns : HasTables (λ place one pattern. IsPattern one pattern) fields
       (codes "pattern") listed.patterns
 
--- The document says these notes, and nothing else. They have 8 marks at most.
+-- The document says these notes, and nothing else. They have 8 marks at most, and no calls.
 pub record IsNotes (document : Members) (notes : Notes) : Type 0 where
   pub only : unknown_in [] note_keys document ≡ []
   pub programmed : get_member (codes "programmed") document
@@ -101,6 +101,7 @@ pub record IsNotes (document : Members) (notes : Notes) : Type 0 where
   pub few : length notes.marks ≤ 8
   pub lists : HasTables (λ place fields listed. IsListed fields listed) document
       (codes "list") notes.lists
+  pub without_calls : notes.calls ≡ []
   pub sound : AreSound notes
 
 -- the fault of the number of a mark's outer one, which is from 1 to the number of earlier marks
@@ -180,23 +181,24 @@ location_faults earlier (place ∷ places) =
     (if has_location earlier place then two_lists place ∷ [] else [])
     ++ location_faults (earlier ++ place ∷ []) places
 
--- The faults that each check of a document finds, of whose marks these are the faults and these the
--- edges.
-abbrev pub notes_checks_by : List Fault → List (ℕ × ℕ) → Members → List (List Fault)
-notes_checks_by marks edges document =
-    unknown_in [] note_keys document
+-- The faults that each check of a document finds, where these are the keys that it may have, the
+-- faults of its marks, those that each check of its calls finds, and the edges of its marks.
+abbrev pub notes_checks_by : List (List ℕ) → List Fault → List (List Fault) → List (ℕ × ℕ)
+    → Members → List (List Fault)
+notes_checks_by keys marks calls edges document =
+    (unknown_in [] keys document
     ∷ missing_in [] (codes "programmed" ∷ codes "load_cards" ∷ []) document
     ∷ text (map text_of (Stop ∷ Run ∷ Any ∷ [])) [] (codes "programmed") document
     ∷ text (map load_text_of (false ∷ true ∷ [])) [] (codes "load_cards") document
     ∷ marks
-    ∷ tables 0 None list_faults [] (codes "list") document
-    ∷ edge_faults [] edges
+    ∷ tables 0 None list_faults [] (codes "list") document ∷ calls)
+    ++ edge_faults [] edges
     ∷ location_faults [] (map (number_at (codes "location")) (tables_at (codes "list") document))
     ∷ []
 
 abbrev pub notes_checks : Members → List (List Fault)
 notes_checks document =
-    notes_checks_by (tables 0 (Some 8) mark_faults [] (codes "mark") document)
+    notes_checks_by note_keys (tables 0 (Some 8) mark_faults [] (codes "mark") document) []
     (map edge_in (tables_at (codes "mark") document)) document
 
 -- The faults of a document, in their order. The first is why it is refused. A later one may be no

@@ -9,7 +9,7 @@ pub mod fields;
 pub mod table_faults;
 pub mod tables;
 pub mod value;
-mod values;
+pub mod values;
 
 use drum_times::NoteFault;
 use std::alloc::Global;

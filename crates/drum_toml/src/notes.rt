@@ -1,5 +1,6 @@
 //! Notes on a program: read from a document, or all faults of one.
 
+mod call_faults;
 mod list_faults;
 pub mod long;
 pub mod long_faults;
@@ -7,7 +8,9 @@ mod long_mark;
 mod mark_faults;
 mod named;
 pub mod notes_read;
+mod opened;
 pub mod read;
+mod read_call;
 mod read_edges;
 mod read_list;
 mod read_mark;

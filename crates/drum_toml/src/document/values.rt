@@ -7,7 +7,7 @@ ghost use Rattle.drum_toml.specs.Value.{fault_of, StandsFor};
 ghost use Rattle.toml.specs.Data.{Data, get_member, table as toml_table};
 ghost use Rattle.toml.specs.View.{table_view};
 
-use super::fields::Fields;
+use super::fields::{Fields, member};
 use super::value::{self, ValueFault};
 use drum_core::Location;
 use drum_times::NoteFault;
@@ -96,5 +96,15 @@ impl Fields<'_> {
             return 0;
         };
         value::number(value)
+    }
+}
+
+/// The location at a key of a table, if there is one.
+pub fn location_at(table: &Table, key: &str) -> Option<Location>
+    ensures { document.locations_at key.now (table_view table.now) ≡ document.numbers_of result }
+{
+    match value::location(member(table, key)?) {
+        Ok(location) => Some(location),
+        Err(_) => None,
     }
 }

@@ -11,17 +11,19 @@ use super::read::{LOAD_CARDS, PROGRAMMED};
 use super::repeated::{edges_of, repeated_edge, repeated_location};
 use crate::document::fields::Fields;
 use crate::document::read_document;
-use drum_times::{Listing, Mark, NoteFault, Notes};
+use drum_times::{Call, Listing, Mark, NoteFault, Notes};
 use std::alloc::{AllocError, Global};
 use toml::Table;
 
 /// Reads long notes: a TOML document with the keys `programmed` and `load_cards`, and optionally
-/// `mark` and `list`. Short notes are long notes too, and mean the same.
+/// `mark`, `list` and `call`. Short notes are long notes too, and mean the same.
 ///
 /// # Errors
 ///
-/// Those of [`crate::read_notes`], in the same order; of a mark its unknown keys in byte order, its
-/// missing keys, and what is wrong with `from`, `to`, `edges`, `most`, `inside`, `name`.
+/// Those of [`crate::read_notes`], in the same order, and behind what is wrong with the lists what
+/// is wrong with the calls; of a mark its unknown keys in byte order, its missing keys, and what is
+/// wrong with `from`, `to`, `edges`, `most`, `inside`, `name`; of a call likewise, with `from`,
+/// `to`, `exit`, `back`. An exit is out of range where an earlier call has it on the same edge.
 pub fn read_long_notes(alloc: Global, bytes: &[u8]) -> Result<Notes, NoteFault>
     ensures read { IfOk result (λ notes. (whole : Members) × IsDocument bytes.now whole
         × said.IsLongNotes whole notes) }
@@ -49,12 +51,13 @@ fn read_table(alloc: Global, table: &Table) -> Result<Notes, NoteFault>
         table,
         whole: table,
     };
-    top.only(&["programmed", "load_cards", "mark", "list"])?;
+    top.only(&["programmed", "load_cards", "mark", "list", "call"])?;
     top.all(&["programmed", "load_cards"])?;
     let programmed = top.choice("programmed", &PROGRAMMED)?;
     let load_cards = top.choice("load_cards", &LOAD_CARDS)?;
     let long: Vec<LongMark> = top.tables("mark", 0, Some(Mark::MOST))?;
     let lists: Vec<Listing> = top.tables("list", 0, None)?;
+    let calls: Vec<Call> = top.tables("call", 0, Some(Call::MOST))?;
     let marks = marks_of(alloc, long)?;
     let edges = edges_of(alloc, &marks)?;
     if let Some(edge) = repeated_edge(&edges) {
@@ -63,6 +66,5 @@ fn read_table(alloc: Global, table: &Table) -> Result<Notes, NoteFault>
     if let Some(location) = repeated_location(&lists) {
         return Err(NoteFault::TwoLists(location));
     }
-    let calls = Vec::new(alloc);
     Ok(Notes::new(programmed, load_cards, marks, lists, calls))
 }

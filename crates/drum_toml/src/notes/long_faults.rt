@@ -14,7 +14,7 @@ use crate::document::faults::{Faults, no_document};
 use crate::document::fields::Fields;
 use crate::document::read_document;
 use crate::document::table_faults::Checked;
-use drum_times::{Listing, Mark, NoteFault};
+use drum_times::{Call, Listing, Mark, NoteFault};
 use std::alloc::{AllocError, Global};
 use toml::Table;
 
@@ -52,12 +52,13 @@ impl Faults {
             table,
             whole: table,
         };
-        self.unknown(&top, &["programmed", "load_cards", "mark", "list"])?;
+        self.unknown(&top, &["programmed", "load_cards", "mark", "list", "call"])?;
         self.missing(&top, &["programmed", "load_cards"])?;
         self.choice(&top, "programmed", &PROGRAMMED)?;
         self.choice(&top, "load_cards", &LOAD_CARDS)?;
         self.tables::<LongMark>(&top, "mark", 0, Some(Mark::MOST))?;
         self.tables::<Listing>(&top, "list", 0, None)?;
+        self.tables::<Call>(&top, "call", 0, Some(Call::MOST))?;
         self.repeated_marks(&top)?;
         self.repeated_lists(&top)?;
         Ok(())

@@ -13,8 +13,8 @@ use std::alloc::Global;
 pub enum NotesRead {
     /// Short notes alone: up to 8 marks, each on one edge.
     Short,
-    /// Long notes: up to 64 marks, each on one edge or several, and names. Short notes are long
-    /// notes too.
+    /// Long notes: up to 64 marks, each on one edge or several, names, and calls. Short notes are
+    /// long notes too.
     Long,
 }
 

@@ -3,6 +3,7 @@ ghost use Rattle.std.specs.Prelude.{◌≡◌, ◌∷◌, [], if◌then◌else�
 ghost use Rattle.drum_times.specs.EdgeOf.{edge_of};
 ghost use Rattle.drum_toml.specs.AllFaults as all;
 ghost use Rattle.drum_toml.specs.AllFaults.{Adds};
+ghost use Rattle.drum_toml.specs.Document as document;
 ghost use Rattle.drum_toml.specs.Document.{two_marks, two_lists};
 ghost use Rattle.drum_toml.specs.NotesDocument as said;
 ghost use Rattle.toml.specs.View.{view, table_view, items_view};
@@ -10,7 +11,7 @@ ghost use Rattle.toml.specs.View.{view, table_view, items_view};
 use super::repeated::has_edge;
 use crate::document::faults::Faults;
 use crate::document::fields::Fields;
-use crate::document::value;
+use crate::document::values::location_at;
 use drum_core::Location;
 use drum_times::{Edge, NoteFault};
 use std::alloc::{AllocError, Global};
@@ -79,12 +80,12 @@ impl Faults {
 /// The locations that some elements are for.
 fn places_of(alloc: Global, items: &[Value]) -> Result<Vec<Location>, AllocError>
     ensures { IfOk result (λ places. map (λ place. place.number) places.items
-        ≡ flat_map (all.locations_at (codes "location"))
+        ≡ flat_map (document.locations_at (codes "location"))
         (said.tables_of (items_view items.now))) }
 {
     let mut places = Vec::new(alloc);
     for item in items {
-        if let Some(place) = listed_location(alloc, item) {
+        if let Some(place) = listed_location(item) {
             places.push(place)?;
         }
     }
@@ -105,27 +106,10 @@ fn items_at<'a>(fields: &'a Fields<'_>, key: &str) -> &'a [Value]
     }
 }
 
-/// The location at a key, if there is one.
-fn location_at(fields: &Fields<'_>, key: &str) -> Option<Location>
-    ensures { all.locations_at key.now (table_view fields.now.table.now) ≡ all.numbers_of result }
-{
-    match value::location(fields.get(key)?) {
-        Ok(location) => Some(location),
-        Err(_) => None,
-    }
-}
-
 /// The location that an element is for, if it says one.
-fn listed_location(alloc: Global, item: &Value) -> Option<Location>
-    ensures { flat_map (all.locations_at (codes "location")) (all.table_of (view item.now))
-        ≡ all.numbers_of result }
+fn listed_location(item: &Value) -> Option<Location>
+    ensures { flat_map (document.locations_at (codes "location")) (all.table_of (view item.now))
+        ≡ document.numbers_of result }
 {
-    let table = item.as_table()?;
-    let fields = Fields {
-        alloc,
-        at: "",
-        table,
-        whole: table,
-    };
-    location_at(&fields, "location")
+    location_at(item.as_table()?, "location")
 }

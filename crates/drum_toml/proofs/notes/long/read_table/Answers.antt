@@ -101,16 +101,10 @@ returns-in_err-lists-clause-first c =
       ),
     ) c.in_err-lists.ensures.first)
 
-pub returns-in-Some-clause-first : goal.returns-in-Some-clause-first
-returns-in-Some-clause-first c =
-    let table = table_view c.args.table.now in
-    let longs = c.in_ok-long.long.items in
-    let has : said.HasTables (IsLongMark table) table (codes "mark") (map mark_in longs) =
-    long_said table table longs c.in_ok-long.ensures.said in
-    let edges : map edge_of c.deref-2.result.now ≡ flat_map edges_said (said.tables_at (codes "mark") table) =
-    ap (map edge_of) c.deref-2.ensures.value ∙ c.in_ok-edges.ensures ∙ ap (flat_map edges_of) c.deref.ensures.value
-    ∙ ap (flat_map edges_of) c.in_ok-marks.ensures ∙ sym (long_edges_same table table (map mark_in longs) has) in
-    nth_in (long_notes_checks (table_view c.args.table.now)) 6 _ (TwoMarks c.in-Some.edge.from c.in-Some.edge.onto) refl (
+pub returns-in_err-calls-clause-first : goal.returns-in_err-calls-clause-first
+returns-in_err-calls-clause-first c =
+    carried c.from_residual-in_err-calls.result _ c.in_err-calls.field-0.0 c.from_residual-in_err-calls.ensures.1
+    (nth_in (long_notes_checks (table_view c.args.table.now)) 6 _ _ refl (
       c.in_ok-only.ensures.none,
       (
         c.in_ok-all.ensures.none,
@@ -121,6 +115,31 @@ returns-in-Some-clause-first c =
             load_cards_are_right (table_view c.args.table.now) _
                 (load_cards_said (table_view c.args.table.now) _ c.in_ok-load_cards.ensures.found),
             (c.in_ok-long.ensures.none, (c.in_ok-lists.ensures.none, tt)),
+          ),
+        ),
+      ),
+    ) c.in_err-calls.ensures.first)
+
+pub returns-in-Some-clause-first : goal.returns-in-Some-clause-first
+returns-in-Some-clause-first c =
+    let table = table_view c.args.table.now in
+    let longs = c.in_ok-long.long.items in
+    let has : said.HasTables (IsLongMark table) table (codes "mark") (map mark_in longs) =
+    long_said table table longs c.in_ok-long.ensures.said in
+    let edges : map edge_of c.deref-2.result.now ≡ flat_map edges_said (said.tables_at (codes "mark") table) =
+    ap (map edge_of) c.deref-2.ensures.value ∙ c.in_ok-edges.ensures ∙ ap (flat_map edges_of) c.deref.ensures.value
+    ∙ ap (flat_map edges_of) c.in_ok-marks.ensures ∙ sym (long_edges_same table table (map mark_in longs) has) in
+    nth_in (long_notes_checks (table_view c.args.table.now)) 7 _ (TwoMarks c.in-Some.edge.from c.in-Some.edge.onto) refl (
+      c.in_ok-only.ensures.none,
+      (
+        c.in_ok-all.ensures.none,
+        (
+          programmed_is_right (table_view c.args.table.now) _
+              (programmed_said (table_view c.args.table.now) _ c.in_ok-programmed.ensures.found),
+          (
+            load_cards_are_right (table_view c.args.table.now) _
+                (load_cards_said (table_view c.args.table.now) _ c.in_ok-load_cards.ensures.found),
+            (c.in_ok-long.ensures.none, (c.in_ok-lists.ensures.none, (c.in_ok-calls.ensures.none, tt))),
           ),
         ),
       ),
@@ -138,7 +157,7 @@ returns-in-Some-repeated_location-clause-first c =
     let edges : map edge_of c.deref-2.result.now ≡ flat_map edges_said (said.tables_at (codes "mark") table) =
     ap (map edge_of) c.deref-2.ensures.value ∙ c.in_ok-edges.ensures ∙ ap (flat_map edges_of) c.deref.ensures.value
     ∙ ap (flat_map edges_of) c.in_ok-marks.ensures ∙ sym (long_edges_same table table (map mark_in longs) has) in
-    nth_in (long_notes_checks (table_view c.args.table.now)) 7 _
+    nth_in (long_notes_checks (table_view c.args.table.now)) 8 _
     (TwoLists c.in-Some-repeated_location.location) refl (
       c.in_ok-only.ensures.none,
       (
@@ -149,7 +168,7 @@ returns-in-Some-repeated_location-clause-first c =
           (
             load_cards_are_right (table_view c.args.table.now) _
                 (load_cards_said (table_view c.args.table.now) _ c.in_ok-load_cards.ensures.found),
-            (c.in_ok-long.ensures.none, (c.in_ok-lists.ensures.none, (subst (λ (es : List (ℕ × ℕ)). said.edge_faults [] es ≡ []) edges c.in_default.ensures.none, tt))),
+            (c.in_ok-long.ensures.none, (c.in_ok-lists.ensures.none, (c.in_ok-calls.ensures.none, (subst (λ (es : List (ℕ × ℕ)). said.edge_faults [] es ≡ []) edges c.in_default.ensures.none, tt)))),
           ),
         ),
       ),
@@ -168,7 +187,8 @@ new-requires c =
     (ap (map edge_of) c.deref-2.ensures.value ∙ c.in_ok-edges.ensures ∙ ap (flat_map edges_of) c.deref.ensures.value)
     c.in_default.ensures.none)
     (subst (λ (lists : List Listing). said.location_faults [] (map location_of lists) ≡ []) c.deref-3.ensures.value
-    c.in_default-repeated_location.ensures.none) c.new-calls.result.items c.new-calls.ensures.items
+    c.in_default-repeated_location.ensures.none) c.in_ok-calls.calls.items c.in_ok-calls.ensures.said
+    c.in_ok-calls.ensures.count
 
 pub returns-clause-said : goal.returns-clause-said
 returns-clause-said c =
@@ -186,6 +206,7 @@ returns-clause-said c =
       load_cards = load_cards_said table _ c.in_ok-load_cards.ensures.found;
       marks = marks_said;
       lists = lists_said table c.in_ok-lists.lists.items c.in_ok-lists.ensures.said;
+      calls = c.in_ok-calls.ensures.said;
       sound = sound_marks (table_view c.args.table.now) c.in_ok-programmed.programmed c.in_ok-load_cards.load_cards
           c.in_ok-long.long.items c.in_ok-marks.marks.items c.in_ok-lists.lists.items c.in_ok-long.ensures.said
           c.in_ok-long.ensures.count c.in_ok-marks.ensures
@@ -193,5 +214,6 @@ returns-clause-said c =
           (ap (map edge_of) c.deref-2.ensures.value ∙ c.in_ok-edges.ensures ∙ ap (flat_map edges_of) c.deref.ensures.value)
           c.in_default.ensures.none)
           (subst (λ (lists : List Listing). said.location_faults [] (map location_of lists) ≡ []) c.deref-3.ensures.value
-          c.in_default-repeated_location.ensures.none) c.new-calls.result.items c.new-calls.ensures.items;
+          c.in_default-repeated_location.ensures.none) c.in_ok-calls.calls.items c.in_ok-calls.ensures.said
+          c.in_ok-calls.ensures.count;
     })

@@ -178,6 +178,7 @@ returns-clause-said c =
       few = few_marks (table_view c.args.table.now) c.in_ok-marks.marks.items c.in_ok-marks.ensures.said
           c.in_ok-marks.ensures.count;
       lists = lists_said (table_view c.args.table.now) c.in_ok-lists.lists.items c.in_ok-lists.ensures.said;
+      without_calls = c.new-calls.ensures.items;
       sound =
           sound_notes (table_view c.args.table.now) c.in_ok-programmed.programmed c.in_ok-load_cards.load_cards
           c.in_ok-marks.marks.items c.in_ok-lists.lists.items c.in_ok-marks.ensures.said c.in_ok-marks.ensures.count

@@ -1,7 +1,7 @@
 use Rattle.std.proofs.Common.{◌≡◌, ◌++◌, map, drop}
 use Rattle.std.specs.Prelude.{codes, flat_map}
 use Rattle.toml.specs.View.{items_view}
-use Rattle.drum_toml.specs.AllFaults as all
+use Rattle.drum_toml.specs.Document.{locations_at}
 use Rattle.drum_toml.specs.NotesDocument as said
 use Rattle.drum_toml.proofs.notes.repeated_faults.places_of.Given as goal
 
@@ -9,5 +9,5 @@ use Rattle.drum_toml.proofs.notes.repeated_faults.places_of.Given as goal
 abbrev pub invariant-loop-item : goal.invariant-loop-item
 invariant-loop-item l =
     map (λ place. place.number) l.places.items
-    ++ flat_map (all.locations_at (codes "location")) (said.tables_of (items_view (drop l.item-index l.items)))
-    ≡ flat_map (all.locations_at (codes "location")) (said.tables_of (items_view l.items))
+    ++ flat_map (locations_at (codes "location")) (said.tables_of (items_view (drop l.item-index l.items)))
+    ≡ flat_map (locations_at (codes "location")) (said.tables_of (items_view l.items))
