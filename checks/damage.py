@@ -4,6 +4,8 @@ checks/damaged-inputs runs them, and checks/judge.py holds to something what com
 import os
 import re
 
+from call_cases import CASES, deck_of, notes_of
+
 TOP = os.path.dirname(os.path.dirname(os.path.abspath(__file__)))
 FILES = ["deck", "times", "notes", "inputs"]
 # Two of a replay and of a trace, since they look at a file more than the others.
@@ -172,6 +174,9 @@ NINE_MARKS = LEAST + "".join(mark(place, place, place // 107) for place in range
 NAMED = LEAST + mark(110, 100, 1) + name("loop-1") + mark(100, 100, 2, inside=1) + name("loop-2")
 ONE_EDGE_EACH = LEAST + mark_of([(110, 100)], 1) + mark_of([(100, 100)], 2) + "inside = 1\n"
 
+# And with calls: of one subroutine, of one in another, and two of which one is made in the other.
+CALLED = [(deck_of(case), notes_of(case), "ANGLE 01\n") for case in (CASES[0], CASES[4], CASES[5])]
+
 # A deck, notes and inputs. Undamaged, each is accepted, or would be but for its size or its loops.
 EXAMPLES = [
     (TWO_WORDS, LEAST, "ANGLE 01\n"),
@@ -191,6 +196,7 @@ EXAMPLES = [
     (NINE_LOOPS, NINE_MARKS, "ACCUMULATOR +%020d\n" % 0),
     (LOOPS, NAMED, "ACCUMULATOR +%020d\n" % 10**10),
     (LOOPS, ONE_EDGE_EACH, "ANGLE 01\n"),
+    *CALLED,
 ]
 
 with open(os.path.join(TOP, "examples", "times.toml"), "rb") as file:
