@@ -2,7 +2,7 @@
 
 /// The topics, in the order in which they are told.
 pub const TOPICS: &[&str] = &[
-    "deck", "times", "notes", "long", "numbers", "flow", "check", "analysis", "report", "walk",
+    "deck", "times", "notes", "long", "calls", "numbers", "flow", "check", "analysis", "report", "walk",
     "waits", "table", "graph", "draw", "ceiling", "replay", "inputs", "trace", "words", "files",
     "joined", "lengths", "examples",
 ];
@@ -21,4 +21,5 @@ pub const PAGES: &[&str] = &[
     "examples/root/README.md",
     "examples/cards/README.md",
     "examples/sort/README.md",
+    "examples/payroll/README.md",
 ];
