@@ -11,7 +11,9 @@ use Rattle.drum_times.specs.declared.notes.mark.Mark.{Mark}
 use Rattle.drum_times.specs.declared.notes.pattern.Pattern.{Pattern}
 use Rattle.drum_times.specs.declared.notes.programmed.Programmed.TheVariants as switch
 use Rattle.drum_times.specs.Allowed.{Notes}
-use Rattle.drum_graph.specs.Graph.{Node, node}
+use Rattle.drum_flow.specs.Executed.{each_place}
+use Rattle.drum_flow.specs.Hops as flow
+use Rattle.drum_graph.specs.Graph.{Node, nexts, node}
 use Rattle.drum_graph.specs.GraphText.{edge_text, graph_text, mark_label}
 
 abbrev loads : ℕ → Option Word
@@ -99,7 +101,14 @@ nodes =
     }
     ∷ []
 
-the_nodes : map (node loads notes (100 ∷ 110 ∷ 120 ∷ [])) (100 ∷ 110 ∷ 120 ∷ []) ≡ nodes
+-- without calls there is a node of the flow graph at each location
+abbrev at_place : ℕ → flow.Node
+at_place place = record { place = place; ways = [] }
+
+abbrev reached : List flow.Node
+reached = map at_place (100 ∷ 110 ∷ 120 ∷ [])
+
+the_nodes : map (node loads notes reached) (each_place reached) ≡ nodes
 the_nodes = refl
 
 the_text : graph_text marks [] 100 nodes
@@ -149,7 +158,7 @@ of_inside = refl
 
 -- an edge that closes a loop, and the same edge the other way round
 abbrev word_at : ℕ → Node
-word_at place = node loads notes [] place
+word_at place = node loads notes (at_place place ∷ []) place
 
 of_loop : edge_text [] ((120, 100) ∷ []) (word_at 120) 100 ≡ codes "0120 -> 0100 [color=red]\n"
 of_loop = refl
@@ -158,7 +167,60 @@ of_no_loop : edge_text [] ((120, 100) ∷ []) (word_at 100) 120 ≡ codes "0100 
 of_no_loop = refl
 
 -- a location that is neither loaded nor listed has its location alone, is grey, and ends
-of_nothing : graph_text [] [] 1999 (map (node loads notes (1999 ∷ [])) (1999 ∷ []))
+of_nothing : graph_text [] [] 1999 (node loads notes (at_place 1999 ∷ []) 1999 ∷ [])
     ≡ codes "digraph deck {\nnode [shape=box]\nstart [shape=point]\nstart -> 1999\n"
     ++ codes "1999 [label=\"1999\" style=filled fillcolor=lightgrey]\n}\n"
 of_nothing = refl
+
+-- the third word, which may go on at the first or at the second, as the exit of a call
+within_four : (0 < 100) × (0 ≤ 0) × (0 < 10 ^ 4) × (100 < 10 ^ 4) × (110 < 10 ^ 4)
+within_four = (omega arith, omega arith, omega arith, omega arith, omega arith)
+
+abbrev to_first : Pattern
+to_first = record {
+  op = 0;
+  d_from = 0;
+  d_to = 0;
+  i = 100;
+  two = within_four.0;
+  ordered = within_four.1;
+  four = within_four.2;
+  next_four = within_four.3;
+}
+
+abbrev to_second : Pattern
+to_second = record {
+  op = 0;
+  d_from = 0;
+  d_to = 0;
+  i = 110;
+  two = within_four.0;
+  ordered = within_four.1;
+  four = within_four.2;
+  next_four = within_four.4;
+}
+
+abbrev called : Notes
+called = record {
+  programmed = switch.Stop;
+  load_cards = false;
+  marks = [];
+  lists = record { location = 120; patterns = to_first ∷ to_second ∷ [] } ∷ [];
+  calls = record { edge = record { from = first; onto = second }; exit = third; back = second } ∷ [];
+}
+
+abbrev exit_with : Option ℕ → flow.Node
+exit_with way = record { place = 120; ways = way ∷ [] }
+
+-- it goes to the way back that is open, where one is, and any other word goes on wherever it may
+of_open : nexts loads called (exit_with (Some 110) ∷ exit_with None ∷ []) 120 ≡ 110 ∷ []
+of_open = refl
+
+of_closed : nexts loads called (exit_with None ∷ []) 120 ≡ []
+of_closed = refl
+
+of_other : nexts loads called (record { place = 110; ways = None ∷ [] } ∷ []) 110 ≡ 120 ∷ []
+of_other = refl
+
+without : nexts loads (record called { calls = [] }) (at_place 120 ∷ []) 120 ≡ 100 ∷ 110 ∷ []
+without = refl

@@ -5,5 +5,6 @@ pub mod Nodes
 pub mod Outlines
 pub mod PatternOperations
 pub mod Stopping
+pub mod Taken
 pub mod Texts
 pub mod Words

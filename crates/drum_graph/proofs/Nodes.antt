@@ -1,37 +1,23 @@
 -- The nodes of a graph.
 use Rattle.std.proofs.Common.{◌≡◌, ℕ, ◌+◌, ◌<◌, List, [], ◌∷◌, ◌++◌, map, take, length, ap, sym, ◌∙◌, Some}
-use Rattle.std.proofs.Common.{inl, inr, Option}
-use Rattle.std.specs.Prelude.{Contains, slice_get, ◌↔◌}
+use Rattle.std.proofs.Common.{Option}
+use Rattle.std.specs.Prelude.{slice_get}
 use Rattle.std.proofs.lemmas.List.{map_more}
 use Rattle.std.proofs.lemmas.Option.{get_or_from_slice_get, slice_get_within}
 use Rattle.drum_core.specs.declared.word.Word.{Word}
 use Rattle.drum_times.specs.Allowed.{Notes}
-use Rattle.drum_flow.specs.Executed.{successors}
-use Rattle.drum_flow.specs.Hops.{hops, IsEdge}
-use Rattle.drum_flow.proofs.Acceptances.{one_order}
-use Rattle.drum_flow.proofs.Lists.{contains_none}
-use Rattle.drum_flow.proofs.Orders.{hop_there, target_there, with_new_has, with_new_only}
-use Rattle.drum_graph.specs.Graph.{AreNodes, Node, node, nexts}
-
--- where the instructions of a location go on are its edges
-pub nexts_edges : (loads : ℕ → Option Word) (notes : Notes) (place next : ℕ)
-    → Contains (nexts loads notes place) next ↔ IsEdge loads notes place next
-nexts_edges loads notes place next = (
-  λ there. elim (with_new_only [] (successors loads notes place) next there) [
-    | inl none ↦ absurd (contains_none next none)
-    | inr added ↦ hop_there (hops loads notes place) next added
-  ],
-  λ edge. with_new_has [] (successors loads notes place) next
-      (target_there (hops loads notes place) edge.0 next edge.1),
-)
+use Rattle.drum_flow.specs.Executed.{each_place}
+use Rattle.drum_flow.specs.Hops as flow
+use Rattle.drum_flow.proofs.Acceptances.{one_reached}
+use Rattle.drum_graph.specs.Graph.{AreNodes, Node, node}
 
 -- there is one graph
 pub one_graph : (loads : ℕ → Option Word) (notes : Notes) (start : ℕ) (nodes others : List Node)
     → AreNodes loads notes start nodes → AreNodes loads notes start others → nodes ≡ others
 one_graph loads notes start nodes others a b =
     a.all
-    ∙ ap (λ (executed : List ℕ). map (node loads notes executed) executed)
-    (one_order loads notes start a.executed b.executed a.found.order b.found.order)
+    ∙ ap (λ (reached : List flow.Node). map (node loads notes reached) (each_place reached))
+    (one_reached loads notes start a.reached b.reached a.found b.found)
     ∙ sym b.all
 
 -- one more node

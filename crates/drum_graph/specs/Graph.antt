@@ -10,9 +10,9 @@ use Rattle.drum_times.specs.Allowed as lists
 use Rattle.drum_times.specs.Allowed.{Notes, allowed}
 use Rattle.drum_machine.specs.Ways.{Way, early, to, late}
 use Rattle.drum_machine.specs.Writes.{writes}
-use Rattle.drum_flow.specs.Executed.{successors, with_new}
-use Rattle.drum_flow.specs.Flow.{AreFound}
-use Rattle.drum_flow.specs.Hops.{hops}
+use Rattle.drum_flow.specs.Executed.{each_place, may_go, successors, with_new, AreAllNodes}
+use Rattle.drum_flow.specs.Hops as flow
+use Rattle.drum_flow.specs.Hops.{edge_between, hops}
 use Rattle.drum_flow.specs.Search.{last_of}
 
 -- what is drawn as a box: an executed word, and in an outline those behind it, to which it goes
@@ -56,9 +56,21 @@ stops late = true
 abbrev pub may_stop : (ℕ → Option Word) → Notes → ℕ → Bool
 may_stop loads notes place = list_any (λ hop. stops hop.way) (hops loads notes place)
 
--- where the instructions of a location go on, each location once
-abbrev pub nexts : (ℕ → Option Word) → Notes → ℕ → List ℕ
-nexts loads notes place = with_new [] (successors loads notes place)
+-- whether a node of the flow graph stands at the one location, and a step may go on from it to the
+-- other
+abbrev pub goes_on : Notes → ℕ → ℕ → flow.Node → Bool
+goes_on notes place next node =
+    node.place == place && may_go notes.calls node.ways (edge_between node.place next)
+
+-- whether a step may go on from some node of these
+abbrev pub is_taken : Notes → List flow.Node → ℕ → ℕ → Bool
+is_taken notes nodes place next = list_any (goes_on notes place next) nodes
+
+-- where the instructions of a location go on, each location once, of those to which a step may go
+-- on: these are the nodes of the flow graph
+abbrev pub nexts : (ℕ → Option Word) → Notes → List flow.Node → ℕ → List ℕ
+nexts loads notes nodes place =
+    filter (is_taken notes nodes place) (with_new [] (successors loads notes place))
 
 -- whether a location is one of these
 abbrev pub is_among : List ℕ → ℕ → Bool
@@ -73,22 +85,23 @@ abbrev pub written : (ℕ → Option Word) → Notes → List ℕ → ℕ → Li
 written loads notes executed place =
     with_new [] (flat_map (written_by executed) (allowed loads notes place))
 
--- what is drawn of a location, where these are executed
-abbrev pub node : (ℕ → Option Word) → Notes → List ℕ → ℕ → Node
-node loads notes executed place = record {
+-- what is drawn of a location, where these are the nodes of the flow graph
+abbrev pub node : (ℕ → Option Word) → Notes → List flow.Node → ℕ → Node
+node loads notes nodes place = record {
   place = place;
   further = [];
   operations = operations loads notes place;
   is_listed = lists.is_listed notes place;
   is_unfit = is_unfit loads notes place;
   may_stop = may_stop loads notes place;
-  nexts = nexts loads notes place;
-  written = written loads notes executed place;
+  nexts = nexts loads notes nodes place;
+  written = written loads notes (each_place nodes) place;
 }
 
--- These are the nodes of a deck's flow graph, in the order of discovery.
+-- This is what is drawn of a deck's flow graph: of each location of its nodes, in the order of
+-- discovery.
 pub record AreNodes (loads : ℕ → Option Word) (notes : Notes) (start : ℕ)
     (nodes : List Node) : Type 0 where
-  pub executed : List ℕ
-  pub found : AreFound loads notes start executed
-  pub all : nodes ≡ map (node loads notes executed) executed
+  pub reached : List flow.Node
+  pub found : AreAllNodes loads notes start reached
+  pub all : nodes ≡ map (node loads notes reached) (each_place reached)

@@ -1,10 +1,11 @@
 -- A flow graph, as it is held.
-use Rattle.std.specs.Prelude.{ℕ, Bool, List, map}
+use Rattle.std.specs.Prelude.{◌≡◌, ℕ, ◌<◌, Bool, List, map, slice_get, Some, Contains}
 use Rattle.std.specs.List.{list_any}
 use Rattle.drum_core.specs.declared.instruction.Instruction.{Instruction}
 use Rattle.drum_times.specs.Allowed.{Notes}
 use Rattle.drum_machine.specs.Ways.{ways}
 use Rattle.drum_flow.specs.Found.{places_of}
+use Rattle.drum_flow.specs.Hops as flow
 use Rattle.drum_graph.specs.declared.graph.Graph.{Graph}
 use Rattle.drum_graph.specs.declared.loops.Ends.{Ends}
 use Rattle.drum_graph.specs.declared.loops.Loops.{Loops}
@@ -46,3 +47,10 @@ start_of graph = graph.start.number
 -- whether an instruction, with an operation of the profile, may stop the run
 abbrev pub has_stop_by : Notes → Instruction → Bool
 has_stop_by notes ins = list_any stops (ways notes ins)
+
+-- These are the indices of the nodes of a flow graph at a location, of the first so many.
+pub record AreAt (nodes : List flow.Node) (count place : ℕ) (indices : List ℕ) : Type 0 where
+  pub only : (index : ℕ) → Contains indices index
+      → (node : flow.Node) × (slice_get nodes index ≡ Some node) × (node.place ≡ place)
+  pub all : (index : ℕ) (node : flow.Node) → index < count → slice_get nodes index ≡ Some node
+      → node.place ≡ place → Contains indices index

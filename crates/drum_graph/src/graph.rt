@@ -4,7 +4,7 @@ use crate::loops::Loops;
 use crate::node::Node;
 use crate::outline::boxes_of;
 use drum_core::{Deck, Location};
-use drum_flow::{Flow, discover};
+use drum_flow::{Flow, Refusal, discover};
 use drum_loops::closing_edges;
 use drum_times::Notes;
 use std::alloc::{AllocError, Global};
@@ -20,9 +20,11 @@ pub struct Graph {
 }
 
 impl Graph {
-    ghost use Rattle.std.specs.Prelude.{◌≡◌, IfOk, List, map};
+    ghost use Rattle.std.specs.Prelude.{◌≡◌, IfOk, IfErr, List, map};
     ghost use Rattle.drum_core.specs.Loads.{loads_in, start_in};
-    ghost use Rattle.drum_flow.specs.Flow.{executed_in};
+    ghost use Rattle.drum_flow.specs.Executed.{each_place, AreAllNodes};
+    ghost use Rattle.drum_flow.specs.Flow.{executed_in, nodes_of as reached_in, of_flow};
+    ghost use Rattle.drum_flow.specs.Refused.{IsDiscoveryRefusal};
     ghost use Rattle.drum_loops.specs.Loops.{AreClosing};
     ghost use Rattle.drum_graph.specs.Graph.{AreNodes, node};
     ghost use Rattle.drum_graph.specs.Graph as drawn;
@@ -31,8 +33,10 @@ impl Graph {
 
     /// What is drawn of each executed word, in the order of discovery.
     fn nodes_of(alloc: Global, flow: &Flow<'_>) -> Result<Vec<Node>, AllocError>
+        requires nodes { of_flow AreAllNodes flow.now (reached_in flow.now) }
+        requires places { each_place (reached_in flow.now) ≡ executed_in flow.now }
         ensures all { IfOk result (λ nodes. map node_of nodes.items
-            ≡ map (node (loads_in flow.now.deck.now) flow.now.notes.now (executed_in flow.now))
+            ≡ map (node (loads_in flow.now.deck.now) flow.now.notes.now (reached_in flow.now))
             (executed_in flow.now)) }
         ensures few { IfOk result (λ nodes. vec_len nodes ≤ 2004) }
     {
@@ -48,13 +52,16 @@ impl Graph {
     ///
     /// # Errors
     ///
-    /// [`AllocError`] where there is no memory.
-    pub fn of(alloc: Global, deck: &Deck, notes: &Notes) -> Result<Graph, AllocError>
+    /// [`Refusal::TooMany`] where there are more than 65,536 nodes: locations with what is open
+    /// there at the exits of calls; [`Refusal::Memory`] where there is no memory.
+    pub fn of(alloc: Global, deck: &Deck, notes: &Notes) -> Result<Graph, Refusal>
         ensures nodes { IfOk result (λ graph. AreNodes (loads_in deck.now) notes.now
             (start_in deck.now) (nodes_in graph)) }
         ensures loops { IfOk result (λ graph. AreClosing (loads_in deck.now) notes.now
             (start_in deck.now) (loops_in graph)) }
         ensures start { IfOk result (λ graph. start_of graph ≡ start_in deck.now) }
+        ensures refused { IfErr result (IsDiscoveryRefusal (loads_in deck.now) notes.now
+            (start_in deck.now)) }
     {
         let flow = discover(alloc, deck, notes)?;
         let edges = closing_edges(alloc, &flow)?;
@@ -70,8 +77,8 @@ impl Graph {
     ///
     /// # Errors
     ///
-    /// [`AllocError`] where there is no memory.
-    pub fn outline(alloc: Global, deck: &Deck, notes: &Notes) -> Result<Graph, AllocError>
+    /// Those of [`Graph::of`].
+    pub fn outline(alloc: Global, deck: &Deck, notes: &Notes) -> Result<Graph, Refusal>
         ensures nodes { IfOk result (λ graph. (words : List drawn.Node)
             × AreNodes (loads_in deck.now) notes.now (start_in deck.now) words
             × (nodes_in graph
@@ -79,6 +86,8 @@ impl Graph {
         ensures loops { IfOk result (λ graph. AreClosing (loads_in deck.now) notes.now
             (start_in deck.now) (loops_in graph)) }
         ensures start { IfOk result (λ graph. start_of graph ≡ start_in deck.now) }
+        ensures refused { IfErr result (IsDiscoveryRefusal (loads_in deck.now) notes.now
+            (start_in deck.now)) }
     {
         let graph = Graph::of(alloc, deck, notes)?;
         let Graph {

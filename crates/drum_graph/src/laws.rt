@@ -1,15 +1,29 @@
 //! Laws of the definitions, each the contract of a function that does nothing.
 
-ghost use Rattle.std.specs.Prelude.{◌≡◌, ◌↔◌, ℕ, List, Option, Contains};
+ghost use Rattle.std.specs.Prelude.{◌≡◌, ◌↔◌, ℕ, List, [], Option, Contains};
 ghost use Rattle.drum_core.specs.declared.word.Word.{Word};
 ghost use Rattle.drum_times.specs.Allowed.{Notes};
+ghost use Rattle.drum_flow.specs.Executed.{each_place, AreAllNodes};
+ghost use Rattle.drum_flow.specs.Hops as flow;
 ghost use Rattle.drum_flow.specs.Hops.{IsEdge};
 ghost use Rattle.drum_graph.specs.Graph.{AreNodes, Node, node};
 
-/// The arrows of a word, but for the dotted ones, are its edges.
+/// A word has an arrow to a location, but for the dotted ones, where a link leads from a node of the
+/// flow graph at the word to one at the location.
+pub fn arrows_are_links()
+    ensures { (loads : ℕ → Option Word) (notes : Notes) (start : ℕ) (nodes : List flow.Node)
+        (place next : ℕ) → AreAllNodes loads notes start nodes
+        → Contains (node loads notes nodes place).nexts next
+        ↔ ((one other : flow.Node) × (one.place ≡ place) × (other.place ≡ next)
+        × flow.IsNode loads notes start one × flow.IsLink loads notes one other) }
+{}
+
+/// Without calls the arrows of an executed word are its edges.
 pub fn arrows_are_edges()
-    ensures { (loads : ℕ → Option Word) (notes : Notes) (executed : List ℕ) (place next : ℕ)
-        → Contains (node loads notes executed place).nexts next ↔ IsEdge loads notes place next }
+    ensures { (loads : ℕ → Option Word) (notes : Notes) (start : ℕ) (nodes : List flow.Node)
+        (place next : ℕ) → AreAllNodes loads notes start nodes → notes.calls ≡ []
+        → Contains (each_place nodes) place
+        → Contains (node loads notes nodes place).nexts next ↔ IsEdge loads notes place next }
 {}
 
 /// A deck has one flow graph under its notes.

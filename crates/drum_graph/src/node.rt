@@ -1,14 +1,14 @@
 ghost use Rattle.std.specs.Prelude.{◌≤◌, vec_len};
 
 use crate::fitness::is_fit;
+use crate::onward::nexts_at;
 use crate::operations::operations_at;
 use crate::stops::may_stop;
 use crate::written::written_at;
-use drum_core::{Deck, Location};
+use drum_core::Location;
 use drum_flow::Flow;
 use drum_flow::executed::Executed;
 use drum_flow::place::is_listed;
-use drum_times::Notes;
 use std::alloc::{AllocError, Global};
 
 /// What is drawn as a box, mostly an executed word: which operations are allowed there, each once,
@@ -32,8 +32,8 @@ pub(crate) struct Node {
 impl Node {
     ghost use Rattle.std.specs.Prelude.{◌≡◌, IfOk, OnOk, []};
     ghost use Rattle.drum_core.specs.Loads.{loads_in};
-    ghost use Rattle.drum_flow.specs.Executed.{with_new};
-    ghost use Rattle.drum_flow.specs.Flow.{executed_in};
+    ghost use Rattle.drum_flow.specs.Executed.{each_place, with_new, AreAllNodes};
+    ghost use Rattle.drum_flow.specs.Flow.{executed_in, nodes_of, of_flow};
     ghost use Rattle.drum_flow.specs.Found.{places_of};
     ghost use Rattle.drum_graph.specs.Graph as said;
     ghost use Rattle.drum_graph.specs.GraphOf.{node_of};
@@ -92,25 +92,12 @@ impl Node {
         self.written.index_of(location).is_some()
     }
 
-    /// The locations where the instructions of a location go on, each once.
-    fn nexts_at(
-        alloc: Global,
-        deck: &Deck,
-        notes: &Notes,
-        location: Location,
-    ) -> Result<Executed, AllocError>
-        ensures { IfOk result (λ nexts. places_of nexts
-            ≡ said.nexts (loads_in deck.now) notes.now location.number) }
-    {
-        let mut nexts = Executed::none(alloc);
-        nexts.add_successors(deck, notes, location)?;
-        Ok(nexts)
-    }
-
     /// What is drawn of a location of a flow graph.
     pub(crate) fn of(alloc: Global, flow: &Flow<'_>, location: Location) -> Result<Node, AllocError>
+        requires nodes { of_flow AreAllNodes flow.now (nodes_of flow.now) }
+        requires places { each_place (nodes_of flow.now) ≡ executed_in flow.now }
         ensures { IfOk result (λ node. node_of node ≡ said.node (loads_in flow.now.deck.now)
-            flow.now.notes.now (executed_in flow.now) location.number) }
+            flow.now.notes.now (nodes_of flow.now) location.number) }
     {
         let operations = operations_at(alloc, flow.deck(), flow.notes(), location)?;
         let is_unfit = !is_fit(flow.deck(), flow.notes(), location, &operations);
@@ -121,7 +108,7 @@ impl Node {
             is_listed: is_listed(flow.notes(), location),
             is_unfit,
             may_stop: may_stop(flow.deck(), flow.notes(), location),
-            nexts: Node::nexts_at(alloc, flow.deck(), flow.notes(), location)?,
+            nexts: nexts_at(alloc, flow, location)?,
             written: written_at(alloc, flow, location)?,
         })
     }

@@ -4,7 +4,7 @@ use Rattle.std.specs.Prelude.{slice_get}
 use Rattle.std.proofs.lemmas.List.{length-map, map-append}
 use Rattle.drum_core.specs.declared.location.Location.{Location}
 use Rattle.drum_core.specs.Loads.{loads_in}
-use Rattle.drum_flow.specs.Flow.{executed_in}
+use Rattle.drum_flow.specs.Flow.{executed_in, nodes_of}
 use Rattle.drum_flow.proofs.Alterations.{all_taken, number_at}
 use Rattle.drum_graph.specs.declared.node.Node as held
 use Rattle.drum_graph.specs.Graph.{node}
@@ -27,7 +27,7 @@ loop-location-preserved c =
     ap (map node_of) c.in_ok-push.ensures.items ∙ map-append node_of before (one ∷ []) in
     record {
       so_far =
-          node_more (node (loads_in flow.deck.now) flow.notes.now executed) (map node_of before)
+          node_more (node (loads_in flow.deck.now) flow.notes.now (nodes_of flow)) (map node_of before)
           (map node_of c.push.new.self.items) executed k location.number (node_of one) here
           c.loop-location.invariant.so_far c.in_ok-of.ensures added;
       few =
@@ -43,7 +43,7 @@ pub returns-clause-all : goal.returns-clause-all
 returns-clause-all c =
     let flow = c.args.flow.now in
     c.loop-location.invariant.so_far
-    ∙ ap (map (node (loads_in flow.deck.now) flow.notes.now (executed_in flow)))
+    ∙ ap (map (node (loads_in flow.deck.now) flow.notes.now (nodes_of flow)))
     (all_taken c.executed-location-items.result.now (executed_in flow) c.loop-location.location-index
     c.executed-location-items.ensures.all c.loop-location-test.false)
 

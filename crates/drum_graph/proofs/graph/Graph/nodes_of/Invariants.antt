@@ -1,6 +1,6 @@
 use Rattle.std.proofs.Common.{◌≡◌, length, map, take}
 use Rattle.drum_core.specs.Loads.{loads_in}
-use Rattle.drum_flow.specs.Flow.{executed_in}
+use Rattle.drum_flow.specs.Flow.{executed_in, nodes_of}
 use Rattle.drum_graph.specs.Graph as said
 use Rattle.drum_graph.specs.GraphOf.{node_of}
 use Rattle.drum_graph.proofs.graph.Graph.nodes_of.Given as goal
@@ -9,7 +9,7 @@ use Rattle.drum_graph.proofs.graph.Graph.nodes_of.Given as goal
 abbrev pub invariant-loop-location : goal.invariant-loop-location
 invariant-loop-location l = record {
   so_far : map node_of l.nodes.items
-      ≡ map (said.node (loads_in l.flow.deck.now) l.flow.notes.now (executed_in l.flow))
+      ≡ map (said.node (loads_in l.flow.deck.now) l.flow.notes.now (nodes_of l.flow))
       (take l.location-index (executed_in l.flow));
   few : length l.nodes.items ≡ l.location-index;
 }

@@ -1,0 +1,14 @@
+use Rattle.std.proofs.Common.{◌≡◌, [], map, take}
+use Rattle.std.specs.Prelude.{filter}
+use Rattle.drum_flow.specs.Executed.{with_new}
+use Rattle.drum_flow.specs.Flow.{nodes_of}
+use Rattle.drum_flow.specs.Found.{places_of}
+use Rattle.drum_graph.specs.Graph.{is_taken}
+use Rattle.drum_graph.proofs.onward.nexts_at.Given as goal
+
+-- of the locations so far those to which a step may go on
+abbrev pub invariant-loop-next : goal.invariant-loop-next
+invariant-loop-next l =
+    places_of l.nexts
+    ≡ with_new [] (filter (is_taken l.flow.notes.now (nodes_of l.flow) l.location.number)
+    (take l.next-index (map (λ location. location.number) l.next-items)))
