@@ -8,8 +8,8 @@ ghost use Rattle.drum_flow.specs.Hops as flow;
 ghost use Rattle.drum_flow.specs.Hops.{IsEdge};
 ghost use Rattle.drum_graph.specs.Graph.{AreNodes, Node, node};
 
-/// A word has an arrow to a location, but for the dotted ones, where a link leads from a node of the
-/// flow graph at the word to one at the location.
+/// A word has an arrow to a location, but for the dotted ones, where a link leads from some node of
+/// the flow graph at the word to one at the location.
 pub fn arrows_are_links()
     ensures { (loads : ℕ → Option Word) (notes : Notes) (start : ℕ) (nodes : List flow.Node)
         (place next : ℕ) → AreAllNodes loads notes start nodes
@@ -18,7 +18,7 @@ pub fn arrows_are_links()
         × flow.IsNode loads notes start one × flow.IsLink loads notes one other) }
 {}
 
-/// Without calls the arrows of an executed word are its edges.
+/// Without calls these arrows of an executed word are its edges.
 pub fn arrows_are_edges()
     ensures { (loads : ℕ → Option Word) (notes : Notes) (start : ℕ) (nodes : List flow.Node)
         (place next : ℕ) → AreAllNodes loads notes start nodes → notes.calls ≡ []
