@@ -5,9 +5,12 @@ pub mod Befores
 pub mod Besides
 pub mod Closings
 pub mod Flags
+pub mod LinkRows
 pub mod Markings
+pub mod Nestings
 pub mod OneWays
 pub mod Paths
 pub mod Rankings
 pub mod Reachings
 pub mod Sparings
+pub mod Suches

@@ -2,8 +2,10 @@ pub mod Arranged
 pub mod Arranging
 pub mod Closing
 pub mod Flags
+pub mod Links
 pub mod Loops
 pub mod Marked
 pub mod Nested
 pub mod Ranks
+pub mod Reached
 pub mod Spared

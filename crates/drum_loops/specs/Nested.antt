@@ -1,25 +1,50 @@
--- Which loop stands inside another one, by the edges that close them.
+-- Which loop stands inside another one, by the edges that close them. A loop's head is the location
+-- that its edge leads onto. Loops are looked at in the flow graph: a subroutine that several calls
+-- lead to has a node for each of them at each of its locations, and one's loop needn't be another's.
 use Rattle.std.specs.Prelude.{◌≡◌, ◌≢◌, ℕ, ◌⊎◌, Option}
 use Rattle.drum_core.specs.declared.word.Word.{Word}
 use Rattle.drum_times.specs.Allowed.{Notes}
-use Rattle.drum_flow.specs.Hops.{IsEdge}
+use Rattle.drum_flow.specs.Hops.{first_node, IsLink, IsNode, Node}
 use Rattle.drum_loops.specs.Loops.{LeadsTo}
 
--- an edge that doesn't lead onto the location to be avoided
-abbrev pub GoesAround : (ℕ → Option Word) → Notes → ℕ → ℕ → ℕ → Type 0
-GoesAround loads notes avoided from onto = IsEdge loads notes from onto × (onto ≢ avoided)
+-- a link that doesn't lead onto a node at the location to be avoided
+abbrev pub GoesAround : (ℕ → Option Word) → Notes → ℕ → Node → Node → Type 0
+GoesAround loads notes avoided node next = IsLink loads notes node next × (next.place ≢ avoided)
 
--- edges, perhaps none, lead from the one location to the other, none of them onto the avoided one
-abbrev pub LeadsAround : (ℕ → Option Word) → Notes → ℕ → ℕ → ℕ → Type 0
-LeadsAround loads notes avoided from onto = LeadsTo (GoesAround loads notes avoided) from onto
+-- links, perhaps none, lead from the one node to the other, none of them onto the avoided location
+abbrev pub LeadsAround : (ℕ → Option Word) → Notes → ℕ → Node → Node → Type 0
+LeadsAround loads notes avoided node next = LeadsTo (GoesAround loads notes avoided) node next
 
--- The loop that the inner edge closes stands inside the one that the outer edge closes. A loop's
--- head is the location that its edge leads onto. Without coming to the outer head, edges lead from
--- the inner head round the inner loop, and to the outer edge; and the start is the outer head, or
+-- They lead so from the one node to one at the location `from`, which has a link to the other node.
+pub record LeadsOver (loads : ℕ → Option Word) (notes : Notes) (avoided from : ℕ)
+    (node next : Node) : Type 0 where
+  pub last : Node
+  pub at : last.place ≡ from
+  pub around : LeadsAround loads notes avoided node last
+  pub link : IsLink loads notes last next
+
+-- Without coming to the outer head, links lead from this node at the inner head round the inner
+-- loop, by its edge, to this very node again; and to the outer edge, which has a link there.
+pub record GoesRound (loads : ℕ → Option Word) (notes : Notes) (outer inner : ℕ × ℕ)
+    (node : Node) : Type 0 where
+  pub round : LeadsOver loads notes outer.1 inner.0 node node
+  pub head : Node
+  pub at : head.place ≡ outer.1
+  pub onward : LeadsOver loads notes outer.1 outer.0 node head
+
+-- without coming to the outer head, links lead from where runs begin to no node at the inner head
+abbrev pub IsAvoided : (ℕ → Option Word) → Notes → ℕ → ℕ → ℕ → Type 0
+IsAvoided loads notes start outer inner = (node : Node) → node.place ≡ inner
+    → ¬ LeadsAround loads notes outer (first_node notes start) node
+
+-- The loop that the inner edge closes stands inside the one that the outer edge closes: at the inner
+-- head is a node of the flow graph from which links go round so; and the start is the outer head, or
 -- leads to the inner head through the outer one alone.
 pub record IsNested (loads : ℕ → Option Word) (notes : Notes) (start : ℕ)
     (outer inner : ℕ × ℕ) : Type 0 where
   pub apart : inner.1 ≢ outer.1
-  pub round : LeadsAround loads notes outer.1 inner.1 inner.0
-  pub onward : LeadsAround loads notes outer.1 inner.1 outer.0
-  pub through : (start ≡ outer.1) ⊎ ¬ LeadsAround loads notes outer.1 start inner.1
+  pub node : Node
+  pub within : IsNode loads notes start node
+  pub at : node.place ≡ inner.1
+  pub goes : GoesRound loads notes outer inner node
+  pub through : (start ≡ outer.1) ⊎ IsAvoided loads notes start outer.1 inner.1

@@ -1,90 +1,180 @@
 //! Whether one loop stands inside another one.
 
-ghost use Rattle.std.specs.Prelude.{◌≡◌, ◌≢◌, ℕ, ◌↔◌, ◌⊎◌, IsTrue, IfOk, Contains};
+ghost use Rattle.std.specs.Prelude.{◌≡◌, ℕ, ◌<◌, ◌↔◌, ◌⊎◌, IsTrue, IfOk, Contains, length};
 ghost use Rattle.drum_core.specs.Loads.{loads_in, start_in};
-ghost use Rattle.drum_flow.specs.Found.{places_of};
-ghost use Rattle.drum_flow.specs.Flow.{of_flow};
+ghost use Rattle.drum_flow.specs.Executed.{AreAllNodes};
+ghost use Rattle.drum_flow.specs.Flow.{nodes_of, of_flow};
+ghost use Rattle.drum_flow.specs.Graph.{row, size};
 ghost use Rattle.drum_times.specs.EdgeOf.{edge_of};
-ghost use Rattle.drum_loops.specs.Nested.{LeadsAround, IsNested};
+ghost use Rattle.drum_loops.specs.Closing.{places_in};
+ghost use Rattle.drum_loops.specs.Links.{AreLinkRows};
+ghost use Rattle.drum_loops.specs.Nested.{IsNested};
+ghost use Rattle.drum_loops.specs.Reached.{HasSuch, IsAt, LeadsAbout, LeadsBack, LeadsOut};
+ghost use Rattle.drum_loops.specs.Reached.{LeadsToSuch, OneLeadsAbout};
 
+use crate::reached::Reached;
 use drum_core::Location;
 use drum_flow::Flow;
-use drum_flow::executed::Executed;
+use drum_flow::graph::Graph;
 use drum_times::Edge;
 use std::alloc::{AllocError, Global};
 
-/// The locations that edges lead to from the location `from`, none of these edges onto the location
-/// `past`; and `past` itself.
-fn reached_past(
+/// Whether one of some nodes stands at a location.
+fn one_is_at(flow: &Flow<'_>, nodes: &[usize], location: Location) -> bool
+    requires { (node : ℕ) → Contains nodes.now node → node < length (nodes_of flow.now) }
+    ensures { IsTrue result ↔ HasSuch (IsAt (places_in flow.now) location.number) nodes.now }
+{
+    for node in nodes {
+        if flow.location(*node).number() == location.number() {
+            return true;
+        }
+    }
+    false
+}
+
+/// Whether a node stands at the location `from`, and leads to the node `back`.
+fn leads_back(flow: &Flow<'_>, graph: &Graph, from: Location, back: usize, node: usize) -> bool
+    requires size { size graph.now ≡ length (nodes_of flow.now) }
+    requires within { node < size graph.now }
+    ensures { IsTrue result
+        ↔ LeadsBack (row graph.now) (places_in flow.now) from.number back node }
+{
+    flow.location(node).number() == from.number() && graph.row(node).contains(&back)
+}
+
+/// Whether one of some nodes does.
+fn one_leads_back(
+    flow: &Flow<'_>,
+    graph: &Graph,
+    nodes: &[usize],
+    from: Location,
+    back: usize,
+) -> bool
+    requires size { size graph.now ≡ length (nodes_of flow.now) }
+    requires within { (node : ℕ) → Contains nodes.now node → node < size graph.now }
+    ensures { IsTrue result
+        ↔ HasSuch (LeadsBack (row graph.now) (places_in flow.now) from.number back) nodes.now }
+{
+    for node in nodes {
+        if leads_back(flow, graph, from, back, *node) {
+            return true;
+        }
+    }
+    false
+}
+
+/// Whether a node has a link along an edge of locations.
+fn leads_out(flow: &Flow<'_>, graph: &Graph, edge: Edge, node: usize) -> bool
+    requires size { size graph.now ≡ length (nodes_of flow.now) }
+    requires within { node < size graph.now }
+    ensures { IsTrue result ↔ LeadsOut (row graph.now) (places_in flow.now) (edge_of edge) node }
+{
+    flow.location(node).number() == edge.from.number()
+        && one_is_at(flow, graph.row(node), edge.onto)
+}
+
+/// Whether one of some nodes has.
+fn one_leads_out(flow: &Flow<'_>, graph: &Graph, nodes: &[usize], edge: Edge) -> bool
+    requires size { size graph.now ≡ length (nodes_of flow.now) }
+    requires within { (node : ℕ) → Contains nodes.now node → node < size graph.now }
+    ensures { IsTrue result
+        ↔ HasSuch (LeadsOut (row graph.now) (places_in flow.now) (edge_of edge)) nodes.now }
+{
+    for node in nodes {
+        if leads_out(flow, graph, edge, *node) {
+            return true;
+        }
+    }
+    false
+}
+
+/// Whether links lead from a node round the inner loop, to this very node again, and to the outer
+/// loop's edge, none of them onto the outer loop's head.
+fn goes_round(
     alloc: Global,
     flow: &Flow<'_>,
-    past: Location,
-    from: Location,
-) -> Result<Executed, AllocError>
-    requires { from.number ≢ past.number }
-    ensures { IfOk result (λ reached. (place : ℕ) → place ≢ past.number
-        → (Contains (places_of reached) place
-        ↔ LeadsAround (loads_in flow.now.deck.now) flow.now.notes.now past.number from.number
-        place)) }
+    graph: &Graph,
+    outer: Edge,
+    inner: Edge,
+    node: usize,
+) -> Result<bool, AllocError>
+    requires size { size graph.now ≡ length (nodes_of flow.now) }
+    requires within { node < size graph.now }
+    ensures { IfOk result (λ round. IsTrue round ↔ LeadsAbout (row graph.now) (places_in flow.now)
+        (edge_of outer) (edge_of inner) node) }
 {
-    // It stands there from the beginning, so no edge onto it is followed.
-    let mut reached = Executed::new(alloc, past)?;
-    reached.add(from)?;
-    let mut turn = 1;
-    while let Some(location) = reached.get(turn) {
-        reached.add_successors(flow.deck(), flow.notes(), location)?;
-        turn += 1;
-    }
-    Ok(reached)
-}
-
-/// Whether a location is one of those that were reached, and not the one that none was to be
-/// reached through.
-fn is_reached(reached: &Executed, past: Location, location: Location) -> bool
-    ensures { IsTrue result ↔ ((location.number ≢ past.number)
-        × Contains (places_of reached.now) location.number) }
-{
-    location.number() != past.number() && reached.index_of(location).is_some()
-}
-
-/// Whether edges lead from an inner loop's head round it, and to the outer loop's edge, none of
-/// them onto the outer loop's head.
-fn goes_round(alloc: Global, flow: &Flow<'_>, outer: Edge, inner: Edge) -> Result<bool, AllocError>
-    requires { inner.onto.number ≢ outer.onto.number }
-    ensures { IfOk result (λ round. IsTrue round ↔ (LeadsAround (loads_in flow.now.deck.now)
-        flow.now.notes.now outer.onto.number inner.onto.number inner.from.number
-        × LeadsAround (loads_in flow.now.deck.now) flow.now.notes.now outer.onto.number
-        inner.onto.number outer.from.number)) }
-{
-    let reached = reached_past(alloc, flow, outer.onto, inner.onto)?;
-    if !is_reached(&reached, outer.onto, inner.from) {
+    let reached = Reached::past(alloc, flow, graph, outer.onto, node)?;
+    if !one_leads_back(flow, graph, &reached.nodes, inner.from, node) {
         return Ok(false);
     }
-    Ok(is_reached(&reached, outer.onto, outer.from))
+    Ok(one_leads_out(flow, graph, &reached.nodes, outer))
 }
 
-/// Whether the start is a loop's head, or leads to a location through that head alone.
+/// Whether they do from a node that stands at the inner loop's head.
+fn goes_round_there(
+    alloc: Global,
+    flow: &Flow<'_>,
+    graph: &Graph,
+    outer: Edge,
+    inner: Edge,
+    node: usize,
+) -> Result<bool, AllocError>
+    requires size { size graph.now ≡ length (nodes_of flow.now) }
+    requires within { node < size graph.now }
+    ensures { IfOk result (λ round. IsTrue round ↔ (IsAt (places_in flow.now) inner.onto.number node
+        × LeadsAbout (row graph.now) (places_in flow.now) (edge_of outer) (edge_of inner) node)) }
+{
+    if flow.location(node).number() != inner.onto.number() {
+        return Ok(false);
+    }
+    goes_round(alloc, flow, graph, outer, inner, node)
+}
+
+/// Whether they do from some node at the inner loop's head.
+fn one_goes_round(
+    alloc: Global,
+    flow: &Flow<'_>,
+    graph: &Graph,
+    outer: Edge,
+    inner: Edge,
+) -> Result<bool, AllocError>
+    requires { size graph.now ≡ length (nodes_of flow.now) }
+    ensures { IfOk result (λ round. IsTrue round ↔ OneLeadsAbout (row graph.now)
+        (places_in flow.now) (edge_of outer) (edge_of inner) (size graph.now)) }
+{
+    for node in 0..graph.size() {
+        if goes_round_there(alloc, flow, graph, outer, inner, node)? {
+            return Ok(true);
+        }
+    }
+    Ok(false)
+}
+
+/// Whether the start is a loop's head, or leads to a location through that head alone. The flow
+/// graph's first node is the start's.
 fn is_entered_by(
     alloc: Global,
     flow: &Flow<'_>,
+    graph: &Graph,
     head: Location,
     location: Location,
 ) -> Result<bool, AllocError>
-    ensures { IfOk result (λ entered. IsTrue entered
-        ↔ ((start_in flow.now.deck.now ≡ head.number)
-        ⊎ ¬ LeadsAround (loads_in flow.now.deck.now) flow.now.notes.now head.number
-        (start_in flow.now.deck.now) location.number)) }
+    requires size { size graph.now ≡ length (nodes_of flow.now) }
+    requires first { 0 < size graph.now }
+    ensures { IfOk result (λ entered. IsTrue entered ↔ ((start_in flow.now.deck.now ≡ head.number)
+        ⊎ ¬ LeadsToSuch (row graph.now) (places_in flow.now) head.number 0
+        (IsAt (places_in flow.now) location.number))) }
 {
-    let start = flow.deck().start();
-    if start.number() == head.number() {
+    if flow.deck().start().number() == head.number() {
         return Ok(true);
     }
-    let reached = reached_past(alloc, flow, head, start)?;
-    Ok(!is_reached(&reached, head, location))
+    let reached = Reached::past(alloc, flow, graph, head, 0)?;
+    Ok(!one_is_at(flow, &reached.nodes, location))
 }
 
-/// Whether the loop that the edge `inner` closes stands inside the one that `outer` closes. It
-/// takes as long as discovery, twice.
+/// Whether the loop that the edge `inner` closes stands inside the one that `outer` closes, by the
+/// graph of all links ([`link_graph`](crate::link_graph)). It goes through that graph once from the
+/// start, and once from each node at the inner loop's head.
 ///
 /// # Errors
 ///
@@ -92,17 +182,22 @@ fn is_entered_by(
 pub fn is_nested(
     alloc: Global,
     flow: &Flow<'_>,
+    graph: &Graph,
     outer: Edge,
     inner: Edge,
 ) -> Result<bool, AllocError>
+    requires nodes { of_flow AreAllNodes flow.now (nodes_of flow.now) }
+    requires size { size graph.now ≡ length (nodes_of flow.now) }
+    requires rows { AreLinkRows (loads_in flow.now.deck.now) flow.now.notes.now
+        (nodes_of flow.now) (row graph.now) }
     ensures { IfOk result (λ nested. IsTrue nested
         ↔ of_flow IsNested flow.now (edge_of outer) (edge_of inner)) }
 {
     if inner.onto.number() == outer.onto.number() {
         return Ok(false);
     }
-    if !goes_round(alloc, flow, outer, inner)? {
+    if !is_entered_by(alloc, flow, graph, outer.onto, inner.onto)? {
         return Ok(false);
     }
-    is_entered_by(alloc, flow, outer.onto, inner.onto)
+    one_goes_round(alloc, flow, graph, outer, inner)
 }
