@@ -1,6 +1,6 @@
 -- Which loop stands inside another one, by the edges that close them. A loop's head is the location
--- that its edge leads onto. Loops are looked at in the flow graph: a subroutine that several calls
--- lead to has a node for each of them at each of its locations, and one's loop needn't be another's.
+-- that its edge leads onto. Loops are looked at in the flow graph: where several calls lead to a
+-- subroutine, each has nodes of its own there, and an exit leads back to where that call came from.
 use Rattle.std.specs.Prelude.{◌≡◌, ◌≢◌, ℕ, ◌⊎◌, Option}
 use Rattle.drum_core.specs.declared.word.Word.{Word}
 use Rattle.drum_times.specs.Allowed.{Notes}
@@ -37,9 +37,9 @@ abbrev pub IsAvoided : (ℕ → Option Word) → Notes → ℕ → ℕ → ℕ �
 IsAvoided loads notes start outer inner = (node : Node) → node.place ≡ inner
     → ¬ LeadsAround loads notes outer (first_node notes start) node
 
--- The loop that the inner edge closes stands inside the one that the outer edge closes: at the inner
--- head is a node of the flow graph from which links go round so; and the start is the outer head, or
--- leads to the inner head through the outer one alone.
+-- The loop that the inner edge closes stands inside the one that the outer edge closes: at the
+-- inner head is a node of the flow graph from which links go round so; and the start is the outer
+-- head, or leads to the inner head through the outer one alone.
 pub record IsNested (loads : ℕ → Option Word) (notes : Notes) (start : ℕ)
     (outer inner : ℕ × ℕ) : Type 0 where
   pub apart : inner.1 ≢ outer.1
