@@ -6,9 +6,10 @@ use Rattle.drum_core.specs.declared.word.Word.{Word}
 use Rattle.drum_times.specs.Allowed.{Notes}
 use Rattle.drum_times.specs.Short.{is_short}
 use Rattle.drum_flow.specs.Accepted.{IsAccepted, IsAdmitted, IsFreeLink, product_of}
+use Rattle.drum_flow.specs.Executed.{AreAllNodes}
 use Rattle.drum_flow.specs.Graph.{LeadRound}
 use Rattle.drum_flow.specs.Hops.{Node}
-use Rattle.drum_flow.proofs.Acceptances.{one_order}
+use Rattle.drum_flow.proofs.Acceptances.{one_order, one_reached}
 use Rattle.drum_flow.proofs.Lists.{contains_here}
 use Rattle.drum_loops.specs.Loops.{IsFreeBut}
 use Rattle.drum_check.specs.Findings.{AreFindings, Finding}
@@ -26,8 +27,9 @@ round_free loads notes edges edge first node [] round = round.0
 round_free loads notes edges edge first node (next ∷ nodes) round =
     (round.0.0, round_free loads notes edges edge first next nodes round.1)
 
-module _ (loads : ℕ → Option Word) (notes : Notes) (start : ℕ) (executed : List ℕ) (findings : List Finding)
-    (a : AreFindings loads notes start findings) (admitted : IsAdmitted loads notes start executed) where
+module _ (loads : ℕ → Option Word) (notes : Notes) (start : ℕ) (executed : List ℕ) (nodes : List Node)
+    (findings : List Finding) (a : AreFindings loads notes start findings) (reached : AreAllNodes loads notes start nodes)
+    (admitted : IsAdmitted loads notes start executed) where
   nothing_unfit : (place : ℕ) → Contains a.executed place → unfit loads notes place ≡ []
   nothing_unfit place there =
       let is = a.found.only place there in
@@ -51,10 +53,13 @@ module _ (loads : ℕ → Option Word) (notes : Notes) (start : ℕ) (executed :
   same : a.executed ≡ executed
   same = one_order loads notes start a.executed executed a.found.order admitted.order
 
+  same_nodes : a.nodes ≡ nodes
+  same_nodes = one_reached loads notes start a.nodes nodes a.reached reached
+
   small_here : product_of executed notes.marks ≤ 4000000 → product_of a.executed notes.marks ≤ 4000000
   small_here small = subst (λ (all : List ℕ). product_of all notes.marks ≤ 4000000) (sym same) small
 
-  none_found : too_many notes (product_of a.executed notes.marks) ≡ [] → AreLooseEnds loads notes start executed findings
+  none_found : too_many notes (product_of a.executed notes.marks) ≡ [] → AreLooseEnds loads notes start executed nodes findings
   none_found sized =
       let rest : List Finding = a.loose in
       let nothing_else : findings ≡ a.loose = a.all
@@ -65,23 +70,24 @@ module _ (loads : ℕ → Option Word) (notes : Notes) (start : ℕ) (executed :
       (all_nothing (altering loads notes a.executed) a.executed nothing_altered)
       ∙ ap (λ (xs : List Finding). xs ++ a.loops ++ rest) sized
       ∙ ap (λ (xs : List Finding). xs ++ rest)
-      (none_told loads notes start a.executed a.edges a.loops (no_edge a.edges refl) a.told) in
-      subst (λ (all : List Finding). AreLooseEnds loads notes start executed all) (sym nothing_else)
-      (subst (λ (places : List ℕ). AreLooseEnds loads notes start places a.loose) same a.are_loose)
+      (none_told loads notes start a.nodes a.edges a.loops (no_edge a.edges refl) a.told) in
+      subst (λ (all : List Finding). AreLooseEnds loads notes start executed nodes all) (sym nothing_else)
+      (subst (λ (places : List ℕ). AreLooseEnds loads notes start places nodes a.loose) same
+      (subst (λ (all : List Node). AreLooseEnds loads notes start a.executed all a.loose) same_nodes a.are_loose))
 
-  pub admitted_small : product_of executed notes.marks ≤ 4000000 → AreLooseEnds loads notes start executed findings
+  pub admitted_small : product_of executed notes.marks ≤ 4000000 → AreLooseEnds loads notes start executed nodes findings
   admitted_small small =
       none_found (small_untold notes (product_of a.executed notes.marks) (small_here small))
 
-  pub admitted_long : ¬ IsTrue (is_short notes) → AreLooseEnds loads notes start executed findings
+  pub admitted_long : ¬ IsTrue (is_short notes) → AreLooseEnds loads notes start executed nodes findings
   admitted_long long =
       none_found (long_untold notes (product_of a.executed notes.marks) long)
 
-module _ (loads : ℕ → Option Word) (notes : Notes) (start : ℕ) (executed : List ℕ) (findings : List Finding)
-    (a : AreFindings loads notes start findings) where
-  pub accepted_silent : IsAccepted loads notes start executed → AreLooseEnds loads notes start executed findings
-  accepted_silent accepted = admitted_small loads notes start executed findings a accepted.admitted accepted.small
+module _ (loads : ℕ → Option Word) (notes : Notes) (start : ℕ) (executed : List ℕ) (nodes : List Node)
+    (findings : List Finding) (a : AreFindings loads notes start findings) (reached : AreAllNodes loads notes start nodes) where
+  pub accepted_silent : IsAccepted loads notes start executed → AreLooseEnds loads notes start executed nodes findings
+  accepted_silent accepted = admitted_small loads notes start executed nodes findings a reached accepted.admitted accepted.small
 
   pub admitted_silent : ¬ IsTrue (is_short notes) → IsAdmitted loads notes start executed
-      → AreLooseEnds loads notes start executed findings
-  admitted_silent long admitted = admitted_long loads notes start executed findings a admitted long
+      → AreLooseEnds loads notes start executed nodes findings
+  admitted_silent long admitted = admitted_long loads notes start executed nodes findings a reached admitted long

@@ -1,8 +1,7 @@
 -- What refuses the analysis is found first: of short notes a bound's refusal, of long ones a ceiling's.
-use Rattle.std.proofs.Common.{◌≡◌, ℕ, zero, suc, ◌+◌, ◌<◌, ◌≤◌, Bool, true, false, List, [], ◌∷◌, ◌++◌, map, length}
-use Rattle.std.proofs.Common.{get_or, take, drop, refl, ap, sym, ◌∙◌, subst, inl, inr, arith, Option, Some, is_some}
+use Rattle.std.proofs.Common.{◌≡◌, ℕ, ◌+◌, ◌<◌, Bool, true, false, List, [], ◌∷◌, ◌++◌, map, length}
+use Rattle.std.proofs.Common.{take, drop, refl, ap, sym, ◌∙◌, subst, arith, Option, Some, is_some}
 use Rattle.std.specs.Prelude.{Contains, IsTrue, cond, filter, flat_map, slice_get}
-use Rattle.std.proofs.lemmas.Bool.{cases_lt}
 use Rattle.std.proofs.lemmas.List.{length-take, get_or-take}
 use Rattle.std.proofs.lemmas.Option.{get_or_from_slice_get, slice_get-get_or, slice_get_within}
 use Rattle.drum_core.specs.declared.instruction.Instruction.{Instruction}
@@ -13,17 +12,21 @@ use Rattle.drum_times.specs.Allowed.{Notes, allowed}
 use Rattle.drum_times.specs.Short.{is_short}
 use Rattle.drum_flow.specs.declared.refusal.Refusal.{Refusal}
 use Rattle.drum_flow.specs.declared.refusal.Refusal.TheVariants.{Memory, NotLoaded, NotInProfile, Alters, Unbounded}
-use Rattle.drum_flow.specs.declared.refusal.Refusal.TheVariants.{TooLarge}
+use Rattle.drum_flow.specs.declared.refusal.Refusal.TheVariants.{HasCalls, TooLarge, TooMany}
 use Rattle.drum_flow.specs.Acceptance.{IsAdmissionRefusal, IsRefusal}
 use Rattle.drum_flow.specs.Accepted as said
 use Rattle.drum_flow.specs.Accepted.{IsAltered, IsFirstOutside, IsFreeLink, IsGood, IsLowestAltered, IsMet}
 use Rattle.drum_flow.specs.Accepted.{IsFreeRound, IsNotInProfile, IsNotLoaded, IsSound, IsTooLarge, product_of, told}
+use Rattle.drum_flow.specs.Accepted.{IsTooMany}
+use Rattle.drum_flow.specs.Executed.{found_after}
 use Rattle.drum_flow.proofs.Products.{many_told}
 use Rattle.drum_flow.specs.Graph.{IsClosed}
 use Rattle.drum_flow.specs.Hops.{IsNode, Node}
 use Rattle.drum_flow.proofs.Acceptances.{met_first, one_order}
 use Rattle.drum_flow.proofs.Alterations.{split_at}
 use Rattle.drum_flow.proofs.Lists.{contains_at, contains_here, contains_there}
+use Rattle.drum_flow.proofs.Members.{no_more}
+use Rattle.drum_flow.proofs.Orders.{found_different, has_reached, only_reached}
 use Rattle.drum_check.specs.Findings.{AreFindings, Finding, not_loaded, not_in_profile, alters, too_large, closes}
 use Rattle.drum_check.specs.Findings.{altered, altered_by, altering, is_fixed, not_there, operations_outside, outside}
 use Rattle.drum_check.specs.Findings.{too_many, unfit}
@@ -37,7 +40,7 @@ use Rattle.drum_check.proofs.Fixeds.{fixed_only, fixed_so}
 use Rattle.drum_check.proofs.Nothing.{all_nothing}
 use Rattle.drum_check.proofs.Outsides.{inside_none, outside_of}
 use Rattle.drum_check.proofs.Silent.{round_left}
-use Rattle.drum_check.proofs.Sizes.{large_told, long_untold, small_untold}
+use Rattle.drum_check.proofs.Sizes.{large_told, long_untold, short_plain, small_untold}
 use Rattle.drum_check.proofs.Tellings.{first_told}
 use Rattle.drum_check.proofs.WriteRanges.{writes_range}
 
@@ -219,8 +222,8 @@ module _ (loads : ℕ → Option Word) (notes : Notes) (start : ℕ) where
         go [] none = absurd (closed is.round.nodes is.round.within none is.round.closed)
         go (edge ∷ edges) same =
             let parts = sound_parts is.sound in
-            let first = first_told loads notes start a.executed edge edges a.loops
-            (subst (λ (all : List (ℕ × ℕ)). AreLoops loads notes start a.executed all a.loops) same a.told) in
+            let first = first_told loads notes start a.nodes edge edges a.loops
+            (subst (λ (all : List (ℕ × ℕ)). AreLoops loads notes start a.nodes all a.loops) same a.told) in
             (edge, first.0, told_fourth (closes edge first.0) parts.0 parts.1 small first.1)
 
     unloaded_first : (place : ℕ) → IsNotLoaded loads notes start place → BeginsWith findings (not_loaded place)
@@ -240,10 +243,24 @@ module _ (loads : ℕ → Option Word) (notes : Notes) (start : ℕ) where
         (begins_mapped (not_in_profile place) (operations_outside loads notes place) op
         (outside_first place op is.2)))
 
+    -- there are no more nodes than there may be
+    never_many : IsTooMany loads notes start → ⊥
+    never_many is =
+        omega (
+          arith,
+          no_more (found_after loads notes start is.count) a.nodes (found_different loads notes start is.count)
+              (λ node there. has_reached loads notes start a.nodes a.reached node
+              (only_reached loads notes start is.count node there)),
+          is.many,
+          a.few,
+        )
+
     pub refusal_first : (refusal : Refusal) → is_short notes ≡ true → IsRefusal loads notes start refusal
         → IsFoundFirst refusal findings
     refusal_first (NotLoaded location) short is = unloaded_first location.number is
     refusal_first (NotInProfile location op) short is = operation_first location.number op is
+    refusal_first HasCalls short is = absurd (is (short_plain notes short))
+    refusal_first TooMany short is = absurd (never_many is)
     refusal_first (Alters writer word) short is =
         (kept_of loads notes writer.number word.number, altered_first writer.number word.number is)
     refusal_first (TooLarge product) short is = large_first product short is
@@ -256,6 +273,8 @@ module _ (loads : ℕ → Option Word) (notes : Notes) (start : ℕ) where
         → IsAdmissionRefusal loads notes start refusal → IsFoundFirst refusal findings
     admission_refusal_first (NotLoaded location) long is = unloaded_first location.number is
     admission_refusal_first (NotInProfile location op) long is = operation_first location.number op is
+    admission_refusal_first HasCalls long is = absurd is
+    admission_refusal_first TooMany long is = absurd (never_many is)
     admission_refusal_first (Alters writer word) long is =
         (kept_of loads notes writer.number word.number, altered_first writer.number word.number is)
     admission_refusal_first (TooLarge product) long is = absurd is

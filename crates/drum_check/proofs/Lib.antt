@@ -18,6 +18,7 @@ pub mod Pasted
 pub mod Rearranged
 pub mod Silent
 pub mod Sizes
+pub mod Steps
 pub mod Tellings
 pub mod Unsaids
 pub mod Ways

@@ -1,7 +1,7 @@
 -- Where nothing is found, the deck with its notes is admitted; and accepted, where they are short.
 use Rattle.std.proofs.Common.{◌≡◌, ℕ, ◌≤◌, Bool, true, false, List, [], ◌∷◌, ◌++◌, map, refl, ap, sym, ◌∙◌, subst}
 use Rattle.std.proofs.Common.{inl, inr, ◌⊎◌, Option, is_some}
-use Rattle.std.specs.Prelude.{Contains, IsSome, IsTrue, cond, flat_map, ◌||◌}
+use Rattle.std.specs.Prelude.{Contains, length, IsSome, IsTrue, cond, flat_map, ◌||◌}
 use Rattle.drum_core.specs.declared.instruction.Instruction.{Instruction}
 use Rattle.drum_core.specs.declared.word.Word.{Word}
 use Rattle.drum_core.specs.Op.{op_of}
@@ -9,21 +9,22 @@ use Rattle.drum_times.specs.Allowed.{Notes, allowed, is_listed}
 use Rattle.drum_times.specs.Short.{is_short}
 use Rattle.drum_machine.specs.Writes.{writes}
 use Rattle.drum_flow.specs.Accepted.{IsAccepted, IsAdmitted, IsFixed, IsFreeLink, IsInProfile, IsThere, product_of}
+use Rattle.drum_flow.specs.Executed.{AreAllNodes}
 use Rattle.drum_flow.specs.Flow.{AreFound}
 use Rattle.drum_flow.specs.Graph.{LeadRound}
 use Rattle.drum_flow.specs.Hops.{IsExecuted, Node}
-use Rattle.drum_flow.proofs.Acceptances.{one_order}
+use Rattle.drum_flow.proofs.Acceptances.{one_order, one_reached}
 use Rattle.drum_flow.proofs.Lists.{contains_here, contains_none}
 use Rattle.drum_loops.specs.Loops.{IsFreeBeside}
 use Rattle.drum_check.specs.Findings.{AreFindings, Finding, not_loaded, not_in_profile, alters}
 use Rattle.drum_check.specs.Findings.{altered, altered_by, altering, is_fixed, not_there, operations_outside}
 use Rattle.drum_check.specs.Idle.{idle_words}
 use Rattle.drum_check.specs.Kept.{kept_of}
-use Rattle.drum_check.specs.Findings.{outside, too_many, unfit, unused, inside_at, AreLooseEnds, IsUnsaid, pairs_of}
+use Rattle.drum_check.specs.Findings.{outside, too_many, unfit, unused, unused_calls, inside_at, AreLooseEnds, IsUnsaid, pairs_of}
 use Rattle.drum_check.proofs.Fixeds.{fixed_so}
 use Rattle.drum_check.proofs.Nothing.{before_nothing, both_nothing, each_nothing, in_filter, in_flat_map, none_added, of_nothing}
 use Rattle.drum_check.proofs.Outsides.{outside_of}
-use Rattle.drum_check.proofs.Sizes.{told_small}
+use Rattle.drum_check.proofs.Sizes.{short_plain, told_small}
 use Rattle.drum_check.proofs.Tellings.{told_none}
 use Rattle.drum_check.proofs.Unsaids.{those_one}
 
@@ -66,18 +67,19 @@ told_inside loads notes place none ins there = go (is_some (op_of ins.op)) refl
         (subst (λ (all : List ℕ). Contains all ins.op) (sym alone) (contains_here ins.op []))))
 
 -- the loose ends are one list
-pub one_loose : (loads : ℕ → Option Word) (notes : Notes) (start : ℕ) (executed : List ℕ) (some others : List Finding)
-    → AreLooseEnds loads notes start executed some → AreLooseEnds loads notes start executed others → some ≡ others
-one_loose loads notes start executed some others one other =
+pub one_loose : (loads : ℕ → Option Word) (notes : Notes) (start : ℕ) (executed : List ℕ) (nodes : List Node)
+    (some others : List Finding) → AreLooseEnds loads notes start executed nodes some
+    → AreLooseEnds loads notes start executed nodes others → some ≡ others
+one_loose loads notes start executed nodes some others one other =
     one.all
-    ∙ ap (λ (pairs : List (ℕ × ℕ)). unused loads notes executed ++ idle_words loads notes executed
-    ++ map (inside_at notes.marks) pairs)
-    (those_one (IsUnsaid loads notes start executed) (pairs_of notes.marks) one.pairs other.pairs one.unsaid other.unsaid)
+    ∙ ap (λ (pairs : List (ℕ × ℕ)). unused loads notes executed nodes ++ unused_calls loads notes executed nodes
+    ++ idle_words loads notes executed ++ map (inside_at notes.marks) pairs)
+    (those_one (IsUnsaid loads notes start nodes) (pairs_of notes.marks) one.pairs other.pairs one.unsaid other.unsaid)
     ∙ sym other.all
 
-module _ (loads : ℕ → Option Word) (notes : Notes) (start : ℕ) (executed : List ℕ) (findings : List Finding)
-    (found : AreFound loads notes start executed) (a : AreFindings loads notes start findings)
-    (alone : AreLooseEnds loads notes start executed findings) where
+module _ (loads : ℕ → Option Word) (notes : Notes) (start : ℕ) (executed : List ℕ) (nodes : List Node)
+    (findings : List Finding) (found : AreFound loads notes start executed) (reached : AreAllNodes loads notes start nodes)
+    (a : AreFindings loads notes start findings) (alone : AreLooseEnds loads notes start executed nodes findings) where
   -- an instruction that isn't found to alter anything alters nothing
   told_unaltered : (place : ℕ) (ins : Instruction) (at : ℕ) → altered loads notes a.executed place ≡ []
       → Contains (allowed loads notes place) ins → Contains (writes ins) at → ¬ IsFixed loads notes start at
@@ -90,6 +92,9 @@ module _ (loads : ℕ → Option Word) (notes : Notes) (start : ℕ) (executed :
   same_executed : executed ≡ a.executed
   same_executed = one_order loads notes start executed a.executed found.order a.found.order
 
+  same_nodes : nodes ≡ a.nodes
+  same_nodes = one_reached loads notes start nodes a.nodes reached a.reached
+
   -- what keeps the deck from a bound
   abbrev in_the_way : List Finding
   in_the_way = flat_map (unfit loads notes) a.executed ++ flat_map (altering loads notes a.executed) a.executed
@@ -97,10 +102,11 @@ module _ (loads : ℕ → Option Word) (notes : Notes) (start : ℕ) (executed :
 
   none_in_the_way : in_the_way ≡ []
   none_in_the_way =
-      let here : AreLooseEnds loads notes start a.executed findings =
-      subst (λ (places : List ℕ). AreLooseEnds loads notes start places findings) same_executed alone in
+      let here : AreLooseEnds loads notes start a.executed a.nodes findings =
+      subst (λ (all : List Node). AreLooseEnds loads notes start a.executed all findings) same_nodes
+      (subst (λ (places : List ℕ). AreLooseEnds loads notes start places nodes findings) same_executed alone) in
       before_nothing in_the_way a.loose
-      (one_loose loads notes start a.executed a.loose findings a.are_loose here ∙ a.all)
+      (one_loose loads notes start a.executed a.nodes a.loose findings a.are_loose here ∙ a.all)
 
   none_but_loops : (flat_map (unfit loads notes) a.executed
       ++ flat_map (altering loads notes a.executed) a.executed ++ too_many notes (product_of a.executed notes.marks) ≡ [])
@@ -119,7 +125,7 @@ module _ (loads : ℕ → Option Word) (notes : Notes) (start : ℕ) (executed :
   silent_admitted =
       let two = both_nothing (flat_map (unfit loads notes) a.executed)
       (flat_map (altering loads notes a.executed) a.executed) (sym none_but_size.0) in
-      let no_edges : a.edges ≡ [] = told_none loads notes start a.executed a.edges a.loops a.told none_but_loops.1 in
+      let no_edges : a.edges ≡ [] = told_none loads notes start a.nodes a.edges a.loops a.told none_but_loops.1 in
       let fit : (place : ℕ) → IsExecuted loads notes start place
       → (not_there loads notes place ≡ []) × (operations_outside loads notes place ≡ []) = λ place executed.
       let both = both_nothing (not_there loads notes place)
@@ -132,6 +138,9 @@ module _ (loads : ℕ → Option Word) (notes : Notes) (start : ℕ) (executed :
       (each_nothing (altering loads notes a.executed) a.executed place two.1 (a.found.all place executed)) in
       subst (IsAdmitted loads notes start) (sym same_executed) (record {
         order = a.found.order;
+        few =
+            subst (λ (all : List Node). length all ≤ 65536)
+            (one_reached loads notes start a.nodes a.found.order.nodes a.reached a.found.order.reached) a.few;
         there = λ place executed. told_there loads notes place (fit place executed).0;
         profile = λ place executed. told_inside loads notes place (fit place executed).1;
         unaltered =
@@ -147,4 +156,5 @@ module _ (loads : ℕ → Option Word) (notes : Notes) (start : ℕ) (executed :
     small =
         subst (λ (all : List ℕ). product_of all notes.marks ≤ 4000000) (sym same_executed)
         (told_small notes (product_of a.executed notes.marks) short none_but_size.1);
+    plain = short_plain notes short;
   }

@@ -1,9 +1,12 @@
 -- A size that is told is too large where the size is, and the notes are short.
 use Rattle.std.proofs.Common.{◌≡◌, ℕ, ◌<◌, ◌≤◌, Bool, true, false, cond, List, [], ◌∷◌, ap, inl, inr, refl, sym, ◌∙◌, arith}
-use Rattle.std.specs.Prelude.{nat_lt, ◌&&◌, IsTrue}
+use Rattle.std.specs.Prelude.{nat_le, nat_lt, ◌==◌, ◌&&◌, IsTrue, length}
+use Rattle.std.specs.List.{list_all}
 use Rattle.std.proofs.lemmas.Bool.{cases_lt, lt-ltb, le-ltb}
+use Rattle.std.proofs.lemmas.Bool.Decides.{Decides-eqb}
 use Rattle.drum_times.specs.Allowed.{Notes}
-use Rattle.drum_times.specs.Short.{is_short}
+use Rattle.drum_times.specs.declared.notes.call.Call.{Call}
+use Rattle.drum_times.specs.Short.{is_plain, is_short}
 use Rattle.drum_flow.specs.Accepted.{told}
 use Rattle.drum_flow.proofs.Products.{few_told, many_told}
 use Rattle.drum_check.specs.Findings.{Finding, too_large, too_many}
@@ -51,3 +54,18 @@ pub one_too_many : (notes : Notes) (product size : ℕ) → is_short notes ≡ t
 one_too_many notes product size short is high =
     ap (λ (n : ℕ). let found : List Finding = too_large n ∷ [] in found) is
     ∙ sym (large_told notes product short (many_told product (omega (arith, is, high))))
+
+-- short notes have no calls
+pub short_plain : (notes : Notes) → is_short notes ≡ true → notes.calls ≡ []
+short_plain notes short =
+    empty notes.calls
+    ((Decides-eqb (length notes.calls) 0).0
+    (behind (nat_le (length notes.marks) 8 && list_all is_plain notes.marks) (length notes.calls == 0) short))
+  where
+    behind : (a b : Bool) → (a && b) ≡ true → b ≡ true
+    behind true b e = e
+    behind false b e = cc
+
+    empty : (calls : List Call) → length calls ≡ 0 → calls ≡ []
+    empty [] none = refl
+    empty (call ∷ calls) none = absurd (omega (arith, none))

@@ -3,6 +3,7 @@ use Rattle.std.proofs.Common.{◌≡◌, ℕ, List, [], ◌∷◌, ◌++◌, map
 use Rattle.std.proofs.lemmas.List.{append-nil}
 use Rattle.drum_core.specs.declared.word.Word.{Word}
 use Rattle.drum_times.specs.Allowed.{Notes}
+use Rattle.drum_flow.specs.Hops.{Node}
 use Rattle.drum_check.specs.Finding.{Finding, closes}
 use Rattle.drum_check.specs.First.{BeginsWith}
 use Rattle.drum_check.specs.Insides.{AreLoops, AreToldInside}
@@ -31,23 +32,23 @@ told_more IsTold before (first ∷ edges) loops edge mark told last = (
       (sym (append_assoc before (first ∷ []) edges)) last),
 )
 
-module _ (loads : ℕ → Option Word) (notes : Notes) (start : ℕ) (executed : List ℕ) where
+module _ (loads : ℕ → Option Word) (notes : Notes) (start : ℕ) (nodes : List Node) where
   -- no edges close loops, and none is listed
   pub none_told : (edges : List (ℕ × ℕ)) (loops : List Finding) → edges ≡ []
-      → AreLoops loads notes start executed edges loops → loops ≡ []
+      → AreLoops loads notes start nodes edges loops → loops ≡ []
   none_told [] loops none (inl told) = told.2.2
   none_told [] loops none (inr told) = told.1
   none_told (edge ∷ edges) loops none told = cc
 
   -- the first of them is listed first
   pub first_told : (edge : ℕ × ℕ) (edges : List (ℕ × ℕ)) (loops : List Finding)
-      → AreLoops loads notes start executed (edge ∷ edges) loops
+      → AreLoops loads notes start nodes (edge ∷ edges) loops
       → (mark : Within) × BeginsWith loops (closes edge mark)
   first_told edge edges loops (inl told) = (told.2.2.0, (told.2.2.1, told.2.2.3))
   first_told edge edges loops (inr told) = (within.Run, (map (λ (one : ℕ × ℕ). closes one within.Run) edges, told.1))
 
   -- where none is listed no edges close loops
-  pub told_none : (edges : List (ℕ × ℕ)) (loops : List Finding) → AreLoops loads notes start executed edges loops
+  pub told_none : (edges : List (ℕ × ℕ)) (loops : List Finding) → AreLoops loads notes start nodes edges loops
       → loops ≡ [] → edges ≡ []
   told_none [] loops told none = refl
   told_none (edge ∷ edges) loops told none =

@@ -15,13 +15,15 @@ in_turn none first second third fourth fifth vs ws xs ys zs empty v w x y z =
     (x ∙ ap (λ (all : List Finding). all ++ xs)
     (w ∙ ap (λ (all : List Finding). all ++ ws) (v ∙ ap (λ (all : List Finding). all ++ vs) empty))))
 
--- three lists that were added in turn
-pub loose_in_turn : (before first second third xs ys zs : List Finding) → first ≡ before ++ xs → second ≡ first ++ ys
-    → third ≡ second ++ zs → third ≡ before ++ (xs ++ ys ++ zs)
-loose_in_turn before first second third xs ys zs x y z =
+-- four lists that were added in turn
+pub loose_in_turn : (before first second third fourth ws xs ys zs : List Finding) → first ≡ before ++ ws
+    → second ≡ first ++ xs → third ≡ second ++ ys → fourth ≡ third ++ zs → fourth ≡ before ++ (ws ++ xs ++ ys ++ zs)
+loose_in_turn before first second third fourth ws xs ys zs w x y z =
     z ∙ ap (λ (all : List Finding). all ++ zs)
-    (y ∙ ap (λ (all : List Finding). all ++ ys) x ∙ append_assoc before xs ys)
-    ∙ append_assoc before (xs ++ ys) zs
+    (y ∙ ap (λ (all : List Finding). all ++ ys)
+    (x ∙ ap (λ (all : List Finding). all ++ xs) w ∙ append_assoc before ws xs)
+    ∙ append_assoc before (ws ++ xs) ys)
+    ∙ append_assoc before (ws ++ xs ++ ys) zs
 
 -- All locations, in their two parts.
 pub two_parts : all_locations ≡ range_with_len 0 2000 ++ range_with_len 8000 4

@@ -16,7 +16,7 @@ use Rattle.drum_flow.proofs.Lists.{contains_cases, contains_from_get, contains_h
 use Rattle.drum_flow.proofs.Orders.{any_contains, contains_any, with_new_different, with_new_has, with_new_only}
 use Rattle.drum_check.specs.declared.kept.Kept.{Kept}
 use Rattle.drum_check.specs.Findings.{Finding, not_loaded, not_in_profile, alters, too_large, closes, unused_mark}
-use Rattle.drum_check.specs.Findings.{unused_list, idle, inside}
+use Rattle.drum_check.specs.Findings.{unused_list, unused_call, idle, inside}
 use Rattle.drum_check.specs.Kept.{both_keep}
 use Rattle.drum_check.specs.Lacking.{altered_word, kept_by_all, lacking_list, kept_in, stays, words_altered}
 use Rattle.drum_check.proofs.Nothing.{all_nothing, in_flat_map}
@@ -62,6 +62,7 @@ none_or_one (too_large product) = inl (refl, λ word. refl)
 none_or_one (closes edge number) = inl (refl, λ word. refl)
 none_or_one (unused_mark edge) = inl (refl, λ word. refl)
 none_or_one (unused_list place) = inl (refl, λ word. refl)
+none_or_one (unused_call edge) = inl (refl, λ word. refl)
 none_or_one (idle place) = inl (refl, λ word. refl)
 none_or_one (inside inner outer) = inl (refl, λ word. refl)
 

@@ -14,5 +14,6 @@ pub data Finding : Type 0 where
   closes : ℕ × ℕ → Within → Finding
   unused_mark : ℕ × ℕ → Finding
   unused_list : ℕ → Finding
+  unused_call : ℕ × ℕ → Finding
   idle : ℕ → Finding
   inside : ℕ × ℕ → ℕ × ℕ → Finding

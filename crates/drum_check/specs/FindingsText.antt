@@ -3,7 +3,8 @@
 use Rattle.std.specs.Prelude.{ℕ, List, ◌++◌, codes, decimal, flat_map}
 use Rattle.drum_core.specs.Numeral.{digits_of}
 use Rattle.drum_check.specs.Findings.{Finding, not_loaded, not_in_profile, alters, too_large}
-use Rattle.drum_check.specs.Findings.{closes, unused_mark, unused_list, idle, inside}
+use Rattle.drum_check.specs.Findings.{closes, unused_mark, unused_list, unused_call, idle}
+use Rattle.drum_check.specs.Findings.{inside}
 
 abbrev pub finding_text : Finding → List ℕ
 finding_text (not_loaded place) = codes "notloaded " ++ digits_of 4 place ++ codes "\n"
@@ -17,6 +18,8 @@ finding_text (closes edge number) =
 finding_text (unused_mark edge) =
     codes "unused mark " ++ digits_of 4 edge.0 ++ codes " " ++ digits_of 4 edge.1 ++ codes "\n"
 finding_text (unused_list place) = codes "unused list " ++ digits_of 4 place ++ codes "\n"
+finding_text (unused_call edge) =
+    codes "unused call " ++ digits_of 4 edge.0 ++ codes " " ++ digits_of 4 edge.1 ++ codes "\n"
 finding_text (idle place) = codes "idle " ++ digits_of 4 place ++ codes "\n"
 finding_text (inside inner outer) =
     codes "inside " ++ digits_of 4 inner.0 ++ codes " " ++ digits_of 4 inner.1 ++ codes " "

@@ -1,9 +1,11 @@
 -- What is found first of a deck that the analysis refuses: just what refuses it; where edges free
--- of marks lead round, an edge that closes a loop.
+-- of marks lead round, an edge that closes a loop. Where there are too many nodes, there are no
+-- findings; and no deck is refused for its calls, since for a bound short notes are read alone.
 use Rattle.std.specs.Prelude.{◌≡◌, ℕ, List, ◌∷◌}
 use Rattle.drum_flow.specs.declared.refusal.Refusal.{Refusal}
 use Rattle.drum_flow.specs.declared.refusal.Refusal.TheVariants.{Memory, NotLoaded, NotInProfile}
-use Rattle.drum_flow.specs.declared.refusal.Refusal.TheVariants.{Alters, Unbounded, TooLarge}
+use Rattle.drum_flow.specs.declared.refusal.Refusal.TheVariants.{HasCalls, TooMany, Alters}
+use Rattle.drum_flow.specs.declared.refusal.Refusal.TheVariants.{Unbounded, TooLarge}
 use Rattle.drum_check.specs.declared.kept.Kept.{Kept}
 use Rattle.drum_check.specs.declared.within.Within.{Within}
 use Rattle.drum_check.specs.Findings.{Finding, not_loaded, not_in_profile, alters, too_large}
@@ -16,6 +18,8 @@ abbrev pub IsFoundFirst : Refusal → List Finding → Type 0
 IsFoundFirst (NotLoaded location) found = BeginsWith found (not_loaded location.number)
 IsFoundFirst (NotInProfile location op) found =
     BeginsWith found (not_in_profile location.number op)
+IsFoundFirst HasCalls found = ⊥
+IsFoundFirst TooMany found = ⊥
 IsFoundFirst (Alters writer word) found =
     (kept : Kept) × BeginsWith found (alters writer.number word.number kept)
 IsFoundFirst (TooLarge product) found = BeginsWith found (too_large product)

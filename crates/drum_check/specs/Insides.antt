@@ -7,6 +7,7 @@ use Rattle.drum_core.specs.declared.word.Word.{Word}
 use Rattle.drum_times.specs.Allowed.{Notes}
 use Rattle.drum_times.specs.Edges.{leads}
 use Rattle.drum_times.specs.Marks.{edges_of}
+use Rattle.drum_flow.specs.Hops.{Node}
 use Rattle.drum_loops.specs.Nested.{IsNested}
 use Rattle.drum_check.specs.declared.within.Within.{Within}
 use Rattle.drum_check.specs.declared.within.Within.TheVariants as within
@@ -24,9 +25,9 @@ marked_edges notes = flat_map edges_of notes.marks
 -- The loop that the inner edge closes stands inside the one that the outer edge closes, and the
 -- flow graph has both edges.
 pub record StandsInside (loads : ℕ → Option Word) (notes : Notes) (start : ℕ)
-    (executed : List ℕ) (outer inner : ℕ × ℕ) : Type 0 where
-  pub there : has_edge loads notes executed outer.0 outer.1 ≡ true
-  pub here : has_edge loads notes executed inner.0 inner.1 ≡ true
+    (nodes : List Node) (outer inner : ℕ × ℕ) : Type 0 where
+  pub there : has_edge loads notes nodes outer.0 outer.1 ≡ true
+  pub here : has_edge loads notes nodes inner.0 inner.1 ≡ true
   pub nested : IsNested loads notes start outer inner
 
 -- one of a list has a property
@@ -171,11 +172,11 @@ AreToldApart IsInside notes edges loops =
 
 -- The loops of these edges, as they are listed. With more than 64 edges in all none is said to
 -- stand inside another one: it would take too long.
-abbrev pub AreLoops : (ℕ → Option Word) → Notes → ℕ → List ℕ → List (ℕ × ℕ) → List Finding
+abbrev pub AreLoops : (ℕ → Option Word) → Notes → ℕ → List Node → List (ℕ × ℕ) → List Finding
     → Type 0
-AreLoops loads notes start executed edges loops =
+AreLoops loads notes start nodes edges loops =
     ((length (marked_edges notes) + length edges ≤ 64)
-    × AreFewestFirst (StandsInside loads notes start executed) edges
-    × AreToldApart (StandsInside loads notes start executed) notes edges loops)
+    × AreFewestFirst (StandsInside loads notes start nodes) edges
+    × AreToldApart (StandsInside loads notes start nodes) notes edges loops)
     ⊎ ((64 < length (marked_edges notes) + length edges)
     × (loops ≡ map (λ edge. closes edge within.Run) edges))

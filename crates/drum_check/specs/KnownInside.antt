@@ -1,7 +1,13 @@
 -- What is known of which loops stand inside which others, as it is held.
-use Rattle.std.specs.Prelude.{◌↔◌, All, IsTrue}
+use Rattle.std.specs.Prelude.{◌≡◌, ◌↔◌, All, IsTrue, length}
+use Rattle.drum_core.specs.Loads.{loads_in}
 use Rattle.drum_flow.specs.declared.flow_graph.Flow.{Flow}
+use Rattle.drum_flow.specs.declared.graph.Graph.{Graph}
+use Rattle.drum_flow.specs.Executed.{AreAllNodes}
+use Rattle.drum_flow.specs.Flow.{nodes_of, of_flow}
+use Rattle.drum_flow.specs.Graph.{row, size}
 use Rattle.drum_times.specs.EdgeOf.{edge_of}
+use Rattle.drum_loops.specs.Links.{AreLinkRows}
 use Rattle.drum_check.specs.declared.nesting.Known.{Known}
 use Rattle.drum_check.specs.declared.nesting.Nesting.{Nesting}
 use Rattle.drum_check.specs.FindingsOf.{IsInsideIn}
@@ -11,5 +17,13 @@ abbrev pub IsKnown : Flow → Known → Type 0
 IsKnown flow known =
     IsTrue known.stands ↔ IsInsideIn flow (edge_of known.outer) (edge_of known.inner)
 
-abbrev pub AreKnown : Nesting → Type 0
-AreKnown nesting = All (IsKnown nesting.flow.now) nesting.known.items
+-- The graph is that of all links of a flow graph, with all nodes.
+pub record AreLinksOf (flow : Flow) (graph : Graph) : Type 0 where
+  pub nodes : of_flow AreAllNodes flow (nodes_of flow)
+  pub size : size graph ≡ length (nodes_of flow)
+  pub rows : AreLinkRows (loads_in flow.deck.now) flow.notes.now (nodes_of flow) (row graph)
+
+-- so is all that is held
+pub record AreKnown (nesting : Nesting) : Type 0 where
+  pub links : AreLinksOf nesting.flow.now nesting.graph
+  pub known : All (IsKnown nesting.flow.now) nesting.known.items

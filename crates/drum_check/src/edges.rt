@@ -1,10 +1,14 @@
 //! Whether the flow graph has a location, or an edge; and marks by their edges.
 
-ghost use Rattle.std.specs.Prelude.{◌≡◌, ◌++◌, [], ◌∷◌, IfOk, OnOk, map};
+ghost use Rattle.std.specs.Prelude.{◌≡◌, ◌<◌, ◌++◌, [], ◌∷◌, true, IfOk, OnOk, Some, length, map};
+ghost use Rattle.std.specs.Prelude.{slice_get};
+ghost use Rattle.std.specs.List.{list_any};
 ghost use Rattle.drum_core.specs.Loads.{loads_in};
-ghost use Rattle.drum_flow.specs.Executed.{successors};
-ghost use Rattle.drum_flow.specs.Flow.{executed_in};
+ghost use Rattle.drum_flow.specs.Executed.{AreAllNodes, successors};
+ghost use Rattle.drum_flow.specs.Flow.{executed_in, nodes_of, of_flow};
+ghost use Rattle.drum_flow.specs.Hops as graphs;
 ghost use Rattle.drum_check.specs.Findings as said;
+ghost use Rattle.drum_check.specs.Among as among;
 ghost use Rattle.drum_check.specs.Findings.{is_among};
 ghost use Rattle.drum_check.specs.Insides.{marked_edges, marks_of};
 ghost use Rattle.drum_times.specs.EdgeOf.{edge_of};
@@ -39,20 +43,50 @@ fn goes_on(
     Ok(targets.index_of(onto).is_some())
 }
 
-/// Whether the flow graph has the edge from the one location to the other.
+/// Whether a node stands at the one location, and a step may go from it to the other, where some
+/// instruction goes on so.
+fn may_go_on(flow: &Flow<'_>, node: usize, from: Location, onto: Location) -> bool
+    requires nodes { of_flow AreAllNodes flow.now (nodes_of flow.now) }
+    requires within { node < length (nodes_of flow.now) }
+    requires goes { is_among (successors (loads_in flow.now.deck.now) flow.now.notes.now
+        from.number) onto.number ≡ true }
+    ensures { (one : graphs.Node) → slice_get (nodes_of flow.now) node ≡ Some one
+        → result ≡ among.may_go_on flow.now.notes.now from.number onto.number one }
+{
+    flow.location(node).number() == from.number() && flow.onward(node, onto).is_some()
+}
+
+/// Whether some node does.
+fn one_may_go_on(flow: &Flow<'_>, from: Location, onto: Location) -> bool
+    requires nodes { of_flow AreAllNodes flow.now (nodes_of flow.now) }
+    requires goes { is_among (successors (loads_in flow.now.deck.now) flow.now.notes.now
+        from.number) onto.number ≡ true }
+    ensures { result ≡ list_any (among.may_go_on flow.now.notes.now from.number onto.number)
+        (nodes_of flow.now) }
+{
+    for node in 0..flow.size() {
+        if may_go_on(flow, node, from, onto) {
+            return true;
+        }
+    }
+    false
+}
+
+/// Whether the flow graph has a link from a node at the one location to one at the other.
 pub fn has_edge(
     alloc: Global,
     flow: &Flow<'_>,
     from: Location,
     onto: Location,
 ) -> Result<bool, AllocError>
+    requires { of_flow AreAllNodes flow.now (nodes_of flow.now) }
     ensures { IfOk result (λ has. has ≡ said.has_edge (loads_in flow.now.deck.now)
-        flow.now.notes.now (executed_in flow.now) from.number onto.number) }
+        flow.now.notes.now (nodes_of flow.now) from.number onto.number) }
 {
-    if !is_executed(flow, from) {
+    if !goes_on(alloc, flow.deck(), flow.notes(), from, onto)? {
         return Ok(false);
     }
-    goes_on(alloc, flow.deck(), flow.notes(), from, onto)
+    Ok(one_may_go_on(flow, from, onto))
 }
 
 /// Adds the edges of a mark.

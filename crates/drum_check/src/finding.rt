@@ -31,6 +31,8 @@ pub enum Finding {
     UnusedMark(Edge),
     /// A location that isn't executed has a list.
     UnusedList(Location),
+    /// A call is made by this edge, which the flow graph doesn't have, or its exit isn't executed.
+    UnusedCall(Edge),
     /// The deck loads a word here that is neither executed nor named as data by an instruction that
     /// is allowed at an executed location.
     Idle(Location),

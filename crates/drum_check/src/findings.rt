@@ -1,6 +1,7 @@
 ghost use Rattle.std.specs.Prelude.{◌≤◌, vec_len};
 
 use crate::altered::altered_at;
+use crate::calls::unused_calls;
 use crate::edges::{has_edge, is_executed};
 use crate::finding::Finding;
 use crate::idle::idle_words;
@@ -13,7 +14,7 @@ use drum_core::{Deck, Location};
 use drum_flow::counts::product_of;
 use drum_flow::fixed::Fixed;
 use drum_flow::place::{is_listed, is_there};
-use drum_flow::{Flow, discover};
+use drum_flow::{Flow, Refusal, discover};
 use drum_times::{Edge, Mark, Notes};
 use std::alloc::{AllocError, Global};
 
@@ -35,12 +36,14 @@ pub struct Findings {
 
 impl Findings {
     ghost use Rattle.std.specs.Prelude.{◌≡◌, ◌++◌, [], ◌∷◌, ◌↔◌, ℕ, ◌-◌, ◌<◌, map, flat_map};
-    ghost use Rattle.std.specs.Prelude.{IsTrue, IfOk, OnOk};
+    ghost use Rattle.std.specs.Prelude.{IsTrue, IfErr, IfOk, OnOk};
     ghost use Rattle.std.specs.List.{list_all, range_with_len};
     ghost use Rattle.drum_core.specs.Location.{IsLocation};
     ghost use Rattle.drum_core.specs.Loads.{loads_in, start_in};
     ghost use Rattle.drum_flow.specs.Accepted as said;
-    ghost use Rattle.drum_flow.specs.Flow.{executed_in, of_flow, AreFound};
+    ghost use Rattle.drum_flow.specs.Executed.{AreAllNodes};
+    ghost use Rattle.drum_flow.specs.Flow.{executed_in, nodes_of, of_flow, AreFound};
+    ghost use Rattle.drum_flow.specs.Refused.{IsDiscoveryRefusal};
     ghost use Rattle.drum_times.specs.EdgeOf.{edge_of};
     ghost use Rattle.drum_check.specs.Findings.{not_there, unfit, altering, too_many};
     ghost use Rattle.drum_check.specs.Findings.{astray, may_be_meant, missing, unused};
@@ -209,8 +212,9 @@ impl Findings {
 
     /// Adds that a mark stands on an edge that the flow graph doesn't have, if it is so.
     fn add_missing(&mut self, alloc: Global, flow: &Flow<'_>, edge: Edge) -> Result<(), AllocError>
+        requires { of_flow AreAllNodes flow.now (nodes_of flow.now) }
         ensures { OnOk result (found_in self.new ≡ found_in self.old
-            ++ missing (loads_in flow.now.deck.now) flow.now.notes.now (executed_in flow.now)
+            ++ missing (loads_in flow.now.deck.now) flow.now.notes.now (nodes_of flow.now)
             (edge_of edge)) }
     {
         if has_edge(alloc, flow, edge.from, edge.onto)? {
@@ -226,9 +230,10 @@ impl Findings {
         flow: &Flow<'_>,
         edges: &[Edge],
     ) -> Result<(), AllocError>
+        requires { of_flow AreAllNodes flow.now (nodes_of flow.now) }
         ensures { OnOk result (found_in self.new ≡ found_in self.old
             ++ flat_map (missing (loads_in flow.now.deck.now) flow.now.notes.now
-            (executed_in flow.now)) (map edge_of edges.now)) }
+            (nodes_of flow.now)) (map edge_of edges.now)) }
     {
         for edge in edges {
             self.add_missing(alloc, flow, *edge)?;
@@ -238,8 +243,9 @@ impl Findings {
 
     /// Adds those edges of a mark that the flow graph doesn't have.
     fn add_astray(&mut self, alloc: Global, flow: &Flow<'_>, mark: &Mark) -> Result<(), AllocError>
+        requires { of_flow AreAllNodes flow.now (nodes_of flow.now) }
         ensures { OnOk result (found_in self.new ≡ found_in self.old
-            ++ astray (loads_in flow.now.deck.now) flow.now.notes.now (executed_in flow.now)
+            ++ astray (loads_in flow.now.deck.now) flow.now.notes.now (nodes_of flow.now)
             mark.now) }
     {
         self.add_missing(alloc, flow, mark.first())?;
@@ -248,9 +254,10 @@ impl Findings {
 
     /// Adds each edge of a mark that the flow graph doesn't have.
     fn add_all_astray(&mut self, alloc: Global, flow: &Flow<'_>) -> Result<(), AllocError>
+        requires { of_flow AreAllNodes flow.now (nodes_of flow.now) }
         ensures { OnOk result (found_in self.new ≡ found_in self.old
             ++ flat_map (astray (loads_in flow.now.deck.now) flow.now.notes.now
-            (executed_in flow.now)) flow.now.notes.now.marks) }
+            (nodes_of flow.now)) flow.now.notes.now.marks) }
     {
         for mark in flow.notes().marks() {
             self.add_astray(alloc, flow, mark)?;
@@ -296,8 +303,10 @@ impl Findings {
 
     /// Adds the marks and the lists that nothing comes to.
     fn add_unused(&mut self, alloc: Global, flow: &Flow<'_>) -> Result<(), AllocError>
+        requires { of_flow AreAllNodes flow.now (nodes_of flow.now) }
         ensures { OnOk result (found_in self.new ≡ found_in self.old
-            ++ unused (loads_in flow.now.deck.now) flow.now.notes.now (executed_in flow.now)) }
+            ++ unused (loads_in flow.now.deck.now) flow.now.notes.now (executed_in flow.now)
+            (nodes_of flow.now)) }
     {
         self.add_all_astray(alloc, flow)?;
         self.add_all_unused_lists(flow, 0, Location::DRUM)?;
@@ -309,22 +318,26 @@ impl Findings {
     /// then what the instructions of each alter, then the size, where the notes are short, and then
     /// the edges that close loops, those first whose loop stands inside the fewest others (in any
     /// order, where they and the marks' edges are more than 64); and last the loose ends: the
-    /// marks' edges and the lists that are unused, each edge in order and each list by its
-    /// location, the words that nothing comes to, by their locations, and the marks that don't say
-    /// inside which other one they stand.
+    /// marks' edges, the lists and the calls that are unused, each edge and each call in order and
+    /// each list by its location, the words that nothing comes to, by their locations, and the
+    /// marks that don't say inside which other one they stand.
     ///
     /// # Errors
     ///
-    /// [`AllocError`] where there is no memory.
-    pub fn of(alloc: Global, deck: &Deck, notes: &Notes) -> Result<Findings, AllocError>
+    /// [`Refusal::TooMany`] where the flow graph has more than 65,536 nodes; [`Refusal::Memory`]
+    /// where there is no memory.
+    pub fn of(alloc: Global, deck: &Deck, notes: &Notes) -> Result<Findings, Refusal>
         ensures found { IfOk result (λ findings. AreFindings (loads_in deck.now) notes.now
             (start_in deck.now) (found_in findings)) }
         ensures long { IfOk result (λ findings. is_long_in findings
             ≡ lacking.are_long notes.now (found_in findings)) }
+        ensures refused { IfErr result (IsDiscoveryRefusal (loads_in deck.now) notes.now
+            (start_in deck.now)) }
     {
         let flow = discover(alloc, deck, notes)?;
         let fixed = Fixed::of(alloc, flow.executed(), notes)?;
         let loops = unmarked_loops(alloc, &flow)?;
+        let calls = unused_calls(alloc, &flow)?;
         let idle = idle_words(alloc, &flow)?;
         let unsaid = unsaid_marks(alloc, &flow)?;
         let mut findings = Findings::none(alloc);
@@ -333,6 +346,7 @@ impl Findings {
         findings.add_size(&flow)?;
         findings.add_all(&loops)?;
         findings.add_unused(alloc, &flow)?;
+        findings.add_all(&calls)?;
         findings.add_all(&idle)?;
         findings.add_all(&unsaid)?;
         findings.long = are_long(notes, &findings.all);

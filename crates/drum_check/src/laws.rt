@@ -7,7 +7,9 @@ ghost use Rattle.drum_times.specs.Short.{is_short};
 ghost use Rattle.drum_flow.specs.declared.refusal.Refusal.{Refusal};
 ghost use Rattle.drum_flow.specs.Acceptance.{IsAdmissionRefusal, IsRefusal};
 ghost use Rattle.drum_flow.specs.Accepted.{IsAccepted, IsAdmitted};
+ghost use Rattle.drum_flow.specs.Executed.{AreAllNodes};
 ghost use Rattle.drum_flow.specs.Flow.{AreFound};
+ghost use Rattle.drum_flow.specs.Hops.{Node};
 ghost use Rattle.drum_check.specs.Findings.{AreFindings, AreLooseEnds, Finding};
 ghost use Rattle.drum_check.specs.First.{IsFoundFirst};
 
@@ -15,25 +17,30 @@ ghost use Rattle.drum_check.specs.First.{IsFoundFirst};
 /// if the notes are short; and where it is admitted, whatever its size, if they aren't.
 pub fn none_found_where_accepted()
     ensures accepted { (loads : ℕ → Option Word) (notes : Notes) (start : ℕ) (executed : List ℕ)
-        (findings : List Finding) → IsTrue (is_short notes)
+        (nodes : List Node) (findings : List Finding) → IsTrue (is_short notes)
         → AreFound loads notes start executed
+        → AreAllNodes loads notes start nodes
         → AreFindings loads notes start findings
-        → AreLooseEnds loads notes start executed findings
+        → AreLooseEnds loads notes start executed nodes findings
         → IsAccepted loads notes start executed }
     ensures none { (loads : ℕ → Option Word) (notes : Notes) (start : ℕ) (executed : List ℕ)
-        (findings : List Finding) → IsAccepted loads notes start executed
+        (nodes : List Node) (findings : List Finding) → AreAllNodes loads notes start nodes
+        → IsAccepted loads notes start executed
         → AreFindings loads notes start findings
-        → AreLooseEnds loads notes start executed findings }
+        → AreLooseEnds loads notes start executed nodes findings }
     ensures admitted { (loads : ℕ → Option Word) (notes : Notes) (start : ℕ) (executed : List ℕ)
-        (findings : List Finding) → AreFound loads notes start executed
+        (nodes : List Node) (findings : List Finding) → AreFound loads notes start executed
+        → AreAllNodes loads notes start nodes
         → AreFindings loads notes start findings
-        → AreLooseEnds loads notes start executed findings
+        → AreLooseEnds loads notes start executed nodes findings
         → IsAdmitted loads notes start executed }
     ensures none_of_long { (loads : ℕ → Option Word) (notes : Notes) (start : ℕ)
-        (executed : List ℕ) (findings : List Finding) → ¬ IsTrue (is_short notes)
+        (executed : List ℕ) (nodes : List Node) (findings : List Finding)
+        → ¬ IsTrue (is_short notes)
+        → AreAllNodes loads notes start nodes
         → IsAdmitted loads notes start executed
         → AreFindings loads notes start findings
-        → AreLooseEnds loads notes start executed findings }
+        → AreLooseEnds loads notes start executed nodes findings }
 {}
 
 /// What refuses the analysis of a deck is found first, by its numbers; where edges free of marks

@@ -153,6 +153,10 @@ fn send_finding<O: Output>(
             send_behind(writer, sent, b"unused mark ", edge.from, &digits)
         }
         Finding::UnusedList(location) => send_location(writer, sent, b"unused list ", location),
+        Finding::UnusedCall(edge) => {
+            let digits = four_digits(edge.onto.number());
+            send_behind(writer, sent, b"unused call ", edge.from, &digits)
+        }
         Finding::Idle(location) => send_location(writer, sent, b"idle ", location),
         Finding::Inside { inner, outer } => send_edges(writer, sent, b"inside ", inner, outer),
     }

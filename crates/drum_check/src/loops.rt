@@ -204,7 +204,8 @@ fn told_in_order(
     marked: &[Edge],
     edges: &[Edge],
 ) -> Result<Vec<Finding>, AllocError>
-    requires { map edge_of marked.now ≡ said.marked_edges flow.now.notes.now }
+    requires nodes { of_flow AreAllNodes flow.now (nodes_of flow.now) }
+    requires marked { map edge_of marked.now ≡ said.marked_edges flow.now.notes.now }
     ensures { IfOk result (λ loops. (sorted : List (ℕ × ℕ))
         × IsPermutation (map edge_of edges.now) sorted
         × AreFewestFirst (IsInsideIn flow.now) sorted
@@ -219,12 +220,13 @@ fn told_in_order(
 
 /// The loops that lack a mark, in the order in which they are listed. Where they and the marks that
 /// there are have more than [`MOST_EDGES`], none is said to stand inside another one. It takes as
-/// long as [`closing_edges`], and at most some ten thousand times as long as discovery.
+/// long as [`closing_edges`] and discovery, and goes through all links besides, at most some
+/// thousand times as often as there are nodes at the head of a loop.
 pub fn unmarked_loops(alloc: Global, flow: &Flow<'_>) -> Result<Vec<Finding>, AllocError>
     requires nodes { of_flow AreAllNodes flow.now (nodes_of flow.now) }
     requires found { of_flow AreFound flow.now (executed_in flow.now) }
     ensures { IfOk result (λ loops. (edges : List (ℕ × ℕ)) × of_flow AreClosing flow.now edges
-        × of_flow AreLoops flow.now (executed_in flow.now) edges (map seen loops.items)) }
+        × of_flow AreLoops flow.now (nodes_of flow.now) edges (map seen loops.items)) }
 {
     let edges = closing_edges(alloc, flow)?;
     let marked = marked_edges(alloc, flow)?;

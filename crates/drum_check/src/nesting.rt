@@ -3,11 +3,12 @@
 ghost use Rattle.std.specs.Prelude.{◌↔◌, All, IfOk, IsTrue, OnOk};
 ghost use Rattle.drum_times.specs.EdgeOf.{edge_of};
 ghost use Rattle.drum_check.specs.FindingsOf.{IsInsideIn};
-ghost use Rattle.drum_check.specs.KnownInside.{IsKnown};
+ghost use Rattle.drum_check.specs.KnownInside.{AreLinksOf, IsKnown};
 
 use crate::edges::has_edge;
 use drum_flow::Flow;
-use drum_loops::is_nested;
+use drum_flow::graph::Graph;
+use drum_loops::{is_nested, link_graph};
 use drum_times::Edge;
 use std::alloc::{AllocError, Global};
 
@@ -23,17 +24,22 @@ pub(crate) struct Known {
 #[derive(Debug, Drop)]
 pub struct Nesting<'a> {
     pub(crate) flow: &'a Flow<'a>,
+    /// All of its links.
+    pub(crate) graph: Graph,
     pub(crate) known: Vec<Known>,
 }
 
-/// Whether the loop of the inner edge stands inside that of the outer one, and the flow graph has
-/// both edges. It takes as long as discovery, twice.
+/// Whether the loop of the inner edge stands inside that of the outer one, and the flow graph, of
+/// which all links are given, has both edges. It goes through that graph once from the start, and
+/// once from each node at the inner loop's head.
 fn stands_in_flow(
     alloc: Global,
     flow: &Flow<'_>,
+    graph: &Graph,
     outer: Edge,
     inner: Edge,
 ) -> Result<bool, AllocError>
+    requires { AreLinksOf flow.now graph.now }
     ensures { IfOk result (λ stands. IsTrue stands
         ↔ IsInsideIn flow.now (edge_of outer) (edge_of inner)) }
 {
@@ -43,7 +49,7 @@ fn stands_in_flow(
     if !has_edge(alloc, flow, inner.from, inner.onto)? {
         return Ok(false);
     }
-    is_nested(alloc, flow, outer, inner)
+    is_nested(alloc, flow, graph, outer, inner)
 }
 
 /// Adds what is to be known of an outer edge and these inner ones.
@@ -51,14 +57,16 @@ fn add_known(
     known: &mut Vec<Known>,
     alloc: Global,
     flow: &Flow<'_>,
+    graph: &Graph,
     outer: Edge,
     inners: &[Edge],
 ) -> Result<(), AllocError>
-    requires { All (IsKnown flow.now) known.old.items }
+    requires links { AreLinksOf flow.now graph.now }
+    requires known { All (IsKnown flow.now) known.old.items }
     ensures { OnOk result (All (IsKnown flow.now) known.new.items) }
 {
     for inner in inners {
-        let stands = stands_in_flow(alloc, flow, outer, *inner)?;
+        let stands = stands_in_flow(alloc, flow, graph, outer, *inner)?;
         known.push(Known {
             outer,
             inner: *inner,
@@ -70,24 +78,29 @@ fn add_known(
 
 impl<'a> Nesting<'a> {
     ghost use Rattle.std.specs.Prelude.{◌≡◌, IfSome};
+    ghost use Rattle.drum_flow.specs.Executed.{AreAllNodes};
+    ghost use Rattle.drum_flow.specs.Flow.{nodes_of, of_flow};
     ghost use Rattle.drum_check.specs.KnownInside.{AreKnown};
 
-    /// The same flow graph, with what is known of these outer edges and these inner ones. For each
-    /// two it takes as long as discovery, twice.
+    /// The same flow graph, with what is known of these outer edges and these inner ones. It takes
+    /// as long as discovery, and goes through all links for each two of them besides: once, and
+    /// once for each node at the inner loop's head.
     pub fn of(
         alloc: Global,
         flow: &'a Flow<'a>,
         outers: &[Edge],
         inners: &[Edge],
     ) -> Result<Nesting<'a>, AllocError>
+        requires { of_flow AreAllNodes flow.now (nodes_of flow.now) }
         ensures flow { IfOk result (λ nesting. nesting.flow.now ≡ flow.now) }
         ensures known { IfOk result AreKnown }
     {
+        let graph = link_graph(alloc, flow)?;
         let mut known = Vec::new(alloc);
         for outer in outers {
-            add_known(&mut known, alloc, flow, *outer, inners)?;
+            add_known(&mut known, alloc, flow, &graph, *outer, inners)?;
         }
-        Ok(Nesting { flow, known })
+        Ok(Nesting { flow, graph, known })
     }
 
     /// What is known of two edges.
@@ -105,7 +118,7 @@ impl<'a> Nesting<'a> {
     }
 
     /// Whether the loop of the inner edge stands inside that of the outer one, and the flow graph
-    /// has both edges. Where it isn't known it takes as long as discovery, twice.
+    /// has both edges. Where it isn't known, it is looked for.
     pub fn stands_inside(&self, alloc: Global, outer: Edge, inner: Edge) -> Result<bool, AllocError>
         requires { AreKnown self.now }
         ensures { IfOk result (λ stands. IsTrue stands
@@ -113,7 +126,7 @@ impl<'a> Nesting<'a> {
     {
         match self.known_of(outer, inner) {
             Some(stands) => Ok(stands),
-            None => stands_in_flow(alloc, self.flow, outer, inner),
+            None => stands_in_flow(alloc, self.flow, &self.graph, outer, inner),
         }
     }
 }

@@ -63,7 +63,7 @@ fn have_common(these: &[Location], those: &[Location]) -> bool
 }
 
 /// Whether the loop of a mark stands inside loops of two of these marks that go back to one
-/// location. It takes as long as discovery, twice for each two edges.
+/// location.
 pub fn has_several_ways(
     alloc: Global,
     nesting: &Nesting<'_>,

@@ -95,8 +95,7 @@ fn one_goes_onto(edges: &[Edge], head: Location) -> bool
     false
 }
 
-/// The locations that edges go back to which share a mark, each once. For each two edges it takes
-/// as long as discovery, twice.
+/// The locations that edges go back to which share a mark, each once.
 pub fn shared_heads(
     alloc: Global,
     nesting: &Nesting<'_>,

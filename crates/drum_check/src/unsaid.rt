@@ -4,7 +4,8 @@ ghost use Rattle.std.specs.Prelude.{◌≡◌, ◌++◌, ◌↔◌, ◌<◌, ◌
 ghost use Rattle.std.specs.Prelude.{length};
 ghost use Rattle.std.specs.List.{range_with_len};
 ghost use Rattle.drum_core.specs.Loads.{loads_in, start_in};
-ghost use Rattle.drum_flow.specs.Flow.{executed_in};
+ghost use Rattle.drum_flow.specs.Executed.{AreAllNodes};
+ghost use Rattle.drum_flow.specs.Flow.{nodes_of, of_flow};
 ghost use Rattle.drum_times.specs.EdgeOf.{edge_of};
 ghost use Rattle.drum_check.specs.Findings.{edge_at, edges_at, inside_at, pairs_of};
 ghost use Rattle.drum_check.specs.Findings.{AreThose, IsUnsaid};
@@ -50,7 +51,7 @@ fn is_unsaid(
         (edges_at nesting.now.flow.now.notes.now.marks inner)) marks.now }
     ensures { let flow = nesting.now.flow.now in IfOk result (λ unsaid. IsTrue unsaid
         ↔ IsUnsaid (loads_in flow.deck.now) flow.notes.now (start_in flow.deck.now)
-        (executed_in flow) (inner, outer)) }
+        (nodes_of flow) (inner, outer)) }
 {
     if inner == outer {
         return Ok(false);
@@ -78,7 +79,7 @@ fn add_unsaid_one_way(
         (edges_at nesting.now.flow.now.notes.now.marks inner)) marks.now }
     ensures { let flow = nesting.now.flow.now in OnOk result ((outers : List (ℕ × ℕ))
         × AreThose (IsUnsaid (loads_in flow.deck.now) flow.notes.now (start_in flow.deck.now)
-        (executed_in flow))
+        (nodes_of flow))
         (map (λ outer. (inner, outer)) (range_with_len 0 (length flow.notes.now.marks))) outers
         × (map seen found.new.items ≡ map seen found.old.items
         ++ map (inside_at flow.notes.now.marks) outers)) }
@@ -110,7 +111,7 @@ fn add_unsaid_of(
     requires few { length (marked_edges nesting.now.flow.now.notes.now) ≤ 64 }
     ensures { let flow = nesting.now.flow.now in OnOk result ((outers : List (ℕ × ℕ))
         × AreThose (IsUnsaid (loads_in flow.deck.now) flow.notes.now (start_in flow.deck.now)
-        (executed_in flow))
+        (nodes_of flow))
         (map (λ outer. (inner, outer)) (range_with_len 0 (length flow.notes.now.marks))) outers
         × (map seen found.new.items ≡ map seen found.old.items
         ++ map (inside_at flow.notes.now.marks) outers)) }
@@ -133,7 +134,7 @@ fn unsaid_of(
     requires few { length (marked_edges nesting.now.flow.now.notes.now) ≤ 64 }
     ensures { let flow = nesting.now.flow.now in IfOk result (λ found. (pairs : List (ℕ × ℕ))
         × AreThose (IsUnsaid (loads_in flow.deck.now) flow.notes.now (start_in flow.deck.now)
-        (executed_in flow)) (pairs_of flow.notes.now.marks) pairs
+        (nodes_of flow)) (pairs_of flow.notes.now.marks) pairs
         × (map seen found.items ≡ map (inside_at flow.notes.now.marks) pairs)) }
 {
     let mut found = Vec::new(alloc);
@@ -144,12 +145,12 @@ fn unsaid_of(
 }
 
 /// The pairs of marks of which the one stands inside the other, and doesn't say so: by the index of
-/// the one, and then of the other; none where the marks have more than [`MOST_EDGES`]. For each two
-/// edges it takes as long as discovery, twice.
+/// the one, and then of the other; none where the marks have more than [`MOST_EDGES`].
 pub fn unsaid_marks(alloc: Global, flow: &Flow<'_>) -> Result<Vec<Finding>, AllocError>
+    requires { of_flow AreAllNodes flow.now (nodes_of flow.now) }
     ensures { IfOk result (λ found. (pairs : List (ℕ × ℕ))
         × AreThose (IsUnsaid (loads_in flow.now.deck.now) flow.now.notes.now
-        (start_in flow.now.deck.now) (executed_in flow.now)) (pairs_of flow.now.notes.now.marks)
+        (start_in flow.now.deck.now) (nodes_of flow.now)) (pairs_of flow.now.notes.now.marks)
         pairs
         × (map seen found.items ≡ map (inside_at flow.now.notes.now.marks) pairs)) }
 {

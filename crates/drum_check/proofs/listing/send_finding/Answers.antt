@@ -36,6 +36,14 @@ returns-in-UnusedMark-clause-sent g c =
 pub returns-in-UnusedList-clause-sent : goal.returns-in-UnusedList-clause-sent
 returns-in-UnusedList-clause-sent g c = rw c.in-UnusedList.is c.send_location-in-UnusedList.ensures.sent
 
+pub returns-in-UnusedCall-clause-sent : goal.returns-in-UnusedCall-clause-sent
+returns-in-UnusedCall-clause-sent g c =
+    rw c.in-UnusedCall.is (subst (λ (digits : List ℕ). IsSent (g.O.Output.written c.args.writer.now)
+    (g.O.Output.written c.send_behind-in-UnusedCall.new.writer) c.args.sent c.send_behind-in-UnusedCall.result
+    (codes "unused call " ++ digits_of 4 c.in-UnusedCall.edge.from.number ++ codes " " ++ digits ++ codes "\n"))
+    (c.four_digits-digits-in-UnusedCall.ensures ∙ ap (digits_of 4) c.number-in-UnusedCall.ensures)
+    c.send_behind-in-UnusedCall.ensures.sent)
+
 pub returns-in-Idle-clause-sent : goal.returns-in-Idle-clause-sent
 returns-in-Idle-clause-sent g c = rw c.in-Idle.is c.send_location-in-Idle.ensures.sent
 

@@ -8,7 +8,7 @@ use Rattle.std.proofs.lemmas.List.Sorted.{length_permutation}
 use Rattle.std.proofs.lemmas.Result.{IfOk-weaker}
 use Rattle.std.proofs.lemmas.Simd.{map-map}
 use Rattle.drum_core.specs.Loads.{loads_in, start_in}
-use Rattle.drum_flow.specs.Flow.{executed_in}
+use Rattle.drum_flow.specs.Flow.{nodes_of}
 use Rattle.drum_times.specs.declared.notes.edge.Edge.{Edge}
 use Rattle.drum_times.specs.EdgeOf.{edge_of}
 use Rattle.drum_loops.specs.Loops.{AreClosing}
@@ -43,7 +43,7 @@ returns-then-are_many c =
     IfOk-weaker c.told_alone.result
     (λ loops. map seen loops.items ≡ map (λ (edge : Edge). alone (edge_of edge)) c.deref.result.now)
     (λ loops. (all : List (ℕ × ℕ)) × AreClosing loads notes start all
-    × AreLoops loads notes start (executed_in flow) all (map seen loops.items))
+    × AreLoops loads notes start (nodes_of flow) all (map seen loops.items))
     (λ loops told. (
       map edge_of edges,
       c.in_ok-edges.ensures,
@@ -85,7 +85,7 @@ returns c =
     (λ loops. (sorted : List (ℕ × ℕ)) × IsPermutation (map edge_of c.deref-3.result.now) sorted
     × AreFewestFirst (IsInsideIn flow) sorted × AreToldApart (IsInsideIn flow) notes sorted (map seen loops.items))
     (λ loops. (all : List (ℕ × ℕ)) × AreClosing loads notes start all
-    × AreLoops loads notes start (executed_in flow) all (map seen loops.items))
+    × AreLoops loads notes start (nodes_of flow) all (map seen loops.items))
     (λ loops told.
     let moved : IsPermutation (map edge_of edges) told.0 =
     subst (λ (xs : List Edge). IsPermutation (map edge_of xs) told.0) c.deref-3.ensures.value told.1 in (

@@ -3,7 +3,7 @@ use Rattle.std.proofs.Common.{◌≡◌, ℕ, Bool, true, false, ◌||◌, List,
 use Rattle.std.specs.Prelude.{is_some, ◌==◌, ◌&&◌, if◌then◌else◌, Some, None}
 use Rattle.std.specs.List.{list_any}
 use Rattle.drum_check.specs.Finding.{Finding, not_loaded, not_in_profile, alters, too_large, closes, unused_mark}
-use Rattle.drum_check.specs.Finding.{unused_list, idle, inside}
+use Rattle.drum_check.specs.Finding.{unused_list, unused_call, idle, inside}
 use Rattle.drum_check.specs.FindingsOf.{seen}
 use Rattle.drum_check.specs.Shared.{asks_to_share, shared_onto}
 use Rattle.drum_check.proofs.marking.is_shared_at.Goals as goal
@@ -16,6 +16,7 @@ one_alike head (alters writer word kept) none = refl
 one_alike head (too_large product) none = refl
 one_alike head (unused_mark edge) none = refl
 one_alike head (unused_list place) none = refl
+one_alike head (unused_call edge) none = refl
 one_alike head (idle place) none = refl
 one_alike head (inside inner outer) none = refl
 

@@ -3,7 +3,7 @@ use Rattle.std.proofs.Common.{◌≡◌, ℕ, List, [], map, length, true, false
 use Rattle.std.specs.List.{range_with_len}
 use Rattle.std.proofs.lemmas.List.{append-nil}
 use Rattle.drum_core.specs.Loads.{loads_in, start_in}
-use Rattle.drum_flow.specs.Flow.{executed_in}
+use Rattle.drum_flow.specs.Flow.{nodes_of}
 use Rattle.drum_times.specs.EdgeOf.{edge_of}
 use Rattle.drum_check.specs.Findings.{edges_at, IsUnsaid}
 use Rattle.drum_check.specs.FindingsOf.{seen, IsInsideIn}
@@ -24,7 +24,7 @@ returns-then-branch c =
     subst Several here (c.in_ok-has_several_ways.ensures.0 c.if-branch.true) in
     let pair : ℕ → ℕ × ℕ = λ outer. (c.args.inner, outer) in (
       [],
-      those_none (IsUnsaid (loads_in flow.deck.now) notes (start_in flow.deck.now) (executed_in flow)) pair
+      those_none (IsUnsaid (loads_in flow.deck.now) notes (start_in flow.deck.now) (nodes_of flow)) pair
           (range_with_len 0 (length notes.marks))
           (λ outer is. is.one_way
           (subst (HasSeveralWays (IsRound (IsInsideIn flow) (edges_at notes.marks c.args.inner))) c.requires.marks several)),

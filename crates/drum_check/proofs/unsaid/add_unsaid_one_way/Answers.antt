@@ -3,7 +3,7 @@
 use Rattle.std.proofs.Common.{◌≡◌, ◌∷◌, [], ◌++◌, ℕ, true, false, map, ap, sym, ◌∙◌, arith}
 use Rattle.std.proofs.lemmas.List.{map_push}
 use Rattle.drum_core.specs.Loads.{loads_in, start_in}
-use Rattle.drum_flow.specs.Flow.{executed_in}
+use Rattle.drum_flow.specs.Flow.{nodes_of}
 use Rattle.drum_times.specs.EdgeOf.{edge_of}
 use Rattle.drum_check.specs.Findings.{edge_at, inside, inside_at, IsUnsaid}
 use Rattle.drum_check.specs.FindingsOf.{seen}
@@ -16,7 +16,7 @@ loop-outer-preserved-then-not-branch c =
     record {
       within = omega (arith, c.loop-outer-test.true);
       so_far =
-          pair_out (IsUnsaid (loads_in flow.deck.now) flow.notes.now (start_in flow.deck.now) (executed_in flow))
+          pair_out (IsUnsaid (loads_in flow.deck.now) flow.notes.now (start_in flow.deck.now) (nodes_of flow))
           (inside_at flow.notes.now.marks) c.args.inner c.loop-outer.outer (map seen c.args.found.now.items)
           (map seen c.loop-outer.found.items) c.loop-outer.invariant.so_far
           (λ is. let clash : true ≡ false = sym (c.in_ok-is_unsaid.ensures.1 is) ∙ c.if-not-branch.true in cc);
@@ -37,7 +37,7 @@ loop-outer-preserved c =
     record {
       within = omega (arith, c.loop-outer-test.true);
       so_far =
-          pair_in (IsUnsaid (loads_in flow.deck.now) flow.notes.now (start_in flow.deck.now) (executed_in flow))
+          pair_in (IsUnsaid (loads_in flow.deck.now) flow.notes.now (start_in flow.deck.now) (nodes_of flow))
           (inside_at marks) c.args.inner c.loop-outer.outer (map seen c.args.found.now.items) before
           (map seen c.push.new.self.items) c.loop-outer.invariant.so_far
           (c.in_ok-is_unsaid.ensures.0 c.if-not-branch.false) grown;

@@ -1,7 +1,7 @@
 use Rattle.std.proofs.Common.{◌≤◌, ℕ, map}
 use Rattle.std.specs.List.{range_with_len}
 use Rattle.drum_core.specs.Loads.{loads_in, start_in}
-use Rattle.drum_flow.specs.Flow.{executed_in}
+use Rattle.drum_flow.specs.Flow.{nodes_of}
 use Rattle.drum_check.specs.Findings.{inside_at, IsUnsaid}
 use Rattle.drum_check.specs.FindingsOf.{seen}
 use Rattle.drum_check.proofs.Unsaids.{AreAdded}
@@ -11,7 +11,7 @@ use Rattle.drum_check.proofs.unsaid.add_unsaid_one_way.Given as goal
 abbrev pub invariant-loop-outer : goal.invariant-loop-outer
 invariant-loop-outer l = record {
   within : l.outer ≤ l.outer-end;
-  so_far : AreAdded (IsUnsaid (loads_in l.nesting.flow.now.deck.now) l.nesting.flow.now.notes.now (start_in l.nesting.flow.now.deck.now) (executed_in l.nesting.flow.now))
+  so_far : AreAdded (IsUnsaid (loads_in l.nesting.flow.now.deck.now) l.nesting.flow.now.notes.now (start_in l.nesting.flow.now.deck.now) (nodes_of l.nesting.flow.now))
       (inside_at l.nesting.flow.now.notes.now.marks) (map (λ (outer : ℕ). (l.inner, outer)) (range_with_len 0 l.outer))
       (map seen l.fn.found.items) (map seen l.found.items);
 }

@@ -5,7 +5,7 @@ use Rattle.drum_core.specs.Loads.{loads_in, start_in}
 use Rattle.drum_times.specs.declared.notes.mark.Mark.{Mark}
 use Rattle.drum_times.specs.Allowed.{Notes}
 use Rattle.drum_machine.specs.Counts.{is_inside}
-use Rattle.drum_flow.specs.Flow.{executed_in}
+use Rattle.drum_flow.specs.Flow.{nodes_of}
 use Rattle.drum_times.specs.EdgeOf.{edge_of}
 use Rattle.drum_check.specs.Findings.{edges_at, IsUnsaid}
 use Rattle.drum_check.specs.FindingsOf.{IsInsideIn}
@@ -34,7 +34,7 @@ returns c =
     IfOk-weaker c.is_mark_round.result
     (λ round. IsTrue round ↔ IsMarkRound Inside (map edge_of c.all-2.result.now) (map edge_of c.all.result.now))
     (λ round. IsTrue round
-    ↔ IsUnsaid (loads_in flow.deck.now) notes (start_in flow.deck.now) (executed_in flow) (c.args.inner, c.args.outer))
+    ↔ IsUnsaid (loads_in flow.deck.now) notes (start_in flow.deck.now) (nodes_of flow) (c.args.inner, c.args.outer))
     (λ round iff. (
       λ is. record {
         few = c.requires.few;

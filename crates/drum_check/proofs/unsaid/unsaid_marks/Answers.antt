@@ -2,7 +2,7 @@
 use Rattle.std.proofs.Common.{◌<◌, [], map, length, ap, arith}
 use Rattle.std.proofs.lemmas.List.{length-map}
 use Rattle.drum_core.specs.Loads.{loads_in, start_in}
-use Rattle.drum_flow.specs.Flow.{executed_in}
+use Rattle.drum_flow.specs.Flow.{nodes_of}
 use Rattle.drum_times.specs.EdgeOf.{edge_of}
 use Rattle.drum_check.specs.Findings.{IsUnsaid, pairs_of}
 use Rattle.drum_check.specs.FindingsOf.{seen}
@@ -25,7 +25,7 @@ returns-then-len-gt-MOST_EDGES c =
       length-map marked edge_of,
     ) in (
       [],
-      those_nothing (IsUnsaid (loads_in flow.deck.now) notes (start_in flow.deck.now) (executed_in flow))
+      those_nothing (IsUnsaid (loads_in flow.deck.now) notes (start_in flow.deck.now) (nodes_of flow))
           (pairs_of notes.marks) (λ pair is. absurd (omega (arith, many, is.few))),
       ap (map seen) c.new.ensures.items,
     )

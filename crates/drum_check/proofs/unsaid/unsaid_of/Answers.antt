@@ -1,7 +1,7 @@
 use Rattle.std.proofs.Common.{ℕ, [], length, map, arith}
 use Rattle.std.specs.List.{range_with_len}
 use Rattle.drum_core.specs.Loads.{loads_in, start_in}
-use Rattle.drum_flow.specs.Flow.{executed_in}
+use Rattle.drum_flow.specs.Flow.{nodes_of}
 use Rattle.drum_check.specs.Findings.{inside_at, IsUnsaid}
 use Rattle.drum_check.specs.FindingsOf.{seen}
 use Rattle.drum_check.proofs.Unsaids.{row_in}
@@ -14,7 +14,7 @@ loop-inner-preserved c =
     record {
       within = omega (arith, c.loop-inner-test.true);
       so_far =
-          row_in (IsUnsaid (loads_in flow.deck.now) flow.notes.now (start_in flow.deck.now) (executed_in flow))
+          row_in (IsUnsaid (loads_in flow.deck.now) flow.notes.now (start_in flow.deck.now) (nodes_of flow))
           (inside_at flow.notes.now.marks)
           (λ inner. map {A = ℕ} {B = ℕ × ℕ} (λ outer. (inner, outer)) (range_with_len 0 (length flow.notes.now.marks)))
           c.loop-inner.inner [] (map seen c.loop-inner.found.items) (map seen c.add_unsaid_of.new.found.items)

@@ -2,7 +2,7 @@ use Rattle.std.proofs.Common.{◌≤◌, ℕ, [], length, map}
 use Rattle.std.specs.Prelude.{flat_map}
 use Rattle.std.specs.List.{range_with_len}
 use Rattle.drum_core.specs.Loads.{loads_in, start_in}
-use Rattle.drum_flow.specs.Flow.{executed_in}
+use Rattle.drum_flow.specs.Flow.{nodes_of}
 use Rattle.drum_check.specs.Findings.{inside_at, IsUnsaid}
 use Rattle.drum_check.specs.FindingsOf.{seen}
 use Rattle.drum_check.proofs.Unsaids.{AreAdded}
@@ -12,7 +12,7 @@ use Rattle.drum_check.proofs.unsaid.unsaid_of.Given as goal
 abbrev pub invariant-loop-inner : goal.invariant-loop-inner
 invariant-loop-inner l = record {
   within : l.inner ≤ l.inner-end;
-  so_far : AreAdded (IsUnsaid (loads_in l.nesting.flow.now.deck.now) l.nesting.flow.now.notes.now (start_in l.nesting.flow.now.deck.now) (executed_in l.nesting.flow.now))
+  so_far : AreAdded (IsUnsaid (loads_in l.nesting.flow.now.deck.now) l.nesting.flow.now.notes.now (start_in l.nesting.flow.now.deck.now) (nodes_of l.nesting.flow.now))
       (inside_at l.nesting.flow.now.notes.now.marks)
       (flat_map (λ (inner : ℕ). map (λ (outer : ℕ). (inner, outer)) (range_with_len 0 (length l.nesting.flow.now.notes.now.marks)))
       (range_with_len 0 l.inner))

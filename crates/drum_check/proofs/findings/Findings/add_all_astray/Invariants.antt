@@ -1,6 +1,6 @@
 use Rattle.std.proofs.Common.{◌≡◌, ◌++◌, flat_map, take}
 use Rattle.drum_core.specs.Loads.{loads_in}
-use Rattle.drum_flow.specs.Flow.{executed_in}
+use Rattle.drum_flow.specs.Flow.{nodes_of}
 use Rattle.drum_check.specs.Findings.{astray}
 use Rattle.drum_check.specs.FindingsOf.{found_in}
 use Rattle.drum_check.proofs.findings.Findings.add_all_astray.Given as goal
@@ -8,5 +8,5 @@ use Rattle.drum_check.proofs.findings.Findings.add_all_astray.Given as goal
 -- the marks so far that are astray were added
 abbrev pub invariant-loop-mark : goal.invariant-loop-mark
 invariant-loop-mark l = found_in l.self ≡ found_in l.fn.self
-    ++ flat_map (astray (loads_in l.flow.deck.now) l.flow.notes.now (executed_in l.flow))
+    ++ flat_map (astray (loads_in l.flow.deck.now) l.flow.notes.now (nodes_of l.flow))
     (take l.mark-index l.flow.notes.now.marks)

@@ -1,6 +1,6 @@
 use Rattle.std.proofs.Common.{◌≡◌, ◌++◌, flat_map, map, take}
 use Rattle.drum_core.specs.Loads.{loads_in}
-use Rattle.drum_flow.specs.Flow.{executed_in}
+use Rattle.drum_flow.specs.Flow.{nodes_of}
 use Rattle.drum_times.specs.EdgeOf.{edge_of}
 use Rattle.drum_check.specs.Findings.{missing}
 use Rattle.drum_check.specs.FindingsOf.{found_in}
@@ -9,5 +9,5 @@ use Rattle.drum_check.proofs.findings.Findings.add_all_missing.Given as goal
 -- the edges so far that are missing were added
 abbrev pub invariant-loop-edge : goal.invariant-loop-edge
 invariant-loop-edge l = found_in l.self ≡ found_in l.fn.self
-    ++ flat_map (missing (loads_in l.flow.deck.now) l.flow.notes.now (executed_in l.flow))
+    ++ flat_map (missing (loads_in l.flow.deck.now) l.flow.notes.now (nodes_of l.flow))
     (map edge_of (take l.edge-index l.edges))

@@ -3,7 +3,7 @@ use Rattle.std.specs.List.{range_with_len}
 use Rattle.std.proofs.lemmas.Grind.{flat_map-append}
 use Rattle.std.proofs.lemmas.Result.{err_from_is_err_and, on_ok_weaker}
 use Rattle.drum_core.specs.Loads.{loads_in}
-use Rattle.drum_flow.specs.Flow.{executed_in}
+use Rattle.drum_flow.specs.Flow.{executed_in, nodes_of}
 use Rattle.drum_check.specs.Findings.{Finding, all_locations, astray, unused_list_at}
 use Rattle.drum_check.specs.FindingsOf.{found_in}
 use Rattle.drum_check.proofs.Adding.{added_both}
@@ -27,7 +27,7 @@ returns c =
     let f : ℕ → List Finding = unused_list_at flow.notes.now (executed_in flow) in
     let first = range_with_len 0 2000 in
     let last = range_with_len 8000 4 in
-    let marks : List Finding = flat_map (astray (loads_in flow.deck.now) flow.notes.now (executed_in flow)) flow.notes.now.marks in
+    let marks : List Finding = flat_map (astray (loads_in flow.deck.now) flow.notes.now (nodes_of flow)) flow.notes.now.marks in
     let old = found_in c.args.self.now in
     let mid = found_in c.add_all_astray.new.self in
     let more = found_in c.add_all_unused_lists.new.self in
