@@ -63,6 +63,10 @@ EXAMPLES = [
     ),
     Example("twelve loops in a row", "twelve", "deck", "notes.toml", {"inputs": {}}),
     Example("a loop with two ways back", "ways", "deck", "notes.toml", {"inputs": {50: 0, 60: -1}}),
+    Example("a payroll", "payroll", "deck", "notes.toml", {"inputs": {}, "fifty": {}}),
+    Example("a payroll with a word moved", "payroll", "placed.deck", "notes.toml", {"inputs": {}}),
+    Example("a payroll by marks alone", "payroll", "deck", "marks.toml", {"inputs": {}}),
+    Example("a payroll with a wrong way back", "payroll", "deck", "wrong.toml", {"inputs": None}),
 ]
 
 # Decks to hold an emulator to: what each shows, its name, and its notes where it has notes of its

@@ -23,7 +23,7 @@ pub(crate) enum Answer<'a> {
     Analysis(Result<Analysis, Refusal>),
     Bound(Result<u64, Refusal>),
     Bracket(Result<Bracket, Refusal>),
-    Findings(Result<(Findings, Lacking), AllocError>),
+    Findings(Result<(Findings, Lacking), Refusal>),
     Verdict(Result<Verdict, Fault>),
     /// How the program ended, and what went out.
     Ran(Status, Page, Page),
@@ -54,7 +54,7 @@ impl Answer<'_> {
             | Answer::Bound(Err(Refusal::Memory))
             | Answer::Bracket(Err(Refusal::Memory))
             | Answer::Faults(Err(_))
-            | Answer::Findings(Err(_))
+            | Answer::Findings(Err(Refusal::Memory))
             | Answer::Verdict(Err(Fault::Memory | Fault::Refused(Refusal::Memory))) => true,
             Answer::Ran(Status::Failed, out, err) => {
                 out.text().is_empty() && WANTS.iter().any(|want| err.is(want))

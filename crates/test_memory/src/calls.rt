@@ -2,13 +2,13 @@
 
 use crate::answer::Answer;
 use crate::page::Page;
-use drum_bound::{accept, analyse, bound, flow};
+use drum_bound::{Refusal, accept, analyse, bound, flow};
 use drum_core::{Reading, Word, Writing, read_deck, read_whole};
 use drum_machine::{Machine, Setup};
 use drum_rounds::reached;
 use drum_toml::{long_notes_faults, read_long_notes, read_notes, read_times};
 use drum_tool::{Documents, Findings, Inputs, Lacking, read_inputs, replay, run, run_joined};
-use std::alloc::{AllocError, Global};
+use std::alloc::Global;
 use std::test::Fail;
 use test_devices::devices::Tap;
 use test_devices::shelf::Shelf;
@@ -108,7 +108,7 @@ impl<'a> Call<'a> {
 }
 
 /// All that keeps a deck from a bound, and what is lacking.
-fn findings(alloc: Global, of: &Documents) -> Result<(Findings, Lacking), AllocError> {
+fn findings(alloc: Global, of: &Documents) -> Result<(Findings, Lacking), Refusal> {
     let findings = Findings::of(alloc, &of.deck, &of.notes)?;
     let lacking = Lacking::of(alloc, &findings)?;
     Ok((findings, lacking))

@@ -10,7 +10,7 @@ use std::process::Abort;
 use std::test::Fail;
 use test_devices::devices::Tap;
 use test_texts::{
-    BACK, BRANCH_BACK, LONG_MARKS, NOTES, ROADS, STORES, TIMES, TWO_ROADS, TWO_WORDS,
+    BACK, BRANCH_BACK, LONG_MARKS, NOTES, ROADS, STORES, TIMES, TWO_CALLS, TWO_ROADS, TWO_WORDS,
 };
 
 /// That a call answers in each round that there is no memory, where it was refused, or what it
@@ -92,10 +92,18 @@ const FAULTY: &str = "\
 [[mark]]\nedges = []\nname = 3\ninside = \"d\"\nmore = 1\n\
 ";
 
+/// Calls with faults of each kind, the last of which is there twice.
+const FAULTY_CALLS: &str = "\
+[[call]]\nfrom = 1\nto = 2000\nexit = \"a\"\nback = 2\n\
+[[call]]\nto = 1\nmore = 1\n\
+[[call]]\nfrom = 1\nto = 2\nexit = 3\nback = 4\n\
+[[call]]\nfrom = 1\nto = 2\nexit = 3\nback = 5\n\
+";
+
 #[test]
 fn of_long_notes(rt: HostRuntime) -> Result<(), Fail> {
-    for marks in [LONG_MARKS, FAULTY] {
-        let text = format!(in rt.alloc(); "{NOTES}{marks}")?;
+    for more in [LONG_MARKS, FAULTY, TWO_CALLS, FAULTY_CALLS] {
+        let text = format!(in rt.alloc(); "{NOTES}{more}")?;
         holds(&rt, Call::ReadLongNotes(&text))?;
         holds(&rt, Call::LongNotesFaults(&text))?;
     }
@@ -229,6 +237,20 @@ fn of_the_program_past_the_limit(rt: HostRuntime) -> Result<(), Fail> {
         holds(&rt, Call::Run(&[command, "deck", "times", "notes"], &files))?;
     }
     Ok(())
+}
+
+/// Of notes with calls.
+#[test]
+fn of_the_program_with_calls(rt: HostRuntime) -> Result<(), Fail> {
+    let notes = format!(in rt.alloc(); "{NOTES}{ROADS}{TWO_CALLS}")?;
+    let files = files(TWO_ROADS, &notes, "ANGLE 01\n");
+    for command in ["check", "graph", "ceiling", "walk", "waits"] {
+        holds(&rt, Call::Run(&[command, "deck", "times", "notes"], &files))?;
+    }
+    holds(
+        &rt,
+        Call::Run(&["trace", "deck", "times", "notes", "inputs"], &files),
+    )
 }
 
 #[test]

@@ -82,6 +82,10 @@ pub const TWO_ROADS: &str =
 pub const ROADS: &str =
     "[[list]]\nlocation = 210\npattern = [{ op = 0, d_from = 0, d_to = 0, i = 110 }, { op = 0, d_from = 0, d_to = 0, i = 120 }]\n";
 
+/// Calls of the words from 0200 to the altered one, each with its way back.
+pub const TWO_CALLS: &str =
+    "[[call]]\nfrom = 100\nto = 200\nexit = 210\nback = 110\n[[call]]\nfrom = 110\nto = 200\nexit = 210\nback = 120\n";
+
 /// Marks on both edges that leave the altered word.
 pub const BOTH_ROADS: &str =
     "[[mark]]\nfrom = 210\nto = 110\nmost = 1\n[[mark]]\nfrom = 210\nto = 120\nmost = 1\n";
