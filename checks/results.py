@@ -287,7 +287,9 @@ def waits_of_walk(walk, files):
         visits, time, instruction, waited = sums
         told = kind, visits, time, instruction, waited, time - instruction - waited, angles
         text.append("%s visits %d time %d instruction %d data %d work %d%s" % told)
-    _, time, instruction, data = map(sum, zip(*(sums for sums, _ in kinds.values())))
+    # Beside a ceiling there may be no walk.
+    all_sums = [sums for sums, _ in kinds.values()] or [[0, 0, 0, 0]]
+    _, time, instruction, data = map(sum, zip(*all_sums))
     told = time - instruction - data - cards, instruction, data, cards
     text.append("total work %d instruction %d data %d cards %d" % told)
     return "\n".join(text + [last]) + "\n"
