@@ -2,7 +2,7 @@
 
 ghost use Rattle.std.specs.Prelude.{None};
 
-use drum_core::{Input, Reading};
+use drum_devices::{Input, Reading};
 use drum_tool::Source;
 use std::fs::File;
 

@@ -1,8 +1,8 @@
 -- Texts without faults are refused for lack of memory alone.
 use Rattle.std.proofs.Common.{◌≡◌, ℕ, List, [], ◌∷◌, Some, refl, ap, sym, subst, ◌∙◌}
-use Rattle.drum_core.specs.declared.deck.fault.DeckFault.{DeckFault}
-use Rattle.drum_core.specs.declared.deck.fault.DeckFault.TheVariants as of_deck
-use Rattle.drum_core.specs.DeckText.{IsRefused as IsDeckRefused}
+use Rattle.drum_deck.specs.declared.deck.fault.DeckFault.{DeckFault}
+use Rattle.drum_deck.specs.declared.deck.fault.DeckFault.TheVariants as of_deck
+use Rattle.drum_deck.specs.DeckText.{IsRefused as IsDeckRefused}
 use Rattle.drum_times.specs.declared.fault.NoteFault.{NoteFault}
 use Rattle.drum_times.specs.declared.fault.NoteFault.TheVariants as of_note
 use Rattle.drum_lines.specs.declared.fault.Fault.{Fault}

@@ -1,46 +1,46 @@
 -- What is said of documents and of texts, and when.
 use Rattle.std.specs.Prelude.{◌≡◌, ◌≢◌, ℕ, if◌then◌else◌, List, [], Option, ◌⊎◌, length}
 use Rattle.std.specs.List.{list_all}
-use Rattle.drum_core.specs.Loads.{loads_in, start_in}
+use Rattle.drum_deck.specs.Loads.{loads_in, start_in}
 use Rattle.drum_times.specs.Entries.{entry_in}
+use Rattle.drum_toml.specs.declared.notes.notes_read.NotesRead.TheVariants.{Long}
 use Rattle.drum_flow.specs.Accepted.{counts_of}
 use Rattle.drum_flow.specs.Bounded.{IsDeckAccepted}
 use Rattle.drum_flow.specs.Flow.{AreFound}
+use Rattle.drum_walks.specs.Visited.{Visited}
 use Rattle.drum_bound.specs.Table.{IsTable, Row}
-use Rattle.drum_bound.specs.Visited.{Visited}
-use Rattle.drum_check.specs.Findings.{AreFindings, Finding, may_be_meant}
-use Rattle.drum_check.specs.Lacking.{are_long, check_text}
+use Rattle.drum_ceiling.specs.declared.bracket.Bracket.{Bracket}
+use Rattle.drum_loops.specs.Loops.{AreClosing}
 use Rattle.drum_command.specs.declared.command.Files.{Files}
 use Rattle.drum_command.specs.declared.command.Question.{Question}
 use Rattle.drum_command.specs.declared.command.Question.TheVariants.{Bound, Report, Walk, Waits}
 use Rattle.drum_command.specs.declared.command.Question.TheVariants.{Table, Size, Graph, Outline}
 use Rattle.drum_command.specs.declared.command.Question.TheVariants.{Draw, Ceiling}
-use Rattle.drum_faults.specs.FaultLines as printed
 use Rattle.drum_lines.specs.declared.fault.Fault.{Fault}
 use Rattle.drum_lines.specs.declared.status.Status.{Status}
 use Rattle.drum_lines.specs.declared.status.Status.TheVariants.{Done, Refused}
 use Rattle.drum_lines.specs.FaultStatus.{IsWanting}
 use Rattle.drum_lines.specs.Reply.{Reply, bound_reply, lists, says}
-use Rattle.drum_bracket.specs.CeilingText.{ceiling_text}
-use Rattle.drum_bracket.specs.RoundsText.{rounds_text}
-use Rattle.drum_bracket.specs.RoundsWaits.{rounds_waits_text}
-use Rattle.drum_bracket.specs.SpelledOut.{AreSpelledOut}
-use Rattle.drum_rounds.specs.declared.bracket.Bracket.{Bracket}
-use Rattle.drum_report.specs.Report.{report_text}
+use Rattle.drum_check.specs.Findings.{AreFindings, Finding, may_be_meant}
+use Rattle.drum_check.specs.Lacking.{are_long, check_text}
 use Rattle.drum_graph.specs.Graph.{AreNodes, Node}
 use Rattle.drum_graph.specs.GraphText.{graph_text}
 use Rattle.drum_graph.specs.Outline.{outlined}
+use Rattle.drum_faults.specs.FaultLines as printed
+use Rattle.drum_report.specs.Report.{report_text}
 use Rattle.drum_listing.specs.SizeText.{hops_among, size_text}
 use Rattle.drum_listing.specs.TableText.{AreInOrder, table_text}
 use Rattle.drum_listing.specs.Waits.{AreDearestFirst}
 use Rattle.drum_listing.specs.WaitsText.{waits_text}
 use Rattle.drum_listing.specs.WalkText.{walk_text}
-use Rattle.drum_loops.specs.Loops.{AreClosing}
+use Rattle.drum_bracket.specs.CeilingText.{ceiling_text}
+use Rattle.drum_bracket.specs.RoundsText.{rounds_text}
+use Rattle.drum_bracket.specs.RoundsWaits.{rounds_waits_text}
+use Rattle.drum_bracket.specs.SpelledOut.{AreSpelledOut}
 use Rattle.drum_documents.specs.declared.documents.Documents.{Documents}
 use Rattle.drum_documents.specs.Documents.{Say, Texts, setting_of}
 use Rattle.drum_documents.specs.Limits.{AreShort, HaveNoBound, IsAnalysisFault, IsBound, IsBracket}
 use Rattle.drum_documents.specs.Limits.{IsCeilingFault, IsDiscoveryFault, IsWorstWalk}
-use Rattle.drum_toml.specs.declared.notes.notes_read.NotesRead.TheVariants.{Long}
 
 -- ---- what is said
 
@@ -69,7 +69,8 @@ table_reply documents rows = says (table_text documents.notes.marks rows) Done
 
 abbrev pub size_reply : Documents → List ℕ → List Row → Reply
 size_reply documents executed rows =
-    says (size_text (length executed) (hops_among (loads_in documents.deck) documents.notes executed)
+    says (size_text (length executed)
+    (hops_among (loads_in documents.deck) documents.notes executed)
     (counts_of documents.notes.marks) (length rows)) Done
 
 abbrev pub graph_reply : Documents → List (ℕ × ℕ) → List Node → Reply
@@ -249,8 +250,8 @@ SaysCheck files texts inputs reply =
     × (reply ≡ lists lines))
     ⊎ ((documents : Documents) × Say Long texts documents × SaysFindings documents reply)
 
--- why nothing is said of them: that the program is out of memory; or of the deck that they say, that
--- there are too many nodes
+-- why nothing is said of them: that the program is out of memory; or of the deck that they say,
+-- that there are too many nodes
 abbrev pub RefusesCheck : Texts → Fault → Type 0
 RefusesCheck texts fault = IsWanting fault
     ⊎ ((documents : Documents) × Say Long texts documents × IsDiscoveryFault documents fault)

@@ -1,10 +1,10 @@
 //! The answers to questions about documents, each written to an output.
 
 ghost use Rattle.std.specs.Prelude.{◌≡◌, ◌^◌, ◌≤◌, IfOk, IfErr};
-ghost use Rattle.drum_documents.specs.Limits.{HaveNoBound, IsAnalysisFault, IsBracket};
-ghost use Rattle.drum_documents.specs.Limits.{IsCeilingFault, IsDiscoveryFault};
 ghost use Rattle.drum_lines.specs.Does.{Does};
 ghost use Rattle.drum_lines.specs.Output.{Device, device};
+ghost use Rattle.drum_documents.specs.Limits.{HaveNoBound, IsAnalysisFault, IsBracket};
+ghost use Rattle.drum_documents.specs.Limits.{IsCeilingFault, IsDiscoveryFault};
 ghost use Rattle.drum_answers.specs.Basis.{IsBasis};
 ghost use Rattle.drum_answers.specs.declared.basis.Basis.TheVariants as bases;
 ghost use Rattle.drum_answers.specs.Says.{ByEither, Refuses, Says, SaysBound};
@@ -21,14 +21,14 @@ use crate::telling::{
 };
 use drum_bound::{Analysis, Refusal};
 use drum_bracket::{Outline, WaitsInRounds};
+use drum_ceiling::Bracket;
 use drum_command::Question;
-use drum_core::Output;
+use drum_devices::Output;
 use drum_documents::{Documents, bound_of, bracket_of};
 use drum_graph::Graph;
 use drum_lines::{Fault, Status, tell_bound, tell_text};
 use drum_listing::{Size, Table, Waits};
 use drum_picture::{picture, picture_in_rounds};
-use drum_rounds::Bracket;
 use std::alloc::{AllocError, Global};
 
 /// The most bytes of a picture that is printed.

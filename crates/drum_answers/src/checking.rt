@@ -1,7 +1,7 @@
 //! A check of texts: all of their faults, or all that keeps the deck that they say from a bound.
 
 ghost use Rattle.std.specs.Prelude.{◌≡◌, [], IfOk, IfErr, ◌≤◌, ◌^◌, length, option_map};
-ghost use Rattle.drum_core.specs.Loads.{loads_in, start_in};
+ghost use Rattle.drum_deck.specs.Loads.{loads_in, start_in};
 ghost use Rattle.drum_check.specs.Findings.{AreFindings};
 ghost use Rattle.drum_check.specs.FindingsOf.{found_in, is_long_in};
 ghost use Rattle.drum_check.specs.Lacking.{are_long, words_altered};
@@ -18,7 +18,7 @@ ghost use Rattle.drum_lines.specs.FaultStatus.{IsWanting};
 
 use drum_check::{Findings, Lacking};
 use drum_command::Files;
-use drum_core::laws::not_refused;
+use drum_deck::laws::not_refused;
 use drum_documents::{Documents, Texts};
 use drum_faults::laws::sound_where_none;
 use drum_faults::{NamedText, fault_lines};

@@ -3,35 +3,35 @@
 ghost use Rattle.std.specs.Prelude.{◌≡◌, ◌^◌, ◌≤◌};
 ghost use Rattle.drum_times.specs.Entries.{entry_in};
 ghost use Rattle.drum_bound.specs.AnalysisOf.{angle_of, bound_of, visits_of};
+ghost use Rattle.drum_lines.specs.Output.{GetsResult, device};
 ghost use Rattle.drum_check.specs.FindingsOf.{found_in, is_long_in};
 ghost use Rattle.drum_check.specs.Lacking.{check_text, words_altered};
 ghost use Rattle.drum_check.specs.LackingOf.{words_in};
 ghost use Rattle.drum_graph.specs.GraphOf.{loops_in, nodes_in, start_of};
 ghost use Rattle.drum_graph.specs.GraphText.{graph_text};
+ghost use Rattle.drum_report.specs.Report.{report_text};
 ghost use Rattle.drum_listing.specs.TableOf.{rows_in};
 ghost use Rattle.drum_listing.specs.TableText.{table_text};
 ghost use Rattle.drum_listing.specs.WaitsOf.{AreWaits, firsts_of};
 ghost use Rattle.drum_listing.specs.WaitsText.{waits_text};
 ghost use Rattle.drum_listing.specs.WalkText.{walk_text};
-ghost use Rattle.drum_documents.specs.Limits.{IsBracket};
-ghost use Rattle.drum_lines.specs.Output.{GetsResult, device};
-ghost use Rattle.drum_answers.specs.Says.{status_after_check};
 ghost use Rattle.drum_bracket.specs.CeilingText.{ceiling_text};
 ghost use Rattle.drum_bracket.specs.OutlineOf.{IsOutlineOf};
 ghost use Rattle.drum_bracket.specs.RoundsText.{rounds_text};
 ghost use Rattle.drum_bracket.specs.RoundsWaitsOf.{listed};
-ghost use Rattle.drum_report.specs.Report.{report_text};
+ghost use Rattle.drum_documents.specs.Limits.{IsBracket};
+ghost use Rattle.drum_answers.specs.Says.{status_after_check};
 
 use drum_bound::Analysis;
 use drum_bracket::{Outline, WaitsInRounds, list_rounds, list_rounds_waits, report_ceiling};
+use drum_ceiling::Bracket;
 use drum_check::{Findings, Lacking, list_findings};
-use drum_core::Output;
+use drum_devices::Output;
 use drum_documents::Documents;
 use drum_graph::{Graph, send_graph};
 use drum_lines::{Status, ended};
 use drum_listing::{Table, Waits, list_table, list_waits, list_walk};
 use drum_report::report;
-use drum_rounds::Bracket;
 
 /// Writes the report of an analysis.
 pub fn tell_report<O: Output>(out: &mut O, documents: &Documents, analysis: &Analysis) -> Status

@@ -6,8 +6,10 @@ use Rattle.std.proofs.lemmas.List.{length-map}
 use Rattle.std.specs.Map.{values_of}
 use Rattle.drum_times.specs.declared.times.Times.{Times}
 use Rattle.drum_flow.specs.Accepted.{counts_of}
-use Rattle.drum_flow.specs.AcceptedFlow.{in_order}
 use Rattle.drum_flow.specs.Walk.{Setting}
+use Rattle.drum_acceptance.specs.AcceptedFlow.{in_order}
+use Rattle.drum_walks.specs.Visited.{AreLongest, Visited, IsWalkOf}
+use Rattle.drum_walks.specs.Worst.{IsWorst}
 use Rattle.drum_bound.specs.declared.analysis.Analysis.{Analysis}
 use Rattle.drum_bound.specs.declared.cells.Cells.{Cells}
 use Rattle.drum_bound.specs.declared.keys.Keys.{Keys}
@@ -30,8 +32,6 @@ use Rattle.drum_bound.proofs.ShortWalks.{short_walk}
 use Rattle.drum_bound.specs.ScanOf.{AreCells, IsDone, setting_in}
 use Rattle.drum_bound.specs.Scanned.{Scanned, turns_below}
 use Rattle.drum_bound.specs.Table.{start_angle, Row, IsTable}
-use Rattle.drum_bound.specs.Visited.{AreLongest, Visited, IsWalkOf}
-use Rattle.drum_bound.specs.Worst.{IsWorst}
 use Rattle.drum_bound.specs.Held.{kept_in}
 use Rattle.drum_bound.proofs.Worsts.{is_worst}
 

@@ -10,7 +10,7 @@ use Rattle.std.proofs.lemmas.List.{length-append, length-map, length-set}
 use Rattle.std.proofs.lemmas.Option.{slice_get-get_or, slice_get_read}
 use Rattle.indexmap.specs.Layout.{set_value_at, length-set_value_at}
 use Rattle.drum_core.specs.declared.location.Location.{Location}
-use Rattle.drum_flow.proofs.Lists.{contains_here, contains_there, contains_cases, contains_none}
+use Rattle.drum_order.proofs.Lists.{contains_here, contains_there, contains_cases, contains_none}
 use Rattle.drum_bound.specs.declared.cells.entries.Entries.{Entries}
 use Rattle.drum_bound.specs.declared.key_hop.KeyHop.{KeyHop}
 use Rattle.drum_bound.specs.declared.latest.Latest.{Latest}

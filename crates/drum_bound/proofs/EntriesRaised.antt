@@ -5,9 +5,10 @@ use Rattle.std.specs.Prelude.{Contains}
 use Rattle.drum_times.specs.declared.notes.mark.Mark.{Mark}
 use Rattle.drum_machine.specs.Counts.{after_pass, no_counts, AreWithin}
 use Rattle.drum_machine.specs.Ways.{Way, to}
+use Rattle.drum_order.proofs.Lists.{contains_from_get}
 use Rattle.drum_flow.specs.Hops.{Hop, hops}
-use Rattle.drum_flow.proofs.Lists.{contains_from_get}
 use Rattle.drum_flow.specs.Walk.{Setting}
+use Rattle.drum_flow.specs.Longest.{longest}
 use Rattle.drum_bound.specs.declared.latest.Latest.{Latest}
 use Rattle.drum_bound.specs.declared.key_hop.KeyHop.{KeyHop}
 use Rattle.drum_bound.proofs.DigitsLaws.{number_injective}
@@ -15,7 +16,6 @@ use Rattle.drum_bound.specs.Ends.{HopEnd, IsHop, LeadsTo, start_row, AreRaised}
 use Rattle.drum_bound.proofs.EntryEnds.{latest_end, end_of, ends_of, IsEndIn, end_in, has_in}
 use Rattle.drum_bound.specs.Keys.{keys_of, place_at, counts_at, IsKey, IsOrdered}
 use Rattle.drum_bound.proofs.KeyLaws.{counts_within, one_key}
-use Rattle.drum_flow.specs.Longest.{longest}
 use Rattle.drum_bound.specs.RowOf.{row_of}
 use Rattle.drum_bound.proofs.Rows.{AreRowsOf, IsRowOf, one_row, one_kept, is_inside}
 use Rattle.drum_bound.specs.Scanned.{cell_at, end_from, IsBackedBy, Arrives, IsTakenBy, Scanned}

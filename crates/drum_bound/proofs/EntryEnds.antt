@@ -5,12 +5,12 @@ use Rattle.std.specs.Prelude.{slice_get, Contains, sum}
 use Rattle.std.proofs.lemmas.List.{length-append}
 use Rattle.std.proofs.lemmas.List.Elements.{Contains-append_left, Contains-append_right, Contains-append_cases}
 use Rattle.std.proofs.lemmas.List.Sums.{sum-map, sum_by-cons}
+use Rattle.drum_order.proofs.Lists.{contains_here, contains_there, contains_cases, contains_none}
 use Rattle.drum_flow.specs.Hops.{Hop, hops}
-use Rattle.drum_flow.proofs.Lists.{contains_here, contains_there, contains_cases, contains_none}
 use Rattle.drum_flow.specs.Walk.{Setting}
-use Rattle.drum_bound.specs.Ends.{HopEnd, IsHop, IsHopEnd, AreUnlike, AreEnds}
 use Rattle.drum_flow.specs.Longest.{longest}
 use Rattle.drum_flow.proofs.LongestLaws.{longest_later}
+use Rattle.drum_bound.specs.Ends.{HopEnd, IsHop, IsHopEnd, AreUnlike, AreEnds}
 use Rattle.drum_bound.specs.Table.{Row, AreApart}
 
 -- the word times used at the latest at the end of a hop that begins with `begun` used, from the

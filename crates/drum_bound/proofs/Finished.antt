@@ -1,7 +1,7 @@
 -- What a finished scan, as it is held, gives to the lemmas on its cells.
 use Rattle.std.proofs.Common.{◌≡◌, ℕ, ◌+◌, ◌<◌, ◌≤◌, Some, sym, ◌∙◌, arith}
-use Rattle.drum_core.specs.declared.deck.Deck.{Deck}
-use Rattle.drum_core.specs.Loads.{start_in}
+use Rattle.drum_deck.specs.declared.deck.Deck.{Deck}
+use Rattle.drum_deck.specs.Loads.{start_in}
 use Rattle.drum_machine.specs.Timing.{longest_step}
 use Rattle.drum_flow.specs.Flow.{deck_of}
 use Rattle.drum_flow.proofs.LongestLaws.{longest_near}

@@ -2,8 +2,8 @@
 use Rattle.std.proofs.Common.{◌≡◌, ℕ, suc, ◌<◌, List, ◌∷◌, ap, sym, ◌∙◌, subst, inl, inr, Option, arith}
 use Rattle.std.specs.Prelude.{Contains}
 use Rattle.drum_machine.specs.Ways.{Way, to}
+use Rattle.drum_order.proofs.Lists.{contains_from_get}
 use Rattle.drum_flow.specs.Hops.{Hop, hops, IsEdge}
-use Rattle.drum_flow.proofs.Lists.{contains_from_get}
 use Rattle.drum_flow.specs.Walk.{Setting}
 use Rattle.drum_bound.specs.declared.latest.Latest.{Latest}
 use Rattle.drum_bound.specs.declared.key_hop.KeyHop.{KeyHop}

@@ -7,9 +7,9 @@ use Rattle.std.specs.List.{range_with_len}
 use Rattle.std.proofs.lemmas.Bool.{cases_lt, cases_eq, ne_eqb, lt-ltb, le-ltb}
 use Rattle.std.proofs.lemmas.List.{ext_get_or, get_or-set_same, get_or-set_other, get_or_past, get_or-replicate, length-set}
 use Rattle.std.proofs.lemmas.List.{length-replicate}
-use Rattle.drum_flow.proofs.Lists.{contains_here, contains_there, get_other, get_written}
 use Rattle.std.proofs.lemmas.Nat.{div_below}
 use Rattle.drum_core.specs.declared.location.Location.{Location}
+use Rattle.drum_order.proofs.Lists.{contains_here, contains_there, get_other, get_written}
 use Rattle.drum_bound.specs.declared.cells.Cells.{Cells}
 use Rattle.drum_bound.specs.declared.cells.entries.Entries.{Entries}
 use Rattle.drum_bound.specs.declared.key_hop.KeyHop.{KeyHop}

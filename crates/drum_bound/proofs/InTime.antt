@@ -5,8 +5,8 @@ use Rattle.drum_core.specs.Op.{op_of}
 use Rattle.drum_machine.specs.Counts.{after_pass, AreWithin}
 use Rattle.drum_machine.specs.Ways.{Way, early, to, late}
 use Rattle.drum_flow.specs.Walk.{Setting, Taken, IsTimed, FollowHop, IsWalkFrom, time_from}
-use Rattle.drum_bound.specs.Visited.{Visited, visited, IsWalkOf, AreInTime}
 use Rattle.drum_flow.proofs.LongestLaws.{end_later}
+use Rattle.drum_walks.specs.Visited.{Visited, visited, IsWalkOf, AreInTime}
 
 -- a hop ends no earlier than it begins
 ends_later : (g : Setting) (angle : ℕ) (hop : Taken) (op : Option Op) → IsTimed g.times angle hop op

@@ -6,8 +6,8 @@ use Rattle.std.proofs.Math.Nat.{div-add-mod, mod-lt, div-lt_iff_lt-mul}
 use Rattle.std.proofs.lemmas.List.Elements.{Contains-get_or}
 use Rattle.drum_times.specs.declared.notes.mark.Mark.{Mark}
 use Rattle.drum_machine.specs.Counts.{AreWithin}
+use Rattle.drum_order.specs.Graph.{AreDifferent}
 use Rattle.drum_flow.specs.Accepted.{counts_of}
-use Rattle.drum_flow.specs.Graph.{AreDifferent}
 use Rattle.drum_flow.specs.Passes.{leading}
 use Rattle.drum_bound.proofs.DigitsLaws.{leading_digits, digits_within}
 use Rattle.drum_bound.specs.Keys.{keys_of, place_at, counts_at, IsKey}

@@ -3,8 +3,8 @@ use Rattle.std.proofs.Common.{◌≡◌, ℕ, zero, suc, ◌+◌, ◌*◌, ◌<�
 use Rattle.std.proofs.Common.{Option, Some, None, arith}
 use Rattle.std.specs.Prelude.{slice_get, Contains}
 use Rattle.drum_times.specs.Allowed.{AreSound}
+use Rattle.drum_order.proofs.Lists.{contains_from_get}
 use Rattle.drum_flow.specs.Hops.{Hop, hops}
-use Rattle.drum_flow.proofs.Lists.{contains_from_get}
 use Rattle.drum_flow.specs.Walk.{Setting}
 use Rattle.drum_bound.proofs.FewHops.{few_hops}
 use Rattle.drum_bound.specs.declared.cells.Cells.{Cells}

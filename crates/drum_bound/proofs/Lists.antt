@@ -3,8 +3,8 @@ use Rattle.std.proofs.Common.{◌≡◌, ℕ, zero, suc, ◌+◌, ◌<◌, ◌�
 use Rattle.std.specs.Prelude.{slice_get, Contains}
 use Rattle.std.specs.Option.{option_map}
 use Rattle.std.proofs.lemmas.Option.{slice_get-map}
-use Rattle.drum_flow.proofs.Lists.{contains_at, contains_from_get}
 use Rattle.std.proofs.lemmas.List.{drop-drop}
+use Rattle.drum_order.proofs.Lists.{contains_at, contains_from_get}
 
 -- its first is the member at the place
 pub drop_at : {X : Type 0} (n : ℕ) (xs : List X) (x : X) → slice_get xs n ≡ Some x → drop n xs ≡ x ∷ drop (suc n) xs

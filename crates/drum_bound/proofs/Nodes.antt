@@ -4,22 +4,22 @@ use Rattle.std.proofs.Common.{sym, ◌∙◌, subst, inl, inr, Some, arith}
 use Rattle.std.specs.Prelude.{slice_get, vec_len}
 use Rattle.std.proofs.lemmas.Bool.{cases_eq}
 use Rattle.std.proofs.lemmas.Option.{slice_get_within, get_or_from_slice_get}
-use Rattle.drum_core.specs.declared.location.Location.{Location}
-use Rattle.drum_flow.specs.AcceptedFlow.{in_order}
-use Rattle.drum_flow.specs.Graph.{AreDifferent}
-use Rattle.drum_flow.proofs.Lists.{get_written, get_other}
-use Rattle.drum_flow.specs.Accepted.{counts_of}
-use Rattle.drum_flow.specs.Passes.{leading, leading-<}
-use Rattle.drum_machine.specs.Counts.{AreWithin}
-use Rattle.drum_times.specs.declared.notes.mark.Mark.{Mark}
 use Rattle.std.proofs.Math.Nat.{mul-le-mul_left}
 use Rattle.std.proofs.lemmas.List.{length-map, map-append}
 use Rattle.std.proofs.lemmas.Nat.{mod-mul-add, div-mul-add}
+use Rattle.drum_core.specs.declared.location.Location.{Location}
+use Rattle.drum_times.specs.declared.notes.mark.Mark.{Mark}
+use Rattle.drum_machine.specs.Counts.{AreWithin}
+use Rattle.drum_order.specs.Graph.{AreDifferent}
+use Rattle.drum_order.proofs.Lists.{get_written, get_other}
+use Rattle.drum_flow.specs.Accepted.{counts_of}
+use Rattle.drum_flow.specs.Passes.{leading, leading-<}
+use Rattle.drum_acceptance.specs.AcceptedFlow.{in_order}
+use Rattle.drum_acceptance.proofs.FreeRows.{one_place}
 use Rattle.drum_bound.specs.declared.keys.Keys.{Keys}
 use Rattle.drum_bound.specs.declared.keys.Node.{Node}
 use Rattle.drum_bound.specs.Digits.{digits}
 use Rattle.drum_bound.proofs.DigitsLaws.{digits_leading}
-use Rattle.drum_flow.proofs.FreeRows.{one_place}
 use Rattle.drum_bound.specs.Keys.{keys_of, IsKey}
 use Rattle.drum_bound.specs.KeysOf.{AreKeys, HaveIndices, numbers, nodes_in}
 

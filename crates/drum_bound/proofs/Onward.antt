@@ -6,10 +6,10 @@ use Rattle.std.proofs.Math.Nat.{mul-le-mul_left, div-add-mod, mod-lt}
 use Rattle.drum_times.specs.Marks.{mark_on}
 use Rattle.drum_machine.specs.Counts.{after_pass, AreWithin}
 use Rattle.drum_machine.specs.Ways.{Way, to}
+use Rattle.drum_order.specs.Graph.{AreDifferent, GoOn}
+use Rattle.drum_order.proofs.Lists.{contains_there}
 use Rattle.drum_flow.specs.Accepted.{IsFree}
-use Rattle.drum_flow.specs.Graph.{AreDifferent, GoOn}
 use Rattle.drum_flow.specs.Hops.{Hop, hops, IsEdge}
-use Rattle.drum_flow.proofs.Lists.{contains_there}
 use Rattle.drum_flow.specs.Passes.{leading, pass_raises}
 use Rattle.drum_flow.specs.Walk.{Setting}
 use Rattle.drum_bound.specs.Keys.{keys_of, place_at, counts_at, IsKey, IsOrdered}

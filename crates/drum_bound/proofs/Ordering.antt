@@ -1,21 +1,21 @@
 -- The order of an accepted deck's executed locations is one that keys can be made of.
 use Rattle.std.proofs.Common.{◌≡◌, ℕ, ◌*◌, ◌≤◌, List, length, ap, sym, subst}
 use Rattle.std.proofs.Common.{Option, arith}
-use Rattle.drum_core.specs.declared.deck.Deck.{Deck}
 use Rattle.drum_core.specs.declared.word.Word.{Word}
-use Rattle.drum_core.specs.Loads.{loads_in, start_in}
+use Rattle.drum_deck.specs.declared.deck.Deck.{Deck}
+use Rattle.drum_deck.specs.Loads.{loads_in, start_in}
 use Rattle.drum_times.specs.Allowed.{Notes, AreSound}
 use Rattle.drum_machine.specs.Calls.{none_open}
-use Rattle.drum_flow.specs.declared.accepted_flow.AcceptedFlow.{AcceptedFlow}
+use Rattle.drum_order.specs.Graph.{AreDifferent}
+use Rattle.drum_order.proofs.Members.{no_more}
 use Rattle.drum_flow.specs.Accepted.{counts_of, IsAccepted}
 use Rattle.drum_flow.specs.Flow.{deck_of, notes_of, executed_in, AreFound}
-use Rattle.drum_flow.specs.AcceptedFlow.{in_order}
-use Rattle.drum_flow.specs.Free.{IsFreeOrder}
-use Rattle.drum_flow.specs.Graph.{AreDifferent}
-use Rattle.drum_flow.proofs.Acceptances.{moved}
-use Rattle.drum_flow.proofs.Members.{no_more}
 use Rattle.drum_flow.proofs.Orders.{first_reached, order_found}
-use Rattle.drum_flow.proofs.Plain.{executed_next}
+use Rattle.drum_acceptance.specs.declared.accepted_flow.AcceptedFlow.{AcceptedFlow}
+use Rattle.drum_acceptance.specs.AcceptedFlow.{in_order}
+use Rattle.drum_acceptance.specs.Free.{IsFreeOrder}
+use Rattle.drum_acceptance.proofs.Acceptances.{moved}
+use Rattle.drum_acceptance.proofs.Plain.{executed_next}
 use Rattle.drum_bound.specs.Keys.{keys_of, IsOrdered}
 use Rattle.drum_bound.specs.KeysOf.{CanHaveKeys}
 

@@ -7,11 +7,11 @@ use Rattle.std.proofs.lemmas.List.{length-set}
 use Rattle.std.proofs.lemmas.Option.{slice_get_within}
 use Rattle.drum_machine.specs.Ways.{Way}
 use Rattle.drum_machine.specs.WaysLeft.{seen_way}
+use Rattle.drum_order.proofs.Lists.{get_other, get_replicated, get_written}
 use Rattle.drum_flow.specs.declared.hops.Hop.{Hop}
 use Rattle.drum_flow.specs.Longest.{longest}
 use Rattle.drum_flow.specs.Walk.{Setting}
 use Rattle.drum_flow.proofs.DataAngles.{longest_alike}
-use Rattle.drum_flow.proofs.Lists.{get_other, get_replicated, get_written}
 use Rattle.drum_bound.specs.declared.leap.Leap.{Leap}
 use Rattle.drum_bound.specs.LeapOf.{IsLeap}
 use Rattle.drum_bound.specs.RecentOf.{AreRecent, IsLike}

@@ -5,16 +5,16 @@ use Rattle.drum_times.specs.declared.notes.mark.Mark.{Mark}
 use Rattle.drum_times.specs.Marks.{mark_on}
 use Rattle.drum_machine.specs.Counts.{after_pass, AreWithin}
 use Rattle.drum_machine.proofs.Within.{counts_passed}
-use Rattle.drum_flow.specs.declared.accepted_flow.AcceptedFlow.{AcceptedFlow}
 use Rattle.drum_flow.specs.Flow.{notes_of}
-use Rattle.drum_flow.specs.AcceptedFlow.{in_order}
 use Rattle.drum_flow.specs.Passes.{found_within}
+use Rattle.drum_flow.specs.Accepted.{counts_of}
+use Rattle.drum_acceptance.specs.declared.accepted_flow.AcceptedFlow.{AcceptedFlow}
+use Rattle.drum_acceptance.specs.AcceptedFlow.{in_order}
 use Rattle.drum_bound.specs.declared.round.Counted.{Counted}
 use Rattle.drum_bound.specs.declared.round.Round.{Round}
 use Rattle.drum_bound.specs.Digits.{digits}
 use Rattle.drum_bound.specs.Keys.{IsKey}
 use Rattle.drum_bound.specs.RoundOf.{IsCounted, IsRound, counted_after}
-use Rattle.drum_flow.specs.Accepted.{counts_of}
 use Rattle.drum_bound.proofs.DigitsLaws.{leading_digits, unmarked_stays}
 use Rattle.drum_bound.proofs.Nodes.{key_of_place}
 

@@ -3,8 +3,8 @@ use Rattle.std.proofs.Common.{◌≡◌, ℕ, ◌-◌, ◌<◌, ◌≤◌, List,
 use Rattle.std.proofs.Common.{subst, Option, Some, arith}
 use Rattle.std.specs.Prelude.{Contains}
 use Rattle.drum_times.specs.declared.notes.mark.Mark.{Mark}
-use Rattle.drum_flow.specs.Graph.{AreDifferent}
 use Rattle.drum_machine.proofs.Returning.{none_to_keep}
+use Rattle.drum_order.specs.Graph.{AreDifferent}
 use Rattle.drum_flow.specs.Walk.{Setting, edges_taken}
 use Rattle.drum_bound.specs.declared.latest.Latest.{Latest}
 use Rattle.drum_bound.proofs.DigitsLaws.{number_injective}

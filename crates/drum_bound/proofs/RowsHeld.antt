@@ -4,11 +4,11 @@ use Rattle.std.proofs.Common.{◌≡◌, ℕ, zero, suc, ◌+◌, ◌-◌, ◌*�
 use Rattle.std.proofs.Common.{ap, sym, ◌∙◌, subst, Some, arith}
 use Rattle.std.specs.Prelude.{slice_get, Contains}
 use Rattle.std.specs.Map.{keys_of as map_keys, values_of}
-use Rattle.drum_flow.proofs.Lists.{contains_at}
-use Rattle.drum_flow.proofs.Lists.{contains_from_get}
-use Rattle.drum_flow.proofs.FreeRows.{one_place}
+use Rattle.drum_order.proofs.Lists.{contains_at}
+use Rattle.drum_order.proofs.Lists.{contains_from_get}
 use Rattle.drum_flow.specs.Accepted.{counts_of}
 use Rattle.drum_flow.specs.Walk.{Setting}
+use Rattle.drum_acceptance.proofs.FreeRows.{one_place}
 use Rattle.drum_bound.specs.declared.cells.Cells.{Cells}
 use Rattle.drum_bound.specs.declared.latest.Latest.{Latest}
 use Rattle.drum_bound.specs.declared.key_hop.KeyHop.{KeyHop}

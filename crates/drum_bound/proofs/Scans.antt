@@ -5,14 +5,14 @@ use Rattle.std.specs.Prelude.{Contains}
 use Rattle.std.proofs.lemmas.Bool.{cases_lt}
 use Rattle.drum_machine.specs.Counts.{after_pass, AreWithin}
 use Rattle.drum_machine.specs.Ways.{Way, early, to, late}
+use Rattle.drum_machine.specs.Timing.{longest_step}
+use Rattle.drum_order.proofs.Lists.{contains_cases, contains_none}
 use Rattle.drum_flow.specs.Hops.{Hop, hops}
-use Rattle.drum_flow.proofs.Lists.{contains_cases, contains_none}
 use Rattle.drum_flow.specs.Walk.{Setting}
+use Rattle.drum_flow.proofs.LongestLaws.{longest_near}
 use Rattle.drum_bound.specs.declared.latest.Latest.{Latest}
 use Rattle.drum_bound.specs.declared.key_hop.KeyHop.{KeyHop}
 use Rattle.drum_bound.specs.Keys.{place_at, counts_at}
-use Rattle.drum_flow.proofs.LongestLaws.{longest_near}
-use Rattle.drum_machine.specs.Timing.{longest_step}
 use Rattle.drum_bound.specs.Scanned.{cell_at, later, raised, Begins, end_from, LeadsOn, IsOpen, IsEndOf, IsBackedBy}
 use Rattle.drum_bound.specs.Scanned.{IsLastBy, IsTakenBy, IsTaken, Scanned, Taking}
 use Rattle.drum_bound.proofs.Raises.{later_either, later_old, later_new, Grows, Agree, grows_same, raised_length}

@@ -4,8 +4,8 @@ use Rattle.std.specs.Prelude.{Contains}
 use Rattle.drum_times.specs.declared.notes.mark.Mark.{Mark}
 use Rattle.drum_machine.specs.Counts.{after_pass, no_counts, AreWithin}
 use Rattle.drum_machine.specs.Ways.{Way, early, to, late}
+use Rattle.drum_order.proofs.Lists.{contains_at}
 use Rattle.drum_flow.specs.Hops.{hops, IsEdge}
-use Rattle.drum_flow.proofs.Lists.{contains_at}
 use Rattle.drum_flow.specs.Passes.{leading}
 use Rattle.drum_flow.specs.Walk.{Setting, Taken, FollowHop, IsWalkFrom, IsWalk}
 use Rattle.drum_flow.proofs.PassLaws.{no_counts_within}

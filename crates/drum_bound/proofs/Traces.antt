@@ -6,19 +6,19 @@ use Rattle.std.specs.Prelude.{slice_get, slice_index}
 use Rattle.drum_times.specs.declared.notes.mark.Mark.{Mark}
 use Rattle.drum_machine.specs.Counts.{no_counts}
 use Rattle.drum_machine.specs.WaysLeft.{seen_way}
-use Rattle.drum_flow.specs.Hops.{Hop}
 use Rattle.drum_machine.proofs.Returning.{none_to_keep}
+use Rattle.drum_flow.specs.Hops.{Hop}
 use Rattle.drum_flow.specs.Walk.{Setting, Taken, IsWalkFrom, IsWalk, edges_taken, passes_by, time_from, time_of}
+use Rattle.drum_flow.proofs.LongestLaws.{longest_later}
+use Rattle.drum_flow.specs.Longest.{longest}
+use Rattle.drum_walks.specs.declared.visit.Visit.{Visit}
+use Rattle.drum_walks.specs.Visited.{AreLongest, IsLongest, Visited, visited, passes_in, seen_visit, IsWalkOf}
 use Rattle.drum_bound.specs.declared.latest.Latest.{Latest}
 use Rattle.drum_bound.specs.declared.key_hop.KeyHop.{KeyHop}
-use Rattle.drum_bound.specs.declared.visit.Visit.{Visit}
 use Rattle.drum_bound.specs.Keys.{keys_of, place_at, counts_at, IsOrdered}
-use Rattle.drum_flow.proofs.LongestLaws.{longest_later}
 use Rattle.drum_bound.specs.Scanned.{cell_at, IsKeyHop, IsEndOf, IsBackedBy, IsLastBy, Scanned}
 use Rattle.drum_bound.specs.Table.{start_angle}
 use Rattle.drum_bound.specs.AnalysisOf.{ArePasses}
-use Rattle.drum_bound.specs.Visited.{AreLongest, IsLongest, Visited, visited, passes_in, seen_visit, IsWalkOf}
-use Rattle.drum_flow.specs.Longest.{longest}
 use Rattle.drum_bound.specs.TakenOf.{taken_of}
 use Rattle.drum_bound.proofs.Walked.{hop_before, hop_last, not_before}
 

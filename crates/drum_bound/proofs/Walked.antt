@@ -5,19 +5,19 @@ use Rattle.std.specs.Prelude.{Contains}
 use Rattle.drum_core.specs.Op.{op_of}
 use Rattle.drum_machine.specs.Counts.{after_pass, no_counts, AreWithin}
 use Rattle.drum_machine.specs.Ways.{Way, early, to, late}
-use Rattle.drum_flow.proofs.Lists.{contains_from_get}
+use Rattle.drum_order.proofs.Lists.{contains_from_get}
 use Rattle.drum_flow.specs.Hops.{Hop, hops}
 use Rattle.drum_flow.specs.Walk.{Setting, Taken, IsTimed, IsHopAt, FollowHop, IsWalkFrom, time_from}
-use Rattle.drum_bound.specs.declared.latest.Latest.{Latest}
-use Rattle.drum_bound.specs.declared.key_hop.KeyHop.{KeyHop}
-use Rattle.drum_bound.specs.Keys.{keys_of, place_at, counts_at, IsKey, IsOrdered}
 use Rattle.drum_flow.specs.Longest.{most_wait}
 use Rattle.drum_flow.proofs.LongestLaws.{longest_later, longest_is_timed}
 use Rattle.drum_flow.proofs.Profiles.{hop_may_end}
+use Rattle.drum_flow.specs.Longest.{units_by, wait_by}
+use Rattle.drum_bound.specs.declared.latest.Latest.{Latest}
+use Rattle.drum_bound.specs.declared.key_hop.KeyHop.{KeyHop}
+use Rattle.drum_bound.specs.Keys.{keys_of, place_at, counts_at, IsKey, IsOrdered}
 use Rattle.drum_bound.specs.Scanned.{cell_at, end_from, LeadsOn, IsOpen, IsEndOf, IsBackedBy, Scanned}
 use Rattle.drum_bound.specs.Table.{start_angle, GoesOn, Arrive}
 use Rattle.drum_bound.specs.TakenOf.{taken_of}
-use Rattle.drum_flow.specs.Longest.{units_by, wait_by}
 
 -- Some walk from the angle behind the start's, with nothing used and no mark passed, goes on at the key's location at
 -- this clock by these hops: it has their time, and arrives where they do.

@@ -2,6 +2,7 @@
 use Rattle.std.proofs.Common.{ℕ, ◌-◌, ◌<◌, ◌≤◌, List, [], ◌∷◌, Option, Some, None, arith}
 use Rattle.drum_machine.proofs.Returning.{none_to_keep}
 use Rattle.drum_flow.specs.Walk.{Setting, Taken, IsWalk, edges_taken, time_of}
+use Rattle.drum_walks.specs.Worst.{IsWorst}
 use Rattle.drum_bound.specs.declared.latest.Latest.{Latest}
 use Rattle.drum_bound.specs.declared.key_hop.KeyHop.{KeyHop}
 use Rattle.drum_bound.specs.Keys.{keys_of, IsOrdered}
@@ -10,7 +11,6 @@ use Rattle.drum_bound.specs.Table.{start_angle}
 use Rattle.drum_bound.proofs.Unpassed.{no_walk_passes}
 use Rattle.drum_bound.specs.TakenOf.{taken_of}
 use Rattle.drum_bound.proofs.Walked.{hop_last, comes_from_start}
-use Rattle.drum_bound.specs.Worst.{IsWorst}
 
 module _ (g : Setting) (order : List ℕ) (cells : List (Option Latest)) (last : Latest)
     (ordered : IsOrdered g.loads g.notes g.start order) (starts : g.start < 2000)

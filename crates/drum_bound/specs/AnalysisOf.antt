@@ -2,8 +2,8 @@
 use Rattle.std.specs.Prelude.{◌≡◌, ℕ, ◌-◌, ◌*◌, ◌^◌, ◌<◌, ◌≤◌, List, length, map, slice_get}
 use Rattle.std.specs.Prelude.{slice_index, Some}
 use Rattle.std.specs.Map.{values_of}
-use Rattle.drum_core.specs.declared.deck.Deck.{Deck}
-use Rattle.drum_core.specs.Loads.{loads_in, start_in}
+use Rattle.drum_deck.specs.declared.deck.Deck.{Deck}
+use Rattle.drum_deck.specs.Loads.{loads_in, start_in}
 use Rattle.drum_times.specs.declared.notes.mark.Mark.{Mark}
 use Rattle.drum_times.specs.declared.times.Times.{Times}
 use Rattle.drum_times.specs.Allowed.{Notes}
@@ -16,6 +16,9 @@ use Rattle.drum_flow.specs.Accepted.{counts_of, IsAccepted, IsFixed}
 use Rattle.drum_flow.specs.Bounded.{IsBounded}
 use Rattle.drum_flow.specs.SettingOf.{setting}
 use Rattle.drum_flow.specs.Walk.{Setting, Taken, IsWalk}
+use Rattle.drum_walks.specs.Visited.{Visited, AreInTime, AreLongest, IsWalkOf, passes_in}
+use Rattle.drum_walks.specs.Visited.{seen_visit}
+use Rattle.drum_walks.specs.Worst.{IsWorst}
 use Rattle.drum_bound.specs.declared.analysis.Analysis.{Analysis}
 use Rattle.drum_bound.specs.declared.cells.Cells.{Cells}
 use Rattle.drum_bound.specs.Counted.{turns_in}
@@ -24,9 +27,6 @@ use Rattle.drum_bound.specs.Ends.{HopEnd, AreEnds, AreRaised}
 use Rattle.drum_bound.specs.RowOf.{row_in}
 use Rattle.drum_bound.specs.Table.{Row, IsTable}
 use Rattle.drum_bound.specs.Under.{ArriveUnder}
-use Rattle.drum_bound.specs.Visited.{Visited, AreInTime, AreLongest, IsWalkOf, passes_in}
-use Rattle.drum_bound.specs.Visited.{seen_visit}
-use Rattle.drum_bound.specs.Worst.{IsWorst}
 
 -- the bound, in word times
 abbrev pub bound_of : Analysis → ℕ

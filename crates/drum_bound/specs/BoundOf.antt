@@ -2,7 +2,7 @@
 use Rattle.std.specs.Prelude.{ℕ}
 use Rattle.drum_flow.specs.Bounded.{IsBounded, IsDeckAccepted}
 use Rattle.drum_flow.specs.Walk.{Setting}
-use Rattle.drum_bound.specs.Worst.{IsWorst}
+use Rattle.drum_walks.specs.Worst.{IsWorst}
 
 -- The bound: the deck with its notes is accepted, some walk takes this time and none takes more,
 -- and no run that keeps to the notes ever uses more.

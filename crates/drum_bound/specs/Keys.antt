@@ -6,8 +6,8 @@ use Rattle.std.specs.Prelude.{Contains, Option}
 use Rattle.drum_core.specs.declared.word.Word.{Word}
 use Rattle.drum_times.specs.declared.notes.mark.Mark.{Mark}
 use Rattle.drum_times.specs.Allowed.{Notes, AreSound}
+use Rattle.drum_order.specs.Graph.{AreDifferent, GoOn}
 use Rattle.drum_flow.specs.Accepted.{counts_of, IsFree}
-use Rattle.drum_flow.specs.Graph.{AreDifferent, GoOn}
 use Rattle.drum_flow.specs.Hops.{IsEdge}
 use Rattle.drum_bound.specs.Digits.{digits}
 

@@ -1,20 +1,20 @@
 -- What the keys of an accepted flow are, as they are held.
 use Rattle.std.specs.Prelude.{◌≡◌, ℕ, List, map, slice_get, Some, Contains}
 use Rattle.drum_core.specs.declared.location.Location.{Location}
-use Rattle.drum_core.specs.Loads.{loads_in, start_in}
+use Rattle.drum_deck.specs.Loads.{loads_in, start_in}
 use Rattle.drum_times.specs.declared.notes.mark.Mark.{Mark}
 use Rattle.drum_times.specs.declared.times.Times.{Times}
 use Rattle.drum_times.specs.Allowed.{Notes}
-use Rattle.drum_flow.specs.declared.accepted_flow.AcceptedFlow.{AcceptedFlow}
 use Rattle.drum_flow.specs.Accepted.{counts_of}
 use Rattle.drum_flow.specs.Flow.{deck_of, notes_of, executed_in}
-use Rattle.drum_flow.specs.AcceptedFlow.{in_order}
 use Rattle.drum_flow.specs.Hops.{Hop, hops}
 use Rattle.drum_flow.specs.HopsLeft.{hops_left}
 use Rattle.drum_flow.specs.Walk.{Setting}
+use Rattle.drum_flow.specs.SettingOf.{setting}
+use Rattle.drum_acceptance.specs.declared.accepted_flow.AcceptedFlow.{AcceptedFlow}
+use Rattle.drum_acceptance.specs.AcceptedFlow.{in_order}
 use Rattle.drum_bound.specs.declared.keys.Keys.{Keys}
 use Rattle.drum_bound.specs.declared.keys.Node.{Node}
-use Rattle.drum_flow.specs.SettingOf.{setting}
 use Rattle.drum_bound.specs.Keys.{keys_of, IsOrdered}
 
 -- what the walks of an accepted flow are in, with a timing table

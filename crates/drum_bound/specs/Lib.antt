@@ -19,5 +19,3 @@ pub mod Table
 pub mod TakenOf
 pub mod ToEnd
 pub mod Under
-pub mod Visited
-pub mod Worst

@@ -2,10 +2,10 @@
 use Rattle.std.specs.Prelude.{◌≡◌, ℕ, ◌*◌, ◌<◌, List, length, slice_index_or, Option, Some, None}
 use Rattle.std.specs.Prelude.{MatchOption}
 use Rattle.drum_machine.specs.Counts.{passed_from, AreWithin}
-use Rattle.drum_flow.specs.declared.accepted_flow.AcceptedFlow.{AcceptedFlow}
 use Rattle.drum_flow.specs.Flow.{notes_of}
-use Rattle.drum_flow.specs.AcceptedFlow.{in_order}
 use Rattle.drum_flow.specs.Passes.{leading}
+use Rattle.drum_acceptance.specs.declared.accepted_flow.AcceptedFlow.{AcceptedFlow}
+use Rattle.drum_acceptance.specs.AcceptedFlow.{in_order}
 use Rattle.drum_bound.specs.declared.round.Counted.{Counted}
 use Rattle.drum_bound.specs.declared.round.Round.{Round}
 use Rattle.drum_bound.specs.Digits.{digits}

@@ -1,9 +1,9 @@
 //! The analysis: what it promises of the bound, the walk and the table, and the way to them.
 
 ghost use Rattle.std.specs.Prelude.{◌≡◌, ◌+◌, ◌<◌, length, IfOk, IfErr};
-ghost use Rattle.drum_core.specs.Loads.{loads_in, start_in};
-ghost use Rattle.drum_flow.specs.Acceptance.{IsRefusal};
-ghost use Rattle.drum_flow.specs.AcceptedFlow.{in_order};
+ghost use Rattle.drum_deck.specs.Loads.{loads_in, start_in};
+ghost use Rattle.drum_acceptance.specs.Acceptance.{IsRefusal};
+ghost use Rattle.drum_acceptance.specs.AcceptedFlow.{in_order};
 ghost use Rattle.drum_bound.specs.AnalysisOf.{IsAnalysis, IsAnalysisOf, turns_of, words_of};
 ghost use Rattle.drum_bound.specs.KeysOf.{AreKeys, CanHaveKeys, order_in, setting_of, setting_with};
 
@@ -11,8 +11,9 @@ use crate::analysis::Analysis;
 use crate::keys::Keys;
 use crate::scan::Scan;
 use crate::steps::Steps;
-use drum_core::Deck;
-use drum_flow::{AcceptedFlow, Refusal};
+use drum_acceptance::AcceptedFlow;
+use drum_deck::Deck;
+use drum_flow::Refusal;
 use drum_times::{Notes, Times};
 use std::alloc::{AllocError, Global};
 use std::marker::Brand;

@@ -1,12 +1,12 @@
 //! What an analysis hands out: the bound, the table of worst times, and a walk.
 
 ghost use Rattle.std.specs.Prelude.{◌≡◌, ◌-◌, ◌^◌, ◌<◌, ◌≤◌, length, map};
-ghost use Rattle.drum_bound.specs.Visited.{AreInTime, seen_visit};
+ghost use Rattle.drum_walks.specs.Visited.{AreInTime, seen_visit};
 
 use crate::cells::Cells;
-use crate::visit::Visit;
 use crate::worst::Worst;
 use drum_times::Mark;
+use drum_walks::Visit;
 
 /// What [`analyse`](crate::analyse) finds for a deck with its timing table and notes. The hops of
 /// its walk follow one another in time, from 0 to the bound, and are 4,000,000 at most.

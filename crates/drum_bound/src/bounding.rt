@@ -1,20 +1,21 @@
 //! The bound alone: the scan of an analysis, with no walk made of it.
 
 ghost use Rattle.std.specs.Prelude.{◌≡◌, ◌^◌, ◌<◌, IfOk, IfErr, OnOk, length};
-ghost use Rattle.drum_core.specs.Loads.{loads_in, start_in};
-ghost use Rattle.drum_flow.specs.Acceptance.{IsRefusal};
+ghost use Rattle.drum_deck.specs.Loads.{loads_in, start_in};
 ghost use Rattle.drum_flow.specs.SettingOf.{setting};
-ghost use Rattle.drum_flow.specs.AcceptedFlow.{in_order};
+ghost use Rattle.drum_acceptance.specs.Acceptance.{IsRefusal};
+ghost use Rattle.drum_acceptance.specs.AcceptedFlow.{in_order};
+ghost use Rattle.drum_walks.specs.Worst.{IsWorst};
 ghost use Rattle.drum_bound.specs.BoundOf.{IsBound};
 ghost use Rattle.drum_bound.specs.Counted.{CountsTableOf, CountsTable};
 ghost use Rattle.drum_bound.specs.KeysOf.{AreKeys, CanHaveKeys, order_in, setting_of, setting_with};
-ghost use Rattle.drum_bound.specs.Worst.{IsWorst};
 
 use crate::keys::Keys;
 use crate::scan::Scan;
 use crate::steps::Steps;
-use drum_core::Deck;
-use drum_flow::{AcceptedFlow, Refusal};
+use drum_acceptance::AcceptedFlow;
+use drum_deck::Deck;
+use drum_flow::Refusal;
 use drum_times::{Notes, Times};
 use std::alloc::{AllocError, Global};
 use std::marker::Brand;

@@ -1,4 +1,4 @@
-//! Laws of the definitions that an analysis stands on: those of `drum_flow`, one of the numbers
+//! Laws of the definitions that an analysis stands on: those of `drum_flow` and `drum_acceptance`, one of the numbers
 //! that stand for counts, and one of timing tables.
 
 ghost use Rattle.std.specs.Prelude.{◌≡◌, ◌≤◌, ℕ, List};
@@ -8,13 +8,13 @@ ghost use Rattle.drum_times.specs.declared.notes.mark.Mark.{Mark};
 ghost use Rattle.drum_machine.specs.Counts.{AreWithin};
 ghost use Rattle.drum_flow.specs.Slower.{AreNoQuicker, with_times};
 ghost use Rattle.drum_flow.specs.Walk.{Setting};
+ghost use Rattle.drum_walks.specs.Worst.{IsWorst};
 ghost use Rattle.drum_bound.specs.Table.{counts_for, number_of};
-ghost use Rattle.drum_bound.specs.Worst.{IsWorst};
 
+pub use drum_acceptance::laws::accepted_is_not_refused;
 pub use drum_flow::laws::{
-    accepted_is_not_refused, first_fetch_at_one_angle, kept_run_is_a_walk,
-    later_start_no_earlier_end, one_time, order_is_executed, passes_raise,
-    slower_table_slower_walk, units_in_range,
+    first_fetch_at_one_angle, kept_run_is_a_walk, later_start_no_earlier_end, one_time,
+    order_is_executed, passes_raise, slower_table_slower_walk, units_in_range,
 };
 
 /// Counts that are within their marks' limits are those that their number stands for.

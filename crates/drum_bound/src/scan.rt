@@ -34,6 +34,7 @@ impl<'a> Scan<'a> {
     ghost use Rattle.drum_flow.specs.Hops.{Hop as HopOf};
     ghost use Rattle.drum_flow.specs.HopsLeft.{hops_left};
     ghost use Rattle.drum_flow.specs.Walk.{Setting};
+    ghost use Rattle.drum_walks.specs.Worst.{IsWorst};
     ghost use Rattle.drum_bound.specs.Held.{kept_in};
     ghost use Rattle.drum_bound.specs.KeysOf.{AreKeys, order_in, setting_with};
     ghost use Rattle.drum_bound.specs.LeapOf.{AreLeaps, HaveLeaps, leap_hop};
@@ -43,7 +44,6 @@ impl<'a> Scan<'a> {
     ghost use Rattle.drum_bound.specs.ScanOf.{IsDone, IsReady, IsScanned, hops_of, order_of};
     ghost use Rattle.drum_bound.specs.ScanOf.{place_in, setting_in};
     ghost use Rattle.drum_bound.specs.SearchOf.{IsSearch, end_sought};
-    ghost use Rattle.drum_bound.specs.Worst.{IsWorst};
 
     /// The latest ends at all keys, and of all: each key is taken once, after all that can raise
     /// what is kept there.

@@ -5,21 +5,21 @@ ghost use Rattle.std.specs.Prelude.{IfOk};
 ghost use Rattle.std.specs.Option.{option_map};
 ghost use Rattle.drum_flow.specs.Hops.{Hop as HopOf, hops};
 ghost use Rattle.drum_flow.specs.Seen.{seen_hop};
+ghost use Rattle.drum_walks.specs.Visited.{AreLongest, IsWalkOf, seen_visit, visited};
 ghost use Rattle.drum_bound.specs.AnalysisOf.{ArePasses};
 ghost use Rattle.drum_bound.specs.Held.{kept_in};
 ghost use Rattle.drum_bound.specs.KeysOf.{marks_in};
 ghost use Rattle.drum_bound.specs.ScanOf.{IsDone, order_of, setting_in, size_in};
 ghost use Rattle.drum_bound.specs.Scanned.{cell_at, IsEndOf, IsKeyHop};
 ghost use Rattle.drum_bound.specs.Table.{start_angle};
-ghost use Rattle.drum_bound.specs.Visited.{AreLongest, IsWalkOf, seen_visit, visited};
 ghost use Rattle.drum_bound.specs.TakenOf.{taken_of};
 
 use crate::key_hop::KeyHop;
 use crate::latest::Latest;
 use crate::scan::Scan;
-use crate::visit::{Visit, no_passes};
 use drum_flow::Hop;
 use drum_times::Mark;
+use drum_walks::{Visit, no_passes};
 use std::alloc::{AllocError, Global};
 
 /// A walk, and how often it passes each mark, by the marks' indices; what stands past the last mark

@@ -9,16 +9,16 @@ use Rattle.drum_core.specs.declared.parity.Parity.TheVariants.{Any}
 use Rattle.drum_core.specs.Instruction.{instruction_of}
 use Rattle.drum_core.specs.Location.{IsLocation}
 use Rattle.drum_core.specs.Word.{word}
-use Rattle.drum_rotation.specs.Moment.{first}
 use Rattle.drum_times.specs.declared.entry.Entry.{Entry}
 use Rattle.drum_times.specs.Entries.{blank}
+use Rattle.drum_times.specs.declared.notes.mark.Mark.{Mark}
+use Rattle.drum_rotation.specs.Moment.{first}
 use Rattle.drum_machine.specs.declared.ways.Way.TheVariants as way
 use Rattle.drum_flow.specs.Longest.{longest}
-use Rattle.drum_rounds.specs.declared.piece.Piece.{Piece}
-use Rattle.drum_rounds.specs.declared.piece.Piece.TheVariants as piece
-use Rattle.drum_rounds.specs.declared.piece.Placed.{Placed}
-use Rattle.drum_rounds.specs.declared.piece.Rounds.{Rounds}
-use Rattle.drum_times.specs.declared.notes.mark.Mark.{Mark}
+use Rattle.drum_walks.specs.declared.piece.Piece.{Piece}
+use Rattle.drum_walks.specs.declared.piece.Piece.TheVariants as piece
+use Rattle.drum_walks.specs.declared.piece.Placed.{Placed}
+use Rattle.drum_walks.specs.declared.piece.Rounds.{Rounds}
 use Rattle.drum_bracket.specs.CeilingText.{price_line, total_lines}
 use Rattle.drum_bracket.specs.RoundsText.{joined, tell}
 

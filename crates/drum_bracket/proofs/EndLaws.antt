@@ -5,7 +5,7 @@ use Rattle.std.proofs.lemmas.Bool.{cases_lt}
 use Rattle.std.proofs.lemmas.List.{append-nil}
 use Rattle.std.proofs.lemmas.Option.{slice_get_within}
 use Rattle.std.specs.Prelude.{slice_get, unwrap_or}
-use Rattle.drum_rounds.specs.Pieces.{repeated, spelled_at, PlacedHop}
+use Rattle.drum_walks.specs.Pieces.{repeated, spelled_at, PlacedHop}
 use Rattle.drum_rounds.proofs.SpelledLaws.{spelled_before, spelled_last}
 use Rattle.drum_bracket.proofs.Lists.{at_before, at_last}
 use Rattle.drum_bracket.specs.declared.ends.Ends.{Ends}

@@ -6,14 +6,14 @@ use Rattle.std.proofs.lemmas.Bool.{cases_lt, cases_order, eqb-true, le-ltb, lt-l
 use Rattle.std.proofs.lemmas.List.{append_assoc, append-nil, length-append}
 use Rattle.std.proofs.lemmas.List.Elements.{Contains-append_left, Contains-append_cases, Contains-push}
 use Rattle.std.proofs.lemmas.Option.{cond_some, none-some, same_Some, slice_get_within}
-use Rattle.drum_flow.proofs.Lists.{contains_cases, contains_here, contains_none, contains_there}
-use Rattle.drum_rounds.specs.declared.piece.Piece.{Piece}
-use Rattle.drum_rounds.specs.declared.piece.Placed.{Placed}
-use Rattle.drum_rounds.specs.declared.piece.Piece.TheVariants as piece
+use Rattle.drum_order.proofs.Lists.{contains_cases, contains_here, contains_none, contains_there}
+use Rattle.drum_walks.specs.declared.piece.Piece.{Piece}
+use Rattle.drum_walks.specs.declared.piece.Placed.{Placed}
+use Rattle.drum_walks.specs.declared.piece.Piece.TheVariants as piece
+use Rattle.drum_walks.specs.Pieces.{repeated, seen_placed, spelled, spelled_at, spelled_behind, spelled_by}
+use Rattle.drum_walks.specs.Pieces.{PlacedHop}
 use Rattle.drum_rounds.specs.Order.{closing, never, on_from, through_at, through_behind, through_by, through_row}
 use Rattle.drum_rounds.specs.Order.{AreInOrder, Through}
-use Rattle.drum_rounds.specs.Pieces.{repeated, seen_placed, spelled, spelled_at, spelled_behind, spelled_by}
-use Rattle.drum_rounds.specs.Pieces.{PlacedHop}
 use Rattle.drum_bracket.proofs.Lists.{at_before, at_last, at_none}
 
 -- ---- hops behind others

@@ -4,9 +4,9 @@ use Rattle.std.proofs.Common.{filter, refl, ap, sym, ◌∙◌, subst, arith}
 use Rattle.std.specs.Prelude.{slice_get, unwrap_or, Contains}
 use Rattle.drum_core.specs.declared.op.Op.{Op}
 use Rattle.drum_times.specs.declared.entry.Entry.{Entry}
-use Rattle.drum_flow.proofs.Lists.{contains_cases, contains_here, contains_none, contains_there}
-use Rattle.drum_bound.specs.Visited.{Visited}
-use Rattle.drum_rounds.specs.Pieces.{PlacedHop}
+use Rattle.drum_order.proofs.Lists.{contains_cases, contains_here, contains_none, contains_there}
+use Rattle.drum_walks.specs.Visited.{Visited}
+use Rattle.drum_walks.specs.Pieces.{PlacedHop}
 use Rattle.drum_bracket.proofs.Laid.{AreLaid, IsLaid}
 
 clash : false ≡ true → ⊥

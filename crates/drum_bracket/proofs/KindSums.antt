@@ -6,11 +6,11 @@ use Rattle.std.proofs.lemmas.List.Sums.{sum_by-cons}
 use Rattle.drum_core.specs.declared.op.Op.{Op}
 use Rattle.drum_core.specs.Op.{op_of}
 use Rattle.drum_times.specs.declared.entry.Entry.{Entry}
-use Rattle.drum_flow.proofs.Lists.{contains_cases, contains_here, contains_none, contains_there}
+use Rattle.drum_order.proofs.Lists.{contains_cases, contains_here, contains_none, contains_there}
 use Rattle.drum_flow.specs.Longest.{wait_by}
-use Rattle.drum_bound.specs.Visited.{Visited}
+use Rattle.drum_walks.specs.Visited.{Visited}
+use Rattle.drum_walks.specs.Pieces.{PlacedHop}
 use Rattle.drum_rounds.specs.InRounds.{takes}
-use Rattle.drum_rounds.specs.Pieces.{PlacedHop}
 use Rattle.drum_listing.specs.Moments.{is_early}
 use Rattle.drum_listing.specs.Waits.{for_cards, for_data, for_instruction, is_alike, time_of}
 use Rattle.drum_listing.proofs.LaterMoments.{at_once, data_once, instruction_once}

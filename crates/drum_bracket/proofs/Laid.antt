@@ -5,14 +5,14 @@ use Rattle.drum_core.specs.Op.{op_of}
 use Rattle.drum_times.specs.declared.entry.Entry.{Entry}
 use Rattle.drum_machine.specs.Counts.{after_pass, no_counts, AreWithin}
 use Rattle.drum_flow.specs.Walk.{IsTimed, IsWalkFrom, Setting, Taken}
-use Rattle.drum_bound.specs.Visited.{visited, AreLongest, Visited}
 use Rattle.drum_flow.specs.Longest.{longest}
+use Rattle.drum_walks.specs.Visited.{visited, AreLongest, Visited}
+use Rattle.drum_walks.specs.Pieces.{placed, spelled, PlacedHop}
+use Rattle.drum_rounds.specs.declared.in_rounds.InRounds.{InRounds}
+use Rattle.drum_rounds.specs.InRounds.{angle_of, pieces_of, takes}
 use Rattle.drum_listing.specs.Waits.{for_data, for_instruction, time_of}
 use Rattle.drum_listing.proofs.AddingUp.{follow, hop_fits}
 use Rattle.drum_listing.proofs.WholeFits.{known_op}
-use Rattle.drum_rounds.specs.declared.in_rounds.InRounds.{InRounds}
-use Rattle.drum_rounds.specs.InRounds.{angle_of, pieces_of, takes}
-use Rattle.drum_rounds.specs.Pieces.{placed, spelled, PlacedHop}
 use Rattle.drum_bracket.specs.SpelledOut.{placed_visit, AreSpelledOut}
 use Rattle.drum_bracket.proofs.Totals.{hop_takes}
 

@@ -11,9 +11,9 @@ use Rattle.std.proofs.lemmas.List.Sums.{sum_by-append, sum_by-cons}
 use Rattle.std.proofs.lemmas.Option.{slice_get_within}
 use Rattle.drum_core.specs.declared.op.Op.{Op}
 use Rattle.drum_times.specs.declared.entry.Entry.{Entry}
-use Rattle.drum_rounds.specs.declared.piece.Piece.{Piece}
-use Rattle.drum_rounds.specs.declared.piece.Piece.TheVariants as piece
-use Rattle.drum_rounds.specs.Pieces.{named}
+use Rattle.drum_walks.specs.declared.piece.Piece.{Piece}
+use Rattle.drum_walks.specs.declared.piece.Piece.TheVariants as piece
+use Rattle.drum_walks.specs.Pieces.{named}
 use Rattle.drum_bracket.specs.CountsOf.{times_in}
 use Rattle.drum_bracket.specs.RoundsText.{end_line, end_rounds_line, is_composed, is_part, one_more, tell, tell_behind, tell_by, tell_named, tell_one}
 use Rattle.drum_bracket.specs.RoundsText.{tell_part, tell_row, Telling, Told}

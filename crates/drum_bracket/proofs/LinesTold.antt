@@ -7,14 +7,14 @@ use Rattle.std.proofs.lemmas.List.Sums.{sum_by-cons}
 use Rattle.std.proofs.Math.Nat.{suc-mul}
 use Rattle.drum_core.specs.declared.op.Op.{Op}
 use Rattle.drum_times.specs.declared.entry.Entry.{Entry}
-use Rattle.drum_flow.proofs.Lists.{contains_cases, contains_here, contains_none, contains_there}
+use Rattle.drum_order.proofs.Lists.{contains_cases, contains_here, contains_none, contains_there}
 use Rattle.drum_flow.specs.Walk.{Setting}
-use Rattle.drum_bound.specs.Visited.{Visited}
+use Rattle.drum_walks.specs.Visited.{Visited}
+use Rattle.drum_walks.specs.declared.piece.Piece.{Piece}
+use Rattle.drum_walks.specs.declared.piece.Piece.TheVariants as piece
+use Rattle.drum_walks.specs.Pieces.{repeated, seen_placed, spelled_at, spelled_behind, spelled_by, spelled_of, PlacedHop}
 use Rattle.drum_rounds.specs.declared.in_rounds.InRounds.{InRounds}
-use Rattle.drum_rounds.specs.declared.piece.Piece.{Piece}
-use Rattle.drum_rounds.specs.declared.piece.Piece.TheVariants as piece
 use Rattle.drum_rounds.specs.InRounds.{angle_of, pieces_of, takes}
-use Rattle.drum_rounds.specs.Pieces.{repeated, seen_placed, spelled_at, spelled_behind, spelled_by, spelled_of, PlacedHop}
 use Rattle.drum_listing.specs.declared.moments.Moments.{Moments}
 use Rattle.drum_listing.specs.Moments.{later, moments_of}
 use Rattle.drum_listing.specs.MomentsText.{moments_text}

@@ -2,9 +2,9 @@
 use Rattle.std.proofs.Common.{◌≡◌, ◌∙◌, ◌<◌, ℕ, List, Option, Some, None, ap, get_or, length, sym}
 use Rattle.std.specs.Prelude.{slice_get}
 use Rattle.std.proofs.lemmas.Option.{slice_get-get_or}
-use Rattle.drum_rounds.specs.declared.piece.Piece.{Piece}
-use Rattle.drum_rounds.specs.declared.piece.Piece.TheVariants as piece
-use Rattle.drum_rounds.specs.declared.piece.Placed.{Placed}
+use Rattle.drum_walks.specs.declared.piece.Piece.{Piece}
+use Rattle.drum_walks.specs.declared.piece.Piece.TheVariants as piece
+use Rattle.drum_walks.specs.declared.piece.Placed.{Placed}
 use Rattle.drum_bracket.specs.RoundsWaitsOf.{hop_in}
 
 pub at_here : (items pieces : List Piece) (n : ℕ) (one : Piece) → items ≡ pieces → n < length items

@@ -11,16 +11,16 @@ use Rattle.indexmap.specs.IndexMap.{IndexMap, get}
 use Rattle.drum_core.specs.declared.op.Op.{Op}
 use Rattle.drum_core.specs.Numeral.{digits_of}
 use Rattle.drum_times.specs.declared.entry.Entry.{Entry}
-use Rattle.drum_flow.proofs.Lists.{contains_at, contains_from_get, contains_here, contains_there}
+use Rattle.drum_order.proofs.Lists.{contains_at, contains_from_get, contains_here, contains_there}
 use Rattle.drum_flow.specs.Walk.{Setting}
-use Rattle.drum_bound.specs.Visited.{Visited}
+use Rattle.drum_walks.specs.Visited.{Visited}
+use Rattle.drum_walks.specs.declared.piece.Piece.{Piece}
+use Rattle.drum_walks.specs.declared.piece.Piece.TheVariants as piece
+use Rattle.drum_walks.specs.declared.piece.Placed.{Placed}
+use Rattle.drum_walks.specs.Pieces.{seen_placed, spelled, PlacedHop}
 use Rattle.drum_bound.proofs.Lists.{contains_map}
-use Rattle.drum_rounds.specs.declared.piece.Piece.{Piece}
-use Rattle.drum_rounds.specs.declared.piece.Piece.TheVariants as piece
-use Rattle.drum_rounds.specs.declared.piece.Placed.{Placed}
 use Rattle.drum_rounds.specs.InRounds.{summed, takes}
 use Rattle.drum_rounds.specs.Order.{AreInOrder}
-use Rattle.drum_rounds.specs.Pieces.{seen_placed, spelled, PlacedHop}
 use Rattle.drum_listing.specs.declared.waits.kind.Kind.{Kind}
 use Rattle.drum_listing.specs.declared.waits.sums.Sums.{Sums}
 use Rattle.drum_listing.specs.MomentsText.{moment_text}

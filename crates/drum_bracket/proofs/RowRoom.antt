@@ -4,7 +4,7 @@ use Rattle.std.proofs.Common.{refl, ap, ◌∙◌, arith, Some}
 use Rattle.std.specs.Prelude.{slice_get, slice_index, sum_by, Contains}
 use Rattle.std.proofs.lemmas.List.Sums.{sum_by-cons}
 use Rattle.std.proofs.lemmas.Option.{get_or_from_slice_get, slice_get_within}
-use Rattle.drum_core.specs.declared.deck.Deck.{Deck}
+use Rattle.drum_deck.specs.declared.deck.Deck.{Deck}
 use Rattle.drum_core.specs.declared.op.Op.{Op}
 use Rattle.drum_times.specs.declared.entry.Entry.{Entry}
 use Rattle.drum_times.specs.declared.times.Times.{Times}
@@ -13,13 +13,13 @@ use Rattle.drum_times.specs.Entries.{entry_in}
 use Rattle.drum_flow.specs.SettingOf.{setting}
 use Rattle.drum_flow.specs.Walk.{Taken}
 use Rattle.drum_flow.proofs.LongestLaws.{longest_near}
-use Rattle.drum_bound.specs.Visited.{visited, Visited}
+use Rattle.drum_walks.specs.Visited.{visited, Visited}
+use Rattle.drum_walks.specs.declared.piece.Piece.TheVariants as piece
+use Rattle.drum_walks.specs.declared.piece.Placed.{Placed}
+use Rattle.drum_walks.specs.Pieces.{placed, seen_placed, spelled, spelled_behind, spelled_by, spelled_of, PlacedHop}
 use Rattle.drum_rounds.specs.declared.in_rounds.InRounds.{InRounds}
-use Rattle.drum_rounds.specs.declared.piece.Piece.TheVariants as piece
-use Rattle.drum_rounds.specs.declared.piece.Placed.{Placed}
 use Rattle.drum_rounds.specs.InRounds.{angle_of, lasting_of, often_of, pieces_of, passes_in, summed, takes, total_of}
 use Rattle.drum_rounds.specs.InRounds.{IsInRoundsOf}
-use Rattle.drum_rounds.specs.Pieces.{placed, seen_placed, spelled, spelled_behind, spelled_by, spelled_of, PlacedHop}
 use Rattle.drum_rounds.proofs.OftenLaws.{all_ones, own}
 use Rattle.drum_rounds.proofs.SpelledLaws.{spelled_piece}
 use Rattle.drum_listing.specs.declared.waits.spent.Spent.{Spent}

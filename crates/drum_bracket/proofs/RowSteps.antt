@@ -8,11 +8,11 @@ use Rattle.std.proofs.lemmas.List.{length-take, take_more}
 use Rattle.std.proofs.lemmas.Option.{get_or_from_slice_get, slice_get_within}
 use Rattle.drum_core.specs.declared.op.Op.{Op}
 use Rattle.drum_times.specs.declared.entry.Entry.{Entry}
-use Rattle.drum_rounds.specs.declared.piece.Piece.{Piece}
-use Rattle.drum_rounds.specs.declared.piece.Piece.TheVariants as piece
-use Rattle.drum_rounds.specs.declared.piece.Placed.{Placed}
+use Rattle.drum_walks.specs.declared.piece.Piece.{Piece}
+use Rattle.drum_walks.specs.declared.piece.Piece.TheVariants as piece
+use Rattle.drum_walks.specs.declared.piece.Placed.{Placed}
+use Rattle.drum_walks.specs.Pieces.{seen_placed, PlacedHop}
 use Rattle.drum_rounds.specs.InRounds.{summed, takes}
-use Rattle.drum_rounds.specs.Pieces.{seen_placed, PlacedHop}
 use Rattle.drum_rounds.proofs.OftenLaws.{own, summed_more}
 use Rattle.drum_listing.specs.declared.waits.kind.Kind.{Kind}
 use Rattle.drum_listing.specs.declared.waits.sums.Sums.{Sums}

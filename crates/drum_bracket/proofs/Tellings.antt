@@ -12,12 +12,12 @@ use Rattle.std.proofs.lemmas.List.Sums.{sum_by-append, sum_by-cons}
 use Rattle.drum_core.specs.declared.op.Op.{Op}
 use Rattle.drum_times.specs.declared.entry.Entry.{Entry}
 use Rattle.drum_times.specs.Entries.{entry_in}
-use Rattle.drum_rounds.specs.declared.piece.Piece.{Piece}
-use Rattle.drum_rounds.specs.declared.piece.Piece.TheVariants as piece
-use Rattle.drum_rounds.specs.declared.piece.Placed.{Placed}
-use Rattle.drum_rounds.specs.declared.piece.Rounds.{Rounds}
+use Rattle.drum_walks.specs.declared.piece.Piece.{Piece}
+use Rattle.drum_walks.specs.declared.piece.Piece.TheVariants as piece
+use Rattle.drum_walks.specs.declared.piece.Placed.{Placed}
+use Rattle.drum_walks.specs.declared.piece.Rounds.{Rounds}
+use Rattle.drum_walks.specs.Pieces.{repeated, seen_placed, spelled, spelled_at, spelled_behind, spelled_by, spelled_of, PlacedHop}
 use Rattle.drum_rounds.specs.InRounds.{takes}
-use Rattle.drum_rounds.specs.Pieces.{repeated, seen_placed, spelled, spelled_at, spelled_behind, spelled_by, spelled_of, PlacedHop}
 use Rattle.drum_rounds.proofs.SpelledLaws.{spelled_before, spelled_last, spelled_piece}
 use Rattle.drum_bracket.proofs.Lists.{at_before, at_last, at_none, at_taken, long_taken, past, split_at}
 use Rattle.drum_bracket.specs.declared.teller.Teller.{Teller}

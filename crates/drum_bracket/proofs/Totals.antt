@@ -10,11 +10,11 @@ use Rattle.drum_machine.specs.Ways.{Way}
 use Rattle.drum_flow.specs.Longest.{longest}
 use Rattle.drum_flow.specs.Walk.{time_from, IsWalkFrom, Setting, Taken}
 use Rattle.drum_flow.proofs.LongestLaws.{longest_later, longest_periodic}
-use Rattle.drum_bound.specs.Visited.{visited, AreLongest}
-use Rattle.drum_listing.proofs.AddingUp.{follow}
-use Rattle.drum_rounds.specs.declared.piece.Piece.{Piece}
+use Rattle.drum_walks.specs.Visited.{visited, AreLongest}
+use Rattle.drum_walks.specs.declared.piece.Piece.{Piece}
+use Rattle.drum_walks.specs.Pieces.{placed, spelled}
 use Rattle.drum_rounds.specs.InRounds.{takes, SpellOut}
-use Rattle.drum_rounds.specs.Pieces.{placed, spelled}
+use Rattle.drum_listing.proofs.AddingUp.{follow}
 
 -- so many revolutions later
 longest_rounds : (times : Op → Entry) (place : ℕ) (ins : Instruction) (way : Way) (clock count : ℕ)

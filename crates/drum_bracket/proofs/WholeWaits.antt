@@ -4,12 +4,12 @@ use Rattle.std.specs.Prelude.{slice_get, slice_index, sum_by}
 use Rattle.std.proofs.Math.Nat.{mul-zero}
 use Rattle.drum_core.specs.declared.op.Op.{Op}
 use Rattle.drum_times.specs.declared.entry.Entry.{Entry}
-use Rattle.drum_bound.specs.Visited.{Visited}
-use Rattle.drum_rounds.specs.declared.piece.Piece.{Piece}
-use Rattle.drum_rounds.specs.declared.piece.Piece.TheVariants as piece
-use Rattle.drum_rounds.specs.declared.piece.Placed.{Placed}
+use Rattle.drum_walks.specs.Visited.{Visited}
+use Rattle.drum_walks.specs.declared.piece.Piece.{Piece}
+use Rattle.drum_walks.specs.declared.piece.Piece.TheVariants as piece
+use Rattle.drum_walks.specs.declared.piece.Placed.{Placed}
+use Rattle.drum_walks.specs.Pieces.{seen_placed, PlacedHop}
 use Rattle.drum_rounds.specs.InRounds.{summed}
-use Rattle.drum_rounds.specs.Pieces.{seen_placed, PlacedHop}
 use Rattle.drum_rounds.proofs.OftenLaws.{own}
 use Rattle.drum_listing.specs.declared.waits.spent.Spent.{Spent}
 use Rattle.drum_listing.specs.declared.waits.waited.Waited.{Waited}

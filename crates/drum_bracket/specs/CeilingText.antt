@@ -6,10 +6,10 @@ use Rattle.std.specs.List.{enumerate_from}
 use Rattle.drum_core.specs.Numeral.{digits_of}
 use Rattle.drum_times.specs.declared.notes.mark.Mark.{Mark}
 use Rattle.drum_times.specs.Allowed.{Notes}
-use Rattle.drum_ceiling.specs.CeilingOf.{prices_of, total_of}
-use Rattle.drum_lines.specs.NameText.{name_text}
-use Rattle.drum_rounds.specs.declared.bracket.Bracket.{Bracket}
 use Rattle.drum_rounds.specs.InRounds as walks
+use Rattle.drum_ceiling.specs.CeilingOf.{prices_of, total_of}
+use Rattle.drum_ceiling.specs.declared.bracket.Bracket.{Bracket}
+use Rattle.drum_lines.specs.NameText.{name_text}
 
 -- the line of a mark with this price and so many passes, with its name at the end where it has one
 abbrev pub price_line : Mark → ℕ → ℕ → List ℕ

@@ -1,8 +1,8 @@
 -- How often pieces are named, as far as a usize counts.
 use Rattle.std.specs.Prelude.{◌≡◌, ℕ, ◌+◌, ◌<◌, ◌==◌, min, nat_lt, List, length, filter, flat_map}
 use Rattle.std.specs.Prelude.{slice_index}
-use Rattle.drum_rounds.specs.declared.piece.Piece.{Piece}
-use Rattle.drum_rounds.specs.Pieces.{named}
+use Rattle.drum_walks.specs.declared.piece.Piece.{Piece}
+use Rattle.drum_walks.specs.Pieces.{named}
 
 -- how often a name is among these
 abbrev pub times_in : List ℕ → ℕ → ℕ

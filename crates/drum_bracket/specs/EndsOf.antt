@@ -1,7 +1,7 @@
 -- Where hops begin.
 use Rattle.std.specs.Prelude.{◌≡◌, ℕ, List, [], ◌∷◌, length, slice_get, unwrap_or, Option}
 use Rattle.std.specs.Prelude.{Some, None}
-use Rattle.drum_rounds.specs.Pieces.{spelled_at, PlacedHop}
+use Rattle.drum_walks.specs.Pieces.{spelled_at, PlacedHop}
 use Rattle.drum_bracket.specs.declared.ends.Ends.{Ends}
 
 -- the place of the first of hops, and of the last

@@ -1,11 +1,11 @@
 -- What is known of a walk's pieces.
 use Rattle.std.specs.Prelude.{◌≡◌, [], length, replicate, None}
-use Rattle.drum_core.specs.declared.deck.Deck.{Deck}
+use Rattle.drum_deck.specs.declared.deck.Deck.{Deck}
 use Rattle.drum_times.specs.declared.times.Times.{Times}
 use Rattle.drum_times.specs.Allowed.{Notes}
+use Rattle.drum_walks.specs.Pieces.{spelled_behind}
 use Rattle.drum_rounds.specs.declared.in_rounds.InRounds.{InRounds}
 use Rattle.drum_rounds.specs.InRounds.{pieces_of, IsInRoundsOf}
-use Rattle.drum_rounds.specs.Pieces.{spelled_behind}
 use Rattle.drum_bracket.specs.declared.outline.Outline.{Outline}
 use Rattle.drum_bracket.specs.CountsOf.{AreCounted}
 use Rattle.drum_bracket.specs.EndsOf.{AreAllEnds}

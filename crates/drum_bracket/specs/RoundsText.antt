@@ -8,13 +8,13 @@ use Rattle.std.specs.Prelude.{slice_get, codes, decimal, Option, Some, None}
 use Rattle.drum_core.specs.declared.op.Op.{Op}
 use Rattle.drum_core.specs.Numeral.{digits_of}
 use Rattle.drum_times.specs.declared.entry.Entry.{Entry}
-use Rattle.drum_bound.specs.Visited.{Visited}
-use Rattle.drum_rounds.specs.declared.bracket.Bracket.{Bracket}
-use Rattle.drum_rounds.specs.declared.piece.Piece.{Piece}
-use Rattle.drum_rounds.specs.declared.piece.Piece.TheVariants as piece
+use Rattle.drum_walks.specs.Visited.{Visited}
+use Rattle.drum_walks.specs.declared.piece.Piece.{Piece}
+use Rattle.drum_walks.specs.declared.piece.Piece.TheVariants as piece
+use Rattle.drum_walks.specs.Pieces.{named, seen_placed, spelled_of, PlacedHop}
 use Rattle.drum_rounds.specs.InRounds as walks
 use Rattle.drum_rounds.specs.InRounds.{takes}
-use Rattle.drum_rounds.specs.Pieces.{named, seen_placed, spelled_of, PlacedHop}
+use Rattle.drum_ceiling.specs.declared.bracket.Bracket.{Bracket}
 use Rattle.drum_listing.specs.Moments.{later, moments_of}
 use Rattle.drum_listing.specs.MomentsText.{moments_text}
 use Rattle.drum_listing.specs.WalkText.{hop_text}

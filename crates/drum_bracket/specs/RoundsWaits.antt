@@ -2,9 +2,9 @@
 use Rattle.std.specs.Prelude.{ℕ, List, ◌++◌, flat_map}
 use Rattle.drum_core.specs.declared.op.Op.{Op}
 use Rattle.drum_times.specs.declared.entry.Entry.{Entry}
-use Rattle.drum_bound.specs.Visited.{Visited}
-use Rattle.drum_rounds.specs.declared.bracket.Bracket.{Bracket}
+use Rattle.drum_walks.specs.Visited.{Visited}
 use Rattle.drum_rounds.specs.InRounds as walks
+use Rattle.drum_ceiling.specs.declared.bracket.Bracket.{Bracket}
 use Rattle.drum_listing.specs.WaitsText.{wait_line, walk_line}
 use Rattle.drum_bracket.specs.CeilingText.{bracket_lines}
 

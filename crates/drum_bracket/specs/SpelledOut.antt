@@ -1,10 +1,10 @@
 -- The walk that a walk in rounds stands for, hop by hop.
 use Rattle.std.specs.Prelude.{◌≡◌, ℕ, ◌+◌, ◌%◌, List, map}
 use Rattle.drum_flow.specs.Walk.{Setting}
-use Rattle.drum_bound.specs.Visited.{AreLongest, IsWalkOf, Visited}
+use Rattle.drum_walks.specs.Visited.{AreLongest, IsWalkOf, Visited}
+use Rattle.drum_walks.specs.Pieces.{spelled, PlacedHop}
 use Rattle.drum_rounds.specs.declared.in_rounds.InRounds.{InRounds}
 use Rattle.drum_rounds.specs.InRounds.{angle_of, pieces_of, total_of}
-use Rattle.drum_rounds.specs.Pieces.{spelled, PlacedHop}
 
 -- a hop of a walk from this angle, with its own angle in place of its times
 abbrev pub placed_visit : ℕ → Visited → PlacedHop

@@ -1,9 +1,9 @@
 -- How the code tells pieces.
 use Rattle.std.specs.Prelude.{◌≡◌, ℕ, ◌<◌, List, [], length, slice_index, sum_by, take}
 use Rattle.drum_times.specs.Entries.{entry_in}
-use Rattle.drum_rounds.specs.declared.piece.Piece.{Piece}
+use Rattle.drum_walks.specs.declared.piece.Piece.{Piece}
+use Rattle.drum_walks.specs.Pieces.{spelled_behind, spelled_of}
 use Rattle.drum_rounds.specs.InRounds.{lasting_of, pieces_of, takes}
-use Rattle.drum_rounds.specs.Pieces.{spelled_behind, spelled_of}
 use Rattle.drum_bracket.specs.declared.teller.Teller.{Teller}
 use Rattle.drum_bracket.specs.CountsOf.{AreCounted}
 use Rattle.drum_bracket.specs.EndsOf.{AreAllEnds}

@@ -1,10 +1,10 @@
 //! How often pieces are named.
 
 ghost use Rattle.std.specs.Prelude.{◌≡◌, IfOk, length};
-ghost use Rattle.drum_rounds.specs.Pieces.{named};
+ghost use Rattle.drum_walks.specs.Pieces.{named};
 ghost use Rattle.drum_bracket.specs.CountsOf.{AreCounted, HasCounted};
 
-use drum_rounds::Piece;
+use drum_walks::Piece;
 use std::alloc::{AllocError, Global};
 
 /// Counts each of these names once more.

@@ -1,12 +1,12 @@
 //! Where the hops of pieces begin.
 
 ghost use Rattle.std.specs.Prelude.{◌≡◌, ◌<◌, ◌++◌, [], List, IfOk, flat_map};
-ghost use Rattle.drum_rounds.specs.Pieces.{repeated, spelled_at, spelled_behind, spelled_by};
-ghost use Rattle.drum_rounds.specs.Pieces.{PlacedHop};
+ghost use Rattle.drum_walks.specs.Pieces.{repeated, spelled_at, spelled_behind, spelled_by};
+ghost use Rattle.drum_walks.specs.Pieces.{PlacedHop};
 ghost use Rattle.drum_bracket.specs.EndsOf.{AreAllEnds, AreEnds};
 
 use drum_core::Location;
-use drum_rounds::Piece;
+use drum_walks::Piece;
 use std::alloc::{AllocError, Global};
 
 /// The location of the first hop of a piece, and that of the last.

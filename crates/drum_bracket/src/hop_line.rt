@@ -2,14 +2,14 @@
 
 ghost use Rattle.std.specs.Prelude.{◌+◌, ◌^◌, ◌≤◌};
 ghost use Rattle.drum_times.specs.Entries.{entry_in};
-ghost use Rattle.drum_rounds.specs.Pieces.{seen_placed};
+ghost use Rattle.drum_walks.specs.Pieces.{seen_placed};
 ghost use Rattle.drum_bracket.specs.RoundsText.{placed_line};
 
-use drum_core::Output;
+use drum_devices::Output;
 use drum_lines::WriteFault;
 use drum_listing::{Line, Moments, Told, send_hop, send_times_later};
-use drum_rounds::Placed;
 use drum_times::Times;
+use drum_walks::Placed;
 
 /// A hop of a piece with the timing table, and the word times used when it begins and when it ends.
 #[derive(Drop)]

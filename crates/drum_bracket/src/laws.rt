@@ -2,7 +2,7 @@
 
 ghost use Rattle.std.specs.Prelude.{◌≡◌, ℕ, List, Contains};
 ghost use Rattle.drum_flow.specs.Walk.{Setting};
-ghost use Rattle.drum_bound.specs.Visited.{Visited};
+ghost use Rattle.drum_walks.specs.Visited.{Visited};
 ghost use Rattle.drum_rounds.specs.declared.in_rounds.InRounds.{InRounds};
 ghost use Rattle.drum_rounds.specs.InRounds.{angle_of, pieces_of};
 ghost use Rattle.drum_bracket.specs.RoundsText.{tell};

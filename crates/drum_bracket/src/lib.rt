@@ -8,8 +8,8 @@
 //! `teller` has what is known of a walk, and tells one hop, or that a part comes again; `telling`
 //! tells its pieces, by the numbers of those that they name. `rounds` has `list_rounds`. `waits`
 //! has where the word times of a walk go: `waits/adding` goes over its pieces and adds up, by kind,
-//! what their hops take (`waits/kind_row`), and what all of them wait; `waits/listing` writes the
-//! lines. `laws` has laws of the definitions.
+//! what their hops take (`waits/kind_row`, of one hop `waits/alone`), and what all of them wait;
+//! `waits/listing` writes the lines. `laws` has laws of the definitions.
 //!
 //! Definitions, in the order to read them: `CeilingText` is the text of a ceiling, mark by mark,
 //! and `RoundsText` that of its walk. `SpelledOut` is that walk hop by hop, `TellsOf` when what a

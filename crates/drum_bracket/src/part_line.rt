@@ -6,7 +6,7 @@ ghost use Rattle.drum_bracket.specs.RoundsText.{again_line, end_line, end_rounds
 ghost use Rattle.drum_bracket.specs.RoundsText.{part_line as part_text, rounds_line};
 ghost use Rattle.drum_bracket.specs.PartLine.{line_text};
 
-use drum_core::Output;
+use drum_devices::Output;
 use drum_lines::{WriteFault, four_digits, send};
 use drum_listing::Line;
 use itoa::Buffer;

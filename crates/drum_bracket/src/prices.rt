@@ -3,15 +3,15 @@
 
 ghost use Rattle.std.specs.Prelude.{◌≡◌, ◌+◌, ◌^◌, ◌≤◌, IfOk, length, flat_map};
 ghost use Rattle.std.specs.List.{enumerate_from};
+ghost use Rattle.drum_rounds.specs.InRounds.{passes_in};
 ghost use Rattle.drum_ceiling.specs.CeilingOf.{prices_of};
+ghost use Rattle.drum_lines.specs.Sent.{IsSent, IsWritten, fails_by};
 ghost use Rattle.drum_bracket.specs.CeilingText.{ceiling_text, price_line, price_line_at};
 ghost use Rattle.drum_bracket.specs.CeilingText.{total_lines};
-ghost use Rattle.drum_lines.specs.Sent.{IsSent, IsWritten, fails_by};
-ghost use Rattle.drum_rounds.specs.InRounds.{passes_in};
 
-use drum_core::Output;
+use drum_ceiling::Bracket;
+use drum_devices::Output;
 use drum_lines::{WriteFault, four_digits, name_pieces, send};
-use drum_rounds::Bracket;
 use drum_times::{Mark, Notes};
 use itoa::Buffer;
 

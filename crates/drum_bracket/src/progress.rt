@@ -5,7 +5,7 @@ ghost use Rattle.drum_lines.specs.Sent.{fails_by};
 ghost use Rattle.drum_bracket.specs.RoundsText.{one_more};
 ghost use Rattle.drum_bracket.specs.ProgressOf.{told_of, HasMoved, IsPassed, MayPass};
 
-use drum_core::Output;
+use drum_devices::Output;
 use drum_lines::WriteFault;
 use drum_listing::{Line, Page, pass_line};
 

@@ -2,8 +2,8 @@
 
 ghost use Rattle.std.specs.Prelude.{◌≡◌, ◌+◌, ◌^◌, ◌<◌, ◌≤◌, IfOk};
 ghost use Rattle.drum_times.specs.Entries.{entry_in};
-ghost use Rattle.drum_lines.specs.Sent.{IsSent, IsWritten, fails_by};
 ghost use Rattle.drum_rounds.specs.InRounds.{pieces_of, total_of};
+ghost use Rattle.drum_lines.specs.Sent.{IsSent, IsWritten, fails_by};
 ghost use Rattle.drum_bracket.specs.OutlineOf.{IsOutlineOf, IsWalkWith};
 ghost use Rattle.drum_bracket.specs.RoundsText.{joined, rounds_text, tell};
 
@@ -11,10 +11,11 @@ use crate::outline::Outline;
 use crate::prices::send_totals;
 use crate::progress::Progress;
 use crate::teller::Teller;
-use drum_core::Output;
+use drum_ceiling::Bracket;
+use drum_devices::Output;
 use drum_lines::{WriteFault, send};
 use drum_listing::Page;
-use drum_rounds::{Bracket, InRounds};
+use drum_rounds::InRounds;
 use drum_times::Times;
 
 /// Writes the lines of a walk, many at a time.

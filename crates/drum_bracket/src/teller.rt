@@ -1,9 +1,9 @@
 //! What is known of a walk to tell its pieces; a hop, and a part that comes again.
 
 ghost use Rattle.std.specs.Prelude.{◌≡◌, ◌+◌, OnOk, Some, length, slice_get};
+ghost use Rattle.drum_walks.specs.Pieces.{spelled_of};
+ghost use Rattle.drum_walks.specs.declared.piece.Piece.TheVariants as pieces;
 ghost use Rattle.drum_lines.specs.Sent.{fails_by};
-ghost use Rattle.drum_rounds.specs.Pieces.{spelled_of};
-ghost use Rattle.drum_rounds.specs.declared.piece.Piece.TheVariants as pieces;
 ghost use Rattle.drum_bracket.specs.ProgressOf.{told_of, HasTold, IsPassed, MayTell};
 ghost use Rattle.drum_bracket.specs.RoundsText.{first_place, is_part, last_place, part_again};
 ghost use Rattle.drum_bracket.specs.TellerOf.{piece_told, pieces_in, IsTeller};
@@ -12,10 +12,11 @@ use crate::ends::{Ends, ends_at};
 use crate::hop_line::HopLine;
 use crate::part_line::PartLine;
 use crate::progress::Progress;
-use drum_core::Output;
+use drum_devices::Output;
 use drum_lines::WriteFault;
-use drum_rounds::{InRounds, Piece, Placed};
+use drum_rounds::InRounds;
 use drum_times::Times;
+use drum_walks::{Piece, Placed};
 
 /// A walk with its timing table, and what has to be known of its pieces to tell it.
 #[derive(Clone, Copy)]

@@ -1,8 +1,8 @@
 //! The lines of a walk, piece by piece.
 
 ghost use Rattle.std.specs.Prelude.{◌≡◌, ◌+◌, ◌≤◌, OnOk, Some, length, slice_get};
+ghost use Rattle.drum_walks.specs.declared.piece.Piece.TheVariants as pieces;
 ghost use Rattle.drum_lines.specs.Sent.{fails_by};
-ghost use Rattle.drum_rounds.specs.declared.piece.Piece.TheVariants as pieces;
 ghost use Rattle.drum_bracket.specs.ProgressOf.{told_of, HasTold, IsPassed, MayTell};
 ghost use Rattle.drum_bracket.specs.RoundsText.{first_part};
 ghost use Rattle.drum_bracket.specs.TellerOf.{named_told, piece_told, pieces_in, row_told};
@@ -11,9 +11,9 @@ ghost use Rattle.drum_bracket.specs.TellerOf.{IsTeller};
 use crate::part_line::PartLine;
 use crate::progress::Progress;
 use crate::teller::Teller;
-use drum_core::Output;
+use drum_devices::Output;
 use drum_lines::WriteFault;
-use drum_rounds::{Piece, Rounds};
+use drum_walks::{Piece, Rounds};
 
 impl Teller<'_> {
     /// Tells pieces in a row, of which those below the limit are there.

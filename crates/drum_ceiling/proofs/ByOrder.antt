@@ -9,26 +9,26 @@ use Rattle.std.proofs.lemmas.Bool.{eqb-true, false≢true}
 use Rattle.std.proofs.lemmas.List.{length-map}
 use Rattle.drum_times.specs.declared.notes.mark.Mark.{Mark}
 use Rattle.drum_times.specs.Marks.{is_on, mark_from, mark_on}
+use Rattle.drum_rotation.specs.Waits.{available_recurs}
+use Rattle.drum_rotation.proofs.Waited.{first_again}
 use Rattle.drum_machine.specs.Counts.{after_pass, is_inside, no_counts, passed_from, AreWithin}
 use Rattle.drum_machine.specs.Timing.{found}
 use Rattle.drum_machine.specs.Ways.{Way, to}
 use Rattle.drum_machine.proofs.Chained.{found_keeps_time}
-use Rattle.drum_rotation.specs.Waits.{available_recurs}
-use Rattle.drum_rotation.proofs.Waited.{first_again}
+use Rattle.drum_machine.specs.Calls.{MayGo}
+use Rattle.drum_order.specs.Graph.{height_of}
+use Rattle.drum_order.proofs.Members.{no_more}
+use Rattle.drum_order.proofs.Lists.{contains_cases, contains_here, contains_none, contains_there}
 use Rattle.drum_flow.specs.Accepted.{IsFreeLink}
 use Rattle.drum_flow.specs.Executed.{each_place, same_node, AreAllNodes}
-use Rattle.drum_flow.specs.Free.{IsNodeOrder}
-use Rattle.drum_flow.specs.Graph.{height_of}
 use Rattle.drum_flow.specs.Hops.{edge_between, first_node, hops, Hop, IsLink, IsNode, Node}
-use Rattle.drum_machine.specs.Calls.{MayGo}
 use Rattle.drum_flow.specs.Longest.{longest}
 use Rattle.drum_flow.specs.Walk.{IsProper, Setting}
 use Rattle.drum_flow.proofs.FromAngles.{found_angle}
-use Rattle.drum_flow.proofs.Heights.{height_of_here, height_of_low, height_of_there, lower_of, tells}
 use Rattle.drum_flow.proofs.Links.{node_law}
-use Rattle.drum_flow.proofs.Members.{no_more}
-use Rattle.drum_flow.proofs.Lists.{contains_cases, contains_here, contains_none, contains_there}
 use Rattle.drum_flow.proofs.Orders.{first_reached, has_executed, has_reached, reached_next, reached_only}
+use Rattle.drum_acceptance.specs.Free.{IsNodeOrder}
+use Rattle.drum_acceptance.proofs.Heights.{height_of_here, height_of_low, height_of_there, lower_of, tells}
 use Rattle.drum_rows.specs.SiteRows.{node_behind}
 use Rattle.drum_rows.proofs.Angles.{found_again}
 use Rattle.drum_rows.specs.Steps.{TakesAtMost}

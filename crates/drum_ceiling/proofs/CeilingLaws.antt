@@ -4,18 +4,17 @@ use Rattle.std.proofs.Common.{inl, inr}
 use Rattle.std.specs.Prelude.{◌==◌, if◌then◌else◌, All}
 use Rattle.std.proofs.Math.Nat.{mul-le-mul_left, mul-le-mul_right}
 use Rattle.std.proofs.lemmas.Bool.{cases_lt}
-use Rattle.drum_core.specs.declared.deck.Deck.{Deck}
-use Rattle.drum_core.specs.Loads.{loads_in, start_in}
+use Rattle.drum_core.specs.declared.word.Word.{Word}
+use Rattle.drum_deck.specs.declared.deck.Deck.{Deck}
+use Rattle.drum_deck.specs.Loads.{loads_in, start_in}
 use Rattle.drum_times.specs.Allowed.{Notes, AreSound}
 use Rattle.drum_times.specs.declared.notes.mark.Mark.{Mark}
 use Rattle.drum_times.specs.declared.times.Times.{Times}
 use Rattle.drum_machine.specs.Counts.{is_inside}
 use Rattle.drum_machine.specs.Timing.{longest_step}
 use Rattle.drum_flow.specs.Accepted.{counts_of, product_of, IsAdmitted, IsSound}
-use Rattle.drum_core.specs.declared.word.Word.{Word}
 use Rattle.drum_flow.specs.Executed.{each_place, AreAllNodes}
 use Rattle.drum_flow.specs.Hops.{Node}
-use Rattle.drum_flow.proofs.Acceptances.{one_reached}
 use Rattle.drum_flow.specs.MostPasses.{factor, passes_from}
 use Rattle.drum_flow.specs.RunHops.{hops_taken}
 use Rattle.drum_flow.specs.SettingOf.{setting}
@@ -23,8 +22,9 @@ use Rattle.drum_flow.specs.Walk.{IsWalk, Setting, Taken, time_of}
 use Rattle.drum_flow.proofs.KeptWalk.{kept_walk}
 use Rattle.drum_flow.proofs.LongestLaws.{longest_near}
 use Rattle.drum_flow.proofs.PassLaws.{no_counts_within}
-use Rattle.drum_flow.proofs.Products.{counts_positive}
 use Rattle.drum_flow.proofs.Proper.{is_proper}
+use Rattle.drum_acceptance.proofs.Acceptances.{one_reached}
+use Rattle.drum_acceptance.proofs.Products.{counts_positive}
 use Rattle.drum_rows.specs.Steps.{TakesAtMost}
 use Rattle.drum_ceiling.specs.Affine.{owed_by}
 use Rattle.drum_ceiling.specs.Right.{ArePrices, IsCeiling}

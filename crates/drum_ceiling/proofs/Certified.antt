@@ -9,11 +9,11 @@ use Rattle.drum_machine.specs.Counts.{after_pass, is_inside, no_counts, passed_f
 use Rattle.drum_machine.specs.Ways.{Way, early, to, late}
 use Rattle.drum_machine.proofs.Chained.{found_keeps_time}
 use Rattle.drum_machine.specs.Calls.{MayGo}
-use Rattle.drum_flow.specs.Graph.{AreDifferent}
+use Rattle.drum_order.specs.Graph.{AreDifferent}
 use Rattle.drum_flow.specs.Hops.{edge_between, first_node, hops, Hop, Node}
-use Rattle.drum_flow.proofs.FreeRows.{some_at}
 use Rattle.drum_flow.specs.Longest.{longest}
 use Rattle.drum_flow.specs.Walk.{Setting}
+use Rattle.drum_acceptance.proofs.FreeRows.{some_at}
 use Rattle.drum_rows.specs.declared.site_row.SiteEdge.{SiteEdge}
 use Rattle.drum_rows.specs.declared.site_row.SiteRow.{SiteRow}
 use Rattle.drum_rows.specs.declared.sites.Site.{Site}

@@ -6,11 +6,11 @@ use Rattle.drum_times.specs.declared.notes.mark.Mark.{Mark}
 use Rattle.drum_times.specs.Allowed.{StandInEarlier}
 use Rattle.drum_flow.specs.Accepted.{told}
 use Rattle.drum_flow.specs.Executed.{each_place, AreAllNodes}
-use Rattle.drum_flow.specs.Free.{IsNodeOrder}
 use Rattle.drum_flow.specs.Hops.{first_node, Node}
 use Rattle.drum_flow.specs.Walk.{IsProper, Setting}
 use Rattle.drum_flow.proofs.Orders.{first_reached, has_reached}
-use Rattle.drum_flow.proofs.Products.{told_exact}
+use Rattle.drum_acceptance.specs.Free.{IsNodeOrder}
+use Rattle.drum_acceptance.proofs.Products.{told_exact}
 use Rattle.drum_rows.specs.Steps.{TakesAtMost}
 use Rattle.drum_ceiling.specs.Affine.{owed_by}
 use Rattle.drum_ceiling.specs.Certificate.{IsCertificate}

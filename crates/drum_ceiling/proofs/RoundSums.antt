@@ -11,7 +11,7 @@ use Rattle.drum_times.specs.Allowed.{StandInEarlier}
 use Rattle.drum_machine.specs.Counts.{is_inside}
 use Rattle.drum_machine.proofs.SinceLaws.{inside_iff, leads_earlier}
 use Rattle.drum_flow.specs.Accepted.{told}
-use Rattle.drum_flow.proofs.Products.{told_less}
+use Rattle.drum_acceptance.proofs.Products.{told_less}
 use Rattle.drum_ceiling.specs.InRounds.{passes_in_all, passes_inside}
 
 -- a sum of told numbers is told as the sum of all

@@ -1,14 +1,14 @@
 -- A ceiling, as it is held, when it is right, and why there is none.
 use Rattle.std.specs.Prelude.{ℕ, ◌^◌, List}
-use Rattle.drum_core.specs.declared.deck.Deck.{Deck}
-use Rattle.drum_core.specs.Loads.{loads_in, start_in}
+use Rattle.drum_deck.specs.declared.deck.Deck.{Deck}
+use Rattle.drum_deck.specs.Loads.{loads_in, start_in}
 use Rattle.drum_times.specs.declared.times.Times.{Times}
 use Rattle.drum_times.specs.Allowed.{Notes}
 use Rattle.drum_flow.specs.declared.refusal.Refusal.{Refusal}
 use Rattle.drum_flow.specs.declared.refusal.Refusal.TheVariants.{TooLarge}
-use Rattle.drum_flow.specs.Acceptance.{IsAdmissionRefusal}
 use Rattle.drum_flow.specs.Accepted.{IsTooLarge}
 use Rattle.drum_flow.specs.SettingOf.{setting}
+use Rattle.drum_acceptance.specs.Acceptance.{IsAdmissionRefusal}
 use Rattle.drum_ceiling.specs.declared.answer.Ceiling.{Ceiling}
 use Rattle.drum_ceiling.specs.Right.{IsCeiling, IsTooDear}
 

@@ -3,8 +3,8 @@
 
 ghost use Rattle.std.specs.Prelude.{◌≡◌, ℕ, ◌%◌, ◌+◌, ◌-◌, ◌^◌, ◌<◌, ◌≤◌, ◌⊎◌, List, Some, None, IsTrue};
 ghost use Rattle.std.specs.Prelude.{length, vec_len, IfSome};
+ghost use Rattle.drum_order.specs.Graph.{AreDifferent};
 ghost use Rattle.drum_flow.specs.Walk.{IsProper, Setting};
-ghost use Rattle.drum_flow.specs.Graph.{AreDifferent};
 ghost use Rattle.drum_flow.specs.Hops.{first_node, Node};
 ghost use Rattle.drum_rows.specs.declared.sites.Site.{Site};
 ghost use Rattle.drum_rows.specs.SiteRows.{AreSiteRows};
@@ -18,7 +18,8 @@ ghost use Rattle.drum_ceiling.specs.AtSite.{at_number, is_in, regions_at};
 use crate::prices::Prices;
 use crate::region::is_in;
 use crate::step::Step;
-use drum_flow::counts::LARGEST;
+use drum_acceptance::counts::LARGEST;
+use drum_ceiling_search::Found;
 use drum_rows::{SiteEdge, SiteRow};
 use drum_times::Mark;
 
@@ -34,6 +35,17 @@ pub struct Certificate {
     /// By the numbers of sites, their levels; `None` where no walk comes.
     pub levels: Vec<Option<u128>>,
     pub debt: u128,
+}
+
+impl From<Found> for Certificate {
+    fn from(found: Found) -> Certificate {
+        Certificate {
+            prices: found.prices,
+            regions: found.regions,
+            levels: found.levels,
+            debt: found.debt,
+        }
+    }
 }
 
 /// Whether the mark of the edge may never be passed.

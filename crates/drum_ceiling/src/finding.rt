@@ -3,29 +3,32 @@
 
 ghost use Rattle.std.specs.Prelude.{◌≡◌, ◌⊎◌, ◌^◌, ◌≤◌, Some, None, IfOk, IfErr, IfSome, IfNone};
 ghost use Rattle.std.specs.Prelude.{◌<◌, ℕ, length, All, Contains, MatchOption};
+ghost use Rattle.drum_deck.specs.Loads.{loads_in, start_in};
 ghost use Rattle.drum_times.specs.declared.times.Times as tables;
-ghost use Rattle.drum_core.specs.Loads.{loads_in, start_in};
 ghost use Rattle.drum_flow.specs.Accepted as said;
 ghost use Rattle.drum_flow.specs.Accepted.{told, IsAdmitted};
-ghost use Rattle.drum_flow.specs.AcceptedFlow.{indices_in_order, nodes_in_order};
 ghost use Rattle.drum_flow.specs.Executed.{AreAllNodes};
 ghost use Rattle.drum_flow.specs.Flow.{deck_of, nodes_of, notes_of, executed_in, of_flow};
 ghost use Rattle.drum_flow.specs.Flow.{AreFound};
-ghost use Rattle.drum_flow.specs.Free.{IsNodeOrder};
 ghost use Rattle.drum_flow.specs.SettingOf.{setting};
+ghost use Rattle.drum_acceptance.specs.AcceptedFlow.{indices_in_order, nodes_in_order};
+ghost use Rattle.drum_acceptance.specs.Free.{IsNodeOrder};
 ghost use Rattle.drum_rows.specs.Rows.{AreRows};
 ghost use Rattle.drum_ceiling.specs.CeilingOf.{IsCeilingOf, IsCeilingRefusal};
 ghost use Rattle.drum_ceiling.specs.Right.{ArePrices};
 ghost use Rattle.drum_ceiling.specs.Size.{IsWithinSize};
 
 use crate::answer::Ceiling;
+use crate::certificate::Certificate;
 use crate::longest::longest_of;
 use crate::prices::{Prices, prices_by_order};
-use crate::search;
 use crate::size::Size;
-use drum_core::{Deck, REVOLUTION};
-use drum_flow::counts::product_of;
-use drum_flow::{AcceptedFlow, Refusal};
+use drum_acceptance::AcceptedFlow;
+use drum_acceptance::counts::product_of;
+use drum_ceiling_search::find;
+use drum_core::REVOLUTION;
+use drum_deck::Deck;
+use drum_flow::Refusal;
 use drum_rows::{Row, Sites, rows_of, site_rows};
 use drum_times::{Mark, Notes, Times};
 use std::alloc::{AllocError, Global};
@@ -79,8 +82,8 @@ fn found_prices(
         return Ok(None);
     };
     let order = sites.in_order(alloc, accepted.nodes())?;
-    let found = search::find(alloc, &rows, &order, start, marks)?;
-    Ok(found.checked(marks, &rows, start))
+    let found = find(alloc, &rows, &order, start, marks)?;
+    Ok(Certificate::from(found).checked(marks, &rows, start))
 }
 
 /// Prices and a total of an admitted deck: those that the search finds, where they are a
@@ -127,7 +130,7 @@ fn product_of_flow(accepted: &AcceptedFlow<'_>, marks: &[Mark]) -> u128
 ///
 /// # Errors
 ///
-/// Those of [`accept`](drum_flow::accept) but [`Refusal::HasCalls`], except that
+/// Those of [`accept`](drum_acceptance::accept) but [`Refusal::HasCalls`], except that
 /// [`Refusal::TooLarge`] comes last, and only where the nodes of the flow graph, times the longest
 /// step from one with the next search, times one more than all passes of marks that a walk can
 /// have, are 2^127 or more; it has the product of executed words and counts, or 2^127 where that is

@@ -9,7 +9,7 @@ ghost use Rattle.drum_flow.specs.Accepted.{told};
 ghost use Rattle.drum_ceiling.specs.InRounds as said;
 ghost use Rattle.drum_ceiling.specs.InRounds.{AreInRounds};
 
-use drum_flow::counts::{LARGEST, product};
+use drum_acceptance::counts::{LARGEST, product};
 use drum_machine::is_inside;
 use drum_times::Mark;
 use std::alloc::{AllocError, Global};

@@ -2,15 +2,15 @@
 
 ghost use Rattle.std.specs.Prelude.{◌≡◌, ◌*◌, ◌^◌, ◌<◌, ◌≤◌, ◌==◌, if◌then◌else◌, length, All, Contains, ℕ};
 ghost use Rattle.std.specs.Prelude.{IfOk, MatchOption};
-ghost use Rattle.drum_core.specs.Loads.{loads_in, start_in};
+ghost use Rattle.drum_deck.specs.Loads.{loads_in, start_in};
 ghost use Rattle.drum_times.specs.declared.times.Times as tables;
+ghost use Rattle.drum_order.specs.Graph.{height};
 ghost use Rattle.drum_flow.specs.Accepted.{told, IsAdmitted};
 ghost use Rattle.drum_flow.specs.Executed.{AreAllNodes};
-ghost use Rattle.drum_flow.specs.AcceptedFlow.{indices_in_order, nodes_in_order};
 ghost use Rattle.drum_flow.specs.Flow.{deck_of, nodes_of, notes_of, executed_in, of_flow};
-ghost use Rattle.drum_flow.specs.Free.{IsNodeOrder};
-ghost use Rattle.drum_flow.specs.Graph.{height};
 ghost use Rattle.drum_flow.specs.SettingOf.{setting};
+ghost use Rattle.drum_acceptance.specs.AcceptedFlow.{indices_in_order, nodes_in_order};
+ghost use Rattle.drum_acceptance.specs.Free.{IsNodeOrder};
 ghost use Rattle.drum_rows.specs.Steps.{TakesAtMost};
 ghost use Rattle.drum_ceiling.specs.InRounds as said;
 ghost use Rattle.drum_ceiling.specs.Right.{ArePrices};
@@ -18,8 +18,8 @@ ghost use Rattle.drum_ceiling.specs.Size.{size_of};
 ghost use Rattle.drum_ceiling.specs.Sized.{IsSizeBy};
 
 use crate::size::Size;
-use drum_flow::AcceptedFlow;
-use drum_flow::counts::{LARGEST, product};
+use drum_acceptance::AcceptedFlow;
+use drum_acceptance::counts::{LARGEST, product};
 use drum_times::Mark;
 use std::alloc::{AllocError, Global};
 

@@ -5,8 +5,8 @@ ghost use Rattle.drum_flow.specs.Flow.{nodes_of, notes_of};
 ghost use Rattle.drum_ceiling.specs.Sized.{IsSizeBy};
 
 use crate::in_rounds::{passes_in_all, rounds_of, sum};
+use drum_acceptance::counts::product;
 use drum_flow::Flow;
-use drum_flow::counts::product;
 use std::alloc::{AllocError, Global};
 
 /// A number that no ceiling need be above, with what it is made of.

@@ -5,12 +5,12 @@ use Rattle.std.specs.Prelude.{Contains, IsTrue, flat_map}
 use Rattle.drum_core.specs.declared.word.Word.{Word}
 use Rattle.drum_times.specs.Allowed.{Notes}
 use Rattle.drum_times.specs.Short.{is_short}
+use Rattle.drum_order.specs.Graph.{LeadRound}
+use Rattle.drum_order.proofs.Lists.{contains_here}
 use Rattle.drum_flow.specs.Accepted.{IsAccepted, IsAdmitted, IsFreeLink, product_of}
 use Rattle.drum_flow.specs.Executed.{AreAllNodes}
-use Rattle.drum_flow.specs.Graph.{LeadRound}
 use Rattle.drum_flow.specs.Hops.{Node}
-use Rattle.drum_flow.proofs.Acceptances.{one_order, one_reached}
-use Rattle.drum_flow.proofs.Lists.{contains_here}
+use Rattle.drum_acceptance.proofs.Acceptances.{one_order, one_reached}
 use Rattle.drum_loops.specs.Loops.{IsFreeBut}
 use Rattle.drum_check.specs.Findings.{AreFindings, Finding}
 use Rattle.drum_check.specs.Findings.{altering, too_many, unfit, AreLooseEnds}

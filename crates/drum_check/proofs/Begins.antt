@@ -4,8 +4,8 @@ use Rattle.std.proofs.Common.{◌∙◌, subst, inl, inr, arith, Some}
 use Rattle.std.specs.Prelude.{Contains, cond, filter, flat_map, slice_get}
 use Rattle.std.specs.List.{range_with_len}
 use Rattle.std.proofs.lemmas.Grind.{flat_map-append}
+use Rattle.drum_order.proofs.Lists.{contains_cases, contains_here, contains_none, contains_there}
 use Rattle.drum_flow.specs.Executed.{with_new}
-use Rattle.drum_flow.proofs.Lists.{contains_cases, contains_here, contains_none, contains_there}
 use Rattle.drum_flow.proofs.Orders.{with_new_keeps}
 use Rattle.drum_check.specs.First.{BeginsWith}
 use Rattle.drum_check.proofs.Nothing.{all_nothing}

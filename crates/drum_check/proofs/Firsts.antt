@@ -10,23 +10,23 @@ use Rattle.drum_core.specs.declared.word.Word.{Word}
 use Rattle.drum_core.specs.Op.{op_of}
 use Rattle.drum_times.specs.Allowed.{Notes, allowed}
 use Rattle.drum_times.specs.Short.{is_short}
+use Rattle.drum_order.specs.Graph.{IsClosed}
+use Rattle.drum_order.proofs.Lists.{contains_at, contains_here, contains_there}
+use Rattle.drum_order.proofs.Members.{no_more}
 use Rattle.drum_flow.specs.declared.refusal.Refusal.{Refusal}
 use Rattle.drum_flow.specs.declared.refusal.Refusal.TheVariants.{Memory, NotLoaded, NotInProfile, Alters, Unbounded}
 use Rattle.drum_flow.specs.declared.refusal.Refusal.TheVariants.{HasCalls, TooLarge, TooMany}
-use Rattle.drum_flow.specs.Acceptance.{IsAdmissionRefusal, IsRefusal}
 use Rattle.drum_flow.specs.Accepted as said
 use Rattle.drum_flow.specs.Accepted.{IsAltered, IsFirstOutside, IsFreeLink, IsGood, IsLowestAltered, IsMet}
 use Rattle.drum_flow.specs.Accepted.{IsFreeRound, IsNotInProfile, IsNotLoaded, IsSound, IsTooLarge, product_of, told}
 use Rattle.drum_flow.specs.Accepted.{IsTooMany}
 use Rattle.drum_flow.specs.Executed.{found_after}
-use Rattle.drum_flow.proofs.Products.{many_told}
-use Rattle.drum_flow.specs.Graph.{IsClosed}
 use Rattle.drum_flow.specs.Hops.{IsNode, Node}
-use Rattle.drum_flow.proofs.Acceptances.{met_first, one_order}
-use Rattle.drum_flow.proofs.Alterations.{split_at}
-use Rattle.drum_flow.proofs.Lists.{contains_at, contains_here, contains_there}
-use Rattle.drum_flow.proofs.Members.{no_more}
 use Rattle.drum_flow.proofs.Orders.{found_different, has_reached, only_reached}
+use Rattle.drum_acceptance.specs.Acceptance.{IsAdmissionRefusal, IsRefusal}
+use Rattle.drum_acceptance.proofs.Products.{many_told}
+use Rattle.drum_acceptance.proofs.Acceptances.{met_first, one_order}
+use Rattle.drum_acceptance.proofs.Alterations.{split_at}
 use Rattle.drum_check.specs.Findings.{AreFindings, Finding, not_loaded, not_in_profile, alters, too_large, closes}
 use Rattle.drum_check.specs.Findings.{altered, altered_by, altering, is_fixed, not_there, operations_outside, outside}
 use Rattle.drum_check.specs.Findings.{too_many, unfit}

@@ -3,8 +3,8 @@ use Rattle.std.proofs.Common.{◌≡◌, ℕ, Bool, true, false, not, List, eqb,
 use Rattle.std.specs.Prelude.{slice_get, Contains, ◌&&◌, ◌↔◌, IsTrue}
 use Rattle.std.specs.List.{list_any}
 use Rattle.drum_times.specs.Allowed.{Notes, is_listed}
-use Rattle.drum_flow.specs.Fixed.{AreFlagged}
 use Rattle.drum_flow.proofs.Orders.{any_contains, contains_any}
+use Rattle.drum_acceptance.specs.Fixed.{AreFlagged}
 use Rattle.drum_check.specs.Findings.{is_fixed}
 
 -- an executed word without a list is fixed

@@ -4,7 +4,7 @@ use Rattle.std.specs.Prelude.{Contains, ◌||◌}
 use Rattle.std.specs.List.{list_any}
 use Rattle.std.proofs.lemmas.Bool.{eqb-true}
 use Rattle.std.proofs.lemmas.List.Elements.{Contains-append_left, Contains-push, Contains-push_cases}
-use Rattle.drum_flow.proofs.Lists.{contains_here, contains_none, contains_there}
+use Rattle.drum_order.proofs.Lists.{contains_here, contains_none, contains_there}
 use Rattle.drum_check.specs.Insides.{goes_onto}
 
 -- an edge of these that goes back to the location

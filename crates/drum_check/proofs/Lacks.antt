@@ -7,7 +7,7 @@ use Rattle.std.proofs.lemmas.List.{length-map, map-set}
 use Rattle.std.proofs.lemmas.Option.{get_or_from_slice_get, slice_get-get_or, slice_get-map, slice_get_within}
 use Rattle.std.proofs.lemmas.Simd.{map-map}
 use Rattle.drum_core.specs.declared.location.Location.{Location}
-use Rattle.drum_flow.specs.Graph.{AreDifferent}
+use Rattle.drum_order.specs.Graph.{AreDifferent}
 use Rattle.drum_flow.proofs.Founds.{few_locations, numbers}
 use Rattle.drum_check.specs.declared.finding.Finding as held
 use Rattle.drum_check.specs.declared.finding.Finding.TheVariants as finding

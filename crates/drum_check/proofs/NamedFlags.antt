@@ -10,7 +10,7 @@ use Rattle.std.proofs.lemmas.List.Elements.{Contains-append_cases, Contains-appe
 use Rattle.std.proofs.lemmas.Option.{get_or_from_slice_get, slice_get_within}
 use Rattle.drum_times.specs.declared.notes.pattern.Pattern.{Pattern}
 use Rattle.drum_times.specs.Allowed.{matching}
-use Rattle.drum_flow.proofs.Lists.{get_written, get_other}
+use Rattle.drum_order.proofs.Lists.{get_written, get_other}
 use Rattle.drum_check.specs.Idle.{names}
 use Rattle.drum_check.specs.NamedOf.{IsBetween}
 

@@ -10,7 +10,7 @@ use Rattle.drum_core.specs.Op.{op_of}
 use Rattle.drum_times.specs.declared.notes.pattern.Pattern.{Pattern}
 use Rattle.drum_times.specs.Allowed.{matching}
 use Rattle.drum_machine.specs.Effect.{band}
-use Rattle.drum_flow.proofs.Lists.{contains_cases, contains_here, contains_none}
+use Rattle.drum_order.proofs.Lists.{contains_cases, contains_here, contains_none}
 use Rattle.drum_flow.proofs.Matched.{matching_at, matching_d, matching_op}
 use Rattle.drum_check.specs.declared.naming.Naming.{Naming}
 use Rattle.drum_check.specs.declared.naming.Naming.TheVariants.{Nothing, Data}

@@ -3,7 +3,7 @@ use Rattle.std.proofs.Common.{◌≡◌, ℕ, suc, ◌+◌, ◌<◌, List, [], �
 use Rattle.std.proofs.Common.{◌∙◌, subst, inl, inr, arith, length-append, length-take, append_assoc, Option, Some, None}
 use Rattle.std.proofs.lemmas.List.{append-nil, map_more, take_more}
 use Rattle.std.proofs.lemmas.List.Elements.{Contains-push_cases}
-use Rattle.drum_flow.proofs.Lists.{contains_none}
+use Rattle.drum_order.proofs.Lists.{contains_none}
 use Rattle.drum_check.specs.Insides.{AreSoMany, IsLastNumber}
 use Rattle.drum_check.proofs.Unsaids.{one_in, one_out, those_append}
 

@@ -12,9 +12,9 @@ use Rattle.std.proofs.lemmas.List.Sums.{length-filter}
 use Rattle.std.proofs.lemmas.Option.{get_or_from_slice_get, slice_get_within}
 use Rattle.drum_core.specs.declared.word.Word.{Word}
 use Rattle.drum_times.specs.Allowed.{Notes}
-use Rattle.drum_flow.specs.Graph.{LeadRound}
+use Rattle.drum_order.specs.Graph.{LeadRound}
+use Rattle.drum_order.proofs.Lists.{contains_cases, contains_here, contains_none, contains_there}
 use Rattle.drum_flow.specs.Hops.{Node}
-use Rattle.drum_flow.proofs.Lists.{contains_cases, contains_here, contains_none, contains_there}
 use Rattle.drum_loops.specs.Loops.{AreApart, AreClosing, IsFreeBeside, IsFreeBut}
 use Rattle.drum_check.specs.Among.{AreThose}
 use Rattle.drum_check.specs.Insides.{AreFewestFirst, AreSoMany}

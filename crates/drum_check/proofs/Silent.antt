@@ -8,13 +8,13 @@ use Rattle.drum_core.specs.Op.{op_of}
 use Rattle.drum_times.specs.Allowed.{Notes, allowed, is_listed}
 use Rattle.drum_times.specs.Short.{is_short}
 use Rattle.drum_machine.specs.Writes.{writes}
+use Rattle.drum_order.specs.Graph.{LeadRound}
+use Rattle.drum_order.proofs.Lists.{contains_here, contains_none}
 use Rattle.drum_flow.specs.Accepted.{IsAccepted, IsAdmitted, IsFixed, IsFreeLink, IsInProfile, IsThere, product_of}
 use Rattle.drum_flow.specs.Executed.{AreAllNodes}
 use Rattle.drum_flow.specs.Flow.{AreFound}
-use Rattle.drum_flow.specs.Graph.{LeadRound}
 use Rattle.drum_flow.specs.Hops.{IsExecuted, Node}
-use Rattle.drum_flow.proofs.Acceptances.{one_order, one_reached}
-use Rattle.drum_flow.proofs.Lists.{contains_here, contains_none}
+use Rattle.drum_acceptance.proofs.Acceptances.{one_order, one_reached}
 use Rattle.drum_loops.specs.Loops.{IsFreeBeside}
 use Rattle.drum_check.specs.Findings.{AreFindings, Finding, not_loaded, not_in_profile, alters}
 use Rattle.drum_check.specs.Findings.{altered, altered_by, altering, is_fixed, not_there, operations_outside}

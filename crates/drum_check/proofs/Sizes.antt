@@ -8,7 +8,7 @@ use Rattle.drum_times.specs.Allowed.{Notes}
 use Rattle.drum_times.specs.declared.notes.call.Call.{Call}
 use Rattle.drum_times.specs.Short.{is_plain, is_short}
 use Rattle.drum_flow.specs.Accepted.{told}
-use Rattle.drum_flow.proofs.Products.{few_told, many_told}
+use Rattle.drum_acceptance.proofs.Products.{few_told, many_told}
 use Rattle.drum_check.specs.Findings.{Finding, too_large, too_many}
 
 -- no size is told of long notes, nor one that is small

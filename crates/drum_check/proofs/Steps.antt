@@ -8,10 +8,10 @@ use Rattle.std.proofs.lemmas.Option.{same_Some}
 use Rattle.drum_core.specs.declared.word.Word.{Word}
 use Rattle.drum_times.specs.Allowed.{Notes}
 use Rattle.drum_machine.specs.Calls.{open_after}
+use Rattle.drum_order.proofs.Lists.{contains_here}
 use Rattle.drum_flow.specs.Executed.{may_go, onward, successors, with_new, AreAllNodes}
 use Rattle.drum_flow.specs.Hops.{edge_between, IsLink, Node}
 use Rattle.drum_flow.proofs.Links.{in_all, node_linked}
-use Rattle.drum_flow.proofs.Lists.{contains_here}
 use Rattle.drum_flow.proofs.Orders.{any_contains, has_reached, reached_next, reached_only, with_new_has}
 use Rattle.drum_check.specs.Among.{is_among, may_go_on}
 

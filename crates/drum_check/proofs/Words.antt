@@ -9,10 +9,10 @@ use Rattle.std.proofs.lemmas.Grind.{flat_map-append}
 use Rattle.std.proofs.lemmas.List.{append-nil, map-append}
 use Rattle.std.proofs.lemmas.List.Folds.{list_all-append}
 use Rattle.std.proofs.lemmas.Option.{get_or_from_slice_get, slice_get-map}
+use Rattle.drum_order.specs.Graph.{AreDifferent}
+use Rattle.drum_order.proofs.Lists.{contains_cases, contains_from_get, contains_here, contains_none, contains_there}
 use Rattle.drum_flow.specs.Executed.{with_new}
-use Rattle.drum_flow.specs.Graph.{AreDifferent}
 use Rattle.drum_flow.proofs.Additions.{with_new_append}
-use Rattle.drum_flow.proofs.Lists.{contains_cases, contains_from_get, contains_here, contains_none, contains_there}
 use Rattle.drum_flow.proofs.Orders.{any_contains, contains_any, with_new_different, with_new_has, with_new_only}
 use Rattle.drum_check.specs.declared.kept.Kept.{Kept}
 use Rattle.drum_check.specs.Findings.{Finding, not_loaded, not_in_profile, alters, too_large, closes, unused_mark}

@@ -1,10 +1,10 @@
 -- What was found, as it is held.
 use Rattle.std.specs.Prelude.{ℕ, Bool, List, map}
-use Rattle.drum_flow.specs.declared.fixed.Fixed.{Fixed}
-use Rattle.drum_flow.specs.declared.flow_graph.Flow.{Flow}
-use Rattle.drum_flow.specs.Fixed.{AreFlagged}
-use Rattle.drum_flow.specs.Flow.{executed_in, nodes_of, notes_of, of_flow}
 use Rattle.drum_times.specs.EdgeOf.{edge_of}
+use Rattle.drum_flow.specs.declared.flow_graph.Flow.{Flow}
+use Rattle.drum_flow.specs.Flow.{executed_in, nodes_of, notes_of, of_flow}
+use Rattle.drum_acceptance.specs.declared.fixed.Fixed.{Fixed}
+use Rattle.drum_acceptance.specs.Fixed.{AreFlagged}
 use Rattle.drum_check.specs.declared.finding.Finding as held
 use Rattle.drum_check.specs.declared.finding.Finding.TheVariants as finding
 use Rattle.drum_check.specs.declared.findings.Findings.{Findings}

@@ -1,12 +1,12 @@
 -- What is known of which loops stand inside which others, as it is held.
 use Rattle.std.specs.Prelude.{◌≡◌, ◌↔◌, All, IsTrue, length}
-use Rattle.drum_core.specs.Loads.{loads_in}
+use Rattle.drum_deck.specs.Loads.{loads_in}
+use Rattle.drum_times.specs.EdgeOf.{edge_of}
+use Rattle.drum_order.specs.declared.graph.Graph.{Graph}
+use Rattle.drum_order.specs.Graph.{row, size}
 use Rattle.drum_flow.specs.declared.flow_graph.Flow.{Flow}
-use Rattle.drum_flow.specs.declared.graph.Graph.{Graph}
 use Rattle.drum_flow.specs.Executed.{AreAllNodes}
 use Rattle.drum_flow.specs.Flow.{nodes_of, of_flow}
-use Rattle.drum_flow.specs.Graph.{row, size}
-use Rattle.drum_times.specs.EdgeOf.{edge_of}
 use Rattle.drum_loops.specs.Links.{AreLinkRows}
 use Rattle.drum_check.specs.declared.nesting.Known.{Known}
 use Rattle.drum_check.specs.declared.nesting.Nesting.{Nesting}

@@ -1,7 +1,7 @@
 -- The words that executed instructions name, as they are held: a flag for each word of the drum.
 use Rattle.std.specs.Prelude.{◌≡◌, ◌≤◌, ◌<◌, ◌↔◌, ◌⊎◌, ℕ, true, Some, Contains, slice_get}
 use Rattle.drum_core.specs.Instruction.{instruction}
-use Rattle.drum_core.specs.Loads.{loads_in}
+use Rattle.drum_deck.specs.Loads.{loads_in}
 use Rattle.drum_times.specs.declared.notes.pattern.Pattern.{Pattern}
 use Rattle.drum_flow.specs.declared.flow_graph.Flow.{Flow}
 use Rattle.drum_flow.specs.Flow.{executed_in}

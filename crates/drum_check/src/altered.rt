@@ -2,7 +2,7 @@
 //! list that they write.
 
 ghost use Rattle.std.specs.Prelude.{◌≡◌, ◌<◌, [], ◌∷◌, IfOk, OnOk, flat_map};
-ghost use Rattle.drum_core.specs.Loads.{loads_in};
+ghost use Rattle.drum_deck.specs.Loads.{loads_in};
 ghost use Rattle.drum_times.specs.Allowed.{matching};
 ghost use Rattle.drum_flow.specs.Executed.{with_new};
 ghost use Rattle.drum_flow.specs.Flow.{executed_in};
@@ -11,11 +11,11 @@ ghost use Rattle.drum_check.specs.Findings as said;
 ghost use Rattle.drum_check.specs.Findings.{altered_by};
 ghost use Rattle.drum_check.specs.FindingsOf.{AreFixed};
 
+use drum_acceptance::fixed::Fixed;
 use drum_core::{Instruction, Location};
 use drum_flow::Flow;
 use drum_flow::alike::same_writes_end;
 use drum_flow::executed::Executed;
-use drum_flow::fixed::Fixed;
 use drum_flow::patterns::{Patterns, instruction_of};
 use drum_machine::writes;
 use drum_times::Pattern;

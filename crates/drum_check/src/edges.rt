@@ -3,7 +3,7 @@
 ghost use Rattle.std.specs.Prelude.{◌≡◌, ◌<◌, ◌++◌, [], ◌∷◌, true, IfOk, OnOk, Some, length, map};
 ghost use Rattle.std.specs.Prelude.{slice_get};
 ghost use Rattle.std.specs.List.{list_any};
-ghost use Rattle.drum_core.specs.Loads.{loads_in};
+ghost use Rattle.drum_deck.specs.Loads.{loads_in};
 ghost use Rattle.drum_flow.specs.Executed.{AreAllNodes, successors};
 ghost use Rattle.drum_flow.specs.Flow.{executed_in, nodes_of, of_flow};
 ghost use Rattle.drum_flow.specs.Hops as graphs;
@@ -14,7 +14,8 @@ ghost use Rattle.drum_check.specs.Insides.{marked_edges, marks_of};
 ghost use Rattle.drum_times.specs.EdgeOf.{edge_of};
 ghost use Rattle.drum_times.specs.Marks.{edges_of};
 
-use drum_core::{Deck, Location};
+use drum_core::Location;
+use drum_deck::Deck;
 use drum_flow::Flow;
 use drum_flow::executed::Executed;
 use drum_times::{Edge, Edges, Mark, Notes};

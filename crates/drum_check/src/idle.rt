@@ -3,7 +3,7 @@
 ghost use Rattle.std.specs.Prelude.{◌≡◌, ◌++◌, ◌≤◌, ◌<◌, ◌-◌, ℕ, IfOk, OnOk, map, flat_map};
 ghost use Rattle.std.specs.List.{range_with_len};
 ghost use Rattle.drum_core.specs.Location.{IsLocation};
-ghost use Rattle.drum_core.specs.Loads.{loads_in};
+ghost use Rattle.drum_deck.specs.Loads.{loads_in};
 ghost use Rattle.drum_flow.specs.Flow.{executed_in};
 ghost use Rattle.drum_check.specs.FindingsOf.{seen};
 ghost use Rattle.drum_check.specs.Idle as said;

@@ -1,8 +1,9 @@
 ghost use Rattle.std.specs.Prelude.{◌≡◌};
-ghost use Rattle.drum_core.specs.Loads.{loads_in};
+ghost use Rattle.drum_deck.specs.Loads.{loads_in};
 ghost use Rattle.drum_check.specs.Kept as said;
 
-use drum_core::{Deck, Instruction, Location, Word};
+use drum_core::{Instruction, Location, Word};
+use drum_deck::Deck;
 use drum_flow::place::is_listed;
 use drum_times::Notes;
 

@@ -5,11 +5,11 @@ ghost use Rattle.drum_core.specs.declared.word.Word.{Word};
 ghost use Rattle.drum_times.specs.Allowed.{Notes};
 ghost use Rattle.drum_times.specs.Short.{is_short};
 ghost use Rattle.drum_flow.specs.declared.refusal.Refusal.{Refusal};
-ghost use Rattle.drum_flow.specs.Acceptance.{IsAdmissionRefusal, IsRefusal};
 ghost use Rattle.drum_flow.specs.Accepted.{IsAccepted, IsAdmitted};
 ghost use Rattle.drum_flow.specs.Executed.{AreAllNodes};
 ghost use Rattle.drum_flow.specs.Flow.{AreFound};
 ghost use Rattle.drum_flow.specs.Hops.{Node};
+ghost use Rattle.drum_acceptance.specs.Acceptance.{IsAdmissionRefusal, IsRefusal};
 ghost use Rattle.drum_check.specs.Findings.{AreFindings, AreLooseEnds, Finding};
 ghost use Rattle.drum_check.specs.First.{IsFoundFirst};
 

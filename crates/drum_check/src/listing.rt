@@ -8,7 +8,8 @@ ghost use Rattle.drum_check.specs.FindingsText.{finding_text, findings_text};
 
 use crate::finding::Finding;
 use crate::findings::Findings;
-use drum_core::{Location, Output};
+use drum_core::Location;
+use drum_devices::Output;
 use drum_lines::{WriteFault, four_digits, send, two_digits};
 use drum_times::Edge;
 use itoa::Buffer;

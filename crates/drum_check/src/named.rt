@@ -1,7 +1,8 @@
 ghost use Rattle.std.specs.Prelude.{vec_len, ◌≡◌};
 
 use crate::stretch::names_from;
-use drum_core::{Deck, Location};
+use drum_core::Location;
+use drum_deck::Deck;
 use drum_flow::Flow;
 use drum_flow::patterns::Patterns;
 use drum_times::{Notes, Pattern};
@@ -16,7 +17,7 @@ pub struct Named {
 
 impl Named {
     ghost use Rattle.std.specs.Prelude.{◌≤◌, ◌↔◌, ℕ, IsTrue, IfOk, Contains, flat_map};
-    ghost use Rattle.drum_core.specs.Loads.{loads_in};
+    ghost use Rattle.drum_deck.specs.Loads.{loads_in};
     ghost use Rattle.drum_times.specs.Allowed.{matching};
     ghost use Rattle.drum_check.specs.Idle.{named_at, names};
     ghost use Rattle.drum_check.specs.NamedOf.{AreNamed, FlagsMore, IsBetween, IsFlagged};

@@ -7,8 +7,8 @@ ghost use Rattle.drum_check.specs.KnownInside.{AreLinksOf, IsKnown};
 
 use crate::edges::has_edge;
 use drum_flow::Flow;
-use drum_flow::graph::Graph;
 use drum_loops::{is_nested, link_graph};
+use drum_order::graph::Graph;
 use drum_times::Edge;
 use std::alloc::{AllocError, Global};
 

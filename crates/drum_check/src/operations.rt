@@ -1,12 +1,13 @@
 //! The operations outside the profile that are allowed at a location.
 
 ghost use Rattle.std.specs.Prelude.{◌≡◌, IfOk, OnOk};
-ghost use Rattle.drum_core.specs.Loads.{loads_in};
+ghost use Rattle.drum_deck.specs.Loads.{loads_in};
 ghost use Rattle.drum_flow.specs.Executed.{with_new};
 ghost use Rattle.drum_check.specs.Findings as said;
 ghost use Rattle.drum_check.specs.Findings.{outside};
 
-use drum_core::{Deck, Location, Op};
+use drum_core::{Location, Op};
+use drum_deck::Deck;
 use drum_flow::patterns::Patterns;
 use drum_times::Notes;
 use std::alloc::{AllocError, Global};

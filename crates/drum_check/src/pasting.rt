@@ -13,7 +13,8 @@ use crate::kept::Kept;
 use crate::lacking::{Lack, Lacking};
 use crate::listing::send_findings;
 use crate::marking::{send_long, send_marks};
-use drum_core::{Location, Output, Word};
+use drum_core::{Location, Word};
+use drum_devices::Output;
 use drum_lines::{WriteFault, send, spelling_of};
 use itoa::Buffer;
 

@@ -7,7 +7,7 @@ use Rattle.std.proofs.lemmas.Bool.{eq-eqb, eqb-true}
 use Rattle.std.proofs.lemmas.List.{append-nil, drop-append-le, get_or-drop, length-take-le, take-append-drop, take-take}
 use Rattle.std.specs.List.{list_any}
 use Rattle.std.specs.Prelude.{codes, not, Contains, IsTrue, ◌⊎◌, ◌==◌, ◌||◌}
-use Rattle.drum_core.specs.Lines.{lines_of, with_front}
+use Rattle.drum_deck.specs.Lines.{lines_of, with_front}
 use Rattle.drum_documents.specs.Joined.{AreWholeLines, Begins, IsCut}
 
 -- a line of the text begins at a place

@@ -1,7 +1,7 @@
 -- What an input gives, and how many reads failed of it.
 use Rattle.std.proofs.Common.{◌≡◌, ℕ, ◌+◌, ◌≤◌, suc, zero, List, Option, Some, None, Result, Ok, Err, IfErr, IfSome}
 use Rattle.std.proofs.Common.{length, refl, subst, arith}
-use Rattle.drum_core.specs.declared.deck.fault.DeckFault.TheVariants as deck
+use Rattle.drum_deck.specs.declared.deck.fault.DeckFault.TheVariants as deck
 use Rattle.drum_documents.specs.declared.documents.Documents.{Documents}
 use Rattle.drum_lines.specs.declared.fault.Fault.{Fault}
 use Rattle.drum_lines.specs.declared.fault.Fault.TheVariants.{NoPart, Part, Memory, Deck, Times, Notes, Inputs, Refused}

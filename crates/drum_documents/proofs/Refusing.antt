@@ -1,9 +1,9 @@
 -- What refuses the text of a deck; and that no fault of a text which was read says that a read failed.
 use Rattle.std.proofs.Common.{◌≡◌, ◌≢◌, ℕ, List, refl}
-use Rattle.drum_core.specs.declared.deck.fault.DeckFault.{DeckFault}
-use Rattle.drum_core.specs.declared.deck.fault.DeckFault.TheVariants.{Read, Memory, Card, Twice, NoStart, TwoStarts}
-use Rattle.drum_core.specs.declared.deck.fault.DeckFault.TheVariants.{PastDrum, TooLong}
-use Rattle.drum_core.specs.DeckText.{IsRefused}
+use Rattle.drum_deck.specs.declared.deck.fault.DeckFault.{DeckFault}
+use Rattle.drum_deck.specs.declared.deck.fault.DeckFault.TheVariants.{Read, Memory, Card, Twice, NoStart, TwoStarts}
+use Rattle.drum_deck.specs.declared.deck.fault.DeckFault.TheVariants.{PastDrum, TooLong}
+use Rattle.drum_deck.specs.DeckText.{IsRefused}
 use Rattle.drum_inputs.specs.declared.fault.InputFault.{InputFault}
 use Rattle.drum_inputs.specs.declared.fault.InputFault.TheVariants as of_inputs
 use Rattle.drum_lines.specs.declared.fault.Fault.TheVariants as faults

@@ -1,11 +1,11 @@
 -- The documents of a program, a deck, a timing table and notes: what is known of them, and which
 -- texts say them.
 use Rattle.std.specs.Prelude.{ℕ, List}
-use Rattle.drum_core.specs.declared.deck.Deck.{Deck}
-use Rattle.drum_core.specs.declared.deck.fault.DeckFault.{DeckFault}
-use Rattle.drum_core.specs.declared.deck.fault.DeckFault.TheVariants as of_deck
-use Rattle.drum_core.specs.DeckText as text
-use Rattle.drum_core.specs.Holds.{IsDeckOf}
+use Rattle.drum_deck.specs.declared.deck.Deck.{Deck}
+use Rattle.drum_deck.specs.declared.deck.fault.DeckFault.{DeckFault}
+use Rattle.drum_deck.specs.declared.deck.fault.DeckFault.TheVariants as of_deck
+use Rattle.drum_deck.specs.DeckText as text
+use Rattle.drum_deck.specs.Holds.{IsDeckOf}
 use Rattle.drum_times.specs.declared.times.Times.{Times}
 use Rattle.drum_toml.specs.declared.notes.notes_read.NotesRead.{NotesRead}
 use Rattle.drum_toml.specs.Says.{SayTimes, SayNotesOf, AreNoTimes, AreNoNotesOf}

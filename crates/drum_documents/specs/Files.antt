@@ -1,10 +1,10 @@
 -- Files, each by its name: the documents and the inputs that they hold, and why they hold none.
 use Rattle.std.specs.Prelude.{◌≡◌, ℕ, ◌+◌, ◌<◌, ◌≤◌, List, [], ◌∷◌, length, Option, Some, None}
 use Rattle.std.specs.Prelude.{IsSome, ◌⊎◌}
-use Rattle.drum_core.specs.declared.deck.Deck.{Deck}
-use Rattle.drum_core.specs.declared.deck.fault.DeckFault.TheVariants as of_deck
-use Rattle.drum_core.specs.declared.device.whole.WholeError.{WholeError}
-use Rattle.drum_core.specs.declared.device.whole.WholeError.TheVariants as why
+use Rattle.drum_deck.specs.declared.deck.Deck.{Deck}
+use Rattle.drum_deck.specs.declared.deck.fault.DeckFault.TheVariants as of_deck
+use Rattle.drum_devices.specs.declared.device.whole.WholeError.{WholeError}
+use Rattle.drum_devices.specs.declared.device.whole.WholeError.TheVariants as why
 use Rattle.drum_times.specs.declared.times.Times.{Times}
 use Rattle.drum_times.specs.Allowed.{Notes}
 use Rattle.drum_toml.specs.declared.notes.notes_read.NotesRead.{NotesRead}

@@ -1,7 +1,7 @@
 -- The joined form: a deck, a timing table and notes in one text, told apart by lines.
 use Rattle.std.specs.Prelude.{◌≡◌, ℕ, ◌<◌, ◌≤◌, List, [], ◌++◌, codes, length, Contains, ◌⊎◌}
 use Rattle.std.specs.Prelude.{Result, IsErrOf}
-use Rattle.drum_core.specs.Lines.{lines_of}
+use Rattle.drum_deck.specs.Lines.{lines_of}
 use Rattle.drum_documents.specs.declared.documents.Documents.{Documents}
 use Rattle.drum_lines.specs.declared.fault.Fault.{Fault}
 use Rattle.drum_lines.specs.declared.fault.Fault.TheVariants as fault

@@ -1,21 +1,21 @@
 -- What is known of documents: their bound, a worst walk, a ceiling, alone and with a walk, and what
 -- limits a run of theirs.
 use Rattle.std.specs.Prelude.{◌≡◌, ℕ, ◌^◌, ◌<◌, List, IsTrue, not, ◌⊎◌}
-use Rattle.drum_core.specs.Loads.{loads_in, start_in}
+use Rattle.drum_deck.specs.Loads.{loads_in, start_in}
+use Rattle.drum_times.specs.Short.{is_short}
 use Rattle.drum_flow.specs.declared.refusal.Refusal.{Refusal}
 use Rattle.drum_flow.specs.declared.refusal.Refusal.TheVariants.{TooLarge}
-use Rattle.drum_flow.specs.Acceptance.{IsAdmissionRefusal, IsRefusal}
 use Rattle.drum_flow.specs.Accepted.{IsTooLarge, product_of, told}
 use Rattle.drum_flow.specs.Executed.{IsOrder}
 use Rattle.drum_flow.specs.Refused.{IsDiscoveryRefusal}
-use Rattle.drum_times.specs.Short.{is_short}
+use Rattle.drum_acceptance.specs.Acceptance.{IsAdmissionRefusal, IsRefusal}
+use Rattle.drum_walks.specs.Visited.{AreLongest, Visited, IsWalkOf}
 use Rattle.drum_bound.specs.BoundOf as of_setting
-use Rattle.drum_bound.specs.Visited.{AreLongest, Visited, IsWalkOf}
 use Rattle.drum_ceiling.specs.declared.answer.Ceiling.{Ceiling}
 use Rattle.drum_ceiling.specs.CeilingOf.{IsCeilingOf, IsCeilingRefusal, total_of}
 use Rattle.drum_ceiling.specs.Right.{IsTooDear}
-use Rattle.drum_rounds.specs.declared.bracket.Bracket.{Bracket}
-use Rattle.drum_rounds.specs.BracketOf.{IsBracketOf}
+use Rattle.drum_ceiling.specs.declared.bracket.Bracket.{Bracket}
+use Rattle.drum_ceiling.specs.BracketOf.{IsBracketOf}
 use Rattle.drum_lines.specs.declared.fault.Fault.{Fault}
 use Rattle.drum_lines.specs.declared.fault.Fault.TheVariants as fault
 use Rattle.drum_lines.specs.declared.limit.Limit.{Limit}

@@ -1,7 +1,7 @@
 ghost use Rattle.std.specs.Prelude.{IfOk, IfErr};
 ghost use Rattle.drum_documents.specs.Documents.{Say, SayNone, texts_of};
 
-use drum_core::{Deck, deck_of};
+use drum_deck::{Deck, deck_of};
 use drum_lines::Fault;
 use drum_times::{Notes, Times};
 use drum_toml::{NotesRead, read_notes_of, read_times};

@@ -2,7 +2,7 @@ ghost use Rattle.std.specs.Prelude.{◌≡◌, ◌≢◌, ◌++◌, ◌⊎◌, �
 ghost use Rattle.std.specs.Prelude.{IfNone, IsTrue, MatchBool, MatchOption};
 ghost use Rattle.std.specs.List.{list_any};
 ghost use Rattle.std.specs.Prelude.{◌==◌};
-ghost use Rattle.drum_core.specs.Lines.{lines_of};
+ghost use Rattle.drum_deck.specs.Lines.{lines_of};
 ghost use Rattle.drum_documents.specs.Joined.{AreParts, AreWholeLines, Begins, IsCut, LacksPart};
 ghost use Rattle.drum_documents.specs.PartsOf.{texts_of};
 

@@ -6,7 +6,7 @@ ghost use Rattle.drum_documents.specs.Joined.{Gives, GivesNone, IsPastLimit, Joi
 
 use crate::documents::Documents;
 use crate::joined::Parts;
-use drum_core::{Input, WholeError, read_whole};
+use drum_devices::{Input, WholeError, read_whole};
 use drum_lines::{Fault, Part, PartFault};
 use drum_toml::NotesRead;
 use std::alloc::Global;

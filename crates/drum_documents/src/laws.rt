@@ -1,7 +1,7 @@
 //! Laws of the definitions, each the contract of a function that does nothing.
 
 ghost use Rattle.std.specs.Prelude.{◌≡◌, ◌≤◌, ℕ};
-ghost use Rattle.drum_bound.specs.Worst.{IsWorst};
+ghost use Rattle.drum_walks.specs.Worst.{IsWorst};
 ghost use Rattle.drum_ceiling.specs.declared.answer.Ceiling.{Ceiling};
 ghost use Rattle.drum_ceiling.specs.CeilingOf.{total_of};
 ghost use Rattle.drum_lines.specs.declared.limit.Limit.{Limit};

@@ -3,7 +3,7 @@ ghost use Rattle.std.specs.Prelude.{option_map};
 ghost use Rattle.drum_documents.specs.Asked.{Asked, AsksFor, reading, returned, sought};
 ghost use Rattle.drum_documents.specs.Files.{FilesTold, IsFetched, behind};
 
-use drum_core::Input;
+use drum_devices::Input;
 
 /// What opens files by their names. A text that it gave is given back, so that no reading of it
 /// that failed is passed over: a text can't be dropped.

@@ -2,13 +2,13 @@
 use Rattle.std.proofs.Common.{◌≡◌, ℕ, zero, suc, ◌≤◌, List, [], ◌∷◌, ◌++◌, length, refl, sym, subst}
 use Rattle.std.proofs.Common.{arith, inl, inr, None}
 use Rattle.std.specs.Prelude.{Any}
-use Rattle.drum_core.specs.declared.deck.fault.DeckFault.{DeckFault}
-use Rattle.drum_core.specs.declared.deck.fault.DeckFault.TheVariants.{NoStart, TooLong}
-use Rattle.drum_core.specs.DeckText.{Line, comment, start, card, IsLine, Say, AreSound, starts, IsTooLong, IsDeck}
-use Rattle.drum_core.specs.DeckText.{IsFaultOfLine, IsRefused, LacksStart}
-use Rattle.drum_core.specs.Lines.{lines_of}
-use Rattle.drum_core.proofs.DeckLaws.{line_one}
-use Rattle.drum_core.proofs.Progress.{first_refused}
+use Rattle.drum_deck.specs.declared.deck.fault.DeckFault.{DeckFault}
+use Rattle.drum_deck.specs.declared.deck.fault.DeckFault.TheVariants.{NoStart, TooLong}
+use Rattle.drum_deck.specs.DeckText.{Line, comment, start, card, IsLine, Say, AreSound, starts, IsTooLong, IsDeck}
+use Rattle.drum_deck.specs.DeckText.{IsFaultOfLine, IsRefused, LacksStart}
+use Rattle.drum_deck.specs.Lines.{lines_of}
+use Rattle.drum_deck.proofs.DeckLaws.{line_one}
+use Rattle.drum_deck.proofs.Progress.{first_refused}
 use Rattle.drum_faults.specs.ByLine.{alone}
 use Rattle.drum_faults.specs.DeckFaults.{IsPlaced, HaveDeckFaults, SaysStart, HasStart, AreDeckFaults}
 use Rattle.drum_faults.specs.declared.placed_fault.PlacedFault.{PlacedFault}

@@ -2,14 +2,14 @@
 use Rattle.std.proofs.Common.{◌≡◌, ℕ, Bool, List, [], ◌∷◌, map, refl, ap, sym, ◌∙◌, inl, inr, cond}
 use Rattle.std.proofs.Common.{Result, Ok, Err, IfOk, Vec, Global, false, ◌⊎◌}
 use Rattle.std.specs.Prelude.{filter, is_some}
-use Rattle.drum_core.specs.declared.deck.Deck.{Deck}
+use Rattle.drum_deck.specs.declared.deck.Deck.{Deck}
 use Rattle.drum_core.specs.declared.location.Location.{Location}
 use Rattle.drum_core.specs.declared.word.Word.{Word}
-use Rattle.drum_core.specs.DeckText.{IsDeck, loads_of}
-use Rattle.drum_core.specs.DeckText as deck_lines
-use Rattle.drum_core.specs.Holds.{IsDeckOf}
-use Rattle.drum_core.specs.Loads.{loads_in}
-use Rattle.drum_core.proofs.Loads.{held_is_said}
+use Rattle.drum_deck.specs.DeckText.{IsDeck, loads_of}
+use Rattle.drum_deck.specs.DeckText as deck_lines
+use Rattle.drum_deck.specs.Holds.{IsDeckOf}
+use Rattle.drum_deck.specs.Loads.{loads_in}
+use Rattle.drum_deck.proofs.Loads.{held_is_said}
 use Rattle.drum_inputs.specs.declared.inputs.Inputs.{Inputs}
 use Rattle.drum_inputs.specs.Inputs.{AreInputsOf, given_word}
 use Rattle.drum_inputs.specs.InputsText.{AreInputs, given_in}

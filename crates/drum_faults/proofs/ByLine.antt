@@ -5,8 +5,8 @@ use Rattle.std.proofs.Common.{arith, inl, inr, Option, length-append, append_ass
 use Rattle.std.proofs.lemmas.Bool.{cases_lt}
 use Rattle.std.proofs.lemmas.List.{append-nil}
 use Rattle.std.specs.Prelude.{Any}
-use Rattle.drum_core.specs.Lines.{lines_of, IsLonger, EachSays, HasFirstFault}
-use Rattle.drum_core.proofs.FirstFaults.{HasOneFault, say_append}
+use Rattle.drum_deck.specs.Lines.{lines_of, IsLonger, EachSays, HasFirstFault}
+use Rattle.drum_deck.proofs.FirstFaults.{HasOneFault, say_append}
 use Rattle.drum_faults.specs.ByLine.{HaveFaults, IsFirstPast, past_limit}
 use Rattle.drum_faults.specs.declared.placed_fault.PlacedFault.{PlacedFault}
 use Rattle.drum_faults.specs.declared.slip.Slip.{Slip}

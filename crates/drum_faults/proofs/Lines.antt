@@ -7,8 +7,8 @@ use Rattle.std.proofs.lemmas.List.{append-nil, map-append, take_more}
 use Rattle.std.specs.Prelude.{codes, decimal, string_bytes, IfSome}
 use Rattle.drum_core.specs.declared.location.Location.{Location}
 use Rattle.drum_lines.specs.declared.fault.Fault.TheVariants.{Loaded}
-use Rattle.drum_core.specs.declared.deck.fault.DeckFault.{DeckFault}
-use Rattle.drum_core.specs.DeckText.{Line, IsDeck}
+use Rattle.drum_deck.specs.declared.deck.fault.DeckFault.{DeckFault}
+use Rattle.drum_deck.specs.DeckText.{Line, IsDeck}
 use Rattle.drum_inputs.specs.declared.fault.InputFault.{InputFault}
 use Rattle.drum_inputs.specs.InputsText as input_lines
 use Rattle.drum_inputs.specs.InputsText.{AreInputs}

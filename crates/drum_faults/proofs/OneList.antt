@@ -1,9 +1,9 @@
 -- A text has one list of faults, a deck's and one of inputs.
 use Rattle.std.proofs.Common.{◌≡◌, ℕ, List, [], ◌∷◌, ◌++◌, ap, sym, ◌∙◌, inl, inr, None}
-use Rattle.drum_core.specs.declared.deck.fault.DeckFault.{DeckFault}
-use Rattle.drum_core.specs.declared.deck.fault.DeckFault.TheVariants.{NoStart, TooLong}
-use Rattle.drum_core.specs.DeckText as deck
-use Rattle.drum_core.specs.Lines.{lines_of}
+use Rattle.drum_deck.specs.declared.deck.fault.DeckFault.{DeckFault}
+use Rattle.drum_deck.specs.declared.deck.fault.DeckFault.TheVariants.{NoStart, TooLong}
+use Rattle.drum_deck.specs.DeckText as deck
+use Rattle.drum_deck.specs.Lines.{lines_of}
 use Rattle.drum_inputs.specs.declared.fault.InputFault.{InputFault}
 use Rattle.drum_inputs.specs.declared.fault.InputFault.TheVariants as input_faults
 use Rattle.drum_inputs.specs.InputsText as input

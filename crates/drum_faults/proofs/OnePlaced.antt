@@ -2,9 +2,9 @@
 use Rattle.std.proofs.Common.{◌≡◌, ℕ, ◌+◌, ◌<◌, List, length, ap, sym, ◌∙◌, subst, arith}
 use Rattle.std.proofs.Common.{inl, inr, Option, Some}
 use Rattle.std.proofs.lemmas.Bool.{cases_lt}
-use Rattle.drum_core.proofs.FaultLaws.{deck_faults}
-use Rattle.drum_core.specs.DeckText as deck
-use Rattle.drum_core.specs.declared.deck.fault.DeckFault.{DeckFault}
+use Rattle.drum_deck.proofs.FaultLaws.{deck_faults}
+use Rattle.drum_deck.specs.DeckText as deck
+use Rattle.drum_deck.specs.declared.deck.fault.DeckFault.{DeckFault}
 use Rattle.drum_inputs.proofs.Refusals.{inputs_faults}
 use Rattle.drum_inputs.specs.declared.fault.InputFault.{InputFault}
 use Rattle.drum_inputs.specs.declared.fault.InputFault.TheVariants as faults

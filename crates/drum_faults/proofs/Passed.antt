@@ -3,7 +3,7 @@ use Rattle.std.proofs.Common.{◌≡◌, ℕ, zero, suc, ◌+◌, List, [], ◌�
 use Rattle.std.proofs.Common.{arith, inl, inr, ◌⊎◌, length-append, append_assoc}
 use Rattle.std.proofs.lemmas.List.{append-nil}
 use Rattle.std.specs.Prelude.{Any}
-use Rattle.drum_core.specs.Lines.{lines_of}
+use Rattle.drum_deck.specs.Lines.{lines_of}
 
 -- The first `number` lines of a text have been passed, none of which is such a one, and this is
 -- left.

@@ -2,16 +2,16 @@
 use Rattle.std.proofs.Common.{◌≡◌, ℕ, ◌+◌, ◌<◌, ◌≤◌, true, List, length, slice_get, refl, ap, sym, ◌∙◌, arith}
 use Rattle.std.proofs.Common.{Option, Some, None}
 use Rattle.std.specs.Prelude.{is_some}
-use Rattle.drum_core.specs.declared.deck.fault.DeckFault.TheVariants.{Card, Twice, TwoStarts, PastDrum}
+use Rattle.drum_deck.specs.declared.deck.fault.DeckFault.TheVariants.{Card, Twice, TwoStarts, PastDrum}
 use Rattle.drum_core.specs.declared.location.Location.{Location}
 use Rattle.drum_core.specs.declared.word.Word.{Word}
-use Rattle.drum_core.specs.DeckText.{Line, start, card, IsLine, card_of, given_from, starts, IsPastDrum}
-use Rattle.drum_core.specs.Loaded.{IsFirstLoaded}
+use Rattle.drum_deck.specs.DeckText.{Line, start, card, IsLine, card_of, given_from, starts, IsPastDrum}
+use Rattle.drum_deck.specs.Loaded.{IsFirstLoaded}
 use Rattle.drum_faults.specs.DeckFaults.{IsPlaced}
 use Rattle.drum_faults.specs.DeckSoFar.{Gave}
 use Rattle.drum_faults.specs.Slip.{slip_in}
 use Rattle.drum_faults.specs.declared.slip.Slip.{Slip}
-use Rattle.drum_core.proofs.Loads.{not_given}
+use Rattle.drum_deck.proofs.Loads.{not_given}
 use Rattle.drum_faults.proofs.GivenLines.{given_at-none, given_of_line}
 use Rattle.drum_faults.proofs.SoFar.{some_starts}
 

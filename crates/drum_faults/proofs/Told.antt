@@ -4,10 +4,10 @@ use Rattle.std.proofs.Common.{sym, subst, arith, Bool, true, false, None, inl, i
 use Rattle.std.proofs.lemmas.Bool.{cases_lt}
 use Rattle.std.proofs.lemmas.List.{append-nil}
 use Rattle.std.specs.Prelude.{IsTrue, ◌↔◌}
-use Rattle.drum_core.specs.declared.deck.fault.DeckFault.{DeckFault}
-use Rattle.drum_core.specs.declared.deck.fault.DeckFault.TheVariants.{NoStart}
-use Rattle.drum_core.specs.DeckText.{Line, comment, IsLine, IsTooLong}
-use Rattle.drum_core.specs.Lines.{lines_of}
+use Rattle.drum_deck.specs.declared.deck.fault.DeckFault.{DeckFault}
+use Rattle.drum_deck.specs.declared.deck.fault.DeckFault.TheVariants.{NoStart}
+use Rattle.drum_deck.specs.DeckText.{Line, comment, IsLine, IsTooLong}
+use Rattle.drum_deck.specs.Lines.{lines_of}
 use Rattle.drum_faults.specs.ByLine.{alone}
 use Rattle.drum_faults.specs.DeckFaults.{IsPlaced, HaveDeckFaults, HasStart, AreDeckFaults}
 use Rattle.drum_faults.specs.DeckSoFar.{IsOf}

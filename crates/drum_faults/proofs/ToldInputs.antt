@@ -3,7 +3,7 @@ use Rattle.std.proofs.Common.{◌≡◌, ℕ, ◌+◌, ◌≤◌, List, [], ◌�
 use Rattle.std.proofs.Common.{inl, inr, length-append, append_assoc}
 use Rattle.std.proofs.lemmas.Bool.{cases_lt}
 use Rattle.std.proofs.lemmas.List.{append-nil, map-append}
-use Rattle.drum_core.specs.Lines.{lines_of}
+use Rattle.drum_deck.specs.Lines.{lines_of}
 use Rattle.drum_inputs.specs.declared.fault.InputFault.{InputFault}
 use Rattle.drum_inputs.specs.declared.line.Line as read
 use Rattle.drum_inputs.specs.declared.line.Line.TheVariants.{Comment}

@@ -1,7 +1,7 @@
 -- All faults of a text that is read line by line, of a deck or of inputs.
 use Rattle.std.specs.Prelude.{◌≡◌, ℕ, ◌+◌, ◌<◌, ◌≤◌, ◌⊎◌, List, [], ◌∷◌, ◌++◌, length, Any}
 use Rattle.std.specs.Prelude.{Option, Some, None}
-use Rattle.drum_core.specs.Lines.{lines_of}
+use Rattle.drum_deck.specs.Lines.{lines_of}
 use Rattle.drum_faults.specs.declared.placed_fault.PlacedFault.{PlacedFault}
 use Rattle.drum_faults.specs.Slip.{slip_in_long}
 

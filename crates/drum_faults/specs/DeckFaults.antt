@@ -1,13 +1,13 @@
 -- All faults of a deck's text, with their places.
 use Rattle.std.specs.Prelude.{◌≡◌, ℕ, ◌+◌, ◌⊎◌, List, [], ◌∷◌, ◌++◌, length, Any, Option}
 use Rattle.std.specs.Prelude.{Some, None}
-use Rattle.drum_core.specs.declared.deck.fault.DeckFault.{DeckFault}
-use Rattle.drum_core.specs.declared.deck.fault.DeckFault.TheVariants.{Read, Memory, Card, Twice}
-use Rattle.drum_core.specs.declared.deck.fault.DeckFault.TheVariants.{NoStart, TwoStarts, PastDrum}
-use Rattle.drum_core.specs.declared.deck.fault.DeckFault.TheVariants.{TooLong}
-use Rattle.drum_core.specs.DeckText.{Line, comment, start, card, IsLine, AreSound, card_of}
-use Rattle.drum_core.specs.DeckText.{IsFaultOfLine, IsTooLong}
-use Rattle.drum_core.specs.Lines.{lines_of}
+use Rattle.drum_deck.specs.declared.deck.fault.DeckFault.{DeckFault}
+use Rattle.drum_deck.specs.declared.deck.fault.DeckFault.TheVariants.{Read, Memory, Card, Twice}
+use Rattle.drum_deck.specs.declared.deck.fault.DeckFault.TheVariants.{NoStart, TwoStarts, PastDrum}
+use Rattle.drum_deck.specs.declared.deck.fault.DeckFault.TheVariants.{TooLong}
+use Rattle.drum_deck.specs.DeckText.{Line, comment, start, card, IsLine, AreSound, card_of}
+use Rattle.drum_deck.specs.DeckText.{IsFaultOfLine, IsTooLong}
+use Rattle.drum_deck.specs.Lines.{lines_of}
 use Rattle.drum_faults.specs.declared.placed_fault.PlacedFault.{PlacedFault}
 use Rattle.drum_faults.specs.declared.slip.Slip.{Slip}
 use Rattle.drum_faults.specs.ByLine.{alone, past_limit, HaveFaults, IsFirstPast}

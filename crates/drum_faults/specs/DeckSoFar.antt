@@ -1,6 +1,6 @@
 -- Which lines have given what is held of a deck so far.
 use Rattle.std.specs.Prelude.{◌≡◌, ℕ, ◌<◌, List, slice_get, Option, Some}
-use Rattle.drum_core.specs.DeckText.{Line, card_of, AreSound}
+use Rattle.drum_deck.specs.DeckText.{Line, card_of, AreSound}
 use Rattle.drum_faults.specs.declared.deck_so_far.DeckSoFar.{DeckSoFar}
 use Rattle.drum_faults.specs.DeckFaults.{first_start}
 

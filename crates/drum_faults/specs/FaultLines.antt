@@ -2,9 +2,9 @@
 use Rattle.std.specs.Prelude.{◌≡◌, ℕ, ◌≤◌, ◌⊎◌, List, [], ◌++◌, length, flat_map, codes, decimal}
 use Rattle.std.specs.Prelude.{filter, map, nat_eq, if◌then◌else◌, Option, Some, None}
 use Rattle.std.specs.Option.{is_some, option_eq}
-use Rattle.drum_core.specs.declared.deck.fault.DeckFault.{DeckFault}
-use Rattle.drum_core.specs.DeckText.{IsDeck, loads_of}
-use Rattle.drum_core.specs.DeckText as deck_lines
+use Rattle.drum_deck.specs.declared.deck.fault.DeckFault.{DeckFault}
+use Rattle.drum_deck.specs.DeckText.{IsDeck, loads_of}
+use Rattle.drum_deck.specs.DeckText as deck_lines
 use Rattle.drum_core.specs.Numeral.{digits_of}
 use Rattle.drum_inputs.specs.declared.fault.InputFault.{InputFault}
 use Rattle.drum_inputs.specs.InputsText.{AreInputs, given_in}

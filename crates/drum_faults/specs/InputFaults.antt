@@ -1,7 +1,7 @@
 -- All faults of a text of inputs, with their places.
 use Rattle.std.specs.Prelude.{◌≡◌, ℕ, ◌+◌, ◌<◌, ◌⊎◌, List, [], ◌∷◌, length, slice_get}
 use Rattle.std.specs.Prelude.{Option, Some, None}
-use Rattle.drum_core.specs.Lines.{lines_of}
+use Rattle.drum_deck.specs.Lines.{lines_of}
 use Rattle.drum_inputs.specs.declared.fault.InputFault.{InputFault}
 use Rattle.drum_inputs.specs.declared.fault.InputFault.TheVariants as faults
 use Rattle.drum_inputs.specs.InputsText.{Line, comment, IsLine, AreSound, Repeats}

@@ -1,9 +1,10 @@
 ghost use Rattle.std.specs.Prelude.{◌≡◌, ℕ, ◌+◌, ◌<◌, ◌≤◌, ◌⊎◌, vec_len, slice_get, IfSome, IfNone};
-ghost use Rattle.drum_core.specs.Loaded.{IsFirstLoaded};
+ghost use Rattle.drum_deck.specs.Loaded.{IsFirstLoaded};
 
 use crate::placed_fault::PlacedFault;
 use crate::slip::Slip;
-use drum_core::{DeckCard, DeckFault, DeckLine, Location};
+use drum_core::Location;
+use drum_deck::{DeckCard, DeckFault, DeckLine};
 use std::alloc::{AllocError, Global};
 
 /// What the lines of a deck so far have given.
@@ -18,7 +19,7 @@ pub struct DeckSoFar {
 
 impl DeckSoFar {
     ghost use Rattle.std.specs.Prelude.{◌++◌, ◌∷◌, [], List, length, take, Some, None, IfOk};
-    ghost use Rattle.drum_core.specs.DeckText as text;
+    ghost use Rattle.drum_deck.specs.DeckText as text;
     ghost use Rattle.drum_faults.specs.DeckFaults.{IsPlaced};
     ghost use Rattle.drum_faults.specs.DeckSoFar.{IsOf};
 

@@ -1,8 +1,8 @@
 //! All faults of a deck's text, line by line.
 
 ghost use Rattle.std.specs.Prelude.{◌↔◌, [], IsTrue, IfOk};
-ghost use Rattle.drum_core.specs.DeckText.{IsTooLong};
-ghost use Rattle.drum_core.specs.Lines.{lines_of};
+ghost use Rattle.drum_deck.specs.DeckText.{IsTooLong};
+ghost use Rattle.drum_deck.specs.Lines.{lines_of};
 ghost use Rattle.drum_faults.specs.DeckFaults.{SaysStart, HasStart, HaveDeckFaults};
 ghost use Rattle.drum_faults.specs.DeckFaults.{AreDeckFaults};
 
@@ -10,7 +10,7 @@ use crate::deck_so_far::DeckSoFar;
 use crate::first_past::first_past;
 use crate::placed_fault::PlacedFault;
 use crate::slip::Slip;
-use drum_core::{Deck, DeckFault, DeckLine, Lines};
+use drum_deck::{Deck, DeckFault, DeckLine, Lines};
 use std::alloc::{AllocError, Global};
 
 /// All faults of a deck's text, in the order of their lines: of each line that has one the fault

@@ -2,7 +2,7 @@
 
 ghost use Rattle.std.specs.Prelude.{◌≡◌, ◌+◌, ◌≤◌, [], ◌∷◌, ◌++◌, map, length, IfOk, IfErr, IfSome};
 ghost use Rattle.std.specs.Prelude.{IfNone};
-ghost use Rattle.drum_core.specs.Lines.{lines_of};
+ghost use Rattle.drum_deck.specs.Lines.{lines_of};
 ghost use Rattle.drum_inputs.specs.InputsText as input_lines;
 ghost use Rattle.drum_inputs.specs.Said.{said};
 ghost use Rattle.drum_faults.specs.InputFaults.{AreInputFaults, HaveInputFaults, IsFirstRepeated};
@@ -11,7 +11,7 @@ ghost use Rattle.drum_faults.specs.InputFaults.{IsPlaced};
 use crate::first_past::first_past;
 use crate::placed_fault::PlacedFault;
 use crate::slip::Slip;
-use drum_core::Lines;
+use drum_deck::Lines;
 use drum_inputs::{InputFault, InputLine, Inputs};
 use std::alloc::{AllocError, Global};
 

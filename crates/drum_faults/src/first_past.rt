@@ -1,8 +1,8 @@
 ghost use Rattle.std.specs.Prelude.{◌<◌, ◌^◌, IfSome, IfNone};
-ghost use Rattle.drum_core.specs.Lines.{IsLonger};
+ghost use Rattle.drum_deck.specs.Lines.{IsLonger};
 ghost use Rattle.drum_faults.specs.ByLine.{IsFirstPast};
 
-use drum_core::Lines;
+use drum_deck::Lines;
 
 /// The number, from 1, of the first line of a text that stands behind the first `most` lines, or is
 /// longer than `longest` bytes, and that line.

@@ -2,13 +2,13 @@
 //! other laws.
 
 ghost use Rattle.std.specs.Prelude.{◌≡◌, ℕ, List, [], ◌∷◌, Option, IfSome};
-ghost use Rattle.drum_core.specs.declared.deck.fault.DeckFault.{DeckFault};
+ghost use Rattle.drum_deck.specs.declared.deck.fault.DeckFault.{DeckFault};
 ghost use Rattle.drum_inputs.specs.declared.fault.InputFault.{InputFault};
 ghost use Rattle.drum_inputs.specs.InputsText.{AreInputs};
 ghost use Rattle.drum_inputs.specs.InputsText as input_lines;
 ghost use Rattle.drum_faults.specs.InputFaults.{AreInputFaults};
 ghost use Rattle.drum_core.specs.declared.op.Op.{Op};
-ghost use Rattle.drum_core.specs.DeckText.{Line, IsDeck, IsRefused};
+ghost use Rattle.drum_deck.specs.DeckText.{Line, IsDeck, IsRefused};
 ghost use Rattle.drum_faults.specs.DeckFaults.{AreDeckFaults};
 ghost use Rattle.drum_faults.specs.FaultLines.{Named, AreFaultLines};
 ghost use Rattle.drum_times.specs.declared.entry.Entry.{Entry};

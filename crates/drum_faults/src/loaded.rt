@@ -1,9 +1,10 @@
 ghost use Rattle.std.specs.Prelude.{◌≡◌, ◌≢◌, [], map, filter, false, IfOk};
 ghost use Rattle.std.specs.Option.{is_some};
-ghost use Rattle.drum_core.specs.Loads.{loads_in};
+ghost use Rattle.drum_deck.specs.Loads.{loads_in};
 ghost use Rattle.drum_faults.specs.FaultLines.{AreLoadedTwice};
 
-use drum_core::{Deck, DeckFault, Location, Word, deck_of};
+use drum_core::{Location, Word};
+use drum_deck::{Deck, DeckFault, deck_of};
 use drum_inputs::{InputFault, inputs_of};
 use std::alloc::{AllocError, Global};
 

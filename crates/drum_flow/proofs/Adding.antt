@@ -6,10 +6,10 @@ use Rattle.std.specs.List.{list_any}
 use Rattle.std.proofs.lemmas.Bool.{cases_lt, or_right}
 use Rattle.std.proofs.lemmas.List.Elements.{Contains-append_cases, Contains-push}
 use Rattle.std.proofs.lemmas.Option.{slice_get-get_or}
+use Rattle.drum_order.specs.Graph.{AreDifferent}
+use Rattle.drum_order.proofs.Lists.{contains_here, contains_there, contains_cases, contains_none, contains_at}
+use Rattle.drum_order.proofs.Lists.{contains_from_get, distinct_push}
 use Rattle.drum_flow.specs.Executed.{with_new_by}
-use Rattle.drum_flow.specs.Graph.{AreDifferent}
-use Rattle.drum_flow.proofs.Lists.{contains_here, contains_there, contains_cases, contains_none, contains_at}
-use Rattle.drum_flow.proofs.Lists.{contains_from_get, distinct_push}
 
 pub get_push : {X : Type 0} (xs : List X) (y : X) (k : ℕ) (x : X) → slice_get xs k ≡ Some x
     → slice_get (xs ++ y ∷ []) k ≡ Some x

@@ -13,10 +13,10 @@ use Rattle.drum_core.specs.declared.word.Word.{Word}
 use Rattle.drum_times.specs.declared.notes.pattern.Pattern.{Pattern}
 use Rattle.drum_times.specs.Allowed.{Notes, allowed, matching}
 use Rattle.drum_machine.specs.Ways.{Way, ways}
+use Rattle.drum_order.proofs.Lists.{contains_here, contains_there}
 use Rattle.drum_flow.specs.Executed.{target_of, successors, with_new}
 use Rattle.drum_flow.specs.Found.{targets_of, targets_by}
 use Rattle.drum_flow.specs.Hops.{Hop, hops_of}
-use Rattle.drum_flow.proofs.Lists.{contains_here, contains_there}
 use Rattle.drum_flow.proofs.Matched.{matching_at, matching_from}
 use Rattle.drum_flow.proofs.Orders.{contains_any, with_new_has}
 

@@ -12,9 +12,9 @@ use Rattle.std.proofs.lemmas.Map.Keys.{IsDistinct-head, IsDistinct-tail, IsDisti
 use Rattle.std.proofs.lemmas.Map.Steps.{length-le_from_distinct_below}
 use Rattle.std.proofs.lemmas.Option.{slice_get-get_or, slice_get-map}
 use Rattle.drum_core.specs.declared.location.Location.{Location}
+use Rattle.drum_order.specs.Graph.{AreDifferent}
+use Rattle.drum_order.proofs.Lists.{contains_here, contains_there, contains_cases, contains_none}
 use Rattle.drum_flow.specs.Executed.{with_new}
-use Rattle.drum_flow.specs.Graph.{AreDifferent}
-use Rattle.drum_flow.proofs.Lists.{contains_here, contains_there, contains_cases, contains_none}
 
 -- the numbers of locations
 abbrev pub numbers : List Location → List ℕ
@@ -206,3 +206,12 @@ pub numbers_more : (locations : List Location) (place : ℕ) (location : Locatio
 numbers_more locations place location inside here =
     map_more (λ (one : Location). one.number) locations place location inside
     ∙ ap (λ (one : Location). numbers (take place locations) ++ one.number ∷ []) (sym here)
+
+-- the member of a list of locations at a place, by its number
+pub number_at : (locations : List Location) (places : List ℕ) (k : ℕ) (location : Location) → numbers locations ≡ places
+    → k < length locations
+    → location ≡ get_or locations k location → slice_get places k ≡ Some location.number
+number_at locations places k location same inside here =
+    sym (ap (λ (ns : List ℕ). slice_get ns k) same) ∙ slice_get-map (λ (one : Location). one.number) locations k
+    ∙ ap (option_map (λ (one : Location). one.number)) (slice_get-get_or locations k location inside)
+    ∙ ap (λ (one : Location). Some one.number) (sym here)

@@ -11,21 +11,21 @@ use Rattle.std.proofs.lemmas.Bool.Decides.{Decides-eqb, Decides-and, Decides-lik
 use Rattle.std.proofs.lemmas.List.{append-nil, length-append, length-map, map-append}
 use Rattle.std.proofs.lemmas.Option.{get_or_from_slice_get, slice_get_within, slice_get-get_or, slice_get-map}
 use Rattle.drum_core.specs.declared.location.Location.{Location}
+use Rattle.drum_times.specs.Allowed.{Notes}
+use Rattle.drum_times.specs.declared.notes.call.Call.{Call}
 use Rattle.drum_machine.specs.declared.open.Open.{Open}
 use Rattle.drum_machine.specs.Calls.{open_after, MayGo}
 use Rattle.drum_machine.specs.OpenIn.{open_in}
-use Rattle.drum_times.specs.Allowed.{Notes}
-use Rattle.drum_times.specs.declared.notes.call.Call.{Call}
+use Rattle.drum_order.specs.Graph.{AreDifferent}
+use Rattle.drum_order.proofs.Lists.{contains_cases, contains_from_get, contains_here, contains_none, contains_there}
+use Rattle.drum_order.proofs.Lists.{distinct_push, one_place}
 use Rattle.drum_flow.specs.contracts.node.NodePartialEq as held_nodes
 use Rattle.drum_flow.specs.declared.node.Node as held
 use Rattle.drum_flow.specs.Executed.{may_go, onward, same_node, with_new_by}
-use Rattle.drum_flow.specs.Graph.{AreDifferent}
 use Rattle.drum_flow.specs.Held.{node_of, ways_in, ArePlacedIn}
 use Rattle.drum_flow.specs.Hops.{edge_between, Node}
 use Rattle.drum_flow.proofs.Links.{may_go_law, node_law}
 use Rattle.drum_flow.proofs.Adding.{there_any}
-use Rattle.drum_flow.proofs.Lists.{contains_cases, contains_from_get, contains_here, contains_none, contains_there}
-use Rattle.drum_flow.proofs.Lists.{distinct_push, one_place}
 
 -- what is open by an index
 pub ways_at : (calls : List Call) (openings : List Open) (k : ℕ) (one : Open) → slice_get openings k ≡ Some one

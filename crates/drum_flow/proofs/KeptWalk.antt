@@ -35,10 +35,10 @@ use Rattle.drum_machine.specs.Ways.{Way, early, to, late, ways}
 use Rattle.drum_machine.specs.declared.why.Why as whys
 use Rattle.drum_machine.specs.declared.why.Why.TheVariants as why
 use Rattle.drum_machine.specs.Writes.{writes}
+use Rattle.drum_order.proofs.Lists.{contains_here, contains_there, contains_cases}
 use Rattle.drum_flow.specs.Accepted.{IsAdmitted, IsFixed, IsThere}
 use Rattle.drum_flow.specs.Hops.{edge_between, Hop, hops_of, hops, IsNode}
 use Rattle.drum_flow.proofs.Orders.{reached_next}
-use Rattle.drum_flow.proofs.Lists.{contains_here, contains_there, contains_cases}
 use Rattle.drum_flow.specs.RunHops.{units_with, hop_of, hops_taken}
 use Rattle.drum_flow.specs.Walk.{edge_taken, edges_taken}
 use Rattle.drum_flow.specs.Walk.{Setting, IsProper, Taken, MayHaveUnits, end_by, IsTimed, IsHopAt, FollowHop}

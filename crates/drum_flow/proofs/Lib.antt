@@ -1,34 +1,22 @@
-pub mod Acceptances
 pub mod Adding
 pub mod Additions
 pub mod Alikes
-pub mod Alterations
 mod Checks
 pub mod DataAngles
-pub mod Flags
 pub mod Founds
-pub mod FreeRows
 pub mod FromAngles
-pub mod Heights
 pub mod HeldNodes
 pub mod Instructed
 pub mod KeptOpen
 pub mod KeptWalk
 pub mod Links
-pub mod Lists
 pub mod LongestLaws
 pub mod Matched
-pub mod Members
 pub mod Orders
 pub mod PassLaws
-pub mod Plain
-pub mod Products
 pub mod Profiles
 pub mod Proper
-mod Refusals
-pub mod Searches
 pub mod SlowerTables
 pub mod Targets
-pub mod Translations
 pub mod Turns
 pub mod WalkPasses

@@ -12,10 +12,10 @@ use Rattle.drum_times.specs.declared.notes.call.Call.{Call}
 use Rattle.drum_times.specs.Allowed.{Notes}
 use Rattle.drum_machine.specs.Calls.{open_after, MayGo}
 use Rattle.drum_machine.specs.Since.{Edge}
+use Rattle.drum_order.proofs.Lists.{contains_here, contains_there, contains_cases, contains_none}
 use Rattle.drum_flow.specs.Executed.{may_go, next_nodes, onward, same_node, successors, with_new}
 use Rattle.drum_flow.specs.Hops.{edge_between, hops, IsLink, Node}
 use Rattle.drum_flow.proofs.Adding.{grown_has, grown_only}
-use Rattle.drum_flow.proofs.Lists.{contains_here, contains_there, contains_cases, contains_none}
 use Rattle.drum_flow.proofs.Targets.{hop_there, target_there}
 
 -- the test of ways back, and of nodes

@@ -11,9 +11,9 @@ use Rattle.drum_core.specs.Instruction.{instruction}
 use Rattle.drum_core.proofs.Same.{same_instruction}
 use Rattle.drum_times.specs.declared.notes.pattern.Pattern.{Pattern}
 use Rattle.drum_times.specs.Allowed.{matching}
+use Rattle.drum_order.proofs.Lists.{contains_cases, contains_none}
 use Rattle.drum_flow.specs.Accepted.{IsFirstIn}
 use Rattle.drum_flow.specs.Alike.{with_d}
-use Rattle.drum_flow.proofs.Lists.{contains_cases, contains_none}
 
 -- the instruction of a pattern at a data address
 abbrev pub matching_at : Pattern → ℕ → Instruction

@@ -9,6 +9,8 @@ use Rattle.std.proofs.lemmas.Bool.Decides.{Decides-eqb}
 use Rattle.std.proofs.lemmas.Option.{slice_get_within, slice_get_past, slice_get-get_or}
 use Rattle.drum_core.specs.declared.word.Word.{Word}
 use Rattle.drum_times.specs.Allowed.{Notes}
+use Rattle.drum_order.proofs.Lists.{contains_here, contains_there, contains_cases, contains_none, contains_at}
+use Rattle.drum_order.proofs.Lists.{contains_from_get}
 use Rattle.drum_flow.specs.declared.refusal.Refusal.{Refusal}
 use Rattle.drum_flow.specs.declared.refusal.Refusal.TheVariants.{Memory, NotLoaded, NotInProfile, Alters, Unbounded}
 use Rattle.drum_flow.specs.declared.refusal.Refusal.TheVariants.{HasCalls, TooMany, TooLarge}
@@ -20,11 +22,9 @@ use Rattle.drum_flow.specs.Flow.{AreFound}
 use Rattle.drum_flow.specs.Hops.{first_node, IsExecuted, IsLink, IsNode, Lead, Node}
 use Rattle.drum_flow.proofs.Adding.{any_there, there_any, grown_keeps, grown_has, grown_only, grown_different, grown_before}
 use Rattle.drum_flow.proofs.Adding.{grown_from}
-use Rattle.drum_flow.proofs.Lists.{contains_here, contains_there, contains_cases, contains_none, contains_at}
-use Rattle.drum_flow.proofs.Lists.{contains_from_get}
 use Rattle.drum_flow.proofs.Links.{link_there, node_law, node_linked}
 pub use Rattle.drum_flow.proofs.Targets.{hop_there, target_there}
-use Rattle.drum_flow.specs.Graph.{AreDifferent}
+use Rattle.drum_order.specs.Graph.{AreDifferent}
 
 -- a member, as a test of the list finds it
 pub any_contains : (xs : List ℕ) (y : ℕ) → list_any (λ x. eqb x y) xs ≡ true → Contains xs y

@@ -9,8 +9,8 @@ use Rattle.drum_core.specs.declared.word.Word.{Word}
 use Rattle.drum_core.specs.Op.{op_of, operand_of, is_operand}
 use Rattle.drum_times.specs.Allowed.{Notes, allowed}
 use Rattle.drum_machine.specs.Ways.{Way, early, ways, ways_of, ways_with}
+use Rattle.drum_order.proofs.Lists.{contains_cases}
 use Rattle.drum_flow.specs.Hops.{Hop, hops, hops_of}
-use Rattle.drum_flow.proofs.Lists.{contains_cases}
 use Rattle.drum_flow.specs.Profile.{MayEnd}
 
 -- each of the ways of an instruction is one by which it may end

@@ -3,9 +3,9 @@ use Rattle.std.proofs.Common.{◌≡◌, ℕ, List, [], ◌∷◌, ap, subst, in
 use Rattle.std.specs.Prelude.{Contains, filter_map}
 use Rattle.drum_core.specs.declared.instruction.Instruction.{Instruction}
 use Rattle.drum_machine.specs.Ways.{Way, early, to, late}
+use Rattle.drum_order.proofs.Lists.{contains_here, contains_there, contains_cases, contains_none}
 use Rattle.drum_flow.specs.Executed.{target_of}
 use Rattle.drum_flow.specs.Hops.{Hop}
-use Rattle.drum_flow.proofs.Lists.{contains_here, contains_there, contains_cases, contains_none}
 
 -- a hop that goes on is one of the list exactly where its target is one of the targets
 abbrev targets : List Hop → List ℕ

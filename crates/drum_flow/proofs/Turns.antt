@@ -6,11 +6,11 @@ use Rattle.std.proofs.lemmas.List.{append-nil, take-append-drop, drop_more, map-
 use Rattle.std.proofs.lemmas.List.Elements.{Contains-append_left, Contains-append_right, Contains-append_cases}
 use Rattle.std.proofs.lemmas.Option.{slice_get_within, get_or_from_slice_get}
 use Rattle.drum_core.specs.declared.location.Location.{Location}
+use Rattle.drum_order.specs.Graph.{AreDifferent, LeadRound, IsClosed}
+use Rattle.drum_order.proofs.Lists.{contains_here, contains_there, contains_cases, contains_none}
 use Rattle.drum_flow.specs.Accepted.{IsSmallestFirst}
-use Rattle.drum_flow.specs.Graph.{AreDifferent, LeadRound, IsClosed}
 use Rattle.drum_flow.specs.Turned.{IsTurned}
 use Rattle.drum_flow.proofs.Founds.{numbers}
-use Rattle.drum_flow.proofs.Lists.{contains_here, contains_there, contains_cases, contains_none}
 
 -- the location behind a number
 pub location_at : (locations : List Location) (k n : ℕ) → slice_get (numbers locations) k ≡ Some n

@@ -8,8 +8,8 @@ use Rattle.drum_times.specs.declared.notes.mark.Mark.{Mark}
 use Rattle.drum_times.specs.Allowed.{Notes, is_listed, allowed}
 use Rattle.drum_times.specs.Marks.{mark_on}
 use Rattle.drum_machine.specs.Writes.{writes}
+use Rattle.drum_order.specs.Graph.{AreDifferent, IsClosed}
 use Rattle.drum_flow.specs.Executed.{IsOrder, found_after}
-use Rattle.drum_flow.specs.Graph.{AreDifferent, IsClosed}
 use Rattle.drum_flow.specs.Hops.{IsEdge, IsExecuted, IsLink, IsNode, Node}
 
 -- the counts that there can be: the product of `most + 1` over the marks

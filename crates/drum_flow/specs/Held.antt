@@ -2,12 +2,12 @@
 -- there.
 use Rattle.std.specs.Prelude.{◌≡◌, ℕ, ◌<◌, List, [], ◌++◌, length, map, slice_get, slice_index_or}
 use Rattle.std.specs.Prelude.{Option, Some, Contains}
+use Rattle.drum_times.specs.declared.notes.call.Call.{Call}
 use Rattle.drum_machine.specs.declared.open.Open.{Open}
 use Rattle.drum_machine.specs.OpenIn.{open_in}
-use Rattle.drum_times.specs.declared.notes.call.Call.{Call}
+use Rattle.drum_order.specs.Graph.{AreDifferent}
 use Rattle.drum_flow.specs.declared.node.Node as held
 use Rattle.drum_flow.specs.declared.nodes.Nodes.{Nodes}
-use Rattle.drum_flow.specs.Graph.{AreDifferent}
 use Rattle.drum_flow.specs.Hops.{Node}
 
 -- what is open by each index

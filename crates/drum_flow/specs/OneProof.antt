@@ -1,7 +1,7 @@
 -- That nothing is there twice has one proof at most, as a ghost field wants it.
 use Rattle.std.specs.Prelude.{List, [], ◌∷◌}
 use Rattle.std.proofs.Props.{props}
-use Rattle.drum_flow.specs.Graph.{AreDifferent}
+use Rattle.drum_order.specs.Graph.{AreDifferent}
 
 pub AreDifferent-prop : {X : Type 0} (xs : List X) → IsProp (AreDifferent xs)
 AreDifferent-prop [] = Prim.hlevel props

@@ -14,7 +14,7 @@ pub struct Cycle {
 
 impl Cycle {
     /// The cycle of these locations, turned so that the smallest is the first.
-    pub(crate) fn turned(mut locations: Vec<Location>) -> Cycle
+    pub fn turned(mut locations: Vec<Location>) -> Cycle
         requires some { 0 < vec_len locations }
         requires few { vec_len locations ≤ 65536 }
         ensures { IsTurned (map (λ location. location.number) locations.items)

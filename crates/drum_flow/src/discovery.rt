@@ -2,7 +2,7 @@
 
 ghost use Rattle.std.specs.Prelude.{◌≡◌, ℕ, ◌<◌, ◌≤◌, Contains, IfOk, IfErr, OnOk, Some};
 ghost use Rattle.std.specs.Prelude.{length, map, slice_get, take};
-ghost use Rattle.drum_core.specs.Loads.{loads_in, start_in};
+ghost use Rattle.drum_deck.specs.Loads.{loads_in, start_in};
 ghost use Rattle.drum_flow.specs.Accepted.{IsGood};
 ghost use Rattle.drum_flow.specs.Discovered.{AreMet, IsDiscovered};
 ghost use Rattle.drum_flow.specs.Executed.{each_place, AreAllNodes};
@@ -18,7 +18,8 @@ use crate::flow_graph::Flow;
 use crate::nodes::Nodes;
 use crate::place::check_place;
 use crate::refusal::Refusal;
-use drum_core::{Deck, Location};
+use drum_core::Location;
+use drum_deck::Deck;
 use drum_times::Notes;
 use std::alloc::{AllocError, Global};
 

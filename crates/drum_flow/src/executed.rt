@@ -1,8 +1,8 @@
 ghost use Rattle.std.specs.Prelude.{◌≡◌, [], ◌∷◌, ◌<◌, ◌≤◌, map, option_map, slice_get, length};
 ghost use Rattle.std.specs.Prelude.{Some, Contains, IfOk, IfSome, IfNone, OnOk};
+ghost use Rattle.drum_order.specs.Graph.{AreDifferent};
 ghost use Rattle.drum_flow.specs.Executed.{with_new};
 ghost use Rattle.drum_flow.specs.Found.{places_of};
-ghost use Rattle.drum_flow.specs.Graph.{AreDifferent};
 
 use drum_core::Location;
 use indexmap::IndexSet;

@@ -5,7 +5,8 @@ ghost use Rattle.drum_flow.specs.OneProof.{one_proof};
 use crate::executed::Executed;
 use crate::hops::Hops;
 use crate::nodes::Nodes;
-use drum_core::{Deck, Location};
+use drum_core::Location;
+use drum_deck::Deck;
 use drum_times::Notes;
 
 /// The flow graph of a deck under its notes: its nodes, and the executed locations with the hops of
@@ -23,12 +24,12 @@ pub struct Flow<'a> {
 impl<'a> Flow<'a> {
     ghost use Rattle.std.specs.Prelude.{◌≡◌, ◌≤◌, ◌<◌, [], ◌∷◌, map, length, slice_get, Some, Contains};
     ghost use Rattle.std.specs.Prelude.{IfSome, IfNone};
-    ghost use Rattle.drum_core.specs.Loads.{loads_in};
+    ghost use Rattle.drum_deck.specs.Loads.{loads_in};
+    ghost use Rattle.drum_order.specs.Graph.{AreDifferent};
     ghost use Rattle.drum_flow.specs.Hops as said;
     ghost use Rattle.drum_flow.specs.HopsLeft.{hops_left};
     ghost use Rattle.drum_flow.specs.Executed.{onward};
     ghost use Rattle.drum_flow.specs.Flow.{deck_of, notes_of, nodes_of, executed_in};
-    ghost use Rattle.drum_flow.specs.Graph.{AreDifferent};
 
     /// The executed locations, in the order of discovery.
     pub fn executed(&self) -> &[Location]

@@ -2,7 +2,7 @@
 
 ghost use Rattle.std.specs.Prelude.{◌≡◌, [], flat_map};
 ghost use Rattle.std.specs.Iterator.{YieldsFirstBy, item_count};
-ghost use Rattle.drum_core.specs.Loads.{loads_in};
+ghost use Rattle.drum_deck.specs.Loads.{loads_in};
 ghost use Rattle.drum_flow.specs.Hops as said;
 ghost use Rattle.drum_flow.specs.Hops.{hops_of};
 ghost use Rattle.drum_flow.specs.HopsLeft.{hops_here, hops_left};
@@ -10,7 +10,8 @@ ghost use Rattle.drum_flow.specs.Instructions.{instructions_left};
 ghost use Rattle.drum_flow.specs.Seen.{seen_hop};
 
 use crate::instructions::Instructions;
-use drum_core::{Deck, Instruction, Location};
+use drum_core::{Instruction, Location};
+use drum_deck::Deck;
 use drum_machine::{Way, Ways};
 use drum_times::Notes;
 

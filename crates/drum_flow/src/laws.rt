@@ -2,14 +2,15 @@
 
 ghost use Rattle.std.specs.Prelude.{◌≡◌, ℕ, ◌+◌, ◌%◌, ◌<◌, ◌≤◌, List, length, Option, Some};
 ghost use Rattle.std.specs.Prelude.{Contains};
-ghost use Rattle.drum_rotation.specs.Available.{is_available};
-ghost use Rattle.drum_rotation.specs.Moment.{first};
 ghost use Rattle.drum_core.specs.declared.op.Op.{Op};
 ghost use Rattle.drum_core.specs.declared.word.Word.{Word};
 ghost use Rattle.drum_times.specs.declared.notes.mark.Mark.{Mark};
 ghost use Rattle.drum_times.specs.Allowed.{Notes, StandInEarlier};
-ghost use Rattle.drum_machine.specs.Contents.{Contents};
 ghost use Rattle.drum_times.specs.Marks.{mark_on};
+ghost use Rattle.drum_times.specs.declared.entry.Entry.{Entry};
+ghost use Rattle.drum_rotation.specs.Available.{is_available};
+ghost use Rattle.drum_rotation.specs.Moment.{first};
+ghost use Rattle.drum_machine.specs.Contents.{Contents};
 ghost use Rattle.drum_machine.specs.Counts.{after_pass, AreWithin};
 ghost use Rattle.drum_machine.specs.Keeps.{IsKept};
 ghost use Rattle.drum_machine.specs.Since.{passes_of};
@@ -17,13 +18,9 @@ ghost use Rattle.drum_machine.specs.Run.{Stride, IsRun, IsFirstState, used_from}
 ghost use Rattle.drum_machine.specs.Step.{State};
 ghost use Rattle.drum_machine.specs.Timing.{units_of, IsWait};
 ghost use Rattle.drum_machine.specs.Ways.{Way};
-ghost use Rattle.drum_times.specs.declared.entry.Entry.{Entry};
-ghost use Rattle.drum_flow.specs.declared.refusal.Refusal.{Refusal};
-ghost use Rattle.drum_flow.specs.declared.refusal.Refusal.TheVariants.{Memory};
-ghost use Rattle.drum_flow.specs.Acceptance.{IsRefusal};
-ghost use Rattle.drum_flow.specs.Accepted.{product_of, told, IsAccepted, IsAdmitted, IsFixed};
+ghost use Rattle.drum_order.specs.Graph.{AreDifferent};
+ghost use Rattle.drum_flow.specs.Accepted.{IsAdmitted, IsFixed};
 ghost use Rattle.drum_flow.specs.Executed.{IsOrder};
-ghost use Rattle.drum_flow.specs.Graph.{AreDifferent};
 ghost use Rattle.drum_flow.specs.Hops.{IsExecuted};
 ghost use Rattle.drum_flow.specs.MostPasses.{most_passes};
 ghost use Rattle.drum_flow.specs.Passes.{leading};
@@ -75,13 +72,6 @@ pub fn units_in_range()
     ensures { (op : Op) (d : ℕ) (c : Contents) → MayHaveUnits op d (units_of op d c) }
 {}
 
-/// A deck that is accepted with its notes isn't refused, except where there is no memory.
-pub fn accepted_is_not_refused()
-    ensures { (loads : ℕ → Option Word) (notes : Notes) (start : ℕ) (executed : List ℕ)
-        (refusal : Refusal) → IsAccepted loads notes start executed
-        → IsRefusal loads notes start refusal → refusal ≡ Memory }
-{}
-
 /// A hop that begins later never ends earlier, with the same units and the same wait.
 pub fn later_start_no_earlier_end()
     ensures { (entry : Entry) (op : Op) (d place units wait : ℕ) (way : Way) (earlier later : ℕ)
@@ -113,11 +103,4 @@ pub fn passes_are_few()
     ensures { (g : Setting) (angle k : ℕ) (hops : List Taken) → StandInEarlier 0 g.notes.marks
         → k < length g.notes.marks → IsWalk g angle hops
         → passes_of g.notes.marks k (edges_taken hops) ≤ most_passes g.notes.marks k }
-{}
-
-/// Of eight marks at most, and no more words than the machine has, executed words times counts are
-/// told as they are.
-pub fn few_marks_are_told()
-    ensures { (executed : List ℕ) (marks : List Mark) → length executed ≤ 2004 → length marks ≤ 8
-        → told (product_of executed marks) ≡ product_of executed marks }
 {}

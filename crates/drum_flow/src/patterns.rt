@@ -3,13 +3,14 @@
 ghost use Rattle.std.specs.Prelude.{◌≡◌, ◌≤◌, [], ◌∷◌, flat_map, option_to_list};
 ghost use Rattle.std.specs.Iterator.{YieldsFirst, item_count};
 ghost use Rattle.drum_core.specs.Instruction as digits;
-ghost use Rattle.drum_core.specs.Loads.{loads_in};
+ghost use Rattle.drum_deck.specs.Loads.{loads_in};
 ghost use Rattle.drum_times.specs.Allowed as allowed;
 ghost use Rattle.drum_times.specs.Allowed.{matching};
 ghost use Rattle.drum_flow.specs.Patterns.{patterns_left};
 
 use crate::instructions::{listed, loaded};
-use drum_core::{Deck, Instruction, Location};
+use drum_core::{Instruction, Location};
+use drum_deck::Deck;
 use drum_times::{Notes, Pattern};
 
 /// The patterns whose instructions are allowed at a location, in order: the deck's instruction, if

@@ -1,7 +1,7 @@
 //! Whether a location is loaded or listed, with operations in the profile alone.
 
 ghost use Rattle.std.specs.Prelude.{◌≡◌, MatchBool, IfSome, IfNone, IfErr, OnOk};
-ghost use Rattle.drum_core.specs.Loads.{loads_in};
+ghost use Rattle.drum_deck.specs.Loads.{loads_in};
 ghost use Rattle.drum_times.specs.Allowed as listed;
 ghost use Rattle.drum_times.specs.Allowed.{allowed};
 ghost use Rattle.drum_flow.specs.Accepted.{IsThere, IsInProfile, IsGood, IsFirstIn, IsOutside};
@@ -9,7 +9,8 @@ ghost use Rattle.drum_flow.specs.Refused.{IsWrong};
 
 use crate::patterns::{Patterns, instruction_of};
 use crate::refusal::Refusal;
-use drum_core::{Deck, Instruction, Location, Op};
+use drum_core::{Instruction, Location, Op};
+use drum_deck::Deck;
 use drum_times::Notes;
 
 /// Checks that a location is loaded or listed, with operations in the profile alone.

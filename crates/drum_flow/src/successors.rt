@@ -1,7 +1,7 @@
 //! The locations that the instructions of a location go on at, pattern by pattern.
 
 ghost use Rattle.std.specs.Prelude.{◌≡◌, OnOk};
-ghost use Rattle.drum_core.specs.Loads.{loads_in};
+ghost use Rattle.drum_deck.specs.Loads.{loads_in};
 ghost use Rattle.drum_times.specs.Allowed.{matching};
 ghost use Rattle.drum_flow.specs.Executed.{with_new, successors};
 ghost use Rattle.drum_flow.specs.Found.{places_of, targets_of, targets_by};
@@ -10,7 +10,8 @@ ghost use Rattle.drum_machine.specs.WaysLeft.{ways_left};
 use crate::alike::same_ways_end;
 use crate::executed::Executed;
 use crate::patterns::{Patterns, instruction_of};
-use drum_core::{Deck, Location};
+use drum_core::Location;
+use drum_deck::Deck;
 use drum_machine::{Way, Ways};
 use drum_times::{Notes, Pattern};
 use std::alloc::AllocError;

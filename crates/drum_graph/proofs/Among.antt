@@ -1,7 +1,7 @@
 -- Whether a number is among others, as the code asks for it.
 use Rattle.std.proofs.Common.{◌≡◌, ℕ, Bool, true, false, List, Option, Some, None, refl, sym}
 use Rattle.std.specs.Prelude.{Contains, IfNone, IfSome, is_some, slice_get}
-use Rattle.drum_flow.proofs.Lists.{contains_from_get}
+use Rattle.drum_order.proofs.Lists.{contains_from_get}
 use Rattle.drum_flow.proofs.Orders.{any_contains, contains_any}
 use Rattle.drum_graph.specs.Graph.{is_among}
 

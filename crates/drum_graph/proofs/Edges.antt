@@ -7,11 +7,11 @@ use Rattle.std.proofs.lemmas.Bool.{eq-eqb}
 use Rattle.std.proofs.lemmas.Bool.Decides.{eqb_tells}
 use Rattle.std.proofs.lemmas.List.{take_more}
 use Rattle.std.proofs.lemmas.Option.{get_or_from_slice_get, slice_get-get_or, slice_get-map, slice_get_within}
-use Rattle.drum_flow.proofs.Lists.{contains_from_get}
-use Rattle.drum_loops.specs.Loops.{AreApart}
 use Rattle.drum_times.specs.declared.notes.edge.Edge.{Edge}
 use Rattle.drum_times.specs.EdgeOf.{edge_of}
 use Rattle.drum_times.specs.Edges.{leads}
+use Rattle.drum_order.proofs.Lists.{contains_from_get}
+use Rattle.drum_loops.specs.Loops.{AreApart}
 use Rattle.drum_graph.specs.declared.loops.Ends.{Ends}
 use Rattle.drum_graph.specs.GraphOf.{edge_in}
 use Rattle.drum_graph.specs.GraphText.{is_loop}

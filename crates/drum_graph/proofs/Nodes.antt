@@ -8,7 +8,7 @@ use Rattle.drum_core.specs.declared.word.Word.{Word}
 use Rattle.drum_times.specs.Allowed.{Notes}
 use Rattle.drum_flow.specs.Executed.{each_place}
 use Rattle.drum_flow.specs.Hops as flow
-use Rattle.drum_flow.proofs.Acceptances.{one_reached}
+use Rattle.drum_acceptance.proofs.Acceptances.{one_reached}
 use Rattle.drum_graph.specs.Graph.{AreNodes, Node, node}
 
 -- there is one graph

@@ -8,11 +8,11 @@ use Rattle.drum_core.specs.declared.instruction.Instruction.{Instruction}
 use Rattle.drum_core.specs.declared.word.Word.{Word}
 use Rattle.drum_times.specs.declared.notes.pattern.Pattern.{Pattern}
 use Rattle.drum_times.specs.Allowed.{Notes, allowed, matching}
+use Rattle.drum_order.proofs.Lists.{contains_cases, contains_none}
+use Rattle.drum_order.proofs.Members.{no_more}
 use Rattle.drum_flow.specs.Executed.{with_new}
 use Rattle.drum_flow.proofs.Additions.{added_alike}
-use Rattle.drum_flow.proofs.Lists.{contains_cases, contains_none}
 use Rattle.drum_flow.proofs.Matched.{matching_at, matching_op}
-use Rattle.drum_flow.proofs.Members.{no_more}
 use Rattle.drum_flow.proofs.Orders.{with_new_different, with_new_only}
 use Rattle.drum_graph.specs.Graph.{operations}
 

@@ -9,21 +9,21 @@ use Rattle.std.proofs.lemmas.List.{append-nil, append_assoc, take_all, take_more
 use Rattle.std.proofs.lemmas.List.Elements.{filter_more, Contains-push, Contains-push_cases, Contains-append_left}
 use Rattle.std.proofs.lemmas.Option.{get_or_from_slice_get, same_Some, slice_get-get_or, slice_get_within}
 use Rattle.drum_core.specs.declared.word.Word.{Word}
-use Rattle.drum_machine.specs.Calls.{open_after}
 use Rattle.drum_times.specs.declared.notes.call.Call.{Call}
 use Rattle.drum_times.specs.Allowed.{Notes}
+use Rattle.drum_machine.specs.Calls.{open_after}
+use Rattle.drum_order.specs.Graph.{AreDifferent}
+use Rattle.drum_order.proofs.Lists.{contains_cases, contains_from_get, contains_here, contains_none, contains_there}
 use Rattle.drum_flow.specs.Executed.{each_place, may_go, onward, successors, with_new, AreAllNodes}
 use Rattle.drum_flow.specs.Flow.{AreFound}
-use Rattle.drum_flow.specs.Graph.{AreDifferent}
 use Rattle.drum_flow.specs.Hops as flow
 use Rattle.drum_flow.specs.Hops.{edge_between, hops, IsEdge, IsLink, IsNode}
-use Rattle.drum_flow.proofs.Acceptances.{one_reached}
 use Rattle.drum_flow.proofs.Additions.{with_new_append}
 use Rattle.drum_flow.proofs.HeldNodes.{one_onward}
 use Rattle.drum_flow.proofs.Links.{may_go_law}
-use Rattle.drum_flow.proofs.Lists.{contains_cases, contains_from_get, contains_here, contains_none, contains_there}
 use Rattle.drum_flow.proofs.Orders.{any_contains, has_reached, hop_there, node_of_place, reached_next, reached_only, target_there}
 use Rattle.drum_flow.proofs.Orders.{with_new_has, with_new_only}
+use Rattle.drum_acceptance.proofs.Acceptances.{one_reached}
 use Rattle.drum_graph.specs.Graph.{goes_on, is_taken, nexts}
 use Rattle.drum_graph.specs.GraphOf.{AreAt}
 

@@ -4,12 +4,11 @@ use Rattle.std.proofs.Common.{Option, Some, None, Result, Ok, Err, subst}
 use Rattle.std.specs.Prelude.{slice_get}
 use Rattle.std.proofs.lemmas.Option.{get_or_from_slice_get, slice_get-get_or, slice_get_within}
 use Rattle.drum_core.specs.declared.location.Location.{Location}
-use Rattle.drum_flow.proofs.Alterations.{number_at}
-use Rattle.drum_flow.proofs.Founds.{numbers}
+use Rattle.drum_times.specs.declared.notes.mark.Mark.{Mark}
+use Rattle.drum_flow.proofs.Founds.{number_at, numbers}
 use Rattle.drum_lines.specs.declared.failed_write.WriteFault.{WriteFault}
 use Rattle.drum_lines.specs.Sent.{IsSent}
 use Rattle.drum_lines.proofs.Sending.{IsSent-cut, IsSent-then}
-use Rattle.drum_times.specs.declared.notes.mark.Mark.{Mark}
 use Rattle.drum_graph.specs.GraphText.{mark_label, mark_text}
 
 -- the name of a box, its label and its style, piece by piece

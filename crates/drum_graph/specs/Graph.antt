@@ -10,10 +10,10 @@ use Rattle.drum_times.specs.Allowed as lists
 use Rattle.drum_times.specs.Allowed.{Notes, allowed}
 use Rattle.drum_machine.specs.Ways.{Way, early, to, late}
 use Rattle.drum_machine.specs.Writes.{writes}
+use Rattle.drum_order.specs.Search.{last_of}
 use Rattle.drum_flow.specs.Executed.{each_place, may_go, successors, with_new, AreAllNodes}
 use Rattle.drum_flow.specs.Hops as flow
 use Rattle.drum_flow.specs.Hops.{edge_between, hops}
-use Rattle.drum_flow.specs.Search.{last_of}
 
 -- what is drawn as a box: an executed word, and in an outline those behind it, to which it goes
 -- straight on; then its next ones are those of the last word

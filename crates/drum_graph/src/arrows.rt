@@ -13,7 +13,8 @@ ghost use Rattle.drum_graph.specs.GraphText.{written_text};
 
 use crate::loops::Loops;
 use crate::node::Node;
-use drum_core::{Location, Output};
+use drum_core::Location;
+use drum_devices::Output;
 use drum_flow::executed::Executed;
 use drum_lines::{WriteFault, four_digits, name_pieces, send};
 use drum_times::Mark;

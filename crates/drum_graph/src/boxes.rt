@@ -8,7 +8,8 @@ ghost use Rattle.drum_graph.specs.GraphText.{box_text, border_text, content_text
 ghost use Rattle.drum_graph.specs.GraphText.{span_text, style_text};
 
 use crate::node::Node;
-use drum_core::{Location, Output};
+use drum_core::Location;
+use drum_devices::Output;
 use drum_lines::{WriteFault, four_digits, send, two_digits};
 use itoa::Buffer;
 

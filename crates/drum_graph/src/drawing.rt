@@ -11,7 +11,8 @@ use crate::boxes::send_box;
 use crate::graph::Graph;
 use crate::loops::Loops;
 use crate::node::Node;
-use drum_core::{Location, Output};
+use drum_core::Location;
+use drum_devices::Output;
 use drum_lines::{WriteFault, four_digits, send};
 use drum_times::Mark;
 

@@ -2,11 +2,12 @@
 
 ghost use Rattle.std.specs.Prelude.{◌≡◌, ◌||◌, ◌&&◌, is_some};
 ghost use Rattle.std.specs.List.{list_all};
-ghost use Rattle.drum_core.specs.Loads.{loads_in};
+ghost use Rattle.drum_deck.specs.Loads.{loads_in};
 ghost use Rattle.drum_core.specs.Op.{op_of};
 ghost use Rattle.drum_graph.specs.Graph as said;
 
-use drum_core::{Deck, Location, Op};
+use drum_core::{Location, Op};
+use drum_deck::Deck;
 use drum_flow::place::is_listed;
 use drum_times::Notes;
 

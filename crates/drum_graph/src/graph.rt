@@ -3,7 +3,8 @@ ghost use Rattle.std.specs.Prelude.{◌≤◌, vec_len};
 use crate::loops::Loops;
 use crate::node::Node;
 use crate::outline::boxes_of;
-use drum_core::{Deck, Location};
+use drum_core::Location;
+use drum_deck::Deck;
 use drum_flow::{Flow, Refusal, discover};
 use drum_loops::closing_edges;
 use drum_times::Notes;
@@ -21,7 +22,7 @@ pub struct Graph {
 
 impl Graph {
     ghost use Rattle.std.specs.Prelude.{◌≡◌, IfOk, IfErr, List, map};
-    ghost use Rattle.drum_core.specs.Loads.{loads_in, start_in};
+    ghost use Rattle.drum_deck.specs.Loads.{loads_in, start_in};
     ghost use Rattle.drum_flow.specs.Executed.{each_place, AreAllNodes};
     ghost use Rattle.drum_flow.specs.Flow.{executed_in, nodes_of as reached_in, of_flow};
     ghost use Rattle.drum_flow.specs.Refused.{IsDiscoveryRefusal};

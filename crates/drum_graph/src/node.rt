@@ -31,7 +31,7 @@ pub(crate) struct Node {
 
 impl Node {
     ghost use Rattle.std.specs.Prelude.{◌≡◌, IfOk, OnOk, []};
-    ghost use Rattle.drum_core.specs.Loads.{loads_in};
+    ghost use Rattle.drum_deck.specs.Loads.{loads_in};
     ghost use Rattle.drum_flow.specs.Executed.{each_place, with_new, AreAllNodes};
     ghost use Rattle.drum_flow.specs.Flow.{executed_in, nodes_of, of_flow};
     ghost use Rattle.drum_flow.specs.Found.{places_of};

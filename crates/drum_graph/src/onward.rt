@@ -1,7 +1,7 @@
 //! Where the instructions of a location go on, as the nodes of the flow graph that stand there do.
 
 ghost use Rattle.std.specs.Prelude.{◌≡◌, ◌<◌, length, slice_get, IfOk, Some};
-ghost use Rattle.drum_core.specs.Loads.{loads_in};
+ghost use Rattle.drum_deck.specs.Loads.{loads_in};
 ghost use Rattle.drum_flow.specs.Executed.{may_go as may_go_along, AreAllNodes};
 ghost use Rattle.drum_flow.specs.Flow.{nodes_of, of_flow};
 ghost use Rattle.drum_flow.specs.Found.{places_of};

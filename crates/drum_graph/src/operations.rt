@@ -1,11 +1,12 @@
 //! The operations that are allowed at a location.
 
 ghost use Rattle.std.specs.Prelude.{◌≡◌, ◌≤◌, [], ◌∷◌, IfOk, OnOk, vec_len};
-ghost use Rattle.drum_core.specs.Loads.{loads_in};
+ghost use Rattle.drum_deck.specs.Loads.{loads_in};
 ghost use Rattle.drum_flow.specs.Executed.{with_new};
 ghost use Rattle.drum_graph.specs.Graph as said;
 
-use drum_core::{Deck, Location};
+use drum_core::Location;
+use drum_deck::Deck;
 use drum_flow::patterns::Patterns;
 use drum_times::Notes;
 use std::alloc::{AllocError, Global};

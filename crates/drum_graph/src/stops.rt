@@ -2,14 +2,15 @@
 
 ghost use Rattle.std.specs.Prelude.{◌≡◌};
 ghost use Rattle.std.specs.List.{list_any};
-ghost use Rattle.drum_core.specs.Loads.{loads_in};
+ghost use Rattle.drum_deck.specs.Loads.{loads_in};
 ghost use Rattle.drum_machine.specs.WaysLeft.{ways_left};
 ghost use Rattle.drum_times.specs.Allowed.{matching};
 ghost use Rattle.drum_graph.specs.Graph as said;
 ghost use Rattle.drum_graph.specs.Graph.{stops};
 ghost use Rattle.drum_graph.specs.GraphOf.{has_stop_by};
 
-use drum_core::{Deck, Location};
+use drum_core::Location;
+use drum_deck::Deck;
 use drum_flow::alike::same_ways_end;
 use drum_flow::patterns::{Patterns, instruction_of};
 use drum_machine::{Way, Ways};

@@ -1,7 +1,7 @@
 //! The executed words that the instructions of a location write.
 
 ghost use Rattle.std.specs.Prelude.{◌≡◌, ◌<◌, [], ◌∷◌, IfOk, OnOk, filter, flat_map};
-ghost use Rattle.drum_core.specs.Loads.{loads_in};
+ghost use Rattle.drum_deck.specs.Loads.{loads_in};
 ghost use Rattle.drum_times.specs.Allowed.{matching};
 ghost use Rattle.drum_flow.specs.Executed.{with_new};
 ghost use Rattle.drum_flow.specs.Flow.{executed_in};

@@ -7,7 +7,7 @@ use Rattle.std.proofs.lemmas.Grind.{pow_more}
 use Rattle.std.proofs.lemmas.List.{append-nil, length-take-le, length-drop, take-append-drop}
 use Rattle.drum_core.specs.Numeral.{digits_of}
 use Rattle.drum_core.proofs.Numerals.{length-digits_of}
-use Rattle.drum_core.proofs.DeckLaws.{digits_of-one}
+use Rattle.drum_deck.proofs.DeckLaws.{digits_of-one}
 
 -- the digits of two numbers, one behind the other, are those of one number
 pub digits_join : (k j a b : ℕ) → b < 10 ^ j → digits_of (k + j) (a * 10 ^ j + b) ≡ digits_of k a ++ digits_of j b

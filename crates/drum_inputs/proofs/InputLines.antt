@@ -7,7 +7,7 @@ use Rattle.std.specs.Prelude.{codes, if◌then◌else◌}
 use Rattle.drum_core.specs.declared.word.Word.{Word}
 use Rattle.drum_core.specs.Numeral.{digits_of}
 use Rattle.drum_core.specs.Word.{signed, spelling, spaced}
-use Rattle.drum_core.proofs.LineCases.{card_cases, comment_cases, least_or_none, list_cases, words_cases}
+use Rattle.drum_deck.proofs.LineCases.{card_cases, comment_cases, least_or_none, list_cases, words_cases}
 use Rattle.drum_inputs.specs.InputsText.{Line, comment, angle, switches, distributor, accumulator, latch, programmed}
 use Rattle.drum_inputs.specs.InputsText.{on_overflow, words, card, wait, IsLine}
 

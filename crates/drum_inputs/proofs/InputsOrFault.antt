@@ -4,10 +4,10 @@ use Rattle.std.proofs.Common.{◌⊎◌, Option, Some, None}
 use Rattle.std.proofs.lemmas.Bool.{cases_lt, cases_eq}
 use Rattle.std.specs.Prelude.{Any, IsSome}
 use Rattle.drum_core.specs.declared.word.Word.{Word}
-use Rattle.drum_core.specs.Lines.{lines_of}
-use Rattle.drum_core.proofs.FirstFaults as firsts
-use Rattle.drum_core.proofs.FirstFaults.{all_or_first}
-use Rattle.drum_core.proofs.LineCases.{least_or_none, longer_or_not}
+use Rattle.drum_deck.specs.Lines.{lines_of}
+use Rattle.drum_deck.proofs.FirstFaults as firsts
+use Rattle.drum_deck.proofs.FirstFaults.{all_or_first}
+use Rattle.drum_deck.proofs.LineCases.{least_or_none, longer_or_not}
 use Rattle.drum_inputs.specs.declared.fault.InputFault.{InputFault}
 use Rattle.drum_inputs.specs.declared.fault.InputFault.TheVariants as faults
 use Rattle.drum_inputs.specs.InputsText.{Line, comment, angle, switches, distributor, accumulator, latch, programmed}

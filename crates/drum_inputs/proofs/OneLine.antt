@@ -3,10 +3,10 @@ use Rattle.std.proofs.Common.{◌≡◌, ℕ, ◌+◌, ◌/◌, ◌%◌, ◌^◌
 use Rattle.std.proofs.Common.{refl, ap, sym, ◌∙◌, subst, arith, ℤ}
 use Rattle.std.proofs.lemmas.Bool.{lt-ltb}
 use Rattle.std.specs.Prelude.{◌==◌}
-use Rattle.drum_core.specs.DeckText as deck
+use Rattle.drum_deck.specs.DeckText as deck
 use Rattle.drum_core.specs.Numeral.{digits_of}
 use Rattle.drum_core.specs.Word.{signed}
-use Rattle.drum_core.proofs.DeckLaws as decks
+use Rattle.drum_deck.proofs.DeckLaws as decks
 use Rattle.drum_core.proofs.Numerals.{length-digits_of}
 use Rattle.drum_inputs.specs.InputsText.{Line, comment, angle, switches, distributor, accumulator, latch, programmed}
 use Rattle.drum_inputs.specs.InputsText.{on_overflow, words, card, wait, IsLine}

@@ -8,7 +8,7 @@ use Rattle.std.proofs.lemmas.List.Quantifiers.{all_pairs_push}
 use Rattle.std.specs.Prelude.{All, AllPairs}
 use Rattle.drum_core.specs.declared.location.Location.{Location}
 use Rattle.drum_core.specs.declared.word.Word.{Word}
-use Rattle.drum_machine.specs.Setup.{HaveOwnLocations}
+use Rattle.drum_emulator.specs.Setup.{HaveOwnLocations}
 use Rattle.drum_inputs.specs.Inputs.{given_word}
 use Rattle.drum_inputs.specs.InputsText.{Line, comment, angle, switches, distributor, accumulator, latch, programmed}
 use Rattle.drum_inputs.specs.InputsText.{on_overflow, words, card, wait, IsPastDrum, Repeats, AreSoundBehind, AreSound}

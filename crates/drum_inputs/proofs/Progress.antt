@@ -4,9 +4,9 @@ use Rattle.std.proofs.Common.{length-append, append_assoc}
 use Rattle.std.proofs.lemmas.Bool.{cases_lt}
 use Rattle.std.proofs.lemmas.List.{append-nil}
 use Rattle.std.specs.Prelude.{Option, Some, None, IfSome, Result, Ok, Err, IfOk, IfErr}
-use Rattle.drum_core.specs.Lines.{lines_of}
-use Rattle.drum_core.proofs.FirstFaults.{say_append}
-use Rattle.drum_core.proofs.LineLemmas.{longer_by_bytes}
+use Rattle.drum_deck.specs.Lines.{lines_of}
+use Rattle.drum_deck.proofs.FirstFaults.{say_append}
+use Rattle.drum_deck.proofs.LineLemmas.{longer_by_bytes}
 use Rattle.drum_inputs.specs.declared.fault.InputFault.{InputFault}
 use Rattle.drum_inputs.specs.declared.fault.InputFault.TheVariants as faults
 use Rattle.drum_inputs.specs.declared.inputs.Inputs.{Inputs}

@@ -2,9 +2,9 @@
 use Rattle.std.proofs.Common.{◌≡◌, ℕ, List, [], ◌∷◌, ◌++◌, refl, ap, sym, ◌∙◌, subst}
 use Rattle.std.proofs.Common.{append_assoc}
 use Rattle.std.proofs.lemmas.List.{append-nil}
-use Rattle.drum_core.proofs.FirstFaults as firsts
-use Rattle.drum_core.proofs.FirstFaults.{HasOneFault}
-use Rattle.drum_core.specs.Lines.{lines_of}
+use Rattle.drum_deck.proofs.FirstFaults as firsts
+use Rattle.drum_deck.proofs.FirstFaults.{HasOneFault}
+use Rattle.drum_deck.specs.Lines.{lines_of}
 use Rattle.drum_inputs.specs.declared.fault.InputFault.{InputFault}
 use Rattle.drum_inputs.specs.declared.fault.InputFault.TheVariants as faults
 use Rattle.drum_inputs.specs.InputsText.{Line, IsLine, Say, IsPastDrum, Repeats, AreSoundBehind, AreSound, AreInputs}

@@ -4,7 +4,7 @@ use Rattle.drum_core.specs.declared.location.Location.{Location}
 use Rattle.drum_core.specs.declared.word.Word.{Word}
 use Rattle.drum_core.specs.Word.{word}
 use Rattle.drum_machine.specs.declared.card.Card.{Card}
-use Rattle.drum_machine.specs.Feed.{cards_left, waits_left}
+use Rattle.drum_emulator.specs.Feed.{cards_left, waits_left}
 use Rattle.drum_inputs.specs.declared.inputs.Inputs.{Inputs}
 use Rattle.drum_inputs.specs.InputsText.{Line, first_said, angle_in, switches_in, distributor_in}
 use Rattle.drum_inputs.specs.InputsText.{accumulator_in, latch_in, programmed_in, on_overflow_in}

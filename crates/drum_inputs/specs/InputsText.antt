@@ -5,8 +5,8 @@ use Rattle.std.specs.Prelude.{codes, Any, Bool, true, false, if◌then◌else◌
 use Rattle.std.specs.Prelude.{IsSome, ℤ}
 use Rattle.std.specs.Option.{option_or}
 use Rattle.drum_core.specs.declared.word.Word.{Word}
-use Rattle.drum_core.specs.DeckText as deck
-use Rattle.drum_core.specs.Lines.{lines_of, IsLonger, EachSays, HasFirstFault}
+use Rattle.drum_deck.specs.DeckText as deck
+use Rattle.drum_deck.specs.Lines.{lines_of, IsLonger, EachSays, HasFirstFault}
 use Rattle.drum_core.specs.Numeral.{digits_of}
 use Rattle.drum_core.specs.Word.{signed, spelling, spaced}
 use Rattle.drum_inputs.specs.declared.fault.InputFault.{InputFault}

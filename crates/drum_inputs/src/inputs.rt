@@ -1,4 +1,4 @@
-use drum_machine::{Feed, Setup};
+use drum_emulator::{Feed, Setup};
 
 /// What a machine is set up with and fed with for a replay.
 #[derive(Debug, Drop)]

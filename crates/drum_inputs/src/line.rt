@@ -7,8 +7,9 @@ ghost use Rattle.drum_inputs.specs.Said.{said};
 use crate::digits::read_wait;
 use crate::key::behind;
 use crate::setting::Setting;
-use drum_core::spaced::read_words;
-use drum_core::{DeckCard, Location, Word};
+use drum_core::{Location, Word};
+use drum_deck::DeckCard;
+use drum_deck::spaced::read_words;
 use drum_machine::Card;
 
 /// How many words a card has.

@@ -8,7 +8,8 @@ ghost use Rattle.drum_inputs.specs.InputsText.{Line, IsTooLong, AreInputs, IsRef
 use crate::fault::InputFault;
 use crate::inputs::Inputs;
 use crate::stating::Stating;
-use drum_core::{Input, Lines, WholeError, is_longer, read_whole};
+use drum_deck::{Lines, is_longer};
+use drum_devices::{Input, WholeError, read_whole};
 use std::alloc::Global;
 
 /// Reads the inputs of a replay. The whole text is read first, 804,001 bytes at most. A text of as

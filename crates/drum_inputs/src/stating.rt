@@ -8,8 +8,10 @@ use crate::fault::InputFault;
 use crate::inputs::Inputs;
 use crate::line::Line;
 use crate::settings::Settings;
-use drum_core::{DeckCard, Location, Word};
-use drum_machine::{Card, Feed, Setup};
+use drum_core::{Location, Word};
+use drum_deck::DeckCard;
+use drum_emulator::{Feed, Setup};
+use drum_machine::Card;
 use std::alloc::{AllocError, Global};
 
 /// Inputs of which some lines have been taken.

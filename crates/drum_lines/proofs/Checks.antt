@@ -1,7 +1,7 @@
 -- Definitions evaluated, with answers that were worked out apart from them.
 use Rattle.std.proofs.Common.{◌≡◌, true, false, [], ◌∷◌, flat_map, None, Some, refl, arith}
 use Rattle.std.specs.Prelude.{codes}
-use Rattle.drum_core.specs.declared.deck.fault.DeckFault.TheVariants as of_deck
+use Rattle.drum_deck.specs.declared.deck.fault.DeckFault.TheVariants as of_deck
 use Rattle.drum_core.specs.declared.location.Location.{Location}
 use Rattle.drum_core.specs.Location.{IsLocation}
 use Rattle.drum_core.specs.Word.{spelling, word}

@@ -1,8 +1,8 @@
 -- How the program ends after a fault: a part whose bytes can't be had, and lack of memory, are
 -- failures; all else is a refusal.
 use Rattle.std.specs.Prelude.{ℕ, Result, Ok, Err}
-use Rattle.drum_core.specs.declared.deck.fault.DeckFault.{DeckFault}
-use Rattle.drum_core.specs.declared.deck.fault.DeckFault.TheVariants as deck
+use Rattle.drum_deck.specs.declared.deck.fault.DeckFault.{DeckFault}
+use Rattle.drum_deck.specs.declared.deck.fault.DeckFault.TheVariants as deck
 use Rattle.drum_flow.specs.declared.refusal.Refusal as refused
 use Rattle.drum_flow.specs.declared.refusal.Refusal.TheVariants as refusal
 use Rattle.drum_inputs.specs.declared.fault.InputFault.{InputFault}

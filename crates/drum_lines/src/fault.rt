@@ -3,7 +3,8 @@ ghost use Rattle.drum_lines.specs.FaultStatus.{status_after};
 
 use crate::part::{Part, PartFault};
 use crate::status::Status;
-use drum_core::{DeckFault, Location};
+use drum_core::Location;
+use drum_deck::DeckFault;
 use drum_flow::Refusal;
 use drum_inputs::InputFault;
 use drum_times::NoteFault;

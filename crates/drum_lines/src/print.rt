@@ -1,7 +1,7 @@
 //! What goes out, line by line, with no memory.
 
 ghost use Rattle.std.specs.Prelude.{◌≡◌, ◌+◌, ◌^◌, ◌≤◌, ◌++◌, length, codes, decimal};
-ghost use Rattle.drum_core.specs.Device.{joined};
+ghost use Rattle.drum_devices.specs.Device.{joined};
 ghost use Rattle.drum_core.specs.Numeral.{digits_of};
 ghost use Rattle.drum_lines.specs.BoundText.{bound_text};
 ghost use Rattle.drum_lines.specs.Sent.{IsSent, IsWritten, fails_by};
@@ -16,7 +16,8 @@ mod refusal_line;
 pub mod verdict_line;
 
 use crate::failed_write::WriteFault;
-use drum_core::{Location, Output, write_pieces, write_whole};
+use drum_core::Location;
+use drum_devices::{Output, write_pieces, write_whole};
 use itoa::Buffer;
 
 /// Writes the line of a bound, in word times.

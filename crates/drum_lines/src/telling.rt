@@ -16,7 +16,7 @@ use crate::print::verdict_line::write_verdict;
 use crate::print::{write_bound, write_text};
 use crate::status::Status;
 use crate::verdict::Verdict;
-use drum_core::Output;
+use drum_devices::Output;
 
 /// How the program ends once a result was written.
 pub fn ended(written: Result<(), WriteFault>, done: Status) -> Status

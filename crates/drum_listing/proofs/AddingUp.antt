@@ -5,16 +5,16 @@ use Rattle.std.proofs.lemmas.List.Sums.{sum_by-cons}
 use Rattle.std.specs.Prelude.{Contains, slice_get, sum_by, not, if◌then◌else◌}
 use Rattle.drum_core.specs.declared.op.Op.{Op}
 use Rattle.drum_core.specs.Op.{op_of, operand_of, is_operand}
+use Rattle.drum_times.specs.declared.entry.Entry.{Entry}
 use Rattle.drum_rotation.specs.Recurs.{never_earlier}
 use Rattle.drum_rotation.specs.Waits.{parity_recurs}
-use Rattle.drum_times.specs.declared.entry.Entry.{Entry}
 use Rattle.drum_machine.specs.Counts.{AreWithin, after_pass}
 use Rattle.drum_machine.specs.Timing.{ended, found, reached, ready}
 use Rattle.drum_machine.specs.Ways.{Way, early, to, late}
+use Rattle.drum_order.proofs.Lists.{contains_at, contains_cases, contains_here, contains_none, contains_there}
 use Rattle.drum_flow.specs.Walk.{FollowHop, end_by, IsTimed, IsWalkFrom, Setting, Taken, time_from}
-use Rattle.drum_flow.proofs.Lists.{contains_at, contains_cases, contains_here, contains_none, contains_there}
-use Rattle.drum_bound.specs.Visited.{IsWalkOf, Visited, visited}
 use Rattle.drum_flow.proofs.LongestLaws.{end_later}
+use Rattle.drum_walks.specs.Visited.{IsWalkOf, Visited, visited}
 use Rattle.drum_listing.specs.Moments.{is_early, moments_with}
 use Rattle.drum_listing.specs.Waits.{AreDearestFirst, alike, between, for_data, for_instruction, is_alike, time_alike, time_of}
 use Rattle.drum_listing.proofs.SameKinds.{alike_equiv}

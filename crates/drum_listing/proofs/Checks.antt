@@ -7,14 +7,14 @@ use Rattle.drum_core.specs.declared.op.Op.TheVariants.{LoadDistributor}
 use Rattle.drum_core.specs.declared.parity.Parity.TheVariants.{Any}
 use Rattle.drum_core.specs.declared.word.Word.{Word}
 use Rattle.drum_core.specs.Instruction.{instruction_of}
-use Rattle.drum_rotation.specs.Moment.{first}
 use Rattle.drum_core.specs.Word.{word}
 use Rattle.drum_times.specs.declared.entry.Entry.{Entry}
 use Rattle.drum_times.specs.Entries.{blank}
+use Rattle.drum_rotation.specs.Moment.{first}
 use Rattle.drum_machine.specs.Run.{Stride}
 use Rattle.drum_machine.specs.Step.{State, step}
 use Rattle.drum_machine.specs.Ways.{Way, early, to, late}
-use Rattle.drum_bound.specs.Visited.{Visited}
+use Rattle.drum_walks.specs.Visited.{Visited}
 use Rattle.drum_listing.specs.declared.moments.Moments.{Moments}
 use Rattle.drum_listing.specs.Moments.{later, moments_of}
 use Rattle.drum_listing.specs.Pieces.{times_text}

@@ -3,13 +3,13 @@ use Rattle.std.proofs.Common.{◌≡◌, ℕ, ◌+◌, ◌-◌, ◌%◌, ◌<◌
 use Rattle.std.proofs.lemmas.Bool.{ltb-true}
 use Rattle.std.specs.Prelude.{if◌then◌else◌, nat_lt, not}
 use Rattle.drum_core.specs.declared.op.Op.{Op}
-use Rattle.drum_rotation.specs.Moment.{first}
 use Rattle.drum_core.specs.Op.{is_operand, op_of, operand_of}
-use Rattle.drum_rotation.proofs.Waited.{at_angle, drum_at_angle}
 use Rattle.drum_times.specs.declared.entry.Entry.{Entry}
+use Rattle.drum_rotation.specs.Moment.{first}
+use Rattle.drum_rotation.proofs.Waited.{at_angle, drum_at_angle}
 use Rattle.drum_machine.specs.Timing.{found, reached, ready, waits_for_operand}
 use Rattle.drum_machine.specs.Ways.{Way}
-use Rattle.drum_bound.specs.Visited.{Visited}
+use Rattle.drum_walks.specs.Visited.{Visited}
 use Rattle.drum_listing.specs.Moments.{is_early, moments_with}
 use Rattle.drum_listing.specs.Waits.{data_angle, data_at, is_alike, on_drum}
 use Rattle.drum_listing.proofs.SameKinds.{in_common}

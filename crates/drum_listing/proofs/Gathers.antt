@@ -8,7 +8,7 @@ use Rattle.drum_lines.specs.declared.failed_write.WriteFault.{WriteFault}
 use Rattle.drum_lines.specs.Sent.{IsSent}
 use Rattle.drum_lines.proofs.Sending.{IsSent-then}
 use Rattle.drum_listing.specs.Page.{HasPassed}
-use Rattle.drum_core.proofs.Bytes.{pieces_more}
+use Rattle.drum_devices.proofs.Bytes.{pieces_more}
 
 -- as many as there are, or more, are all
 pub take_all : {X : Type 0} (xs : List X) (n : ℕ) → length xs ≤ n → take n xs ≡ xs

@@ -9,7 +9,7 @@ use Rattle.std.specs.Map.{keys_of, values_of}
 use Rattle.std.specs.Ordering.{ordering_then}
 use Rattle.std.specs.Prelude.{Contains, option_map, slice_get}
 use Rattle.indexmap.specs.IndexMap.{IndexMap, IsUnique}
-use Rattle.drum_flow.proofs.Lists.{contains_from_get}
+use Rattle.drum_order.proofs.Lists.{contains_from_get}
 use Rattle.drum_listing.specs.declared.waits.kind.Kind.{Kind}
 use Rattle.drum_listing.specs.WaitsOf.{same_kind}
 use Rattle.drum_listing.proofs.SameKinds.{same_kind_equiv}

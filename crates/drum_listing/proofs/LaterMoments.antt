@@ -5,12 +5,12 @@ use Rattle.std.specs.Prelude.{if◌then◌else◌, not, option_map}
 use Rattle.drum_core.specs.declared.instruction.Instruction.{Instruction}
 use Rattle.drum_core.specs.declared.op.Op.{Op}
 use Rattle.drum_core.specs.Op.{is_operand, op_of, operand_of}
+use Rattle.drum_times.specs.declared.entry.Entry.{Entry}
 use Rattle.drum_rotation.specs.Recurs.{periodic}
 use Rattle.drum_rotation.specs.Waits.{available_recurs}
-use Rattle.drum_times.specs.declared.entry.Entry.{Entry}
 use Rattle.drum_machine.specs.Timing.{found, reached, ready, waits_for_operand}
 use Rattle.drum_machine.specs.Ways.{Way, early, to, late}
-use Rattle.drum_bound.specs.Visited.{Visited}
+use Rattle.drum_walks.specs.Visited.{Visited}
 use Rattle.drum_listing.specs.declared.moments.Moments.{Moments}
 use Rattle.drum_listing.specs.Moments.{is_early, later, moments_of, moments_with}
 use Rattle.drum_listing.specs.Waits.{between, data_angle, data_at, for_data, for_instruction}

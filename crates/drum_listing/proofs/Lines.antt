@@ -14,7 +14,7 @@ use Rattle.drum_machine.specs.Contents.{Contents}
 use Rattle.drum_machine.specs.Step.{contents_after, fetched, instruction_in}
 use Rattle.drum_machine.specs.Ways.{Way, early, to, late}
 use Rattle.drum_flow.specs.RunHops.{hop_of}
-use Rattle.drum_bound.specs.Visited.{Visited, visited}
+use Rattle.drum_walks.specs.Visited.{Visited, visited}
 use Rattle.drum_listing.specs.declared.moments.Moments.{Moments}
 use Rattle.drum_listing.specs.Moments.{later, moments_of}
 use Rattle.drum_listing.specs.MomentsText.{moment_text, moments_text}

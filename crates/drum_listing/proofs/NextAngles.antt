@@ -5,16 +5,16 @@ use Rattle.std.proofs.lemmas.Bool.{ltb-true}
 use Rattle.std.specs.Prelude.{if◌then◌else◌, nat_lt}
 use Rattle.drum_core.specs.declared.instruction.Instruction.{Instruction}
 use Rattle.drum_core.specs.declared.op.Op.{Op}
-use Rattle.drum_rotation.specs.Available.{is_available}
-use Rattle.drum_rotation.specs.Moment.{first}
 use Rattle.drum_core.specs.Op.{op_of}
 use Rattle.drum_times.specs.declared.entry.Entry.{Entry}
+use Rattle.drum_rotation.specs.Available.{is_available}
+use Rattle.drum_rotation.specs.Moment.{first}
 use Rattle.drum_machine.specs.Ways.{Way, early, to, late}
 use Rattle.drum_flow.specs.Longest.{longest, most_units, most_wait}
 use Rattle.drum_flow.specs.Walk.{Setting, end_by}
 use Rattle.drum_flow.proofs.FromAngles.{found_angle, leap_time}
 use Rattle.drum_flow.proofs.LongestLaws.{longest_from_found, longest_of}
-use Rattle.drum_bound.specs.Visited.{IsLongest, Visited}
+use Rattle.drum_walks.specs.Visited.{IsLongest, Visited}
 use Rattle.drum_listing.specs.Waits.{is_alike, next_angle, next_at, on_drum}
 use Rattle.drum_listing.proofs.SameKinds.{in_common}
 

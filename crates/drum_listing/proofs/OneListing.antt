@@ -10,9 +10,9 @@ use Rattle.drum_times.specs.declared.entry.Entry.{Entry}
 use Rattle.drum_machine.specs.Counts.{AreWithin, after_pass}
 use Rattle.drum_machine.specs.Timing.{ready}
 use Rattle.drum_machine.specs.Ways.{Way, early, to, late}
+use Rattle.drum_order.proofs.Lists.{contains_cases, contains_from_get, contains_here, contains_none, contains_there}
 use Rattle.drum_flow.specs.Walk.{IsTimed, IsWalkFrom, Setting, Taken, end_by}
-use Rattle.drum_flow.proofs.Lists.{contains_cases, contains_from_get, contains_here, contains_none, contains_there}
-use Rattle.drum_bound.specs.Visited.{IsWalkOf, Visited, visited}
+use Rattle.drum_walks.specs.Visited.{IsWalkOf, Visited, visited}
 use Rattle.drum_listing.specs.Waits.{AreDearestFirst, ComesBefore, IsFirst, is_alike, time_alike}
 use Rattle.drum_listing.proofs.AddingUp.{ends_behind, follow}
 use Rattle.drum_listing.proofs.SameKinds.{alike_equiv}

@@ -8,9 +8,9 @@ use Rattle.drum_machine.specs.declared.ways.Way as code
 use Rattle.drum_machine.specs.declared.ways.Way.TheVariants.{Early, To, Late}
 use Rattle.drum_machine.specs.Ways.{Way, early, to, late}
 use Rattle.drum_machine.specs.WaysLeft.{seen_way}
+use Rattle.drum_walks.specs.Visited.{Visited}
 use Rattle.drum_listing.specs.contracts.waits.kind.KindPartialEq as kinds
 use Rattle.drum_listing.specs.declared.waits.kind.Kind.{Kind}
-use Rattle.drum_bound.specs.Visited.{Visited}
 use Rattle.drum_listing.specs.Waits.{is_alike, is_same_way}
 use Rattle.drum_listing.specs.WaitsOf.{same_kind}
 

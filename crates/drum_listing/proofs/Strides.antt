@@ -4,15 +4,15 @@ use Rattle.drum_core.specs.declared.instruction.Instruction.{Instruction}
 use Rattle.drum_core.specs.declared.location.Location.{Location}
 use Rattle.drum_core.specs.declared.word.Word.{Word}
 use Rattle.drum_core.specs.Instruction.{instruction_of}
-use Rattle.drum_machine.specs.declared.step.Step.TheVariants.{Went, Stopped}
 use Rattle.drum_machine.specs.declared.why.Why as whys
 use Rattle.drum_machine.specs.Ending.{ended_by, stops_by}
-use Rattle.drum_machine.specs.Machine.{Tells}
 use Rattle.drum_machine.specs.Run.{Stride, time_after}
 use Rattle.drum_machine.specs.Step.{Stepped, on, stopped, fetched, instruction_in}
 use Rattle.drum_machine.specs.Ways.{Way, to}
+use Rattle.drum_emulator.specs.declared.step.Step.TheVariants.{Went, Stopped}
+use Rattle.drum_emulator.specs.Machine.{Tells}
 use Rattle.drum_flow.specs.RunHops.{hop_of}
-use Rattle.drum_bound.specs.Visited.{visited}
+use Rattle.drum_walks.specs.Visited.{visited}
 
 -- a visit of the hop's parts is the hop
 same_visit : (stride : Stride) (place begun ended : ℕ) (ins : Instruction) (way : Way)

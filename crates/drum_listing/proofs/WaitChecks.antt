@@ -6,12 +6,12 @@ use Rattle.drum_core.specs.declared.op.Op.{Op}
 use Rattle.drum_core.specs.declared.op.Op.TheVariants.{LoadDistributor}
 use Rattle.drum_core.specs.declared.parity.Parity.TheVariants.{Any}
 use Rattle.drum_core.specs.Instruction.{instruction_of}
-use Rattle.drum_rotation.specs.Moment.{first}
 use Rattle.drum_core.specs.Word.{word}
 use Rattle.drum_times.specs.declared.entry.Entry.{Entry}
 use Rattle.drum_times.specs.Entries.{blank}
+use Rattle.drum_rotation.specs.Moment.{first}
 use Rattle.drum_machine.specs.Ways.{to, late}
-use Rattle.drum_bound.specs.Visited.{Visited}
+use Rattle.drum_walks.specs.Visited.{Visited}
 use Rattle.drum_listing.specs.WaitsText.{waits_text}
 
 -- 69 takes three word times before it has its data and three after, all else one in all

@@ -8,8 +8,8 @@ use Rattle.std.specs.Prelude.{Contains, codes, decimal}
 use Rattle.drum_core.specs.declared.op.Op.{Op}
 use Rattle.drum_core.specs.Op.{op_of}
 use Rattle.drum_times.specs.declared.entry.Entry.{Entry}
-use Rattle.drum_flow.proofs.Lists.{contains_here, contains_there}
-use Rattle.drum_bound.specs.Visited.{Visited}
+use Rattle.drum_order.proofs.Lists.{contains_here, contains_there}
+use Rattle.drum_walks.specs.Visited.{Visited}
 use Rattle.drum_lines.specs.declared.failed_write.WriteFault.{WriteFault}
 use Rattle.drum_lines.specs.Sent.{IsSent}
 use Rattle.drum_lines.proofs.Sending.{IsSent-cut, IsSent-then}

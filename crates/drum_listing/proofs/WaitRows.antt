@@ -8,8 +8,8 @@ use Rattle.std.specs.List.{take-map}
 use Rattle.std.specs.Prelude.{sum_by}
 use Rattle.drum_core.specs.declared.op.Op.{Op}
 use Rattle.drum_times.specs.declared.entry.Entry.{Entry}
-use Rattle.drum_bound.specs.declared.visit.Visit.{Visit}
-use Rattle.drum_bound.specs.Visited.{Visited, seen_visit}
+use Rattle.drum_walks.specs.declared.visit.Visit.{Visit}
+use Rattle.drum_walks.specs.Visited.{Visited, seen_visit}
 use Rattle.drum_listing.specs.declared.waits.kind.Kind.{Kind}
 use Rattle.drum_listing.specs.declared.waits.wait.Wait.{Wait}
 use Rattle.drum_listing.specs.Waits.{for_data, for_instruction, time_of}

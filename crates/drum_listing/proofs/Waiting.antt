@@ -3,11 +3,11 @@ use Rattle.std.proofs.Common.{◌≡◌, ℕ, ◌+◌, ◌-◌, ◌≤◌, Bool,
 use Rattle.std.specs.Prelude.{not, if◌then◌else◌}
 use Rattle.drum_core.specs.declared.op.Op.{Op}
 use Rattle.drum_core.specs.Op.{op_of, operand_of, is_operand}
+use Rattle.drum_times.specs.declared.entry.Entry.{Entry}
 use Rattle.drum_rotation.specs.Recurs.{never_earlier, within_span}
 use Rattle.drum_rotation.specs.Waits.{available_recurs}
-use Rattle.drum_times.specs.declared.entry.Entry.{Entry}
 use Rattle.drum_machine.specs.Timing.{found, ready, reached, waits_for_operand}
-use Rattle.drum_bound.specs.Visited.{Visited}
+use Rattle.drum_walks.specs.Visited.{Visited}
 use Rattle.drum_listing.specs.Moments.{is_early, moments_with}
 use Rattle.drum_listing.specs.Waits.{between, for_data, for_instruction, moments_at}
 

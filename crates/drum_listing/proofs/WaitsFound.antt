@@ -11,9 +11,9 @@ use Rattle.std.specs.Prelude.{Contains, option_map, slice_get, sum_by}
 use Rattle.indexmap.specs.IndexMap.{IndexMap, get}
 use Rattle.drum_core.specs.declared.op.Op.{Op}
 use Rattle.drum_times.specs.declared.entry.Entry.{Entry}
-use Rattle.drum_flow.proofs.Lists.{contains_at, contains_cases, contains_from_get, contains_here, contains_none, contains_there}
-use Rattle.drum_bound.specs.declared.visit.Visit.{Visit}
-use Rattle.drum_bound.specs.Visited.{AreInTime, Visited, seen_visit}
+use Rattle.drum_order.proofs.Lists.{contains_at, contains_cases, contains_from_get, contains_here, contains_none, contains_there}
+use Rattle.drum_walks.specs.declared.visit.Visit.{Visit}
+use Rattle.drum_walks.specs.Visited.{AreInTime, Visited, seen_visit}
 use Rattle.drum_bound.proofs.Lists.{contains_map}
 use Rattle.drum_listing.specs.declared.waits.Waits.{Waits}
 use Rattle.drum_listing.specs.declared.waits.kind.Kind.{Kind}

@@ -5,15 +5,15 @@ use Rattle.std.specs.Prelude.{sum_by, not, if◌then◌else◌}
 use Rattle.std.proofs.lemmas.List.Sums.{sum_by-cons}
 use Rattle.drum_core.specs.declared.op.Op.{Op}
 use Rattle.drum_core.specs.Op.{op_of, operand_of, is_operand}
+use Rattle.drum_times.specs.declared.entry.Entry.{Entry}
 use Rattle.drum_rotation.specs.Recurs.{never_earlier}
 use Rattle.drum_rotation.specs.Waits.{parity_recurs}
-use Rattle.drum_times.specs.declared.entry.Entry.{Entry}
 use Rattle.drum_machine.specs.Counts.{AreWithin, after_pass}
 use Rattle.drum_machine.specs.Timing.{ended, found, reached, ready}
 use Rattle.drum_machine.specs.Ways.{Way, early, to, late}
 use Rattle.drum_flow.specs.Longest.{longest, longest_by, most_units, most_wait, wait_by}
 use Rattle.drum_flow.specs.Walk.{end_by, IsTimed, IsWalkFrom, Setting, Taken}
-use Rattle.drum_bound.specs.Visited.{AreLongest, IsWalkOf, Visited, visited}
+use Rattle.drum_walks.specs.Visited.{AreLongest, IsWalkOf, Visited, visited}
 use Rattle.drum_listing.specs.Moments.{is_early, moments_with}
 use Rattle.drum_listing.specs.Waits.{between, for_cards, for_data, for_instruction, time_of}
 use Rattle.drum_listing.proofs.AddingUp.{follow, hop_fits, walk_takes, Fits}

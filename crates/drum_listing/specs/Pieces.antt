@@ -7,7 +7,7 @@ use Rattle.drum_core.specs.Word.{spelling}
 use Rattle.drum_core.specs.Op.{op_of}
 use Rattle.drum_machine.specs.Contents.{Contents}
 use Rattle.drum_machine.specs.Ways.{Way, early, to, late}
-use Rattle.drum_bound.specs.Visited.{Visited}
+use Rattle.drum_walks.specs.Visited.{Visited}
 use Rattle.drum_listing.specs.declared.moments.Moments.{Moments}
 use Rattle.drum_listing.specs.declared.waits.sums.Sums.{Sums}
 use Rattle.drum_listing.specs.HeldText.{acted_text, acting, registers_text, sign}

@@ -3,12 +3,12 @@ use Rattle.std.specs.Prelude.{◌≡◌, ℕ, List}
 use Rattle.drum_core.specs.declared.op.Op.{Op}
 use Rattle.drum_times.specs.declared.entry.Entry.{Entry}
 use Rattle.drum_machine.specs.declared.card.Card.{Card}
-use Rattle.drum_machine.specs.declared.machine.Machine.{Machine}
-use Rattle.drum_machine.specs.declared.step.Step.{Step}
-use Rattle.drum_machine.specs.Machine.{held_by}
-use Rattle.drum_machine.specs.Machine.{IsToldOf}
 use Rattle.drum_machine.specs.Run.{Stride}
 use Rattle.drum_machine.specs.Step.{contents_after}
+use Rattle.drum_emulator.specs.declared.machine.Machine.{Machine}
+use Rattle.drum_emulator.specs.declared.step.Step.{Step}
+use Rattle.drum_emulator.specs.Machine.{held_by}
+use Rattle.drum_emulator.specs.Machine.{IsToldOf}
 
 -- The step is that of a stride, on a drum with this angle at time 0, with `before` word times used
 -- before it; the machine is as it is after the stride, with some cards in the reader.

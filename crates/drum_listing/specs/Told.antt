@@ -1,6 +1,6 @@
 -- A hop as its line tells it.
 use Rattle.drum_machine.specs.WaysLeft.{seen_way}
-use Rattle.drum_bound.specs.Visited.{Visited}
+use Rattle.drum_walks.specs.Visited.{Visited}
 use Rattle.drum_listing.specs.declared.told.Told.{Told}
 
 -- the hop that the line is of

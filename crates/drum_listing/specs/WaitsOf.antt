@@ -6,8 +6,8 @@ use Rattle.indexmap.specs.IndexMap.{IndexMap, IsUnique, get, index_map_len}
 use Rattle.drum_core.specs.declared.op.Op.{Op}
 use Rattle.drum_times.specs.declared.entry.Entry.{Entry}
 use Rattle.drum_machine.specs.WaysLeft.{seen_way}
-use Rattle.drum_bound.specs.declared.visit.Visit.{Visit}
-use Rattle.drum_bound.specs.Visited.{Visited, seen_visit}
+use Rattle.drum_walks.specs.declared.visit.Visit.{Visit}
+use Rattle.drum_walks.specs.Visited.{Visited, seen_visit}
 use Rattle.drum_listing.specs.declared.waits.Waits.{Waits}
 use Rattle.drum_listing.specs.declared.waits.kind.Kind.{Kind}
 use Rattle.drum_listing.specs.declared.waits.sums.Sums.{Sums}

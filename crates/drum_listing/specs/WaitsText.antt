@@ -3,7 +3,7 @@
 use Rattle.std.specs.Prelude.{ℕ, ◌-◌, List, ◌++◌, length, codes, decimal, flat_map, sum_by}
 use Rattle.drum_core.specs.declared.op.Op.{Op}
 use Rattle.drum_times.specs.declared.entry.Entry.{Entry}
-use Rattle.drum_bound.specs.Visited.{Visited}
+use Rattle.drum_walks.specs.Visited.{Visited}
 use Rattle.drum_lines.specs.BoundText.{bound_text}
 use Rattle.drum_listing.specs.MomentsText.{moment_text}
 use Rattle.drum_listing.specs.Waits.{alike, data_at, for_cards, for_data, for_instruction, next_at}

@@ -5,7 +5,7 @@ use Rattle.drum_core.specs.declared.op.Op.{Op}
 use Rattle.drum_core.specs.Numeral.{digits_of}
 use Rattle.drum_times.specs.declared.entry.Entry.{Entry}
 use Rattle.drum_machine.specs.Ways.{Way, early, to, late}
-use Rattle.drum_bound.specs.Visited.{Visited}
+use Rattle.drum_walks.specs.Visited.{Visited}
 use Rattle.drum_lines.specs.BoundText.{bound_text}
 use Rattle.drum_listing.specs.Moments.{moments_of}
 use Rattle.drum_listing.specs.MomentsText.{moments_text}

@@ -11,7 +11,8 @@ ghost use Rattle.drum_listing.specs.HeldText.{acted_text, acting as acting_in, w
 
 use crate::told::Told;
 use drum_bound::Way;
-use drum_core::{Op, Output, Word};
+use drum_core::{Op, Word};
+use drum_devices::Output;
 use drum_lines::{WriteFault, four_digits, send, spelling_of};
 
 /// The operation of a step that acts; none where it stops before.

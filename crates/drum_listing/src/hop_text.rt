@@ -9,7 +9,7 @@ ghost use Rattle.drum_listing.specs.WalkText.{hop_text};
 
 use crate::told::Told;
 use drum_bound::Way;
-use drum_core::Output;
+use drum_devices::Output;
 use drum_lines::{WriteFault, four_digits, send, two_digits};
 use itoa::{Buffer, Integer};
 

@@ -5,7 +5,7 @@ ghost use Rattle.drum_core.specs.declared.op.Op.{Op};
 ghost use Rattle.drum_core.specs.Op.{op_of};
 ghost use Rattle.drum_times.specs.declared.entry.Entry.{Entry};
 ghost use Rattle.drum_flow.specs.Walk.{Setting};
-ghost use Rattle.drum_bound.specs.Visited.{AreLongest, IsLongest, IsWalkOf, Visited};
+ghost use Rattle.drum_walks.specs.Visited.{AreLongest, IsLongest, IsWalkOf, Visited};
 ghost use Rattle.drum_listing.specs.Waits.{AreDearestFirst, alike, data_at, for_cards, for_data};
 ghost use Rattle.drum_listing.specs.Waits.{for_instruction, is_alike, next_at, time_alike};
 

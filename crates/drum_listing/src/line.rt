@@ -1,7 +1,7 @@
 ghost use Rattle.std.specs.Prelude.{◌≡◌, ℕ, ◌+◌, ◌^◌, ◌≤◌, List, IfOk};
 ghost use Rattle.drum_lines.specs.Sent.{IsSent, fails_by};
 
-use drum_core::Output;
+use drum_devices::Output;
 use drum_lines::WriteFault;
 
 /// What is written as a line.

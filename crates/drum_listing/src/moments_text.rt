@@ -7,7 +7,7 @@ ghost use Rattle.drum_listing.specs.Pieces.{digits_with as digits_at, name_with 
 ghost use Rattle.drum_listing.specs.Pieces.{told_text, times_text};
 
 use crate::moments::Moments;
-use drum_core::Output;
+use drum_devices::Output;
 use drum_lines::{WriteFault, send};
 use itoa::{Buffer, Integer};
 

@@ -2,7 +2,7 @@
 
 ghost use Rattle.std.specs.Prelude.{◌≡◌, ◌≤◌, length};
 
-use drum_core::{Failed, Output};
+use drum_devices::{Failed, Output};
 
 /// How many bytes are gathered at most.
 const ROOM: usize = 65_536;

@@ -7,7 +7,7 @@ ghost use Rattle.drum_listing.specs.Page.{HasPassed, text_of};
 
 use crate::line::Line;
 use crate::page::Page;
-use drum_core::Output;
+use drum_devices::Output;
 use drum_lines::{WriteFault, send};
 
 /// Gathers a line, and returns whether there was room for it: else the page is as it was.

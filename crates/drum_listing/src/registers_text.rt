@@ -2,7 +2,7 @@
 
 ghost use Rattle.std.specs.Prelude.{◌≡◌, ◌+◌, ◌^◌, ◌≤◌, List, IfOk, length};
 ghost use Rattle.drum_machine.specs.declared.card.Card.{Card};
-ghost use Rattle.drum_machine.specs.Machine.{held_by};
+ghost use Rattle.drum_emulator.specs.Machine.{held_by};
 ghost use Rattle.drum_lines.specs.Sent.{IsSent, fails_by};
 ghost use Rattle.drum_listing.specs.HeldText.{
   accumulator_text,
@@ -15,9 +15,9 @@ ghost use Rattle.drum_listing.specs.Pieces.{
   remainder_sign as remainder_sign_of,
 };
 
-use drum_core::Output;
+use drum_devices::Output;
+use drum_emulator::Machine;
 use drum_lines::{WriteFault, send, spelling_of};
-use drum_machine::Machine;
 
 /// The sign of what is minus, or isn't.
 fn sign(minus: bool) -> u8

@@ -1,13 +1,15 @@
 //! How large an analysis is, and its lines.
 
-ghost use Rattle.std.specs.Prelude.{◌≡◌, ◌+◌, ◌*◌, ◌≤◌, ◌++◌, codes, decimal, length, Contains, IfOk};
-ghost use Rattle.drum_core.specs.Loads.{loads_in, start_in};
+ghost use Rattle.std.specs.Prelude.{◌≡◌, ◌+◌, ◌*◌, ◌≤◌, ◌++◌, codes, decimal, length, Contains};
+ghost use Rattle.std.specs.Prelude.{IfOk};
+ghost use Rattle.drum_deck.specs.Loads.{loads_in, start_in};
 ghost use Rattle.drum_flow.specs.Flow.{deck_of, executed_in, notes_of};
 ghost use Rattle.drum_flow.specs.Hops.{hops};
 ghost use Rattle.drum_listing.specs.SizeText.{hops_among, size_text};
 
 use drum_bound::Analysis;
-use drum_core::{Deck, Location};
+use drum_core::Location;
+use drum_deck::Deck;
 use drum_flow::{Flow, rediscover};
 use drum_times::Notes;
 use itoa::Buffer;

@@ -11,9 +11,9 @@ ghost use Rattle.drum_listing.specs.TraceText.{stride_line};
 
 use crate::page::Page;
 use crate::step_line::send_step;
-use drum_core::Output;
+use drum_devices::Output;
+use drum_emulator::{Machine, Step};
 use drum_lines::{WriteFault, send};
-use drum_machine::{Machine, Step};
 use drum_times::Times;
 
 /// Gathers the line of a step, and returns whether there was room for it: else the page is as it

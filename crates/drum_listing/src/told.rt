@@ -1,11 +1,12 @@
 //! A hop as its line tells it.
 
 ghost use Rattle.std.specs.Prelude.{◌≡◌, ◌^◌, ◌<◌};
-ghost use Rattle.drum_bound.specs.Visited.{seen_visit};
+ghost use Rattle.drum_walks.specs.Visited.{seen_visit};
 ghost use Rattle.drum_listing.specs.Told.{seen_told};
 
-use drum_bound::{Visit, Way};
+use drum_bound::Way;
 use drum_core::{Instruction, Location};
+use drum_walks::Visit;
 
 /// A hop as its line tells it: of a walk, of a step that is handed in, or of a piece. A step may
 /// end at any moment, so it is no [`Visit`].

@@ -1,7 +1,7 @@
 //! The line of a visit.
 
 ghost use Rattle.drum_times.specs.Entries.{entry_in};
-ghost use Rattle.drum_bound.specs.Visited.{seen_visit};
+ghost use Rattle.drum_walks.specs.Visited.{seen_visit};
 ghost use Rattle.drum_listing.specs.WalkText.{visit_line};
 
 use crate::hop_text::send_hop;
@@ -9,10 +9,10 @@ use crate::line::Line;
 use crate::moments::Moments;
 use crate::moments_text::send_times;
 use crate::told::Told;
-use drum_bound::Visit;
-use drum_core::Output;
+use drum_devices::Output;
 use drum_lines::WriteFault;
 use drum_times::Times;
+use drum_walks::Visit;
 
 /// A visit with the timing table of its walk, whose drum has this angle at time 0.
 #[derive(Drop)]

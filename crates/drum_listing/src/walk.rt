@@ -2,18 +2,19 @@
 
 ghost use Rattle.std.specs.Prelude.{◌≡◌, ◌+◌, ◌^◌, ◌≤◌, IfOk, flat_map, length};
 ghost use Rattle.drum_times.specs.Entries.{entry_in};
+ghost use Rattle.drum_walks.specs.Visited.{seen_visit};
 ghost use Rattle.drum_bound.specs.AnalysisOf.{angle_of, bound_of, visits_of};
-ghost use Rattle.drum_bound.specs.Visited.{seen_visit};
 ghost use Rattle.drum_lines.specs.Sent.{IsSent, IsWritten, fails_by};
 ghost use Rattle.drum_listing.specs.WalkText.{visit_line, walk_text};
 
 use crate::page::Page;
 use crate::passing::pass_line;
 use crate::visit_line::VisitLine;
-use drum_bound::{Analysis, Visit};
-use drum_core::Output;
+use drum_bound::Analysis;
+use drum_devices::Output;
 use drum_lines::{WriteFault, send, send_bound};
 use drum_times::Times;
+use drum_walks::Visit;
 
 /// Writes the lines of a walk, many at a time.
 fn send_visits<O: Output>(

@@ -8,9 +8,9 @@ use Rattle.std.proofs.lemmas.List.{length_push}
 use Rattle.std.proofs.lemmas.List.Elements.{Contains-append_left, Contains-append_cases, Contains-push_cases}
 use Rattle.std.proofs.lemmas.List.Sums.{sum_by-set}
 use Rattle.std.proofs.lemmas.Option.{slice_get_within, slice_get-get_or, get_or_from_slice_get}
-use Rattle.drum_flow.specs.Graph.{AreDifferent}
-use Rattle.drum_flow.specs.Search.{AreLinked, last_of}
-use Rattle.drum_flow.proofs.Lists.{contains_at, contains_from_get, contains_none, contains_reversed}
+use Rattle.drum_order.specs.Graph.{AreDifferent}
+use Rattle.drum_order.specs.Search.{AreLinked, last_of}
+use Rattle.drum_order.proofs.Lists.{contains_at, contains_from_get, contains_none, contains_reversed}
 use Rattle.drum_loops.specs.Arranged.{IsBefore, IsPlaced, IsArranged}
 use Rattle.drum_loops.specs.Arranging.{IsArranging, steps_left}
 use Rattle.drum_loops.proofs.Befores.{before_left, before_right, before_inserted, contains_inserted, contains_it}

@@ -6,13 +6,13 @@ use Rattle.std.proofs.lemmas.List.{map_push, append_assoc}
 use Rattle.std.proofs.lemmas.List.Elements.{Contains-append_left, Contains-append_right, Contains-append_cases}
 use Rattle.std.proofs.lemmas.List.Elements.{Contains-push, Contains-push_cases}
 use Rattle.drum_core.specs.declared.location.Location.{Location}
-use Rattle.drum_flow.specs.Graph.{AreDifferent}
-use Rattle.drum_flow.proofs.Founds.{numbers, numbers_more}
-use Rattle.drum_flow.proofs.Lists.{contains_here, contains_there, contains_cases, contains_none}
-use Rattle.drum_flow.proofs.Lists.{contains_from_get}
-use Rattle.drum_loops.specs.Closing.{AreTargets, AreBack, IsBack, edges_onto}
 use Rattle.drum_times.specs.declared.notes.edge.Edge.{Edge}
 use Rattle.drum_times.specs.EdgeOf.{edge_of}
+use Rattle.drum_order.specs.Graph.{AreDifferent}
+use Rattle.drum_order.proofs.Lists.{contains_here, contains_there, contains_cases, contains_none}
+use Rattle.drum_order.proofs.Lists.{contains_from_get}
+use Rattle.drum_flow.proofs.Founds.{numbers, numbers_more}
+use Rattle.drum_loops.specs.Closing.{AreTargets, AreBack, IsBack, edges_onto}
 use Rattle.drum_loops.specs.Loops.{AreApart}
 
 -- the edge to one more location

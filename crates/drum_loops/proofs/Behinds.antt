@@ -5,10 +5,10 @@ use Rattle.std.specs.Prelude.{slice_get, slice_index, Contains}
 use Rattle.std.proofs.lemmas.Bool.{cases_lt}
 use Rattle.std.proofs.lemmas.List.Elements.{Contains-append_left, Contains-get_or, Contains-push, Contains-push_cases}
 use Rattle.std.proofs.lemmas.Option.{same_Some}
-use Rattle.drum_flow.specs.declared.graph.Graph.{Graph}
+use Rattle.drum_order.specs.declared.graph.Graph.{Graph}
+use Rattle.drum_order.specs.Graph.{row, size}
+use Rattle.drum_order.proofs.Lists.{contains_cases, contains_here, contains_none}
 use Rattle.drum_flow.specs.Executed.{with_new}
-use Rattle.drum_flow.specs.Graph.{row, size}
-use Rattle.drum_flow.proofs.Lists.{contains_cases, contains_here, contains_none}
 use Rattle.drum_flow.proofs.Orders.{with_new_has, with_new_only}
 use Rattle.drum_loops.specs.Closing.{IsBehind, AreAdded, IsBack, AreTargets}
 use Rattle.drum_loops.proofs.Reachings.{stays}

@@ -16,16 +16,16 @@ use Rattle.drum_times.specs.declared.notes.edge.Edge.{Edge}
 use Rattle.drum_times.specs.Allowed.{Notes}
 use Rattle.drum_times.specs.EdgeOf.{edge_of}
 use Rattle.drum_times.specs.Edges.{leads}
+use Rattle.drum_order.specs.Graph.{IsCycle, IsTopologicalOrder, LeadRound, Leads}
+use Rattle.drum_order.specs.Rows.{targets_in}
+use Rattle.drum_order.proofs.Lists.{contains_at, contains_from_get, contains_here, contains_none}
 use Rattle.drum_flow.specs.Executed.{AreAllNodes}
-use Rattle.drum_flow.specs.Free.{those_at, AreFreeRows}
-use Rattle.drum_flow.specs.Graph.{IsCycle, IsTopologicalOrder, LeadRound, Leads}
 use Rattle.drum_flow.specs.Hops.{Node}
-use Rattle.drum_flow.specs.Rows.{targets_in}
-use Rattle.drum_flow.proofs.FreeRows.{some_at}
-use Rattle.drum_flow.proofs.Heights.{no_round}
-use Rattle.drum_flow.proofs.Lists.{contains_at, contains_from_get, contains_here, contains_none}
 use Rattle.drum_flow.proofs.Orders.{has_reached, place_at, reached_next, reached_only}
-use Rattle.drum_flow.proofs.Translations.{those_first}
+use Rattle.drum_acceptance.specs.Free.{those_at, AreFreeRows}
+use Rattle.drum_acceptance.proofs.FreeRows.{some_at}
+use Rattle.drum_acceptance.proofs.Heights.{no_round}
+use Rattle.drum_acceptance.proofs.Translations.{those_first}
 use Rattle.drum_loops.specs.Loops.{IsFreeBeside}
 use Rattle.drum_loops.specs.Spared.{edge_at, AreEnough, IsRowBeside, LackSome}
 

@@ -6,15 +6,15 @@ use Rattle.std.proofs.lemmas.Bool.{cases_lt}
 use Rattle.std.proofs.lemmas.Option.{same_Some, slice_get_within}
 use Rattle.drum_core.specs.declared.word.Word.{Word}
 use Rattle.drum_times.specs.Allowed.{Notes}
+use Rattle.drum_order.specs.Graph.{LeadRound}
+use Rattle.drum_order.proofs.Lists.{contains_at, contains_from_get}
 use Rattle.drum_flow.specs.Accepted.{IsFreeLink}
 use Rattle.drum_flow.specs.Executed.{AreAllNodes}
 use Rattle.drum_flow.specs.Flow.{AreFound}
-use Rattle.drum_flow.specs.Free.{those_at, AreFreeRows}
-use Rattle.drum_flow.specs.Graph.{LeadRound}
 use Rattle.drum_flow.specs.Hops.{Node}
-use Rattle.drum_flow.proofs.Lists.{contains_at, contains_from_get}
 use Rattle.drum_flow.proofs.Orders.{has_reached, node_at, place_at, reached_next, reached_only}
-use Rattle.drum_flow.proofs.Translations.{those_first}
+use Rattle.drum_acceptance.specs.Free.{those_at, AreFreeRows}
+use Rattle.drum_acceptance.proofs.Translations.{those_first}
 use Rattle.drum_loops.specs.Arranged.{GoesOn, IsArranged}
 use Rattle.drum_loops.specs.Closing.{AreBack}
 use Rattle.drum_loops.specs.Loops.{LeadBy, IsFreeBeside, IsFreeBut, IsNeeded, AreClosing}

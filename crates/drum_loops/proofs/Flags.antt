@@ -3,7 +3,7 @@ use Rattle.std.proofs.Common.{◌≡◌, ℕ, ◌<◌, Bool, true, false, List, 
 use Rattle.std.proofs.Common.{ap, sym, ◌∙◌, subst, inl, inr, ◌⊎◌}
 use Rattle.std.specs.Prelude.{slice_get, Contains}
 use Rattle.std.proofs.lemmas.Bool.{cases_eq}
-use Rattle.drum_flow.proofs.Lists.{contains_none, get_written, get_other, get_replicated}
+use Rattle.drum_order.proofs.Lists.{contains_none, get_written, get_other, get_replicated}
 use Rattle.drum_loops.specs.Flags.{AreFlags}
 
 -- a flag that is set stays so

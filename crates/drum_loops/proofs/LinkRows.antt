@@ -6,13 +6,13 @@ use Rattle.std.proofs.lemmas.List.Elements.{Contains-append_left, Contains-push,
 use Rattle.std.proofs.lemmas.Option.{slice_get_within}
 use Rattle.drum_core.specs.declared.word.Word.{Word}
 use Rattle.drum_times.specs.Allowed.{Notes}
+use Rattle.drum_order.specs.Graph.{AreDifferent}
+use Rattle.drum_order.specs.Rows.{targets_in, AreWithin}
+use Rattle.drum_order.proofs.Lists.{contains_cases, contains_from_get, contains_here, contains_none, one_place}
 use Rattle.drum_flow.specs.Executed.{onward, successors, with_new}
-use Rattle.drum_flow.specs.Graph.{AreDifferent}
 use Rattle.drum_flow.specs.Hops.{Node}
-use Rattle.drum_flow.specs.Rows.{targets_in, AreWithin}
-use Rattle.drum_flow.proofs.FreeRows.{onward_place, some_at}
 use Rattle.drum_flow.proofs.Links.{in_all, link_there, node_linked, of_all}
-use Rattle.drum_flow.proofs.Lists.{contains_cases, contains_from_get, contains_here, contains_none, one_place}
+use Rattle.drum_acceptance.proofs.FreeRows.{onward_place, some_at}
 use Rattle.drum_loops.specs.Links.{AreLinkRows, IsLinkRow, IsOnwardRow}
 use Rattle.drum_loops.proofs.Besides.{row_none}
 

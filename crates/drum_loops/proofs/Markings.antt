@@ -10,11 +10,11 @@ use Rattle.drum_core.specs.Op.{is_operand, op_of, operand_of}
 use Rattle.drum_times.specs.Allowed.{Listed, Notes, allowed, listed, loaded, patterns_in}
 use Rattle.drum_times.specs.Marks.{mark_on}
 use Rattle.drum_times.specs.declared.notes.call.Call.{Call}
+use Rattle.drum_times.specs.declared.notes.programmed.Programmed.{Programmed}
 use Rattle.drum_machine.specs.Calls.{none_open, open_after, MayGo}
 use Rattle.drum_machine.specs.Ways.{Way, early, in_order, to, ways_of, ways_of_stop, ways_with}
-use Rattle.drum_times.specs.declared.notes.programmed.Programmed.{Programmed}
+use Rattle.drum_order.specs.Graph.{IsClosed, LeadRound}
 use Rattle.drum_flow.specs.Accepted.{IsFreeLink}
-use Rattle.drum_flow.specs.Graph.{IsClosed, LeadRound}
 use Rattle.drum_flow.specs.Hops.{edge_between, first_node, Hop, hops, hops_of, IsEdge, IsLink, IsNode, Lead, Node}
 use Rattle.drum_loops.specs.Loops.{AreClosing, IsFreeBeside}
 use Rattle.drum_loops.specs.Marked.{AreMarked}

@@ -5,11 +5,11 @@ use Rattle.std.specs.Prelude.{slice_get, slice_index, ◌↔◌, IsTrue}
 use Rattle.std.proofs.lemmas.Option.{get_or_from_slice_get, same_Some, slice_get_within}
 use Rattle.drum_core.specs.declared.word.Word.{Word}
 use Rattle.drum_times.specs.Allowed.{Notes}
+use Rattle.drum_order.proofs.Lists.{contains_at, contains_from_get}
 use Rattle.drum_flow.specs.Executed.{AreAllNodes}
 use Rattle.drum_flow.specs.Hops.{first_node, IsLink, Node}
-use Rattle.drum_flow.proofs.FreeRows.{some_at}
-use Rattle.drum_flow.proofs.Lists.{contains_at, contains_from_get}
 use Rattle.drum_flow.proofs.Orders.{has_reached, place_at, reached_next, reached_only, stays_there}
+use Rattle.drum_acceptance.proofs.FreeRows.{some_at}
 use Rattle.drum_loops.specs.Links.{AreLinkRows}
 use Rattle.drum_loops.specs.Loops.{LeadBy}
 use Rattle.drum_loops.specs.Nested.{GoesAround, GoesRound, IsAvoided, IsNested, LeadsAround, LeadsOver}

@@ -4,7 +4,7 @@ use Rattle.std.specs.Prelude.{slice_get, slice_index, false, is_some, Contains, 
 use Rattle.std.proofs.lemmas.Bool.{cases_lt}
 use Rattle.std.proofs.lemmas.List.Elements.{Contains-push_cases}
 use Rattle.std.proofs.lemmas.Option.{same_Some}
-use Rattle.drum_flow.proofs.Lists.{contains_none}
+use Rattle.drum_order.proofs.Lists.{contains_none}
 use Rattle.drum_loops.specs.Closing.{AreTargets, IsBack}
 use Rattle.drum_loops.specs.Spared.{AreOneWay, IsAhead, IsOn}
 

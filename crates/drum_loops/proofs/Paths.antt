@@ -2,8 +2,8 @@
 use Rattle.std.proofs.Common.{◌≡◌, ℕ, suc, ◌-◌, List, [], ◌∷◌, ◌++◌, length, Some, refl, ap, sym, ◌∙◌, subst, inl, inr}
 use Rattle.std.proofs.Common.{arith}
 use Rattle.std.specs.Prelude.{slice_get, Contains}
-use Rattle.drum_flow.specs.Search.{LeadAlong, AreLinked, last_of}
-use Rattle.drum_flow.proofs.Lists.{contains_here, contains_cases, contains_none}
+use Rattle.drum_order.specs.Search.{LeadAlong, AreLinked, last_of}
+use Rattle.drum_order.proofs.Lists.{contains_here, contains_cases, contains_none}
 use Rattle.drum_loops.specs.Loops.{LeadsTo}
 use Rattle.drum_loops.specs.Arranged.{IsBefore, GoesOn}
 

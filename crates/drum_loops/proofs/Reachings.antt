@@ -9,11 +9,11 @@ use Rattle.std.proofs.lemmas.Bool.Decides.{Decides-eqb}
 use Rattle.std.proofs.lemmas.List.Elements.{All-contains, All-contains_itself, All-filter, Contains-get_or, filter_passes}
 use Rattle.std.proofs.lemmas.List.FromFn.{get_or-range_with_len, length-range_with_len}
 use Rattle.std.proofs.lemmas.Option.{slice_get_within}
+use Rattle.drum_order.specs.Graph.{AreDifferent}
+use Rattle.drum_order.proofs.Lists.{contains_here, contains_there, contains_cases, contains_none, contains_at}
+use Rattle.drum_order.proofs.Lists.{contains_from_get}
+use Rattle.drum_order.proofs.Members.{no_more}
 use Rattle.drum_flow.specs.Executed.{with_new}
-use Rattle.drum_flow.specs.Graph.{AreDifferent}
-use Rattle.drum_flow.proofs.Lists.{contains_here, contains_there, contains_cases, contains_none, contains_at}
-use Rattle.drum_flow.proofs.Lists.{contains_from_get}
-use Rattle.drum_flow.proofs.Members.{no_more}
 use Rattle.drum_flow.proofs.Orders.{with_new_keeps, with_new_has, with_new_only, with_new_different, with_new_before}
 use Rattle.drum_loops.specs.Loops.{LeadBy}
 use Rattle.drum_loops.specs.Reached.{GoesPast, LeadsPast, is_elsewhere}

@@ -4,9 +4,9 @@ use Rattle.std.specs.Prelude.{Contains}
 use Rattle.std.proofs.lemmas.List.Elements.{Contains-append_left, Contains-push, Contains-push_cases}
 use Rattle.drum_core.specs.declared.word.Word.{Word}
 use Rattle.drum_times.specs.Allowed.{Notes}
-use Rattle.drum_flow.specs.Graph.{LeadRound}
+use Rattle.drum_order.specs.Graph.{LeadRound}
+use Rattle.drum_order.proofs.Lists.{contains_here, contains_there, contains_cases, contains_none}
 use Rattle.drum_flow.specs.Hops.{Node}
-use Rattle.drum_flow.proofs.Lists.{contains_here, contains_there, contains_cases, contains_none}
 use Rattle.drum_loops.specs.Loops.{AreApart, AreClosing, IsFreeBeside, IsFreeBut, IsNeeded}
 use Rattle.drum_loops.specs.Spared.{AreEnough, LackSome, AreWithout, AreSpared}
 

@@ -1,7 +1,7 @@
 -- An order of a graph's nodes: each edge goes on in it, or leads to a node from which edges that go
 -- on lead back. `row` says which nodes the edges of a node lead to.
 use Rattle.std.specs.Prelude.{◌≡◌, ℕ, ◌<◌, List, [], ◌∷◌, Contains, ◌⊎◌}
-use Rattle.drum_flow.specs.Graph.{AreDifferent}
+use Rattle.drum_order.specs.Graph.{AreDifferent}
 use Rattle.drum_loops.specs.Loops.{LeadsTo}
 
 -- the one stands in a list before the other

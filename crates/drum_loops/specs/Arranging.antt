@@ -3,8 +3,8 @@
 -- `row` says which nodes the edges of a node lead to.
 use Rattle.std.specs.Prelude.{◌≡◌, ℕ, ◌+◌, ◌<◌, Bool, true, false, List, ◌++◌, length, reverse}
 use Rattle.std.specs.Prelude.{slice_get, slice_index, sum_by, Some, Contains}
-use Rattle.drum_flow.specs.Graph.{AreDifferent}
-use Rattle.drum_flow.specs.Search.{AreLinked}
+use Rattle.drum_order.specs.Graph.{AreDifferent}
+use Rattle.drum_order.specs.Search.{AreLinked}
 use Rattle.drum_loops.specs.declared.arrangement.Arrangement.{Arrangement}
 use Rattle.drum_loops.specs.Arranged.{IsPlaced}
 use Rattle.drum_loops.specs.Flags.{AreFlags}

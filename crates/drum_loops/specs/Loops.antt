@@ -3,8 +3,8 @@
 use Rattle.std.specs.Prelude.{◌≡◌, ℕ, List, [], ◌∷◌, Option, Contains}
 use Rattle.drum_core.specs.declared.word.Word.{Word}
 use Rattle.drum_times.specs.Allowed.{Notes}
+use Rattle.drum_order.specs.Graph.{IsClosed}
 use Rattle.drum_flow.specs.Accepted.{IsFreeLink}
-use Rattle.drum_flow.specs.Graph.{IsClosed}
 use Rattle.drum_flow.specs.Hops.{IsNode, Node}
 
 -- none of them twice

@@ -4,7 +4,7 @@ use Rattle.std.specs.Prelude.{◌≡◌, ℕ, ◌<◌, ◌⊎◌, List, ◌∷�
 use Rattle.std.specs.Prelude.{Contains}
 use Rattle.drum_core.specs.declared.word.Word.{Word}
 use Rattle.drum_times.specs.Allowed.{Notes}
-use Rattle.drum_flow.specs.Graph.{IsClosed}
+use Rattle.drum_order.specs.Graph.{IsClosed}
 use Rattle.drum_flow.specs.Hops.{IsNode, Node}
 use Rattle.drum_loops.specs.Closing.{IsBack}
 use Rattle.drum_loops.specs.Loops.{AreApart, IsFreeBeside, IsNeeded}

@@ -1,7 +1,7 @@
 ghost use Rattle.std.specs.Prelude.{◌≡◌, ℕ, ◌<◌, ◌≤◌, ◌≢◌, [], true, false, length, slice_get};
 ghost use Rattle.std.specs.Prelude.{Some, IfOk, IfSome, IfNone, OnOk, Contains, ◌++◌, reverse};
 
-use drum_flow::graph::Graph;
+use drum_order::graph::Graph;
 use std::alloc::{AllocError, Global};
 
 /// A depth-first search that puts a graph's nodes into an order.
@@ -18,8 +18,8 @@ pub(crate) struct Arrangement {
 }
 
 impl Arrangement {
-    ghost use Rattle.drum_flow.specs.Graph.{row, size};
-    ghost use Rattle.drum_flow.specs.Search.{last_of};
+    ghost use Rattle.drum_order.specs.Graph.{row, size};
+    ghost use Rattle.drum_order.specs.Search.{last_of};
     ghost use Rattle.drum_loops.specs.Arranging.{Arranges, work_left, ForgetsNone};
 
     /// A search that hasn't begun.

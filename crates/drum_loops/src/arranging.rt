@@ -1,9 +1,9 @@
 ghost use Rattle.std.specs.Prelude.{IfOk};
-ghost use Rattle.drum_flow.specs.Graph.{row, size};
+ghost use Rattle.drum_order.specs.Graph.{row, size};
 ghost use Rattle.drum_loops.specs.Arranged.{IsArranged};
 
 use crate::arrangement::Arrangement;
-use drum_flow::graph::Graph;
+use drum_order::graph::Graph;
 use std::alloc::{AllocError, Global};
 
 /// An order of a graph's nodes in which each edge goes on, or leads to a node from which edges that

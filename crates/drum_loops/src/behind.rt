@@ -1,13 +1,13 @@
 ghost use Rattle.std.specs.Prelude.{◌≡◌, ◌<◌, length, IfOk, OnOk};
+ghost use Rattle.drum_order.specs.Graph.{row, size};
 ghost use Rattle.drum_flow.specs.Flow.{nodes_of};
 ghost use Rattle.drum_flow.specs.Found.{places_of};
-ghost use Rattle.drum_flow.specs.Graph.{row, size};
 ghost use Rattle.drum_loops.specs.Closing.{places_in, AreAdded, AreTargets};
 
 use drum_core::Location;
 use drum_flow::Flow;
 use drum_flow::executed::Executed;
-use drum_flow::graph::Graph;
+use drum_order::graph::Graph;
 use std::alloc::{AllocError, Global};
 
 /// Adds the locations that a node's edges lead back to: those of nodes whose rank isn't above its

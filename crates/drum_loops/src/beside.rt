@@ -1,21 +1,21 @@
 //! The graph without the edges of some locations' edges, and whether marks on these are enough.
 
 ghost use Rattle.std.specs.Prelude.{◌≡◌, ℕ, ◌<◌, ◌↔◌, length, map, IfOk, IsTrue, IsFalse, Contains};
-ghost use Rattle.drum_core.specs.Loads.{loads_in};
+ghost use Rattle.drum_deck.specs.Loads.{loads_in};
+ghost use Rattle.drum_times.specs.EdgeOf.{edge_of};
+ghost use Rattle.drum_order.specs.Graph.{row, size};
+ghost use Rattle.drum_order.specs.Rows.{targets_in};
 ghost use Rattle.drum_flow.specs.Executed.{AreAllNodes};
 ghost use Rattle.drum_flow.specs.Flow.{nodes_of, of_flow};
-ghost use Rattle.drum_flow.specs.Free.{AreFreeRows};
-ghost use Rattle.drum_flow.specs.Graph.{row, size};
-ghost use Rattle.drum_flow.specs.Rows.{targets_in};
-ghost use Rattle.drum_times.specs.EdgeOf.{edge_of};
+ghost use Rattle.drum_acceptance.specs.Free.{AreFreeRows};
 ghost use Rattle.drum_loops.specs.Closing.{places_in};
 ghost use Rattle.drum_loops.specs.Spared.{AreEnough, IsRowBeside, LackSome};
 
 use drum_core::Location;
 use drum_flow::Flow;
-use drum_flow::graph::Graph;
-use drum_flow::graph::sort::sort;
-use drum_flow::graph::sorted::Sorted;
+use drum_order::graph::Graph;
+use drum_order::graph::sort::sort;
+use drum_order::graph::sorted::Sorted;
 use drum_times::Edge;
 use std::alloc::{AllocError, Global};
 

@@ -1,9 +1,9 @@
 ghost use Rattle.std.specs.Prelude.{◌≡◌, ◌++◌, length, map, IfOk, OnOk};
+ghost use Rattle.drum_times.specs.EdgeOf.{edge_of};
+ghost use Rattle.drum_order.specs.Graph.{row, size};
 ghost use Rattle.drum_flow.specs.Executed.{AreAllNodes};
 ghost use Rattle.drum_flow.specs.Flow.{executed_in, nodes_of, of_flow, AreFound};
-ghost use Rattle.drum_flow.specs.Graph.{row, size};
 ghost use Rattle.drum_loops.specs.Closing.{edges_onto, places_in, AreBack};
-ghost use Rattle.drum_times.specs.EdgeOf.{edge_of};
 ghost use Rattle.drum_loops.specs.Loops.{AreClosing};
 
 use crate::arranging::arrange;
@@ -11,10 +11,10 @@ use crate::behind::targets_behind;
 use crate::one_way::are_one_way;
 use crate::ranking::ranks_in;
 use crate::sparing::only_needed;
+use drum_acceptance::free::free_graph;
 use drum_core::Location;
 use drum_flow::Flow;
-use drum_flow::free::free_graph;
-use drum_flow::graph::Graph;
+use drum_order::graph::Graph;
 use drum_times::Edge;
 use std::alloc::{AllocError, Global};
 

@@ -3,8 +3,8 @@
 ghost use Rattle.std.specs.Prelude.{◌∷◌, ℕ, List, Option};
 ghost use Rattle.drum_core.specs.declared.word.Word.{Word};
 ghost use Rattle.drum_times.specs.Allowed.{Notes};
+ghost use Rattle.drum_order.specs.Graph.{IsClosed};
 ghost use Rattle.drum_flow.specs.Accepted.{IsFreeLink};
-ghost use Rattle.drum_flow.specs.Graph.{IsClosed};
 ghost use Rattle.drum_flow.specs.Hops.{IsNode, Node};
 ghost use Rattle.drum_loops.specs.Loops.{AreClosing};
 ghost use Rattle.drum_loops.specs.Marked.{AreMarked};

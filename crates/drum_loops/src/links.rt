@@ -1,17 +1,17 @@
 //! The links of the flow graph, as a graph of its nodes' indices.
 
 ghost use Rattle.std.specs.Prelude.{◌≡◌, ◌<◌, IfOk, Some, length, map, slice_get};
-ghost use Rattle.drum_core.specs.Loads.{loads_in};
+ghost use Rattle.drum_deck.specs.Loads.{loads_in};
+ghost use Rattle.drum_order.specs.Graph.{row, size};
+ghost use Rattle.drum_order.specs.Rows.{targets_in};
 ghost use Rattle.drum_flow.specs.Flow.{nodes_of};
-ghost use Rattle.drum_flow.specs.Graph.{row, size};
 ghost use Rattle.drum_flow.specs.Hops.{Node};
-ghost use Rattle.drum_flow.specs.Rows.{targets_in};
 ghost use Rattle.drum_loops.specs.Links.{AreLinkRows, IsLinkRow, IsOnwardRow};
 
 use drum_core::Location;
 use drum_flow::Flow;
 use drum_flow::executed::Executed;
-use drum_flow::graph::Graph;
+use drum_order::graph::Graph;
 use std::alloc::{AllocError, Global};
 
 /// The indices of the nodes that links from a node to one of the targets lead to.

@@ -1,11 +1,11 @@
 //! Whether one loop stands inside another one.
 
 ghost use Rattle.std.specs.Prelude.{◌≡◌, ℕ, ◌<◌, ◌↔◌, ◌⊎◌, IsTrue, IfOk, Contains, length};
-ghost use Rattle.drum_core.specs.Loads.{loads_in, start_in};
+ghost use Rattle.drum_deck.specs.Loads.{loads_in, start_in};
+ghost use Rattle.drum_times.specs.EdgeOf.{edge_of};
+ghost use Rattle.drum_order.specs.Graph.{row, size};
 ghost use Rattle.drum_flow.specs.Executed.{AreAllNodes};
 ghost use Rattle.drum_flow.specs.Flow.{nodes_of, of_flow};
-ghost use Rattle.drum_flow.specs.Graph.{row, size};
-ghost use Rattle.drum_times.specs.EdgeOf.{edge_of};
 ghost use Rattle.drum_loops.specs.Closing.{places_in};
 ghost use Rattle.drum_loops.specs.Links.{AreLinkRows};
 ghost use Rattle.drum_loops.specs.Nested.{IsNested};
@@ -15,7 +15,7 @@ ghost use Rattle.drum_loops.specs.Reached.{LeadsToSuch, OneLeadsAbout};
 use crate::reached::Reached;
 use drum_core::Location;
 use drum_flow::Flow;
-use drum_flow::graph::Graph;
+use drum_order::graph::Graph;
 use drum_times::Edge;
 use std::alloc::{AllocError, Global};
 

@@ -2,9 +2,9 @@
 //! leads back.
 
 ghost use Rattle.std.specs.Prelude.{◌≡◌, ℕ, ◌<◌, length, IfOk, IsTrue, IsFalse, Contains};
+ghost use Rattle.drum_order.specs.Graph.{row, size};
 ghost use Rattle.drum_flow.specs.Flow.{executed_in, nodes_of};
 ghost use Rattle.drum_flow.specs.Found.{places_of};
-ghost use Rattle.drum_flow.specs.Graph.{row, size};
 ghost use Rattle.drum_loops.specs.Closing.{places_in};
 ghost use Rattle.drum_loops.specs.Spared.{AreOneWay, IsAhead, IsOn};
 
@@ -12,7 +12,7 @@ use crate::behind::targets_behind;
 use drum_core::Location;
 use drum_flow::Flow;
 use drum_flow::executed::Executed;
-use drum_flow::graph::Graph;
+use drum_order::graph::Graph;
 use std::alloc::{AllocError, Global};
 
 /// Whether an edge of a node goes on to one of some locations.

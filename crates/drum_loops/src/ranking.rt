@@ -1,5 +1,5 @@
 ghost use Rattle.std.specs.Prelude.{◌≡◌, ℕ, ◌<◌, length, IfOk, Contains};
-ghost use Rattle.drum_flow.specs.Graph.{AreDifferent};
+ghost use Rattle.drum_order.specs.Graph.{AreDifferent};
 ghost use Rattle.drum_loops.specs.Ranks.{AreRanks};
 
 use std::alloc::{AllocError, Global};

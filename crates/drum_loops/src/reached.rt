@@ -2,15 +2,15 @@
 
 ghost use Rattle.std.specs.Prelude.{◌≡◌, ℕ, ◌<◌, ◌↔◌, [], ◌∷◌, filter, length, slice_get};
 ghost use Rattle.std.specs.Prelude.{Contains, IfOk, OnOk};
+ghost use Rattle.drum_order.specs.Graph.{row, size};
 ghost use Rattle.drum_flow.specs.Executed.{with_new};
 ghost use Rattle.drum_flow.specs.Flow.{nodes_of};
-ghost use Rattle.drum_flow.specs.Graph.{row, size};
 ghost use Rattle.drum_loops.specs.Closing.{places_in};
 ghost use Rattle.drum_loops.specs.Reached.{AreMet, LeadsPast, is_elsewhere, nodes_in};
 
 use drum_core::Location;
 use drum_flow::Flow;
-use drum_flow::graph::Graph;
+use drum_order::graph::Graph;
 use std::alloc::{AllocError, Global};
 
 /// Nodes that were reached, by their indices: each once, in the order in which they were.

@@ -1,18 +1,18 @@
 //! Leaving out edges of locations whose marks can be spared.
 
 ghost use Rattle.std.specs.Prelude.{◌≡◌, length, map, IfOk};
-ghost use Rattle.drum_core.specs.Loads.{loads_in};
+ghost use Rattle.drum_deck.specs.Loads.{loads_in};
+ghost use Rattle.drum_times.specs.EdgeOf.{edge_of};
+ghost use Rattle.drum_order.specs.Graph.{row, size};
 ghost use Rattle.drum_flow.specs.Executed.{AreAllNodes};
 ghost use Rattle.drum_flow.specs.Flow.{nodes_of, of_flow};
-ghost use Rattle.drum_flow.specs.Free.{AreFreeRows};
-ghost use Rattle.drum_flow.specs.Graph.{row, size};
-ghost use Rattle.drum_times.specs.EdgeOf.{edge_of};
+ghost use Rattle.drum_acceptance.specs.Free.{AreFreeRows};
 ghost use Rattle.drum_loops.specs.Loops.{AreApart, AreClosing};
 ghost use Rattle.drum_loops.specs.Spared.{AreEnough, AreWithout};
 
 use crate::beside::are_enough;
 use drum_flow::Flow;
-use drum_flow::graph::Graph;
+use drum_order::graph::Graph;
 use drum_times::Edge;
 use std::alloc::{AllocError, Global};
 

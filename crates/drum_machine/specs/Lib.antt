@@ -4,15 +4,9 @@ pub mod Counts
 pub mod CountsIn
 pub mod Effect
 pub mod Ending
-pub mod Fed
-pub mod Feed
-pub mod FirstState
 pub mod Keeps
-pub mod Machine
 pub mod OpenIn
-pub mod Registers
 pub mod Run
-pub mod Setup
 pub mod Since
 pub mod Step
 pub mod Timing

@@ -1,17 +1,14 @@
-//! The timed machine: what a step does and when, what a run is, and when a run keeps to the notes.
+//! The timed machine, as it is defined: what a step does and when, what a run is, and when a run
+//! keeps to the notes; with what an analysis and a monitor take from it. `drum_emulator` is a
+//! machine that does so.
 //!
-//! Code, from the bottom up. `setup` and `feed` are what a machine is given; of the feed the next
-//! card and the next wait are taken. A `card` is for the reader. `first_drum` is its drum at time
-//! 0. `arithmetic` has sums, products, quotients, digit sums, and how many places a shift goes.
-//! `registers` has what each operation does, and the units of its work. `chain` is what takes time
-//! in a step, one after the other; the analysis goes through it too. `moments` says when, by the
-//! parts of that chain. `machine` takes the steps. A `step` is what it answers, a `stop` that it
-//! has stopped, and `why` the reason. `memory` is that memory was wanted. `ways` has how a step of
-//! an instruction may end, and `written` which drum words it writes. `passes` is what the pass of a
-//! mark does to each count. `counts` is how often marks are passed (of as many as `Mark::MOST`
-//! says), and that a full mark isn't passed again; the analysis counts with it too. `open` is which
-//! exits of subroutines are open, and with which way back. `left` is how a run left the notes.
-//! `laws` has laws of the definitions.
+//! Code, from the bottom up. A `card` is for the reader, and `why` the reason of a stop.
+//! `shifting` has how many places a shift goes. `chain` is what takes time in a step, one after the other, and
+//! `moments` says when, by the parts of that chain. `ways` has how a step of an instruction may
+//! end, and `written` which drum words it writes. `passes` is what the pass of a mark does to each
+//! count. `counts` is how often marks are passed (of as many as `Mark::MOST` says), and that a full
+//! mark isn't passed again. `open` is which exits of subroutines are open, and with which way back.
+//! `left` is how a run left the notes. `laws` has laws of the definitions.
 //!
 //! Definitions, in the order to read them: `Contents` (what a machine holds), `Effect` (what an
 //! operation does to it, and which stop it meets), `Timing` (the moments of a step: when its word
@@ -20,9 +17,7 @@
 //! run), `Calls` (which exits calls open, and where these go back) and `Keeps` (when a run keeps to
 //! the notes, and which way of leaving them comes first).
 //! Then `Writes` and `Ways`, which the flow graph is made of, and `Ending`, by which way a step
-//! ended. Of a replay's run: `Setup` and `FirstState` (how it begins) and `Fed` (which cards and
-//! waits its steps take). The others say what the code's types mean by these: `Registers`, `Feed`,
-//! `Machine`, `CountsIn`, `OpenIn`, `WaysLeft`.
+//! ended. The others say what the code's types mean by these: `CountsIn`, `OpenIn`, `WaysLeft`.
 //!
 //! Proofs. `Checks` (single steps with their times), `Effects` and `Marks` evaluate the
 //! definitions. These have laws that other crates use: `Alone`, which drum words stay (it stands on
@@ -32,38 +27,25 @@
 //! `Prefixes`, of runs.
 #![tactic(auto)]
 
-mod arithmetic;
 mod card;
 pub mod chain;
 mod counts;
-mod feed;
-mod first_drum;
 pub mod laws;
 mod left;
-mod machine;
-mod memory;
 pub mod moments;
 mod open;
 mod passes;
-mod registers;
-mod setup;
-mod step;
-mod stop;
+mod shifting;
 mod ways;
 mod why;
 mod written;
 
-pub use arithmetic::places;
 pub use card::Card;
 pub use counts::Counts;
-pub use feed::Feed;
 pub use left::Left;
-pub use machine::Machine;
-pub use memory::Memory;
 pub use open::Open;
 pub use passes::{count_pass, is_inside};
-pub use setup::Setup;
-pub use step::Step;
+pub use shifting::places;
 pub use ways::{Way, Ways};
 pub use why::Why;
 pub use written::writes;

@@ -11,27 +11,27 @@ use Rattle.drum_core.specs.declared.op.Op.TheVariants.{BranchOnDigit}
 use Rattle.drum_core.specs.declared.word.Word.{Word}
 use Rattle.drum_core.specs.Instruction.{instruction_of}
 use Rattle.drum_core.specs.Op.{op_of}
+use Rattle.drum_core.specs.Location.{is_location}
 use Rattle.drum_times.specs.declared.entry.Entry.{Entry}
 use Rattle.drum_times.specs.Allowed.{Notes, is_listed, allowed}
 use Rattle.drum_machine.specs.declared.card.Card.{Card}
 use Rattle.drum_machine.specs.declared.left.Left.{Left}
 use Rattle.drum_machine.specs.declared.left.Left.TheVariants.{Unlisted}
-use Rattle.drum_machine.specs.declared.step.Step.TheVariants.{Went, Stopped}
 use Rattle.drum_machine.specs.declared.why.Why as whys
 use Rattle.drum_machine.specs.Calls.{open_along, GoBack}
 use Rattle.drum_machine.specs.Counts.{AreWithin}
 use Rattle.drum_machine.specs.Keeps.{IsAllowed, IsKeptStride, Leaves, counts_after, counts_by, reads_load, reads_with}
 use Rattle.drum_machine.specs.Keeps.{is_load, GoesBack, ways_after}
-use Rattle.drum_machine.specs.Machine.{Tells}
 use Rattle.drum_machine.specs.Run.{Stride}
 use Rattle.drum_machine.specs.Since.{edge_by}
 use Rattle.drum_machine.specs.Step.{State, Stepped, on, stopped, step, step_of, step_with, fetched, instruction_in}
 use Rattle.drum_machine.specs.Step.{stepped_by, lacks_card, has_cards, clock_of}
-use Rattle.drum_core.specs.Location.{is_location}
 use Rattle.drum_machine.specs.Contents.{Contents}
 use Rattle.drum_machine.specs.Effect.{goes, reads}
 use Rattle.drum_machine.specs.Timing.{ended, units_of}
-use Rattle.drum_machine.proofs.Stepping.{acts}
+use Rattle.drum_emulator.specs.declared.step.Step.TheVariants.{Went, Stopped}
+use Rattle.drum_emulator.specs.Machine.{Tells}
+use Rattle.drum_emulator.proofs.Stepping.{acts}
 
 -- where the step began that is answered, and the word that was fetched
 pub told_going : (t : Stepped) (origin : Location) (w : Word) (l : Bool) (p : Option (List Word)) (location : Location)

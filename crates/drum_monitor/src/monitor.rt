@@ -1,16 +1,18 @@
 ghost use Rattle.std.specs.Prelude.{◌≡◌, ◌≤◌, ◌∷◌, [], ◌++◌, length, List, Some, None, MatchOption};
 ghost use Rattle.std.specs.Prelude.{MatchBool, IsTrue, Contains, ◌⊎◌};
-ghost use Rattle.drum_machine.specs.Keeps.{IsAsDeclared};
 ghost use Rattle.drum_core.specs.Instruction.{instruction_of};
-ghost use Rattle.drum_core.specs.Loads.{loads_in};
+ghost use Rattle.drum_deck.specs.Loads.{loads_in};
 ghost use Rattle.drum_times.specs.Allowed.{is_listed, allowed as allowed_at};
+ghost use Rattle.drum_machine.specs.Keeps.{IsAsDeclared};
 ghost use Rattle.drum_machine.specs.declared.left.Left.TheVariants as Left;
 
 mod allowed;
 
 use allowed::is_allowed;
-use drum_core::{Deck, Instruction, Location, Word};
-use drum_machine::{Counts, Left, Open, Setup, Step};
+use drum_core::{Instruction, Location, Word};
+use drum_deck::Deck;
+use drum_emulator::{Setup, Step};
+use drum_machine::{Counts, Left, Open};
 use drum_times::{Call, Mark, Notes, Programmed};
 
 /// Watches the steps of a run, and says whether and how the run leaves the notes.
@@ -53,17 +55,17 @@ impl Monitor {
     ghost use Rattle.std.specs.Prelude.{ℕ, Option};
     ghost use Rattle.drum_core.specs.declared.op.Op.{Op};
     ghost use Rattle.drum_core.specs.declared.word.Word.{Word};
-    ghost use Rattle.drum_machine.specs.declared.left.Left.{Left as LeftType};
     ghost use Rattle.drum_times.specs.declared.entry.Entry.{Entry};
+    ghost use Rattle.drum_machine.specs.declared.left.Left.{Left as LeftType};
     ghost use Rattle.drum_machine.specs.Keeps.{IsKeptStride, Leaves, counts_after, open_behind};
     ghost use Rattle.drum_machine.specs.Keeps.{GoesBack, ways_after};
     ghost use Rattle.drum_machine.specs.Calls.{MayGo, open_after};
     ghost use Rattle.drum_machine.specs.OpenIn.{between};
     ghost use Rattle.drum_machine.specs.Run.{Stride};
     ghost use Rattle.drum_machine.specs.Counts.{after_pass, no_counts, AreWithin};
-    ghost use Rattle.drum_monitor.specs.Monitor.{answer_of, counts_in, open_in, HasSeenKept};
     ghost use Rattle.drum_machine.specs.Keeps.{counts_over};
-    ghost use Rattle.drum_machine.specs.Machine.{IsToldOf};
+    ghost use Rattle.drum_emulator.specs.Machine.{IsToldOf};
+    ghost use Rattle.drum_monitor.specs.Monitor.{answer_of, counts_in, open_in, HasSeenKept};
 
     /// A monitor of a run from this setup. Where the programmed switch isn't as the notes declare
     /// it, the run has left the notes already, before its first step.

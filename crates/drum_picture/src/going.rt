@@ -1,10 +1,8 @@
 //! The way through the pieces of a walk in rounds, hop by hop: what was gone through is passed over
 //! where it comes again.
 
-use crate::braces::{Brace, Braces};
-use crate::drawn_hop::DrawnHop;
 use crate::pieces::{Content, PieceHop, Rounds, Weighed};
-use crate::rows::Rows;
+use drum_scene::{Brace, Braces, DrawnHop, Rows};
 use std::alloc::{AllocError, Global};
 use std::mem;
 
@@ -57,7 +55,7 @@ impl<'a> Going<'a> {
 
     /// The rows and braces of a walk that begins at an angle of the drum, whose last piece is the
     /// whole.
-    pub(crate) fn all(
+    pub fn all(
         alloc: Global,
         pieces: &'a [Weighed<'a>],
         angle: u64,

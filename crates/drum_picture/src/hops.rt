@@ -1,14 +1,8 @@
 //! The hops of a walk, as they are listed, and which of its revolutions are shown.
 
-use crate::drawn_hop::DrawnHop;
-use crate::extent::Extent;
-use crate::parts::Parts;
-use crate::rows::{PAGE_ROWS, Rows};
-use crate::shares::Shares;
-use crate::tallies::Tallies;
-use crate::walk::Walk;
-use drum_bound::Visit;
+use drum_scene::{DrawnHop, Extent, PAGE_ROWS, Parts, Rows, Shares, Tallies, Walk};
 use drum_times::Times;
+use drum_walks::Visit;
 use std::alloc::{AllocError, Global};
 
 /// How many rows are the walk's first, where it spends most further on.
@@ -61,7 +55,7 @@ impl Hops<'_> {
 
     /// The rows: those of the first hops, and where the walk spends most further on, those from
     /// there on.
-    pub(crate) fn rows(
+    pub fn rows(
         self,
         alloc: Global,
         walk: Walk,
@@ -82,7 +76,7 @@ impl Hops<'_> {
     }
 
     /// Counts the hops.
-    pub(crate) fn count(self, tallies: &mut Tallies) -> Shares {
+    pub fn count(self, tallies: &mut Tallies) -> Shares {
         let mut shares = Shares::NONE;
         for visit in self.visits {
             tallies.count(visit, 1);

@@ -1,16 +1,10 @@
 //! What is drawn of a ceiling with its walk in rounds: that walk.
 
-use crate::drawn::Drawn;
-use crate::edges::{Edge, Edges, TakenEdge};
-use crate::extent::Extent;
 use crate::going::Going;
 use crate::pieces::{Content, Weighed, weigh};
-use crate::rows::Rows;
-use crate::shares::Shares;
-use crate::tallies::Tallies;
-use crate::walk::{Kind, Walk};
-use drum_core::Deck;
-use drum_rounds::Bracket;
+use drum_ceiling::Bracket;
+use drum_deck::Deck;
+use drum_scene::{Edge, Edges, Extent, Kind, Rows, Scene, Shares, TakenEdge, Tallies, Walk};
 use drum_times::{Notes, Times};
 use std::alloc::{AllocError, Global};
 
@@ -53,33 +47,31 @@ fn extent_of(walk: Walk, rows: &Rows) -> Extent {
     }
 }
 
-impl Drawn {
-    /// What is drawn of a ceiling of a deck, a timing table and notes.
-    pub(crate) fn of_bracket(
-        alloc: Global,
-        bracket: &Bracket,
-        deck: &Deck,
-        times: &Times,
-        notes: &Notes,
-    ) -> Result<Drawn, AllocError> {
-        let walk = Walk {
-            kind: Kind::InRounds(bracket.ceiling.total()),
-            angle: bracket.walk.angle(),
-            time: bracket.walk.total(),
-        };
-        let pieces = weigh(alloc, bracket.walk.pieces(), times)?;
-        let mut tallies = Tallies::new(alloc)?;
-        let shares = count(&mut tallies, &pieces);
-        tallies.note_flow(alloc, deck, notes)?;
-        let (rows, braces) = Going::all(alloc, &pieces, walk.angle)?;
-        Ok(Drawn {
-            walk,
-            tallies,
-            edges: edges_of(alloc, &pieces)?,
-            shares,
-            extent: extent_of(walk, &rows),
-            rows,
-            braces,
-        })
-    }
+/// What is drawn of a ceiling of a deck, a timing table and notes.
+pub fn of_bracket(
+    alloc: Global,
+    bracket: &Bracket,
+    deck: &Deck,
+    times: &Times,
+    notes: &Notes,
+) -> Result<Scene, AllocError> {
+    let walk = Walk {
+        kind: Kind::InRounds(bracket.ceiling.total()),
+        angle: bracket.walk.angle(),
+        time: bracket.walk.total(),
+    };
+    let pieces = weigh(alloc, bracket.walk.pieces(), times)?;
+    let mut tallies = Tallies::new(alloc)?;
+    let shares = count(&mut tallies, &pieces);
+    tallies.note_flow(alloc, deck, notes)?;
+    let (rows, braces) = Going::all(alloc, &pieces, walk.angle)?;
+    Ok(Scene {
+        walk,
+        tallies,
+        edges: edges_of(alloc, &pieces)?,
+        shares,
+        extent: extent_of(walk, &rows),
+        rows,
+        braces,
+    })
 }

@@ -1,12 +1,8 @@
 //! The pieces of a walk in rounds: what each takes, and how often it comes.
 
-use crate::parts::Parts;
-use drum_bound::Visit;
-use drum_core::Op;
-use drum_flow::longest::longest;
-use drum_machine::Way;
-use drum_rounds::{Piece, Placed};
+use drum_scene::Parts;
 use drum_times::Times;
+use drum_walks::{Piece, Placed, Visit};
 use std::alloc::{AllocError, Global};
 use std::slice;
 
@@ -42,24 +38,6 @@ pub struct Weighed<'a> {
     pub taken: u128,
 }
 
-/// The most word times that a hop takes; 0 where the timing table has none such.
-fn longest_of(one: Placed, times: &Times) -> u64 {
-    let (hop, angle) = (one.hop, one.angle);
-    let Some(op) = Op::of(hop.instruction.op()) else {
-        return 0;
-    };
-    match hop.way {
-        Way::Early => longest(times, one.location, hop, angle) - angle,
-        Way::To(_) | Way::Late => {
-            if op.operand().suits(hop.instruction.d()) {
-                longest(times, one.location, hop, angle) - angle
-            } else {
-                0
-            }
-        }
-    }
-}
-
 impl PieceHop {
     /// The hop of a piece, which takes as long as it can.
     fn of(one: Placed, times: &Times) -> PieceHop {
@@ -67,7 +45,7 @@ impl PieceHop {
             place: one.location,
             instruction: one.hop.instruction,
             way: one.hop.way,
-            took: u32::try_from(longest_of(one, times)).unwrap_or(u32::MAX),
+            took: u32::try_from(one.longest(times)).unwrap_or(u32::MAX),
             begun: 0,
         };
         PieceHop {
@@ -125,7 +103,7 @@ impl<'a> Content<'a> {
 
 impl Weighed<'_> {
     /// The word times that it takes.
-    pub(crate) fn time(&self) -> u128 {
+    pub fn time(&self) -> u128 {
         self.once.saturating_mul(self.content.rounds())
     }
 }
@@ -163,7 +141,7 @@ fn count_all(pieces: &mut [Weighed<'_>]) {
 }
 
 /// The pieces of a walk, with what they come to.
-pub(crate) fn weigh<'a>(
+pub fn weigh<'a>(
     alloc: Global,
     pieces: &'a [Piece],
     times: &Times,

@@ -1,13 +1,11 @@
 //! A run, taken in step by step.
 
-use crate::edges::EdgeCounts;
-use crate::parts::Parts;
-use crate::shares::Shares;
-use crate::tallies::Tallies;
-use drum_bound::{Visit, Way};
 use drum_core::Instruction;
-use drum_machine::{Step, Why};
+use drum_emulator::Step;
+use drum_machine::{Way, Why};
+use drum_scene::{EdgeCounts, Parts, Shares, Tallies};
 use drum_times::Times;
+use drum_walks::Visit;
 use std::alloc::{AllocError, Global};
 
 /// How many hops are kept at most. All others are counted, and no more.
@@ -20,14 +18,14 @@ const LATEST_BEGUN: u64 = (1 << 50) - 1;
 #[derive(Debug, Drop)]
 pub struct Run {
     /// The drum's angle when it begins.
-    pub(crate) angle: u64,
+    pub angle: u64,
     /// Its first hops.
-    pub(crate) kept: Vec<Visit>,
-    pub(crate) tallies: Tallies,
-    pub(crate) edges: EdgeCounts,
-    pub(crate) shares: Shares,
+    pub kept: Vec<Visit>,
+    pub tallies: Tallies,
+    pub edges: EdgeCounts,
+    pub shares: Shares,
     /// The word times that it takes.
-    pub(crate) time: u128,
+    pub time: u128,
 }
 
 /// How a step that stops ends.

@@ -3,15 +3,15 @@ use Rattle.std.proofs.Common.{◌≡◌, ℕ, List, length, refl, sym, subst, ar
 use Rattle.std.specs.Prelude.{MatchOption, option_map}
 use Rattle.drum_machine.specs.declared.left.Left as lefts
 use Rattle.drum_machine.specs.declared.left.Left.TheVariants as left
-use Rattle.drum_machine.specs.declared.setup.Setup.{Setup}
 use Rattle.drum_machine.specs.Keeps.{IsAsDeclared}
 use Rattle.drum_machine.specs.Run.{Stride}
+use Rattle.drum_emulator.specs.declared.setup.Setup.{Setup}
 use Rattle.drum_flow.specs.Walk.{Setting}
+use Rattle.drum_walks.specs.Worst.{IsWorst}
 use Rattle.drum_lines.specs.declared.verdict.Verdict.{Verdict}
 use Rattle.drum_replay.specs.declared.replaying.Begun.{Begun}
 use Rattle.drum_replay.specs.Begun.{IsBegun, left_before}
 use Rattle.drum_replay.specs.Following.{IsFollowed, state_of, waits_of}
-use Rattle.drum_bound.specs.Worst.{IsWorst}
 use Rattle.drum_replay.specs.Replay.{Given, HasReplay, IsJudged, IsReplay, IsVerdict, used_in}
 
 -- how a new monitor answers: not at all, or by the switch

@@ -5,7 +5,7 @@ use Rattle.drum_times.specs.declared.times.Times.{Times}
 use Rattle.drum_machine.specs.Run.{Stride}
 use Rattle.drum_flow.specs.Bounded.{IsBounded}
 use Rattle.drum_flow.specs.Walk.{Setting}
-use Rattle.drum_bound.specs.Worst.{IsWorst}
+use Rattle.drum_walks.specs.Worst.{IsWorst}
 use Rattle.drum_lines.specs.declared.fault.Fault as fails
 use Rattle.drum_lines.specs.declared.fault.Fault.TheVariants as fault
 use Rattle.drum_lines.specs.declared.limit.Limit as limits

@@ -5,32 +5,32 @@ use Rattle.std.specs.Prelude.{MatchOption}
 use Rattle.drum_core.specs.declared.location.Location.{Location}
 use Rattle.drum_core.specs.declared.word.Word.{Word}
 use Rattle.drum_machine.specs.declared.card.Card.{Card}
-use Rattle.drum_machine.specs.declared.feed.Feed.{Feed}
 use Rattle.drum_machine.specs.declared.left.Left as lefts
 use Rattle.drum_machine.specs.declared.left.Left.TheVariants as left
-use Rattle.drum_machine.specs.declared.machine.Machine.{Machine}
-use Rattle.drum_monitor.specs.declared.monitor.Monitor.{Monitor}
-use Rattle.drum_machine.specs.declared.setup.Setup.{Setup}
-use Rattle.drum_machine.specs.declared.step.Step as answers
-use Rattle.drum_machine.specs.declared.step.Step.TheVariants as answer
 use Rattle.drum_machine.specs.declared.why.Why as whys
 use Rattle.drum_machine.specs.Contents.{Contents}
 use Rattle.drum_machine.specs.Counts.{no_counts}
-use Rattle.drum_machine.specs.FirstState.{IsSetUp}
-use Rattle.drum_machine.specs.Feed.{cards_left, waits_left}
 use Rattle.drum_machine.specs.Keeps.{open_behind, IsAsDeclared, Leaves, reads_load}
-use Rattle.drum_machine.specs.Fed.{op_in}
-use Rattle.drum_machine.specs.Machine.{GoesOn, Tells, Becomes, TakesStep, state_in, used_by, sought_by}
-use Rattle.drum_machine.specs.Machine.{held_by, punched_with}
-use Rattle.drum_monitor.specs.Monitor.{HasSeenKept, answer_of}
-use Rattle.drum_machine.specs.Machine.{IsToldOf}
 use Rattle.drum_machine.specs.Keeps.{counts_over}
 use Rattle.drum_machine.specs.Run.{Stride, IsFirstState, time_after, used_from}
 use Rattle.drum_machine.specs.Step.{State, Stepped, on, stopped, contents_after, fetched}
+use Rattle.drum_emulator.specs.declared.feed.Feed.{Feed}
+use Rattle.drum_emulator.specs.declared.machine.Machine.{Machine}
+use Rattle.drum_emulator.specs.declared.setup.Setup.{Setup}
+use Rattle.drum_emulator.specs.declared.step.Step as answers
+use Rattle.drum_emulator.specs.declared.step.Step.TheVariants as answer
+use Rattle.drum_emulator.specs.FirstState.{IsSetUp}
+use Rattle.drum_emulator.specs.Feed.{cards_left, waits_left}
+use Rattle.drum_emulator.specs.Fed.{op_in}
+use Rattle.drum_emulator.specs.Machine.{GoesOn, Tells, Becomes, TakesStep, state_in, used_by, sought_by}
+use Rattle.drum_emulator.specs.Machine.{held_by, punched_with}
+use Rattle.drum_emulator.specs.Machine.{IsToldOf}
+use Rattle.drum_monitor.specs.declared.monitor.Monitor.{Monitor}
+use Rattle.drum_monitor.specs.Monitor.{HasSeenKept, answer_of}
 use Rattle.drum_flow.specs.Walk.{Setting}
+use Rattle.drum_flow.specs.Bounded.{IsBounded}
 use Rattle.drum_lines.specs.declared.verdict.Verdict.TheVariants.{Kept, Left}
 use Rattle.drum_replay.specs.declared.following.Following.{Following}
-use Rattle.drum_flow.specs.Bounded.{IsBounded}
 use Rattle.drum_replay.specs.Following.{CanBegin, AreGiven, AreOfRun, IsFollowed, IsFollowing, state_of}
 use Rattle.drum_replay.specs.Following.{waits_of, stride_of, used_so_far}
 use Rattle.drum_replay.specs.Replay.{Given, AreFed, IsLeft, IsUnderWay, LeavesAt}

@@ -2,9 +2,9 @@
 use Rattle.std.proofs.Common.{◌≡◌, ℕ, List, [], ◌∷◌, ◌++◌, refl, ap, sym, subst, ◌∙◌}
 use Rattle.drum_core.specs.declared.op.Op.{Op}
 use Rattle.drum_times.specs.declared.entry.Entry.{Entry}
-use Rattle.drum_machine.specs.Fed.{op_in, wait_with, waits_with}
 use Rattle.drum_machine.specs.Run.{Stride, IsStride, IsRun, FollowStep, time_after, used_from}
 use Rattle.drum_machine.specs.Step.{State, Stepped, on, stopped, MayWait}
+use Rattle.drum_emulator.specs.Fed.{op_in, wait_with, waits_with}
 use Rattle.drum_replay.specs.Following as spec
 use Rattle.drum_replay.specs.Following.{Goes}
 use Rattle.drum_replay.specs.Replay.{AreFed}

@@ -7,11 +7,11 @@ use Rattle.drum_core.specs.declared.word.Word.{Word}
 use Rattle.drum_times.specs.declared.entry.Entry.{Entry}
 use Rattle.drum_machine.specs.declared.card.Card.{Card}
 use Rattle.drum_machine.specs.Contents.{Contents}
-use Rattle.drum_machine.specs.FirstState.{IsFirstDrum, IsSetUp}
-use Rattle.drum_machine.specs.Fed.{op_in, wait_with, waits_with}
 use Rattle.drum_machine.specs.Run.{Stride, IsStride, IsRun, FollowStep}
 use Rattle.drum_machine.proofs.Prefixes.{run_prefix}
 use Rattle.drum_machine.specs.Step.{State, Stepped, on, stopped, step}
+use Rattle.drum_emulator.specs.FirstState.{IsFirstDrum, IsSetUp}
+use Rattle.drum_emulator.specs.Fed.{op_in, wait_with, waits_with}
 use Rattle.drum_flow.specs.Walk.{Setting}
 use Rattle.drum_replay.specs.Replay.{Given, AreFed, IsReplayed}
 use Rattle.drum_replay.specs.Following.{stride_at}

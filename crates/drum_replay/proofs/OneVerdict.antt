@@ -9,12 +9,12 @@ use Rattle.drum_machine.specs.Contents.{Contents}
 use Rattle.drum_machine.specs.Calls.{none_open, open_along, GoBack}
 use Rattle.drum_machine.specs.Counts.{no_counts}
 use Rattle.drum_machine.specs.Keeps.{AreKept, IsKeptStride, IsAsDeclared, Leaves, GoesTo, counts_after}
-use Rattle.drum_machine.specs.Fed.{op_in, waits_with}
 use Rattle.drum_machine.specs.Keeps.{AllGoBack, GoesBack, counts_over, open_behind, ways_after}
 use Rattle.drum_machine.specs.Run.{Stride, IsRun, FollowStep, used_from}
 use Rattle.drum_machine.specs.Since.{Edge, edge_by, edges_of}
 use Rattle.drum_machine.specs.Step.{State, Stepped, on, stopped}
 use Rattle.drum_machine.proofs.Returning.{along_joined, back_split, edges_more}
+use Rattle.drum_emulator.specs.Fed.{op_in, waits_with}
 use Rattle.drum_flow.specs.Walk.{Setting}
 use Rattle.drum_lines.specs.declared.verdict.Verdict.{Verdict}
 use Rattle.drum_lines.specs.declared.verdict.Verdict.TheVariants.{Kept, Left}

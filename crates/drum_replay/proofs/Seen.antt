@@ -18,14 +18,14 @@ use Rattle.drum_times.specs.Allowed.{Listed, Matches, Notes}
 use Rattle.drum_times.specs.Listed.{listed}
 use Rattle.drum_machine.specs.Counts.{AreWithin, after_pass, no_counts}
 use Rattle.drum_machine.specs.declared.counts.Counts.{Counts}
-use Rattle.drum_machine.specs.declared.step.Step.TheVariants.{Went}
 use Rattle.drum_machine.specs.declared.why.Why as whys
 use Rattle.drum_machine.specs.Contents.{Contents}
 use Rattle.drum_machine.specs.CountsIn.{counts_in}
 use Rattle.drum_machine.specs.Keeps.{counts_after, counts_by, counts_over}
-use Rattle.drum_machine.specs.Machine.{Tells}
 use Rattle.drum_machine.specs.Run.{Stride}
 use Rattle.drum_machine.specs.Step.{Stepped, on, stopped, fetched, instruction_in}
+use Rattle.drum_emulator.specs.declared.step.Step.TheVariants.{Went}
+use Rattle.drum_emulator.specs.Machine.{Tells}
 use Rattle.drum_monitor.proofs.Watching.{over_more}
 use Rattle.drum_replay.specs.declared.coverage.Coverage.{Coverage}
 use Rattle.drum_replay.specs.CoverageOf.{HasSeen, counts_of, flags_of, passed_at}

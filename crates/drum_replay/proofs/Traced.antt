@@ -6,29 +6,29 @@ use Rattle.std.proofs.Common.{refl}
 use Rattle.std.proofs.lemmas.List.{take-append-le}
 use Rattle.std.specs.Prelude.{MatchResult, OnOk, if◌then◌else◌}
 use Rattle.std.specs.Io.KnownBytes.{Appends}
-use Rattle.drum_core.proofs.Bytes.{Appends-then, take_behind}
 use Rattle.drum_core.specs.declared.op.Op.{Op}
+use Rattle.drum_core.specs.Location.{is_location}
+use Rattle.drum_core.specs.Op.{op_of, operand_of, is_operand}
+use Rattle.drum_devices.proofs.Bytes.{Appends-then, take_behind}
 use Rattle.drum_times.specs.declared.entry.Entry.{Entry}
-use Rattle.drum_machine.specs.Fed.{op_in, waits_with}
+use Rattle.drum_times.specs.Allowed.{Notes}
 use Rattle.drum_machine.specs.Run.{Stride}
 use Rattle.drum_machine.specs.Step.{State, Stepped, on, stopped, clock_of, instruction_in, lacks_card, stepped_by, step}
 use Rattle.drum_machine.specs.Step.{step_with}
 use Rattle.drum_machine.specs.declared.why.Why.TheVariants as why
 use Rattle.drum_machine.specs.Effect.{Outcome, effect, goes, stops}
 use Rattle.drum_machine.specs.Timing.{ended, ready, units_of}
-use Rattle.drum_core.specs.Location.{is_location}
-use Rattle.drum_core.specs.Op.{op_of, operand_of, is_operand}
+use Rattle.drum_emulator.specs.Fed.{op_in, waits_with}
 use Rattle.drum_flow.specs.Walk.{Setting}
-use Rattle.drum_times.specs.Allowed.{Notes}
 use Rattle.drum_lines.specs.declared.status.Status.{Status}
 use Rattle.drum_lines.specs.declared.status.Status.TheVariants.{Failed}
 use Rattle.drum_lines.specs.declared.verdict.Verdict.{Verdict}
+use Rattle.drum_lines.specs.Output.{Device, GetsAll, GetsResult}
 use Rattle.drum_listing.specs.TraceText.{stride_line, stride_lines}
 use Rattle.drum_replay.specs.declared.replaying.Begun.{Begun}
 use Rattle.drum_replay.specs.Begun.{IsBegun}
 use Rattle.drum_replay.specs.Coverage.{comes_at_once, coverage_lines, coverage_text}
 use Rattle.drum_replay.specs.Following.{Goes, IsFollowed, Lead, state_of, waits_of}
-use Rattle.drum_lines.specs.Output.{Device, GetsAll, GetsResult}
 use Rattle.drum_replay.specs.Replay.{Given, IsTraced}
 use Rattle.drum_replay.proofs.Beginning.{judged_before, judged_followed}
 

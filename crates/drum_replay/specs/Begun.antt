@@ -4,17 +4,17 @@ use Rattle.drum_machine.specs.declared.left.Left as lefts
 use Rattle.drum_machine.specs.declared.left.Left.TheVariants as left
 use Rattle.drum_machine.specs.Keeps.{IsAsDeclared}
 use Rattle.drum_flow.specs.Walk.{Setting}
+use Rattle.drum_flow.specs.Bounded.{IsBounded}
+use Rattle.drum_walks.specs.Worst.{IsWorst}
 use Rattle.drum_lines.specs.declared.verdict.Verdict.{Verdict}
 use Rattle.drum_lines.specs.declared.verdict.Verdict.TheVariants.{Left}
-use Rattle.drum_replay.specs.declared.replaying.Begun.{Begun}
-use Rattle.drum_replay.specs.declared.replaying.BegunTrace.{BegunTrace}
 use Rattle.drum_documents.specs.declared.documents.Documents.{Documents}
-use Rattle.drum_flow.specs.Bounded.{IsBounded}
 use Rattle.drum_documents.specs.Limits.{IsLimit}
 use Rattle.drum_documents.specs.Documents.{setting_of}
+use Rattle.drum_replay.specs.declared.replaying.Begun.{Begun}
+use Rattle.drum_replay.specs.declared.replaying.BegunTrace.{BegunTrace}
 use Rattle.drum_replay.specs.CoverageOf.{HasSeen}
 use Rattle.drum_replay.specs.Following.{AreGiven, CanBegin, IsFollowing, state_of, waits_of}
-use Rattle.drum_bound.specs.Worst.{IsWorst}
 use Rattle.drum_replay.specs.Replay.{Given, HasOwnWords, HasReplay}
 
 -- the verdict on a run that leaves the notes before any step

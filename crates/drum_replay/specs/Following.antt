@@ -2,14 +2,14 @@
 use Rattle.std.specs.Prelude.{◌≡◌, ℕ, ◌+◌, ◌≤◌, List, [], ◌∷◌, ◌++◌, length, None}
 use Rattle.drum_core.specs.declared.op.Op.{Op}
 use Rattle.drum_times.specs.declared.entry.Entry.{Entry}
-use Rattle.drum_machine.specs.Feed.{cards_left, waits_left}
-use Rattle.drum_machine.specs.FirstState.{IsSetUp}
 use Rattle.drum_machine.specs.Keeps.{IsAsDeclared}
-use Rattle.drum_machine.specs.Fed.{op_in, wait_with, waits_with}
-use Rattle.drum_machine.specs.Machine.{GoesOn, state_in, used_by}
-use Rattle.drum_monitor.specs.Monitor.{HasSeenKept, answer_of}
 use Rattle.drum_machine.specs.Run.{Stride, IsStride, IsFirstState}
 use Rattle.drum_machine.specs.Step.{State, Stepped, on, stopped, step}
+use Rattle.drum_emulator.specs.Feed.{cards_left, waits_left}
+use Rattle.drum_emulator.specs.FirstState.{IsSetUp}
+use Rattle.drum_emulator.specs.Fed.{op_in, wait_with, waits_with}
+use Rattle.drum_emulator.specs.Machine.{GoesOn, state_in, used_by}
+use Rattle.drum_monitor.specs.Monitor.{HasSeenKept, answer_of}
 use Rattle.drum_flow.specs.Accepted.{IsFixed}
 use Rattle.drum_flow.specs.Walk.{Setting}
 use Rattle.drum_lines.specs.declared.verdict.Verdict.{Verdict}

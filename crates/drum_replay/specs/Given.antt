@@ -1,5 +1,5 @@
 -- What inputs give to a replay.
-use Rattle.drum_machine.specs.Feed.{cards_left, waits_left}
+use Rattle.drum_emulator.specs.Feed.{cards_left, waits_left}
 use Rattle.drum_inputs.specs.declared.inputs.Inputs.{Inputs}
 use Rattle.drum_replay.specs.Replay.{Given}
 

@@ -5,28 +5,28 @@ use Rattle.drum_times.specs.declared.entry.Entry.{Entry}
 use Rattle.drum_machine.specs.declared.card.Card.{Card}
 use Rattle.drum_machine.specs.declared.left.Left as lefts
 use Rattle.drum_machine.specs.declared.left.Left.TheVariants as left
-use Rattle.drum_machine.specs.declared.setup.Setup.{Setup}
 use Rattle.drum_machine.specs.declared.why.Why.{Why}
 use Rattle.drum_machine.specs.Contents.{Contents}
 use Rattle.drum_machine.specs.Counts.{no_counts}
-use Rattle.drum_machine.specs.FirstState.{IsSetUp}
 use Rattle.drum_machine.specs.Keeps.{IsAsDeclared, AllGoBack, AreKept, Leaves, open_behind}
-use Rattle.drum_machine.specs.Fed.{op_in, wait_with, waits_with}
 use Rattle.drum_machine.specs.Keeps.{counts_over}
 use Rattle.drum_machine.specs.Run.{Stride, IsRun, used_from}
-use Rattle.drum_machine.specs.Setup.{first_loaded}
 use Rattle.drum_machine.specs.Step.{State, stopped}
+use Rattle.drum_emulator.specs.declared.setup.Setup.{Setup}
+use Rattle.drum_emulator.specs.FirstState.{IsSetUp}
+use Rattle.drum_emulator.specs.Fed.{op_in, wait_with, waits_with}
+use Rattle.drum_emulator.specs.Setup.{first_loaded}
 use Rattle.drum_flow.specs.declared.refusal.Refusal.{Refusal}
-use Rattle.drum_flow.specs.Acceptance.{IsRefusal}
 use Rattle.drum_flow.specs.Walk.{Setting}
-use Rattle.drum_bound.specs.Worst.{IsWorst}
+use Rattle.drum_flow.specs.Bounded.{IsDeckAccepted}
+use Rattle.drum_acceptance.specs.Acceptance.{IsRefusal}
+use Rattle.drum_walks.specs.Worst.{IsWorst}
 use Rattle.drum_lines.specs.declared.fault.Fault as fails
 use Rattle.drum_lines.specs.declared.fault.Fault.TheVariants as fault
 use Rattle.drum_lines.specs.declared.verdict.Verdict.{Verdict}
 use Rattle.drum_lines.specs.declared.verdict.Verdict.TheVariants.{Kept, Left}
 use Rattle.drum_lines.specs.declared.limit.Limit.{Limit}
 use Rattle.drum_documents.specs.declared.documents.Documents.{Documents}
-use Rattle.drum_flow.specs.Bounded.{IsDeckAccepted}
 use Rattle.drum_documents.specs.Limits.{IsLimit, IsLimitRefusal}
 use Rattle.drum_documents.specs.Documents.{setting_of}
 

@@ -10,13 +10,14 @@ ghost use Rattle.drum_times.specs.Allowed.{Listed};
 ghost use Rattle.drum_times.specs.Listed.{listed};
 ghost use Rattle.drum_machine.specs.Counts.{AreWithin, after_pass};
 ghost use Rattle.drum_machine.specs.CountsIn.{counts_in};
-ghost use Rattle.drum_machine.specs.Machine.{IsToldOf};
 ghost use Rattle.drum_machine.specs.Run.{Stride};
+ghost use Rattle.drum_emulator.specs.Machine.{IsToldOf};
 ghost use Rattle.drum_replay.specs.Coverage.{is_match};
 
 use crate::met::Met;
 use drum_core::{Instruction, Location};
-use drum_machine::{Counts, Step, count_pass};
+use drum_emulator::Step;
+use drum_machine::{Counts, count_pass};
 use drum_times::{Listing, Mark, Notes};
 use std::alloc::{AllocError, Global};
 

@@ -9,7 +9,7 @@ ghost use Rattle.drum_replay.specs.Coverage.{coverage_text, list_line, mark_line
 ghost use Rattle.drum_replay.specs.CoverageOf.{HasSeen, list_line_at, passed_at};
 
 use crate::coverage::Coverage;
-use drum_core::Output;
+use drum_devices::Output;
 use drum_lines::{WriteFault, four_digits, name_pieces, send};
 use drum_times::{Listing, Mark, Notes};
 use itoa::Buffer;

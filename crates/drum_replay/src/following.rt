@@ -3,19 +3,19 @@
 ghost use Rattle.std.specs.Prelude.{◌≡◌, ℕ, ◌+◌, ◌^◌, ◌<◌, ◌≤◌, List, MatchOption, None, [], ◌∷◌};
 ghost use Rattle.std.specs.Prelude.{◌++◌};
 ghost use Rattle.drum_times.specs.Entries.{entry_in};
-ghost use Rattle.drum_machine.specs.Feed.{cards_left};
-ghost use Rattle.drum_machine.specs.Machine.{GoesOn, held_by};
-ghost use Rattle.drum_machine.specs.Machine.{IsToldOf};
 ghost use Rattle.drum_machine.specs.Run.{Stride};
 ghost use Rattle.drum_machine.specs.Step.{State, contents_after};
+ghost use Rattle.drum_emulator.specs.Feed.{cards_left};
+ghost use Rattle.drum_emulator.specs.Machine.{GoesOn, held_by};
+ghost use Rattle.drum_emulator.specs.Machine.{IsToldOf};
 ghost use Rattle.drum_flow.specs.SettingOf.{setting};
 ghost use Rattle.drum_flow.specs.Bounded.{IsBounded};
 ghost use Rattle.drum_replay.specs.Following.{AreOfRun, CanBegin, IsFollowed, IsFollowing};
 ghost use Rattle.drum_replay.specs.Following.{stride_of, used_so_far, state_of, waits_of};
 
-use drum_core::Deck;
+use drum_deck::Deck;
+use drum_emulator::{Feed, Machine, Step};
 use drum_lines::Verdict;
-use drum_machine::{Feed, Machine, Step};
 use drum_monitor::Monitor;
 use drum_times::{Notes, Times};
 

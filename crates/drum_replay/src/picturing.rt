@@ -16,7 +16,8 @@ ghost use Rattle.drum_replay.specs.Replay.{Given, IsJudged, IsReplay, IsReplayFa
 use crate::following::Following;
 use crate::replaying::{Begun, begin_replay};
 use drum_bound::Refusal;
-use drum_core::{Deck, Output};
+use drum_deck::Deck;
+use drum_devices::Output;
 use drum_documents::Documents;
 use drum_inputs::Inputs;
 use drum_lines::{Fault, Status, Verdict, tell_text};

@@ -2,19 +2,20 @@
 
 ghost use Rattle.std.specs.Prelude.{◌≡◌, ◌^◌, ◌<◌, IfErr, IfOk, option_map};
 ghost use Rattle.drum_flow.specs.SettingOf.{setting};
-ghost use Rattle.drum_replay.specs.Begun.{IsBegun, IsReplayBegun, IsTraceBegun, left_before};
 ghost use Rattle.drum_flow.specs.Bounded.{IsBounded};
+ghost use Rattle.drum_replay.specs.Begun.{IsBegun, IsReplayBegun, IsTraceBegun, left_before};
 ghost use Rattle.drum_replay.specs.Given.{given};
 ghost use Rattle.drum_replay.specs.Replay.{IsReplay, IsReplayFault, IsTraceFault};
 
 use crate::coverage::Coverage;
 use crate::following::{Following, follow};
 use drum_bound::bound;
-use drum_core::Deck;
+use drum_deck::Deck;
 use drum_documents::{Documents, limit_of};
+use drum_emulator::Machine;
 use drum_inputs::Inputs;
 use drum_lines::{Fault, Limit, Verdict};
-use drum_machine::{Left, Machine};
+use drum_machine::Left;
 use drum_monitor::Monitor;
 use drum_times::{Notes, Times};
 use std::alloc::Global;

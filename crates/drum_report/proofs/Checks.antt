@@ -6,9 +6,9 @@ use Rattle.drum_core.specs.declared.location.Location.{Location}
 use Rattle.drum_core.specs.Instruction.{instruction_of}
 use Rattle.drum_core.specs.Location.{IsLocation}
 use Rattle.drum_core.specs.Word.{word}
-use Rattle.drum_machine.specs.Ways.{to, late}
 use Rattle.drum_times.specs.declared.notes.mark.Mark.{Mark}
-use Rattle.drum_bound.specs.Visited.{Visited}
+use Rattle.drum_machine.specs.Ways.{to, late}
+use Rattle.drum_walks.specs.Visited.{Visited}
 use Rattle.drum_report.specs.Report.{mark_line, time_in, used_after, visits_at}
 
 -- a walk of two words: the first takes 55 word times, the second one

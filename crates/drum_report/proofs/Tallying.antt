@@ -9,14 +9,14 @@ use Rattle.std.proofs.lemmas.List.Sums.{sum_by-cons, sum_by-take-le, sum_by_push
 use Rattle.std.specs.List.{take-map}
 use Rattle.std.specs.Prelude.{◌==◌, slice_get, slice_index}
 use borrow.Author.Tests.{ne_eqb}
-use Rattle.drum_core.specs.declared.deck.Deck.{Deck}
-use Rattle.drum_core.specs.Loads.{card_in}
-use Rattle.drum_core.proofs.Puts.{slice_get-set_same, slice_get-set_other}
+use Rattle.drum_deck.specs.declared.deck.Deck.{Deck}
+use Rattle.drum_deck.specs.Loads.{card_in}
+use Rattle.drum_deck.proofs.Puts.{slice_get-set_same, slice_get-set_other}
 use Rattle.drum_times.specs.declared.notes.mark.Mark.{Mark}
 use Rattle.drum_machine.specs.WaysLeft.{seen_way}
 use Rattle.drum_flow.specs.Walk.{passes_by}
-use Rattle.drum_bound.specs.declared.visit.Visit.{Visit}
-use Rattle.drum_bound.specs.Visited.{Visited, seen_visit, passes_in}
+use Rattle.drum_walks.specs.declared.visit.Visit.{Visit}
+use Rattle.drum_walks.specs.Visited.{Visited, seen_visit, passes_in}
 use Rattle.drum_report.specs.declared.reporting.tally.Tally.{Tally}
 use Rattle.drum_report.specs.Report.{is_of_card, is_of_none, time_in, visits_at}
 use Rattle.drum_report.specs.TalliesOf.{AreByLine, ArePasses, tally_of}

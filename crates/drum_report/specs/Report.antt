@@ -2,12 +2,12 @@
 -- stays there, how often it passes each mark, and its time.
 use Rattle.std.specs.Prelude.{ℕ, ◌-◌, ◌==◌, Bool, false, true, List, [], ◌∷◌, ◌++◌, codes, decimal}
 use Rattle.std.specs.Prelude.{filter, flat_map, length, sum_by, Some, None}
-use Rattle.drum_core.specs.declared.deck.Deck.{Deck}
-use Rattle.drum_core.specs.Loads.{card_in, cards_in}
+use Rattle.drum_deck.specs.declared.deck.Deck.{Deck}
+use Rattle.drum_deck.specs.Loads.{card_in, cards_in}
 use Rattle.drum_core.specs.Numeral.{digits_of}
 use Rattle.drum_times.specs.declared.notes.mark.Mark.{Mark}
 use Rattle.drum_times.specs.Allowed.{Notes}
-use Rattle.drum_bound.specs.Visited.{Visited, passes_in}
+use Rattle.drum_walks.specs.Visited.{Visited, passes_in}
 use Rattle.drum_lines.specs.BoundText.{bound_text}
 use Rattle.drum_lines.specs.NameText.{name_text}
 

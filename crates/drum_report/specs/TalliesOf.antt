@@ -1,10 +1,10 @@
 -- What the tallies of a walk are, as the code has them, and the lines that they make.
 use Rattle.std.specs.Prelude.{◌≡◌, ℕ, ◌≤◌, List, ◌++◌, codes, decimal, length, slice_get}
 use Rattle.std.specs.Prelude.{slice_index, Some}
-use Rattle.drum_core.specs.declared.deck.Deck.{Deck}
+use Rattle.drum_deck.specs.declared.deck.Deck.{Deck}
 use Rattle.drum_core.specs.Numeral.{digits_of}
 use Rattle.drum_times.specs.declared.notes.mark.Mark.{Mark}
-use Rattle.drum_bound.specs.Visited.{Visited, passes_in}
+use Rattle.drum_walks.specs.Visited.{Visited, passes_in}
 use Rattle.drum_lines.specs.NameText.{name_text}
 use Rattle.drum_report.specs.declared.reporting.tally.Tally.{Tally}
 use Rattle.drum_report.specs.declared.reporting.tallies.Tallies.{Tallies}

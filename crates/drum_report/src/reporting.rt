@@ -10,7 +10,8 @@ mod tallies;
 mod tally;
 
 use drum_bound::Analysis;
-use drum_core::{Deck, Output};
+use drum_deck::Deck;
+use drum_devices::Output;
 use drum_lines::{WriteFault, send_bound};
 use drum_times::Notes;
 use sending::{send_cards, send_marks, send_other};

@@ -23,16 +23,16 @@ use Rattle.drum_flow.specs.Walk.{IsTimed, IsWalkFrom, Setting, Taken, time_from}
 use Rattle.drum_flow.proofs.FromAngles.{leap_time}
 use Rattle.drum_flow.proofs.LongestLaws.{longest_is_timed}
 use Rattle.drum_flow.proofs.Profiles.{hop_may_end}
+use Rattle.drum_flow.specs.Longest.{units_by, wait_by}
+use Rattle.drum_walks.specs.Pieces.{placed, repeated, PlacedHop}
+use Rattle.drum_rows.specs.Marked.{mark_by}
 use Rattle.drum_rounds.specs.declared.change.Change.{Change}
 use Rattle.drum_rounds.specs.declared.change.Change.TheVariants.{Rise, SetBack}
 use Rattle.drum_rounds.specs.declared.opening.Opening.{Opening}
 use Rattle.drum_rounds.specs.Change.{all_followed, counts_after, over_rounds, passes_by, peaks}
-use Rattle.drum_rows.specs.Marked.{mark_by}
 use Rattle.drum_rounds.specs.InRounds.{takes}
 use Rattle.drum_rounds.specs.Opening.{AreBoth, AreRight}
-use Rattle.drum_rounds.specs.Pieces.{placed, repeated, PlacedHop}
 use Rattle.drum_rounds.specs.Stretch.{changes_by, edges_placed, laid, laid_one, next_by, ComeTo, GoOn, Span}
-use Rattle.drum_flow.specs.Longest.{units_by, wait_by}
 use Rattle.drum_rounds.proofs.CountLaws.{at_followed, at_rounds, counts_followed, counts_once, counts_others, long_by}
 use Rattle.drum_rounds.proofs.CountLaws.{long_followed, passes_followed, passes_rounds, within_first, within_followed}
 use Rattle.drum_rounds.proofs.CountLaws.{within_none, within_others, within_passed}

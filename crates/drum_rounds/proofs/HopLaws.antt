@@ -6,8 +6,8 @@ use Rattle.drum_core.specs.declared.instruction.Instruction.{Instruction}
 use Rattle.drum_core.specs.declared.word.Word.{Word}
 use Rattle.drum_times.specs.Allowed.{allowed, Notes}
 use Rattle.drum_machine.specs.Ways.{Way, ways}
+use Rattle.drum_order.proofs.Lists.{contains_cases, contains_here, contains_there}
 use Rattle.drum_flow.specs.Hops.{Hop, hops, hops_of}
-use Rattle.drum_flow.proofs.Lists.{contains_cases, contains_here, contains_there}
 
 way_there : (ins : Instruction) (all : List Way) (way : Way) → Contains all way
     → let rest : List Hop = map (λ w. record { ins = ins; way = w }) all in

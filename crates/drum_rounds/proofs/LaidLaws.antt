@@ -4,8 +4,8 @@ use Rattle.drum_machine.specs.Since.{Edge}
 use Rattle.drum_flow.specs.Walk.{edge_taken, edges_taken}
 use Rattle.drum_flow.specs.Walk.{Setting, Taken, time_from}
 use Rattle.drum_flow.proofs.LongestLaws.{longest_later}
-use Rattle.drum_bound.specs.Visited.{visited, AreLongest}
-use Rattle.drum_rounds.specs.Pieces.{PlacedHop}
+use Rattle.drum_walks.specs.Visited.{visited, AreLongest}
+use Rattle.drum_walks.specs.Pieces.{PlacedHop}
 use Rattle.drum_rounds.specs.Stretch.{edges_placed, laid, laid_one}
 
 pub time_append : (time : ℕ) (xs ys : List Taken) → time_from time (xs ++ ys) ≡ time_from (time_from time xs) ys

@@ -7,11 +7,11 @@ use Rattle.std.proofs.lemmas.Bool.{cases_lt}
 use Rattle.std.proofs.lemmas.List.{at_drop_more, drop-set-lt, get_or-replicate, get_or-set_other, get_or-set_same}
 use Rattle.std.proofs.lemmas.List.{length-replicate, length-set}
 use Rattle.std.proofs.lemmas.List.Sums.{sum_by-append, sum_by-cons}
-use Rattle.drum_rounds.specs.declared.piece.Piece.{Piece}
-use Rattle.drum_rounds.specs.declared.piece.Piece.TheVariants as piece
+use Rattle.drum_walks.specs.declared.piece.Piece.{Piece}
+use Rattle.drum_walks.specs.declared.piece.Piece.TheVariants as piece
+use Rattle.drum_walks.specs.Pieces.{repeated, seen_placed, spelled_at, spelled_behind, spelled_by, spelled_of, PlacedHop}
 use Rattle.drum_rounds.specs.InRounds.{summed}
 use Rattle.drum_rounds.specs.OftenOf.{by_named, hops_in, owed, HasShared}
-use Rattle.drum_rounds.specs.Pieces.{repeated, seen_placed, spelled_at, spelled_behind, spelled_by, spelled_of, PlacedHop}
 use Rattle.drum_rounds.proofs.SpelledLaws.{spelled_earlier, spelled_piece}
 
 -- ---- what is owed where one entry is set

@@ -9,10 +9,10 @@ use Rattle.drum_machine.specs.Calls.{none_open, open_along, opened, opened_by, w
 use Rattle.drum_machine.specs.OpenIn.{number_of}
 use Rattle.drum_machine.specs.Since.{Edge}
 use Rattle.drum_machine.proofs.Returning.{along_joined, back_joined}
+use Rattle.drum_walks.specs.Pieces.{repeated}
 use Rattle.drum_rounds.specs.declared.opening.Opening.{Opening}
 use Rattle.drum_rounds.specs.declared.opening.Opening.TheVariants.{Kept, Set}
 use Rattle.drum_rounds.specs.Opening.{way_left, ways_left, AreBoth, AreRight, IsBoth, IsOfStep, Meet, Meets}
-use Rattle.drum_rounds.specs.Pieces.{repeated}
 
 abbrev Ways : Type 0
 Ways = List (Option ℕ)

@@ -4,7 +4,7 @@ use Rattle.std.proofs.Common.{length, take, get_or, refl, ap, sym, ◌∙◌, su
 use Rattle.std.specs.Prelude.{if◌then◌else◌, slice_get, unwrap_or}
 use Rattle.std.proofs.lemmas.Bool.{cases_lt, eq-eqb, le-ltb, lt-ltb}
 use Rattle.std.proofs.lemmas.List.{length-append, take_more}
-use Rattle.drum_rounds.specs.declared.piece.Piece.{Piece}
+use Rattle.drum_walks.specs.declared.piece.Piece.{Piece}
 use Rattle.drum_rounds.specs.Order.{closing, never, on_from, through_at, through_behind, through_by, through_row}
 use Rattle.drum_rounds.specs.Order.{AreInOrder, Through}
 use Rattle.drum_rounds.specs.OrderOf.{first_in, AreAllThrough, AreThrough}

@@ -2,8 +2,8 @@
 use Rattle.std.proofs.Common.{◌≡◌, ℕ, zero, suc, ◌+◌, ◌<◌, List, [], ◌∷◌, ◌++◌, length, take, drop, get_or}
 use Rattle.std.proofs.Common.{refl, ap, sym, ◌∙◌, arith}
 use Rattle.std.proofs.lemmas.List.{at_drop_more, length-append, length-take, take-append-drop}
-use Rattle.drum_rounds.specs.declared.piece.Piece.{Piece}
-use Rattle.drum_rounds.specs.Pieces.{spelled_at, spelled_behind, spelled_by, spelled_of, PlacedHop}
+use Rattle.drum_walks.specs.declared.piece.Piece.{Piece}
+use Rattle.drum_walks.specs.Pieces.{spelled_at, spelled_behind, spelled_by, spelled_of, PlacedHop}
 
 pub behind_more : (before : List (List PlacedHop)) (pieces : List Piece) (piece : Piece)
     → spelled_behind before (pieces ++ piece ∷ [])

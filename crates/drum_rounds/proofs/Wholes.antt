@@ -4,17 +4,17 @@ use Rattle.std.proofs.Common.{refl, ap, sym, ◌∙◌, subst, arith, Option, So
 use Rattle.std.specs.Prelude.{slice_get, slice_index, sum_by}
 use Rattle.std.proofs.lemmas.Bool.{cases_lt}
 use Rattle.std.proofs.lemmas.List.{append-nil, length-append, length-map, take_more}
+use Rattle.drum_times.specs.declared.notes.call.Call.{Call}
 use Rattle.drum_machine.specs.Calls.{none_open, GoBack}
 use Rattle.drum_machine.specs.Counts.{no_counts}
 use Rattle.drum_machine.specs.Since.{passes_of}
-use Rattle.drum_times.specs.declared.notes.call.Call.{Call}
 use Rattle.drum_flow.specs.Walk.{IsWalkFrom, Setting}
-use Rattle.drum_rounds.specs.declared.piece.Piece.{Piece}
+use Rattle.drum_walks.specs.declared.piece.Piece.{Piece}
+use Rattle.drum_walks.specs.Pieces.{spelled, spelled_at, spelled_behind, spelled_by, spelled_of, PlacedHop}
 use Rattle.drum_rounds.specs.declared.stretch.Stretch.{Stretch}
 use Rattle.drum_rounds.specs.Change.{counts_after, passes_by}
 use Rattle.drum_rounds.specs.InRounds.{takes, SpellOut}
 use Rattle.drum_rounds.specs.Order.{AreInOrder}
-use Rattle.drum_rounds.specs.Pieces.{spelled, spelled_at, spelled_behind, spelled_by, spelled_of, PlacedHop}
 use Rattle.drum_rounds.specs.Stretch.{edges_placed, laid, span_of, AreStretches, ComeTo, GoOn, IsFromStart}
 use Rattle.drum_rounds.proofs.LaidLaws.{edges_laid, longest_laid}
 use Rattle.drum_rounds.proofs.SpelledLaws.{behind_more, long_behind, spelled_before, spelled_last}

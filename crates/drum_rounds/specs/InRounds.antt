@@ -1,7 +1,7 @@
 -- When a walk in rounds is right.
 use Rattle.std.specs.Prelude.{◌≡◌, ℕ, ◌+◌, ◌-◌, ◌*◌, ◌^◌, ◌<◌, ◌≤◌, List, [], ◌∷◌, map, length}
 use Rattle.std.specs.Prelude.{slice_index, sum_by}
-use Rattle.drum_core.specs.declared.deck.Deck.{Deck}
+use Rattle.drum_deck.specs.declared.deck.Deck.{Deck}
 use Rattle.drum_core.specs.declared.op.Op.{Op}
 use Rattle.drum_times.specs.declared.entry.Entry.{Entry}
 use Rattle.drum_times.specs.declared.times.Times.{Times}
@@ -12,12 +12,12 @@ use Rattle.drum_flow.specs.Longest.{longest}
 use Rattle.drum_flow.specs.Walk.{edges_taken}
 use Rattle.drum_flow.specs.SettingOf.{setting}
 use Rattle.drum_flow.specs.Walk.{Setting, Taken, IsWalk, time_of}
-use Rattle.drum_bound.specs.Visited.{AreLongest, visited}
+use Rattle.drum_walks.specs.Visited.{AreLongest, visited}
+use Rattle.drum_walks.specs.declared.piece.Piece.{Piece}
+use Rattle.drum_walks.specs.declared.piece.Piece.TheVariants as piece
+use Rattle.drum_walks.specs.Pieces.{named, placed, seen_placed, spelled, spelled_of, PlacedHop}
 use Rattle.drum_rounds.specs.declared.in_rounds.InRounds.{InRounds}
-use Rattle.drum_rounds.specs.declared.piece.Piece.{Piece}
-use Rattle.drum_rounds.specs.declared.piece.Piece.TheVariants as piece
 use Rattle.drum_rounds.specs.Order.{AreInOrder}
-use Rattle.drum_rounds.specs.Pieces.{named, placed, seen_placed, spelled, spelled_of, PlacedHop}
 
 -- What the pieces spell out is a walk from this angle, each of its hops as long as it can be. It
 -- takes the total, in word times, and passes each mark so often.

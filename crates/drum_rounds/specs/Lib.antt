@@ -1,9 +1,7 @@
-pub mod BracketOf
 pub mod Change
 pub mod InRounds
 pub mod OftenOf
 pub mod Opening
 pub mod Order
 pub mod OrderOf
-pub mod Pieces
 pub mod Stretch

@@ -1,7 +1,7 @@
 -- How often pieces come, while it is worked out from the last one down.
 use Rattle.std.specs.Prelude.{◌≡◌, ℕ, zero, suc, ◌+◌, ◌*◌, List, drop, length, sum_by, get_or}
-use Rattle.drum_rounds.specs.declared.piece.Piece.{Piece}
-use Rattle.drum_rounds.specs.declared.piece.Piece.TheVariants as piece
+use Rattle.drum_walks.specs.declared.piece.Piece.{Piece}
+use Rattle.drum_walks.specs.declared.piece.Piece.TheVariants as piece
 
 -- what so many pieces stand for, each as often as it comes
 abbrev pub owed : (ℕ → ℕ) → List ℕ → ℕ → ℕ

@@ -1,8 +1,8 @@
 -- In which order pieces are numbered.
 use Rattle.std.specs.Prelude.{◌≡◌, ℕ, suc, ◌-◌, ◌==◌, nat_lt, if◌then◌else◌, List, [], ◌∷◌, ◌++◌}
 use Rattle.std.specs.Prelude.{length, slice_get, unwrap_or, Option, Some, None}
-use Rattle.drum_rounds.specs.declared.piece.Piece.{Piece}
-use Rattle.drum_rounds.specs.declared.piece.Piece.TheVariants as piece
+use Rattle.drum_walks.specs.declared.piece.Piece.{Piece}
+use Rattle.drum_walks.specs.declared.piece.Piece.TheVariants as piece
 
 -- Who goes through a walk piece by piece comes to each for a first time. A way through says how
 -- many pieces he has come to the end of when he is through, where so many were before; `None` where

@@ -1,6 +1,6 @@
 -- In which order pieces are numbered, as the code finds it.
 use Rattle.std.specs.Prelude.{◌≡◌, ℕ, suc, ◌<◌, List, [], length, slice_get, unwrap_or, Some}
-use Rattle.drum_rounds.specs.declared.piece.Piece.{Piece}
+use Rattle.drum_walks.specs.declared.piece.Piece.{Piece}
 use Rattle.drum_rounds.specs.Order.{never, through_behind, Through}
 
 -- behind how many pieces one first begins

@@ -11,6 +11,7 @@ use Rattle.drum_machine.specs.Ways.{Way, early, to, late}
 use Rattle.drum_flow.specs.Longest.{longest, units_by, wait_by}
 use Rattle.drum_flow.specs.Walk.{edge_taken}
 use Rattle.drum_flow.specs.Walk.{Setting, Taken, IsWalkFrom, time_from}
+use Rattle.drum_walks.specs.Pieces.{placed, spelled_at, PlacedHop}
 use Rattle.drum_rounds.specs.declared.change.Change.{Change}
 use Rattle.drum_rounds.specs.declared.change.Change.TheVariants.{Rise, SetBack}
 use Rattle.drum_rounds.specs.declared.opening.Opening.{Opening}
@@ -18,7 +19,6 @@ use Rattle.drum_rounds.specs.declared.stretch.Stretch.{Stretch}
 use Rattle.drum_rounds.specs.Change.{counts_after, passes_by, peaks}
 use Rattle.drum_rounds.specs.InRounds.{takes}
 use Rattle.drum_rounds.specs.Opening.{AreRight, Meet}
-use Rattle.drum_rounds.specs.Pieces.{placed, spelled_at, PlacedHop}
 
 -- where hops begin, at which angle, where the last leads if it goes on, how long they take, what
 -- they do to each mark's count, and what they ask and make of what is open at each call's exit

@@ -4,19 +4,19 @@ ghost use Rattle.std.specs.Prelude.{◌≡◌, ◌<◌, ◌++◌, [], ◌∷◌,
 ghost use Rattle.drum_machine.specs.WaysLeft.{seen_way};
 ghost use Rattle.drum_flow.specs.SettingOf.{setting};
 ghost use Rattle.drum_flow.specs.Walk as walks;
+ghost use Rattle.drum_walks.specs.Pieces.{repeated, seen_placed, PlacedHop};
 ghost use Rattle.drum_rows.specs.Marked.{mark_by};
-ghost use Rattle.drum_rounds.specs.Pieces.{repeated, seen_placed, PlacedHop};
 ghost use Rattle.drum_rounds.specs.Stretch.{next_by, number_of, span_of, ComeTo};
 
 use crate::changes::{changes_by, followed, over_rounds};
 use crate::openings;
-use crate::piece::Placed;
 use crate::setting::Setting;
 use crate::stretch::Stretch;
 use drum_core::Location;
 use drum_flow::longest::longest;
 use drum_machine::Way;
 use drum_times::{Mark, Notes};
+use drum_walks::Placed;
 use std::alloc::{AllocError, Global};
 
 /// Where a hop by this way goes on.

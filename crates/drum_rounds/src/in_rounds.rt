@@ -2,7 +2,7 @@
 
 ghost use Rattle.std.specs.Prelude.{◌≡◌, ◌<◌, length, slice_index};
 
-use crate::piece::Piece;
+use drum_walks::Piece;
 
 /// A walk of the flow graph by the pieces that it is made of.
 #[derive(Debug, Drop)]

@@ -1,21 +1,17 @@
-//! A walk of the flow graph beside each ceiling, in rounds: it is held by its pieces, and may be
-//! far too long to be listed. The worst time is between what it takes and the ceiling.
+//! Walks in rounds, which may be far too long to be listed: each is held by its pieces, those of
+//! `drum_walks`, and here it is worked out what these spell out.
 //!
-//! Code, from the bottom up. `piece` is what such a walk is made of, and `named` which pieces one
-//! names. `change` and `changes` are what hops do to the count of a mark and of all marks;
-//! `opening` and `openings` are what they ask and make of what is open at the exit of a call and of
-//! all calls. `stretch` is what hops come to, and `coming` tells it of one hop, of one stretch
-//! behind another, and of rounds of one. `order` tells whether pieces are numbered as a walk comes
-//! to their ends, and `told`, by `often`, how long each takes and how often it comes. By these
-//! `weighing` tells the walk that pieces spell out, an `in_rounds`, or that they spell out none;
-//! `setting` has the deck, the timing table and the notes. `search` looks for pieces of a long
-//! walk, and owes only that it ends. `bracket` has a ceiling with a walk. `laws` has laws of the
-//! definitions.
+//! Code, from the bottom up. `change` and `changes` are what hops do to the count of a mark and of
+//! all marks; `opening` and `openings` are what they ask and make of what is open at the exit of a
+//! call and of all calls. `stretch` is what hops come to, and `coming` tells it of one hop, of one
+//! stretch behind another, and of rounds of one. `order` tells whether pieces are numbered as a
+//! walk comes to their ends, and `told`, by `often`, how long each takes and how often it comes. By
+//! these `weighing` tells the walk that pieces spell out, an `in_rounds`, or that they spell out
+//! none; `setting` has the deck, the timing table and the notes.
 //!
-//! Definitions, in the order to read them: `Pieces` (what pieces spell out), `Order` (how they are
-//! numbered), `InRounds` (when a walk in rounds is right), `BracketOf` (the same of a ceiling with
-//! a walk). The others say what the code's types mean by these: `Change`, `Opening`, `Stretch`,
-//! `OrderOf` and `OftenOf`.
+//! Definitions, in the order to read them, behind `Pieces` of `drum_walks`: `Order` (how pieces are
+//! numbered) and `InRounds` (when a walk in rounds is right). The others say what the code's types
+//! mean by these: `Change`, `Opening`, `Stretch`, `OrderOf` and `OftenOf`.
 //!
 //! Proofs. `CountLaws` has what changes do to counts, `OpeningLaws` what openings make of what is
 //! open, `LaidLaws` hops that are laid one after the other, each as long as it can be, and
@@ -24,24 +20,18 @@
 //! `OftenLaws` go through the pieces, forwards and backwards.
 #![tactic(auto)]
 
-mod bracket;
 mod change;
 mod changes;
 mod coming;
 mod in_rounds;
-pub mod laws;
-mod named;
 mod often;
 mod opening;
 mod openings;
 mod order;
-mod piece;
-mod search;
 mod setting;
 mod stretch;
 mod told;
 mod weighing;
 
-pub use bracket::{Bracket, reached};
 pub use in_rounds::InRounds;
-pub use piece::{Piece, Placed, Rounds};
+pub use setting::Setting;

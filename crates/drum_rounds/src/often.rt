@@ -2,11 +2,11 @@
 
 ghost use Rattle.std.specs.Prelude.{◌≡◌, ◌+◌, ◌-◌, ◌*◌, ◌<◌, ℕ, IfOk, IfSome, IsTrue, length, sum_by};
 ghost use Rattle.std.specs.Prelude.{get_or};
+ghost use Rattle.drum_walks.specs.Pieces.{spelled, PlacedHop};
 ghost use Rattle.drum_rounds.specs.InRounds.{summed};
 ghost use Rattle.drum_rounds.specs.OftenOf.{by_named, hops_in, owed, HasShared};
-ghost use Rattle.drum_rounds.specs.Pieces.{spelled, PlacedHop};
 
-use crate::piece::{Piece, Rounds};
+use drum_walks::{Piece, Rounds};
 use std::alloc::{AllocError, Global};
 
 /// How often each piece comes. This is worked out from the last one down, which comes once.

@@ -4,7 +4,7 @@ ghost use Rattle.std.specs.Prelude.{◌≡◌, ◌≤◌, List, IfOk, IfSome, Is
 ghost use Rattle.drum_rounds.specs.Order.{through_at, through_by, through_row, AreInOrder, Through};
 ghost use Rattle.drum_rounds.specs.OrderOf.{first_in, AreAllThrough, AreThrough};
 
-use crate::piece::Piece;
+use drum_walks::Piece;
 use std::alloc::{AllocError, Global};
 
 /// Pieces, and for each how many a walk has come to the end of where it first begins this one.

@@ -1,14 +1,15 @@
 //! What walks are walks of, and whether a hop is one of its location.
 
 ghost use Rattle.std.specs.Prelude.{◌≡◌, Contains, IsTrue};
-ghost use Rattle.drum_core.specs.Loads.{loads_in};
+ghost use Rattle.drum_deck.specs.Loads.{loads_in};
 ghost use Rattle.drum_times.specs.Allowed.{allowed};
 ghost use Rattle.drum_machine.specs.Ways.{ways};
 ghost use Rattle.drum_machine.specs.WaysLeft.{seen_way};
 ghost use Rattle.drum_flow.specs.Hops.{hops};
 ghost use Rattle.drum_flow.specs.Seen.{seen_hop};
 
-use drum_core::{Deck, Instruction, Location};
+use drum_core::{Instruction, Location};
+use drum_deck::Deck;
 use drum_flow::Hop;
 use drum_flow::patterns::Patterns;
 use drum_machine::{Way, Ways};

@@ -3,14 +3,14 @@
 ghost use Rattle.std.specs.Prelude.{◌≡◌, ◌+◌, ◌≤◌, ◌^◌, ◌<◌, List, [], IfOk, IfSome, IsTrue, length};
 ghost use Rattle.std.specs.Prelude.{map, sum_by};
 ghost use Rattle.drum_flow.specs.Walk as walks;
+ghost use Rattle.drum_walks.specs.Pieces.{named, spelled_behind};
 ghost use Rattle.drum_rounds.specs.declared.stretch.Stretch.{Stretch as Come};
 ghost use Rattle.drum_rounds.specs.InRounds.{AreTold};
-ghost use Rattle.drum_rounds.specs.Pieces.{named, spelled_behind};
 ghost use Rattle.drum_rounds.specs.Stretch.{AreStretches};
 
 use crate::often::Often;
-use crate::piece::Piece;
 use crate::stretch::Stretch;
+use drum_walks::Piece;
 use std::alloc::{AllocError, Global};
 
 /// How many pieces there are at most, with those that they name.

@@ -2,20 +2,23 @@
 
 ghost use Rattle.std.specs.Prelude.{◌≡◌, [], List, flat_map, IfOk, IfSome, IsTrue};
 ghost use Rattle.drum_flow.specs.SettingOf.{setting};
-ghost use Rattle.drum_rounds.specs.InRounds.{IsInRoundsOf};
-ghost use Rattle.drum_rounds.specs.Pieces.{repeated, spelled_at, spelled_behind, spelled_by};
-ghost use Rattle.drum_rounds.specs.Pieces.{PlacedHop};
+ghost use Rattle.drum_flow.specs.Walk as walks;
+ghost use Rattle.drum_walks.specs.Pieces.{repeated, spelled_at, spelled_behind, spelled_by};
+ghost use Rattle.drum_walks.specs.Pieces.{PlacedHop};
+ghost use Rattle.drum_rounds.specs.InRounds.{angle_of, lasting_of, often_of, pieces_of, passes_in};
+ghost use Rattle.drum_rounds.specs.InRounds.{total_of, AreTold, IsInRoundsOf, SpellOut};
 ghost use Rattle.drum_rounds.specs.Stretch.{span_of, AreStretches, ComeTo, IsFromStart};
 
 use crate::changes::{are_within, passes_of};
 use crate::in_rounds::InRounds;
 use crate::openings;
 use crate::order::Order;
-use crate::piece::{Piece, Rounds};
 use crate::setting::Setting;
 use crate::stretch::Stretch;
 use crate::told::Told;
 use drum_core::REVOLUTION;
+use drum_times::Mark;
+use drum_walks::{Piece, Rounds};
 use std::alloc::{AllocError, Global};
 
 /// The first of these pieces.
@@ -26,7 +29,31 @@ fn first_of<'a>(stretches: &'a [Stretch], pieces: &[usize]) -> Option<&'a Stretc
     stretches.get(*first)
 }
 
+/// The walk without a hop: a row of none.
+fn no_walk(alloc: Global, marks: &[Mark]) -> Result<InRounds, AllocError>
+    ensures { IfOk result (λ walk. (g : walks.Setting) → g.notes.marks ≡ marks.now
+        → SpellOut g (angle_of walk) (pieces_of walk) (passes_in walk) (total_of walk)
+        × AreTold g.times (pieces_of walk) (lasting_of walk) (often_of walk)) }
+{
+    Ok(InRounds {
+        angle: 0,
+        pieces: vec![in alloc; Piece::Row(Vec::new(alloc))]?,
+        passes: vec![in alloc; 0; marks.len()]?,
+        total: 0,
+        lasting: vec![in alloc; 0]?,
+        often: vec![in alloc; 1]?,
+    })
+}
+
 impl Setting<'_> {
+    /// The walk without a hop.
+    pub fn without_hop(&self, alloc: Global) -> Result<InRounds, AllocError>
+        ensures { IfOk result
+            (IsInRoundsOf self.now.deck.now self.now.times.now self.now.notes.now) }
+    {
+        no_walk(alloc, self.notes.marks())
+    }
+
     /// What pieces in a row come to; `None` where they don't follow one another.
     fn row(
         &self,

@@ -6,10 +6,10 @@ use Rattle.drum_core.specs.declared.location.Location.{Location}
 use Rattle.drum_core.specs.Location.{IsLocation}
 use Rattle.drum_machine.specs.Timing.{found}
 use Rattle.drum_machine.proofs.Chained.{found_keeps_time}
+use Rattle.drum_order.proofs.Lists.{contains_cases, contains_none}
 use Rattle.drum_flow.specs.declared.flow_graph.Flow.{Flow}
 use Rattle.drum_flow.specs.Flow.{executed_in}
 use Rattle.drum_flow.proofs.FromAngles.{found_angle}
-use Rattle.drum_flow.proofs.Lists.{contains_cases, contains_none}
 use Rattle.drum_rows.specs.Slot.{slot_of}
 
 -- the search ends some revolutions later where it begins as many later

@@ -4,7 +4,7 @@ use Rattle.std.proofs.Common.{refl, ◌+◌, ◌*◌, ◌≤◌, arith}
 use Rattle.std.specs.Prelude.{slice_get, All}
 use Rattle.std.proofs.lemmas.Bool.{eqb-true, eqb-false}
 use Rattle.std.proofs.lemmas.Option.{slice_get-get_or}
-use Rattle.drum_core.proofs.Puts.{slice_get-set_other, slice_get-set_same}
+use Rattle.drum_deck.proofs.Puts.{slice_get-set_other, slice_get-set_same}
 use Rattle.drum_rows.specs.Bands.{AreInBands}
 
 -- Where a band isn't marked, nothing stands at its numbers.

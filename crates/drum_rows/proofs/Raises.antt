@@ -13,8 +13,8 @@ use Rattle.drum_times.specs.Entries.{entry_in}
 use Rattle.drum_machine.specs.Timing.{found}
 use Rattle.drum_machine.specs.Ways.{Way, to}
 use Rattle.drum_machine.proofs.Chained.{found_keeps_time}
+use Rattle.drum_order.proofs.Lists.{contains_here, contains_there}
 use Rattle.drum_flow.proofs.DataAngles.{longest_alike}
-use Rattle.drum_flow.proofs.Lists.{contains_here, contains_there}
 use Rattle.drum_rows.specs.declared.found.Found.{Found}
 use Rattle.drum_rows.specs.declared.raised.Raised.{Raised}
 use Rattle.drum_rows.specs.Raised.{latest, GrowsTo, HasTaken, IsRaised, IsReachedBy}

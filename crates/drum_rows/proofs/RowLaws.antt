@@ -6,18 +6,18 @@ use Rattle.std.proofs.lemmas.Bool.{cases_lt, le-ltb, lt-ltb}
 use Rattle.std.proofs.lemmas.List.Elements.{Contains-append_cases, Contains-append_left, Contains-append_right}
 use Rattle.drum_core.specs.declared.instruction.Instruction.{Instruction}
 use Rattle.drum_core.specs.Location.{IsLocation}
+use Rattle.drum_core.specs.declared.op.Op.{Op}
 use Rattle.drum_times.specs.Allowed.{Notes, allowed}
 use Rattle.drum_times.specs.Entries.{entry_in}
 use Rattle.drum_times.specs.Marks.{mark_on}
 use Rattle.drum_times.specs.declared.entry.Entry.{Entry}
 use Rattle.drum_times.specs.declared.notes.mark.Mark.{Mark}
-use Rattle.drum_core.specs.declared.op.Op.{Op}
 use Rattle.drum_machine.specs.Timing.{found}
 use Rattle.drum_machine.specs.Ways.{Way, ways}
+use Rattle.drum_order.proofs.Lists.{contains_cases, contains_here, contains_none, contains_there}
 use Rattle.drum_flow.specs.Longest.{longest}
 use Rattle.drum_flow.specs.Hops.{Hop, hops_of}
 use Rattle.drum_flow.specs.Walk.{Setting}
-use Rattle.drum_flow.proofs.Lists.{contains_cases, contains_here, contains_none, contains_there}
 use Rattle.drum_rows.specs.declared.found.Found.{Found}
 use Rattle.drum_rows.specs.declared.raised.Onward.{Onward}
 use Rattle.drum_rows.specs.declared.raised.Raised.{Raised}

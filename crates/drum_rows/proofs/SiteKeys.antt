@@ -8,10 +8,10 @@ use Rattle.std.proofs.lemmas.List.Elements.{Contains-append_left, Contains-push,
 use Rattle.std.proofs.lemmas.List.Quantifiers.{position-Some}
 use Rattle.std.proofs.lemmas.Map.Keys.{IsDistinct-head, IsDistinct-tail}
 use Rattle.std.proofs.lemmas.Option.{slice_get-get_or}
+use Rattle.drum_order.specs.Graph.{AreDifferent}
+use Rattle.drum_order.proofs.Lists.{contains_cases, contains_here, contains_none, contains_there}
 use Rattle.drum_rows.specs.contracts.sites.SitePartialEq as site_keys
 use Rattle.drum_rows.specs.declared.sites.Site.{Site}
-use Rattle.drum_flow.specs.Graph.{AreDifferent}
-use Rattle.drum_flow.proofs.Lists.{contains_cases, contains_here, contains_none, contains_there}
 
 pub site_same : (a b : Site) → a.node ≡ b.node → a.angle ≡ b.angle → a ≡ b
 site_same a b node angle =

@@ -3,17 +3,17 @@ use Rattle.std.proofs.Common.{◌≡◌, ℕ, ◌%◌, ◌<◌, List, [], Option
 use Rattle.std.specs.Prelude.{slice_get, Contains}
 use Rattle.std.proofs.lemmas.Option.{same_Some}
 use Rattle.drum_core.specs.Location.{IsLocation}
-use Rattle.drum_machine.specs.Timing.{found}
-use Rattle.drum_machine.specs.Ways.{Way}
 use Rattle.drum_rotation.specs.Waits.{available_recurs}
 use Rattle.drum_rotation.proofs.Waited.{first_again}
+use Rattle.drum_machine.specs.Timing.{found}
+use Rattle.drum_machine.specs.Ways.{Way}
+use Rattle.drum_order.proofs.Lists.{contains_at, contains_from_get, contains_here}
 use Rattle.drum_flow.specs.Executed.{onward, AreAllNodes}
 use Rattle.drum_flow.specs.Flow.{AreFound}
 use Rattle.drum_flow.specs.Hops.{hops, IsLink, Node}
 use Rattle.drum_flow.specs.Walk.{Setting}
 use Rattle.drum_flow.proofs.FromAngles.{found_angle}
 use Rattle.drum_flow.proofs.HeldNodes.{one_onward}
-use Rattle.drum_flow.proofs.Lists.{contains_at, contains_from_get, contains_here}
 use Rattle.drum_flow.proofs.Orders.{has_reached, reached_next, reached_only}
 use Rattle.drum_rows.specs.declared.row.Row.{Row}
 use Rattle.drum_rows.specs.declared.site_row.SiteRow.{SiteRow}

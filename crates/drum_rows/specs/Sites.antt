@@ -1,7 +1,7 @@
 -- Where instructions are found in nodes of the flow graph, by numbers.
 use Rattle.std.specs.Prelude.{◌≡◌, ℕ, ◌<◌, List, slice_get, Some, Contains}
 use Rattle.drum_machine.specs.Timing.{found}
-use Rattle.drum_flow.specs.Graph.{AreDifferent}
+use Rattle.drum_order.specs.Graph.{AreDifferent}
 use Rattle.drum_flow.specs.Hops.{Node}
 use Rattle.drum_rows.specs.declared.sites.Site.{Site}
 use Rattle.drum_rows.specs.declared.sites.Sites.{Sites}

@@ -26,9 +26,9 @@ pub struct Sites {
 
 impl Sites {
     ghost use Rattle.std.specs.Prelude.{ℕ, ◌≤◌};
-    ghost use Rattle.drum_flow.specs.Flow.{nodes_of};
-    ghost use Rattle.drum_flow.specs.Graph.{AreDifferent};
     ghost use Rattle.drum_machine.specs.Timing.{found};
+    ghost use Rattle.drum_order.specs.Graph.{AreDifferent};
+    ghost use Rattle.drum_flow.specs.Flow.{nodes_of};
     ghost use Rattle.drum_rows.specs.declared.sites.Site as one;
     ghost use Rattle.drum_rows.specs.Sites.{sites_in, AreSites};
 

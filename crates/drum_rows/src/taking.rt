@@ -4,7 +4,7 @@
 ghost use Rattle.std.specs.Prelude.{◌≡◌, ℕ, ◌+◌, ◌<◌, ◌≤◌, Contains};
 ghost use Rattle.drum_core.specs.Instruction.{instruction};
 ghost use Rattle.drum_core.specs.declared.instruction.Instruction as digits;
-ghost use Rattle.drum_core.specs.Loads.{loads_in};
+ghost use Rattle.drum_deck.specs.Loads.{loads_in};
 ghost use Rattle.drum_times.specs.Allowed.{allowed, matching};
 ghost use Rattle.drum_machine.specs.WaysLeft.{seen_way};
 ghost use Rattle.drum_flow.specs.Profile.{MayEnd};
@@ -15,7 +15,7 @@ ghost use Rattle.drum_rows.specs.Taking.{AreAlike};
 use crate::found::Found;
 use crate::raised::Raised;
 use crate::slowest::ANGLES;
-use drum_core::Deck;
+use drum_deck::Deck;
 use drum_flow::Hop;
 use drum_flow::alike::same_ways_end;
 use drum_flow::patterns::{Patterns, instruction_of};

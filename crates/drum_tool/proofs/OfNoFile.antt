@@ -1,24 +1,24 @@
 -- Faults of no file: the refusal of a deck with its notes, that of a run, and lack of memory. None
 -- of them says that a read failed.
 use Rattle.std.proofs.Common.{◌≡◌, ℕ, None, Result, Ok, Err, IfErr, inl, inr, refl}
-use Rattle.drum_command.specs.declared.command.Question.{Question}
-use Rattle.drum_command.specs.declared.command.Question.TheVariants.{Bound, Report, Walk, Waits, Table, Size, Graph, Outline, Draw, Ceiling}
 use Rattle.drum_flow.specs.declared.refusal.Refusal.{Refusal}
-use Rattle.drum_flow.specs.Acceptance.{IsRefusal}
 use Rattle.drum_flow.specs.Bounded.{IsDeckAccepted}
 use Rattle.drum_flow.specs.Walk.{Setting}
+use Rattle.drum_acceptance.specs.Acceptance.{IsRefusal}
+use Rattle.drum_command.specs.declared.command.Question.{Question}
+use Rattle.drum_command.specs.declared.command.Question.TheVariants.{Bound, Report, Walk, Waits, Table, Size, Graph, Outline, Draw, Ceiling}
 use Rattle.drum_lines.specs.declared.fault.Fault.{Fault}
 use Rattle.drum_lines.specs.declared.fault.Fault.TheVariants as faults
 use Rattle.drum_lines.specs.declared.limit.Limit.{Limit}
 use Rattle.drum_lines.specs.FaultStatus.{failed_by}
+use Rattle.drum_lines.specs.FaultStatus.{IsWanting}
 use Rattle.drum_documents.specs.declared.documents.Documents.{Documents}
 use Rattle.drum_documents.specs.Asked.{part_of}
 use Rattle.drum_documents.specs.Limits.{IsLimit, IsLimitRefusal, IsRefusedFor}
 use Rattle.drum_documents.specs.Documents.{setting_of, Texts}
-use Rattle.drum_tool.specs.DoesCommand.{IsOfNoFile}
 use Rattle.drum_replay.specs.Replay.{Given, IsReplayFault, IsRunFault, IsTraceFault}
-use Rattle.drum_lines.specs.FaultStatus.{IsWanting}
 use Rattle.drum_answers.specs.Says.{Refuses, RefusesCheck}
+use Rattle.drum_tool.specs.DoesCommand.{IsOfNoFile}
 
 pub refused_of_none : (Is : Refusal → Type 0) (fault : Fault) → IsRefusedFor Is fault → IsOfNoFile fault
 refused_of_none Is (faults.Refused refusal) is = record { part = refl; reads = refl }

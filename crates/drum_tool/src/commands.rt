@@ -15,7 +15,7 @@ ghost use Rattle.drum_tool.specs.Words.{LooksAsTold};
 
 use drum_answers::{Checked, answer, check, named_inputs, tell_findings};
 use drum_command::{Command, Files, Question};
-use drum_core::Output;
+use drum_devices::Output;
 use drum_documents::{Source, documents_in, documents_with_inputs, texts_with_inputs};
 use drum_lines::{Fault, Limit, Status, complain, tell_faults, tell_verdict};
 use drum_replay::{begin_trace, picture_run, replay, tell_picture, tell_trace};

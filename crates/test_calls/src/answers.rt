@@ -1,6 +1,8 @@
 //! What is answered by texts that were read.
 
-use drum_core::{Instruction, Location, Op, Parity, Reading, Word, read_deck};
+use drum_core::{Instruction, Location, Op, Parity, Word};
+use drum_deck::read_deck;
+use drum_devices::Reading;
 use drum_inputs::{Inputs, read_inputs};
 use drum_times::{Notes, Programmed};
 use drum_toml::{read_notes, read_times};

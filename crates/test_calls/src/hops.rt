@@ -1,6 +1,8 @@
 //! The hops of locations.
 
-use drum_core::{Location, Reading, read_deck};
+use drum_core::Location;
+use drum_deck::read_deck;
+use drum_devices::Reading;
 use drum_flow::flow;
 use drum_machine::Way;
 use drum_toml::read_notes;

@@ -1,8 +1,11 @@
 //! Steps of the machine, one at a time. What a register holds is told by the step that fetches it
 //! as an instruction.
 
-use drum_core::{Location, Reading, Word, read_deck};
-use drum_machine::{Card, Feed, Machine, Setup, Step, Why};
+use drum_core::{Location, Word};
+use drum_deck::read_deck;
+use drum_devices::Reading;
+use drum_emulator::{Feed, Machine, Setup, Step};
+use drum_machine::{Card, Why};
 use drum_toml::read_times;
 use std::alloc::Global;
 use std::process::Abort;

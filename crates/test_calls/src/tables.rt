@@ -1,7 +1,8 @@
 //! Tables of worst times and walks, with how many ends of hops were made.
 
 use drum_bound::{Analysis, analyse};
-use drum_core::{Reading, read_deck};
+use drum_deck::read_deck;
+use drum_devices::Reading;
 use drum_toml::{read_notes, read_times};
 use std::alloc::Global;
 use std::process::Abort;

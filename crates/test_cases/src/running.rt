@@ -2,7 +2,7 @@
 
 use crate::case::Piece;
 use crate::shelf::{Shelf, Text};
-use drum_core::{Reading, Writing};
+use drum_devices::{Reading, Writing};
 use drum_tool::{Status, run, run_joined};
 use std::alloc::{AllocError, Global};
 use std::io;

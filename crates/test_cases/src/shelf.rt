@@ -4,7 +4,7 @@
 ghost use Rattle.std.specs.Prelude.{◌≡◌, None};
 
 use crate::case::Piece;
-use drum_core::{Input, Reading};
+use drum_devices::{Input, Reading};
 use drum_tool::Source;
 use std::fs::File;
 use std::io;

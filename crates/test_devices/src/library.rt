@@ -3,7 +3,8 @@
 use crate::devices::{Full, Tap};
 use crate::subjects::REPORT;
 use drum_bound::analyse;
-use drum_core::{DeckFault, Input, Output, Reading, Writing, read_deck};
+use drum_deck::{DeckFault, read_deck};
+use drum_devices::{Input, Output, Reading, Writing};
 use drum_toml::{read_notes, read_times};
 use drum_tool::{InputFault, WriteFault, read_inputs, report};
 use std::test::Fail;

@@ -5,7 +5,7 @@ use crate::devices::{Full, Tap};
 use crate::running::{AMPLE, Ran, run_over};
 use crate::shelf::Shelf;
 use crate::subjects::{SUBJECTS, shelf_of};
-use drum_core::{Output, Writing};
+use drum_devices::{Output, Writing};
 use drum_tool::Status;
 use std::process::Abort;
 use std::test::Fail;

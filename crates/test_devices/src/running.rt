@@ -4,7 +4,7 @@ ghost use Rattle.std.specs.Prelude.{◌^◌, ◌≤◌};
 
 use crate::devices::{Full, Tap};
 use crate::shelf::Shelf;
-use drum_core::{Input, Reading, Writing};
+use drum_devices::{Input, Reading, Writing};
 use drum_tool::{Status, run};
 use std::alloc::Global;
 

@@ -3,7 +3,7 @@
 ghost use Rattle.std.specs.Prelude.{◌≡◌, None};
 
 use crate::devices::Tap;
-use drum_core::{Input, Reading};
+use drum_devices::{Input, Reading};
 use drum_tool::Source;
 
 /// Files, each by its name. It takes no memory, and no contract tells what they hold.

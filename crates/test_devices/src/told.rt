@@ -8,7 +8,7 @@ ghost use Rattle.drum_lines.specs.BoundText.{bound_text};
 ghost use Rattle.drum_tool.specs.Told.{AreNames, IsBoundOfFiles};
 ghost use Rattle.test_devices.specs.Told.{asked_of, text_of};
 
-use drum_core::{Input, Output, Reading};
+use drum_devices::{Input, Output, Reading};
 use drum_tool::laws::{bound_is_of_the_files, no_fault_is_done};
 use drum_tool::{Source, Status, run};
 use std::alloc::Global;

@@ -2,9 +2,10 @@
 
 use crate::page::Page;
 use drum_bound::{Analysis, Flow, Refusal};
-use drum_core::{Deck, DeckFault, WholeError};
-use drum_machine::{Machine, Memory};
-use drum_rounds::Bracket;
+use drum_ceiling::Bracket;
+use drum_deck::{Deck, DeckFault};
+use drum_devices::WholeError;
+use drum_emulator::{Machine, Memory};
 use drum_times::{NoteFault, Notes, Times};
 use drum_tool::{Fault, Findings, InputFault, Inputs, Lacking, Status, Verdict};
 use std::alloc::AllocError;

@@ -1,6 +1,7 @@
 //! Decks under notes, with the answers that are known of them.
 
-use drum_core::{Reading, read_deck};
+use drum_deck::read_deck;
+use drum_devices::Reading;
 use drum_toml::{read_notes, read_times};
 use drum_tool::Documents;
 use std::alloc::{AllocError, Global};

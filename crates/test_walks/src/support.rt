@@ -1,7 +1,8 @@
 //! What the tests share.
 
 use drum_bound::{Analysis, Flow, Way, analyse, flow};
-use drum_core::{Deck, Reading, read_deck};
+use drum_deck::{Deck, read_deck};
+use drum_devices::Reading;
 use drum_times::{Notes, Times};
 use drum_toml::{read_notes, read_times};
 use std::alloc::{AllocError, Global};

@@ -2,10 +2,10 @@
 
 ghost use Rattle.std.specs.Prelude.{◌≡◌, ◌^◌, ◌<◌, IfOk, Some, length, slice_get};
 ghost use Rattle.drum_times.specs.Entries.{entry_in};
+ghost use Rattle.drum_walks.specs.declared.piece.Piece.TheVariants as pieces;
+ghost use Rattle.drum_walks.specs.Pieces.{seen_placed};
 ghost use Rattle.drum_rounds.specs.InRounds.{often_of, pieces_of, total_of};
-ghost use Rattle.drum_rounds.specs.declared.piece.Piece.TheVariants as pieces;
 ghost use Rattle.drum_bracket.specs.OutlineOf.{IsWalkWith};
-ghost use Rattle.drum_rounds.specs.Pieces.{seen_placed};
 ghost use Rattle.drum_bracket.specs.RoundsWaitsOf.{hop_in, kind_of, waited_over, waits_cards};
 ghost use Rattle.drum_bracket.specs.RoundsWaitsOf.{waits_data, waits_instruction, AreRows};
 ghost use Rattle.drum_bracket.specs.RoundsWaitsOf.{IsOfPiece};
@@ -13,8 +13,9 @@ ghost use Rattle.drum_bracket.specs.RoundsWaitsOf.{IsOfPiece};
 use super::alone::alone;
 use super::kind_row::KindRow;
 use drum_listing::{Kind, Spent, Waited};
-use drum_rounds::{InRounds, Piece, Placed};
+use drum_rounds::InRounds;
 use drum_times::Times;
+use drum_walks::{Piece, Placed};
 use indexmap::IndexMap;
 use std::alloc::{AllocError, Global};
 

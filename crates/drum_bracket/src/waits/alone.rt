@@ -1,12 +1,12 @@
 //! A hop of a piece, as it is told alone.
 
 ghost use Rattle.std.specs.Prelude.{◌≡◌};
-ghost use Rattle.drum_rounds.specs.Pieces.{seen_placed};
+ghost use Rattle.drum_walks.specs.Pieces.{seen_placed};
 ghost use Rattle.drum_listing.specs.Told.{seen_told};
 ghost use Rattle.drum_bracket.specs.RoundsText.{from_to};
 
 use drum_listing::Told;
-use drum_rounds::Placed;
+use drum_walks::Placed;
 
 /// A hop of a piece, begun at time 0, that takes so many word times.
 pub fn alone(one: Placed, took: u64) -> Told

@@ -4,8 +4,8 @@ ghost use Rattle.std.specs.Prelude.{◌≡◌};
 
 use super::alone::alone;
 use drum_listing::{Spent, Sums, Told};
-use drum_rounds::Placed;
 use drum_times::Times;
+use drum_walks::Placed;
 
 /// What all hops of a kind take, with the first piece that is one of them.
 #[derive(Clone, Copy, Debug, PartialEq, Eq)]
@@ -24,9 +24,9 @@ pub struct KindRow {
 impl KindRow {
     ghost use Rattle.std.specs.Prelude.{◌≡◌, ◌+◌, ◌*◌, ◌^◌, ◌<◌, ◌≤◌};
     ghost use Rattle.drum_times.specs.Entries.{entry_in};
-    ghost use Rattle.drum_listing.specs.Told.{seen_told};
+    ghost use Rattle.drum_walks.specs.Pieces.{seen_placed};
     ghost use Rattle.drum_rounds.specs.InRounds.{takes};
-    ghost use Rattle.drum_rounds.specs.Pieces.{seen_placed};
+    ghost use Rattle.drum_listing.specs.Told.{seen_told};
     ghost use Rattle.drum_bracket.specs.RoundsWaitsOf.{alone, waits_data, waits_instruction};
 
     /// The row of one piece: a hop that takes `took` word times and comes `often` times.

@@ -4,7 +4,8 @@ ghost use Rattle.drum_lines.specs.Sent.{IsWritten, fails_by};
 
 use super::{write_located, write_numbered, write_text};
 use crate::failed_write::WriteFault;
-use drum_core::{DeckFault, Output};
+use drum_deck::DeckFault;
+use drum_devices::Output;
 
 /// Writes the line of a fault of the deck.
 pub fn write_deck_fault<O: Output>(output: &mut O, fault: &DeckFault) -> Result<(), WriteFault>

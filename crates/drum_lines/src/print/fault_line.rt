@@ -11,7 +11,7 @@ use super::{write_located, write_text};
 use crate::failed_write::WriteFault;
 use crate::fault::Fault;
 use crate::part::Part;
-use drum_core::Output;
+use drum_devices::Output;
 
 /// Writes the line of a fault.
 pub fn write_fault<O: Output>(output: &mut O, fault: &Fault) -> Result<(), WriteFault>

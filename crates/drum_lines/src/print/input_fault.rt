@@ -4,7 +4,7 @@ ghost use Rattle.drum_lines.specs.Sent.{IsWritten, fails_by};
 
 use super::{write_numbered, write_text};
 use crate::failed_write::WriteFault;
-use drum_core::Output;
+use drum_devices::Output;
 use drum_inputs::InputFault;
 
 /// Writes the line of a fault of the inputs.

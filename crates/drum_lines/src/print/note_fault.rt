@@ -9,7 +9,8 @@ use super::part_fault::name_of;
 use super::{four_digits, write_line};
 use crate::failed_write::WriteFault;
 use crate::part::Part;
-use drum_core::{Location, Output};
+use drum_core::Location;
+use drum_devices::Output;
 use drum_times::{KeyPath, NoteFault};
 
 /// Writes the line of a fault of this part, which is the timing table or the notes.

@@ -7,7 +7,7 @@ ghost use Rattle.drum_lines.specs.Sent.{IsWritten, fails_by};
 use super::write_line;
 use crate::failed_write::WriteFault;
 use crate::part::{Part, PartFault};
-use drum_core::Output;
+use drum_devices::Output;
 
 /// What a part is called in the lines of faults.
 pub fn name_of(part: Part) -> &'static [u8]

@@ -7,7 +7,8 @@ ghost use Rattle.drum_lines.specs.Sent.{IsSent, IsWritten, fails_by};
 
 use super::{four_digits, send, two_digits, write_line, write_located, write_text};
 use crate::failed_write::WriteFault;
-use drum_core::{Location, Output};
+use drum_core::Location;
+use drum_devices::Output;
 use drum_flow::{Cycle, Refusal};
 use itoa::Buffer;
 

@@ -12,7 +12,8 @@ use super::{four_digits, write_line};
 use crate::failed_write::WriteFault;
 use crate::limit::Limit;
 use crate::verdict::Verdict;
-use drum_core::{Location, Output, Word};
+use drum_core::{Location, Word};
+use drum_devices::Output;
 use drum_machine::{Left, Why};
 use itoa::Buffer;
 

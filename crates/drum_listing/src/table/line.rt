@@ -10,7 +10,7 @@ ghost use Rattle.drum_listing.specs.TableText.{count_text, row_line};
 
 use crate::line::Line;
 use drum_bound::Worst;
-use drum_core::Output;
+use drum_devices::Output;
 use drum_lines::{WriteFault, four_digits, send};
 use drum_times::Mark;
 use itoa::Buffer;

@@ -11,7 +11,7 @@ use super::line::RowLine;
 use crate::page::Page;
 use crate::passing::pass_line;
 use drum_bound::Worst;
-use drum_core::Output;
+use drum_devices::Output;
 use drum_lines::{WriteFault, send};
 use drum_times::Mark;
 

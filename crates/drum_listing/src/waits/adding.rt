@@ -2,7 +2,7 @@
 
 ghost use Rattle.std.specs.Prelude.{◌≡◌, ◌^◌, ◌<◌, ◌≤◌, IfOk, length, map, sum_by};
 ghost use Rattle.drum_times.specs.Entries.{entry_in};
-ghost use Rattle.drum_bound.specs.Visited.{seen_visit};
+ghost use Rattle.drum_walks.specs.Visited.{seen_visit};
 ghost use Rattle.drum_listing.specs.Waits.{for_data, for_instruction, time_of};
 ghost use Rattle.drum_listing.specs.WaitsOf.{AreRows, waited_of};
 
@@ -12,8 +12,8 @@ use super::sums::Sums;
 use super::wait::Wait;
 use super::waited::Waited;
 use crate::told::Told;
-use drum_bound::Visit;
 use drum_times::Times;
+use drum_walks::Visit;
 use indexmap::IndexMap;
 use std::alloc::{AllocError, Global};
 

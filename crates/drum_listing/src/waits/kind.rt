@@ -1,5 +1,6 @@
-use drum_bound::{Visit, Way};
+use drum_bound::Way;
 use drum_core::{Instruction, Location};
+use drum_walks::Visit;
 
 /// What the hops of one kind have in common: where they begin, their instruction, and how they end.
 #[derive(Clone, Copy, Debug, PartialEq, Eq, Hash)]

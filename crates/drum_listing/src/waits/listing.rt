@@ -13,7 +13,7 @@ use super::total::send_total;
 use super::wait::Wait;
 use crate::told::Told;
 use drum_bound::Analysis;
-use drum_core::Output;
+use drum_devices::Output;
 use drum_lines::{WriteFault, send_bound};
 use drum_times::Times;
 

@@ -5,7 +5,7 @@ ghost use Rattle.drum_lines.specs.Sent.{IsSent, fails_by};
 ghost use Rattle.drum_listing.specs.WaitsOf.{waited_line};
 
 use super::waited::Waited;
-use drum_core::Output;
+use drum_devices::Output;
 use drum_lines::{WriteFault, send};
 use itoa::Buffer;
 

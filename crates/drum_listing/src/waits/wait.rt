@@ -1,5 +1,5 @@
 use super::sums::Sums;
-use drum_bound::Visit;
+use drum_walks::Visit;
 
 /// The hops of a kind: the first of them, and what they take in all.
 #[derive(Clone, Copy, Debug, PartialEq, Eq)]

@@ -1,10 +1,11 @@
 //! Whether the notes allow an instruction at a location.
 
 ghost use Rattle.std.specs.Prelude.{flat_map, Contains, IsTrue, MatchBool};
-ghost use Rattle.drum_core.specs.Loads.{loads_in};
+ghost use Rattle.drum_deck.specs.Loads.{loads_in};
 ghost use Rattle.drum_times.specs.Allowed.{matching, loaded, is_listed, allowed};
 
-use drum_core::{Deck, Instruction, Location};
+use drum_core::{Instruction, Location};
+use drum_deck::Deck;
 use drum_times::{Notes, Pattern};
 
 /// Whether the instruction matches one of the patterns.

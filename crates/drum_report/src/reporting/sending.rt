@@ -1,16 +1,17 @@
 //! The lines of a report, each written behind what has gone out.
 
 ghost use Rattle.std.specs.Prelude.{◌≡◌, ◌+◌, ◌*◌, ◌^◌, ◌<◌, ◌≤◌, List, IfOk, length, flat_map};
-ghost use Rattle.drum_core.specs.Loads.{cards_in};
-ghost use Rattle.drum_bound.specs.Visited.{Visited};
-ghost use Rattle.drum_report.specs.Report.{card_line, mark_line};
+ghost use Rattle.drum_deck.specs.Loads.{cards_in};
+ghost use Rattle.drum_walks.specs.Visited.{Visited};
 ghost use Rattle.drum_lines.specs.Sent.{IsSent, fails_by};
+ghost use Rattle.drum_report.specs.Report.{card_line, mark_line};
 ghost use Rattle.drum_report.specs.TalliesOf.{AreByLine, ArePasses, told_of_card, told_of_mark};
 ghost use Rattle.drum_report.specs.TalliesOf.{told_of_others};
 
 use super::tallies::LINES;
 use super::tally::Tally;
-use drum_core::{Deck, Output};
+use drum_deck::Deck;
+use drum_devices::Output;
 use drum_lines::{WriteFault, four_digits, name_pieces, send};
 use drum_times::Mark;
 use itoa::Buffer;

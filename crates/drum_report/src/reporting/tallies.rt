@@ -1,12 +1,12 @@
 ghost use Rattle.std.specs.Prelude.{◌≡◌, [], ℕ, ◌^◌, ◌<◌, ◌≤◌, length, map, slice_get, Some};
-ghost use Rattle.drum_bound.specs.Visited.{seen_visit};
+ghost use Rattle.drum_walks.specs.Visited.{seen_visit};
 ghost use Rattle.drum_report.specs.Report.{time_in};
 ghost use Rattle.drum_report.specs.TalliesOf.{AreTallies, tally_of};
 
 use super::tally::Tally;
-use drum_bound::{Visit, no_passes};
-use drum_core::Deck;
+use drum_deck::Deck;
 use drum_times::Mark;
+use drum_walks::{Visit, no_passes};
 
 /// One more than a deck has lines at most.
 pub const LINES: usize = 4001;

@@ -1,6 +1,6 @@
 ghost use Rattle.std.specs.Prelude.{◌≡◌, ◌+◌, ◌^◌, ◌<◌};
 
-use drum_bound::Visit;
+use drum_walks::Visit;
 
 /// How many hops there are, and the word times that they take.
 #[derive(Clone, Copy)]

@@ -2,9 +2,9 @@
 
 use crate::subjects::SUBJECTS;
 use crate::window::{close_spared, open};
+use drum_acceptance::AcceptedFlow;
 use drum_bound::{Analysis, Flow, Hops, Way, accept, analyse};
 use drum_core::Location;
-use drum_flow::AcceptedFlow;
 use std::process::Abort;
 use std::test::Fail;
 

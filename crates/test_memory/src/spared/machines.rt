@@ -3,7 +3,8 @@
 use crate::subjects::{SUBJECTS, documents};
 use crate::window::{close_spared, open};
 use drum_core::{Location, Word};
-use drum_machine::{Card, Feed, Left, Machine, Setup, Step, Why};
+use drum_emulator::{Feed, Machine, Setup, Step};
+use drum_machine::{Card, Left, Why};
 use drum_monitor::Monitor;
 use drum_tool::Documents;
 use std::alloc::Global;

@@ -4,7 +4,7 @@ use crate::page::Page;
 use crate::subjects::{SUBJECTS, Subject};
 use crate::window::{close_spared, open};
 use drum_bound::analyse;
-use drum_core::Writing;
+use drum_devices::Writing;
 use drum_listing::list_walk;
 use drum_tool::report;
 use std::process::Abort;

@@ -2,7 +2,7 @@
 -- refused for lack of memory alone.
 use Rattle.std.proofs.Common.{ℕ, List, subst}
 use Rattle.std.specs.Prelude.{option_map}
-use Rattle.drum_core.specs.declared.deck.fault.DeckFault.{DeckFault}
+use Rattle.drum_deck.specs.declared.deck.fault.DeckFault.{DeckFault}
 use Rattle.drum_faults.specs.NamedTexts.{named}
 use Rattle.drum_documents.specs.Documents.{SayNone, texts_of}
 use Rattle.drum_documents.specs.TextsOf.{texts_in}

@@ -2,18 +2,18 @@
 -- walks is right of the deck's. A run that keeps to the notes takes the hops of such a walk; so it
 -- passes neither the bound nor an entry.
 use Rattle.std.proofs.Common.{◌≡◌, length, sym, ◌∙◌, subst, arith}
-use Rattle.drum_core.specs.Loads.{loads_in, start_in}
+use Rattle.drum_deck.specs.Loads.{loads_in, start_in}
+use Rattle.drum_order.specs.Graph.{AreDifferent}
 use Rattle.drum_flow.specs.Accepted.{IsAccepted}
 use Rattle.drum_flow.specs.declared.flow_graph.Flow.{Flow}
-use Rattle.drum_flow.specs.Graph.{AreDifferent}
 use Rattle.drum_flow.specs.Flow.{deck_of, notes_of, executed_in}
-use Rattle.drum_flow.specs.AcceptedFlow.{in_order}
-use Rattle.drum_flow.specs.Free.{IsFreeOrder}
-use Rattle.drum_flow.proofs.Acceptances.{moved}
 use Rattle.drum_flow.proofs.KeptWalk.{kept_walk}
 use Rattle.drum_flow.specs.RunHops.{hops_taken}
 use Rattle.drum_flow.specs.SettingOf.{setting}
 use Rattle.drum_flow.proofs.Proper.{is_proper}
+use Rattle.drum_acceptance.specs.AcceptedFlow.{in_order}
+use Rattle.drum_acceptance.specs.Free.{IsFreeOrder}
+use Rattle.drum_acceptance.proofs.Acceptances.{moved}
 use Rattle.drum_bound.specs.AnalysisOf.{IsAnalysis, rows_of}
 use Rattle.drum_bound.proofs.Ordering.{accepted_keys, as_many}
 use Rattle.drum_bound.proofs.Unders.{arrive_under}

@@ -4,11 +4,12 @@ use Rattle.std.proofs.Common.{◌≡◌, ℕ, ◌+◌, ◌-◌, List, Vec, Globa
 use Rattle.std.proofs.lemmas.List.{length-map}
 use Rattle.drum_times.specs.declared.times.Times.{Times}
 use Rattle.drum_flow.specs.Flow.{deck_of}
-use Rattle.drum_flow.specs.AcceptedFlow.{in_order}
+use Rattle.drum_acceptance.specs.AcceptedFlow.{in_order}
+use Rattle.drum_walks.specs.declared.visit.Visit.{Visit}
+use Rattle.drum_walks.specs.Visited.{AreInTime, AreLongest, IsWalkOf, Visited, seen_visit, visited}
 use Rattle.drum_bound.specs.declared.analysis.Analysis.{Analysis}
 use Rattle.drum_bound.specs.declared.cells.Cells.{Cells}
 use Rattle.drum_bound.specs.declared.keys.Keys.{Keys}
-use Rattle.drum_bound.specs.declared.visit.Visit.{Visit}
 use Rattle.drum_bound.specs.AnalysisOf.{ArePasses}
 use Rattle.drum_bound.specs.Held.{kept_in}
 use Rattle.drum_bound.specs.Keys.{keys_of}
@@ -16,7 +17,6 @@ use Rattle.drum_bound.specs.KeysOf.{marks_in, setting_of}
 use Rattle.drum_bound.specs.ScanOf.{AreCells}
 use Rattle.drum_bound.specs.Scanned.{turns_below, Scanned}
 use Rattle.drum_bound.specs.Table.{start_angle}
-use Rattle.drum_bound.specs.Visited.{AreInTime, AreLongest, IsWalkOf, Visited, seen_visit, visited}
 use Rattle.drum_bound.proofs.Analyses.{IsFound, is_found, is_analysis, last_after}
 use Rattle.drum_bound.proofs.InTime.{walk_in_time}
 use Rattle.drum_bound.proofs.ShortWalks.{short_walk}

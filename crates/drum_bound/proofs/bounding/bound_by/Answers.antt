@@ -1,10 +1,10 @@
 use Rattle.std.proofs.Common.{ℕ, length, subst}
 use Rattle.drum_times.specs.declared.times.Times.{Times}
+use Rattle.drum_walks.specs.Worst.{IsWorst}
 use Rattle.drum_bound.specs.declared.keys.Keys.{Keys}
 use Rattle.drum_bound.specs.Counted.{CountsTableOf}
 use Rattle.drum_bound.specs.KeysOf.{order_in, setting_with}
 use Rattle.drum_bound.specs.ScanOf.{order_of, setting_in}
-use Rattle.drum_bound.specs.Worst.{IsWorst}
 use Rattle.drum_bound.proofs.Analyses.{has_counted}
 use Rattle.drum_bound.proofs.Finished.{is_ordered, starts_on_drum}
 use Rattle.drum_bound.proofs.bounding.bound_by.Goals as goal

@@ -1,8 +1,8 @@
 use Rattle.std.proofs.Common.{◌≡◌, ◌+◌, Some, set, refl, subst, arith}
 use Rattle.std.specs.Prelude.{slice_get}
 use Rattle.drum_core.specs.declared.location.Location.{Location}
-use Rattle.drum_flow.proofs.Alterations.{number_at}
 use Rattle.drum_bound.specs.KeysOf.{numbers}
+use Rattle.drum_flow.proofs.Founds.{number_at}
 use Rattle.drum_bound.proofs.Nodes.{HaveIndicesBelow, place_written, all_places}
 use Rattle.drum_bound.proofs.keys.indices_of.Goals as goal
 

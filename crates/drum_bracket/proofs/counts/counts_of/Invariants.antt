@@ -1,6 +1,6 @@
 use Rattle.std.proofs.Common.{take, replicate, length}
 use Rattle.std.specs.Prelude.{flat_map}
-use Rattle.drum_rounds.specs.Pieces.{named}
+use Rattle.drum_walks.specs.Pieces.{named}
 use Rattle.drum_bracket.specs.CountsOf.{HasCounted}
 use Rattle.drum_bracket.proofs.counts.counts_of.Given as goal
 

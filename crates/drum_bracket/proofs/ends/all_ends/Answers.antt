@@ -1,7 +1,7 @@
 use Rattle.std.proofs.Common.{◌≡◌, ◌+◌, List, [], ◌∷◌, ◌++◌, ap, sym, ◌∙◌, subst, take, Option}
 use Rattle.std.proofs.lemmas.List.{take_more}
-use Rattle.drum_rounds.specs.declared.piece.Piece.{Piece}
-use Rattle.drum_rounds.specs.Pieces.{spelled_behind, spelled_by}
+use Rattle.drum_walks.specs.declared.piece.Piece.{Piece}
+use Rattle.drum_walks.specs.Pieces.{spelled_behind, spelled_by}
 use Rattle.drum_rounds.proofs.SpelledLaws.{behind_more}
 use Rattle.drum_bracket.specs.declared.ends.Ends.{Ends}
 use Rattle.drum_bracket.specs.EndsOf.{AreAllEnds}

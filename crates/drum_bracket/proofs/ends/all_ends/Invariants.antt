@@ -1,5 +1,5 @@
 use Rattle.std.proofs.Common.{[], take}
-use Rattle.drum_rounds.specs.Pieces.{spelled_behind}
+use Rattle.drum_walks.specs.Pieces.{spelled_behind}
 use Rattle.drum_bracket.specs.EndsOf.{AreAllEnds}
 use Rattle.drum_bracket.proofs.ends.all_ends.Given as goal
 

@@ -1,6 +1,6 @@
 use Rattle.std.proofs.Common.{sym, subst}
-use Rattle.drum_rounds.specs.declared.piece.Piece.{Piece}
-use Rattle.drum_rounds.specs.Pieces.{spelled_at, spelled_by}
+use Rattle.drum_walks.specs.declared.piece.Piece.{Piece}
+use Rattle.drum_walks.specs.Pieces.{spelled_at, spelled_by}
 use Rattle.drum_bracket.specs.EndsOf.{AreEnds}
 use Rattle.drum_bracket.proofs.EndLaws.{repeated_ends}
 use Rattle.drum_bracket.proofs.ends.ends_of.Goals as goal

@@ -1,6 +1,6 @@
 use Rattle.std.proofs.Common.{List, take}
 use Rattle.std.specs.Prelude.{flat_map}
-use Rattle.drum_rounds.specs.Pieces.{spelled_at, PlacedHop}
+use Rattle.drum_walks.specs.Pieces.{spelled_at, PlacedHop}
 use Rattle.drum_bracket.specs.EndsOf.{AreAllEnds, AreEnds}
 use Rattle.drum_bracket.proofs.ends.ends_of_row.Given as goal
 

@@ -3,8 +3,8 @@
 use Rattle.std.proofs.Common.{◌≡◌, ◌^◌, ℕ, List, [], ◌++◌, length, ap, ◌∙◌, subst, arith, refl, Err}
 use Rattle.std.proofs.lemmas.List.{append-nil}
 use Rattle.std.proofs.lemmas.Result.{err_from_is_err_and}
+use Rattle.drum_walks.specs.declared.piece.Piece.{Piece}
 use Rattle.drum_lines.specs.Sent.{IsSent}
-use Rattle.drum_rounds.specs.declared.piece.Piece.{Piece}
 use Rattle.drum_bracket.specs.declared.progress.Progress.{Progress}
 use Rattle.drum_bracket.specs.declared.teller.Teller.{Teller}
 use Rattle.drum_bracket.specs.ProgressOf.{held_by}

@@ -2,18 +2,18 @@
 -- the size is 2^127 or more, and the refusal has the product.
 use Rattle.std.proofs.Common.{◌≡◌, ℕ, ◌^◌, ◌≤◌, List, length, Option, Some, None, ap, sym, subst, ◌∙◌, arith}
 use Rattle.std.specs.Prelude.{All, Contains, MatchOption}
-use Rattle.drum_core.specs.declared.deck.Deck.{Deck}
+use Rattle.drum_deck.specs.declared.deck.Deck.{Deck}
 use Rattle.drum_times.specs.Allowed.{Notes}
 use Rattle.drum_times.specs.declared.notes.mark.Mark.{Mark}
 use Rattle.drum_times.specs.declared.times.Times.{Times}
+use Rattle.drum_machine.specs.Calls.{none_open}
 use Rattle.drum_flow.specs.Accepted.{product_of, told, IsAdmitted}
 use Rattle.drum_flow.specs.Hops.{Node}
 use Rattle.drum_flow.specs.Flow.{deck_of, nodes_of, notes_of, executed_in}
 use Rattle.drum_flow.specs.SettingOf.{setting}
-use Rattle.drum_flow.proofs.Acceptances.{moved}
 use Rattle.drum_flow.proofs.Orders.{first_reached, order_found}
-use Rattle.drum_flow.proofs.Products.{told_many}
-use Rattle.drum_machine.specs.Calls.{none_open}
+use Rattle.drum_acceptance.proofs.Acceptances.{moved}
+use Rattle.drum_acceptance.proofs.Products.{told_many}
 use Rattle.drum_ceiling.specs.declared.prices.Prices.{Prices}
 use Rattle.drum_ceiling.specs.CeilingOf.{total_of}
 use Rattle.drum_ceiling.specs.Right.{ArePrices, IsCeiling}

@@ -2,7 +2,7 @@ use Rattle.std.proofs.Common.{◌≡◌, ℕ, ◌+◌, ◌*◌, drop, ap, sym, �
 use Rattle.std.specs.Prelude.{if◌then◌else◌, slice_index}
 use Rattle.drum_machine.specs.Counts.{is_inside}
 use Rattle.drum_flow.specs.Accepted.{told}
-use Rattle.drum_flow.proofs.Products.{told_low}
+use Rattle.drum_acceptance.proofs.Products.{told_low}
 use Rattle.drum_ceiling.specs.InRounds.{passes_inside}
 use Rattle.drum_ceiling.proofs.RoundSums.{inside_more, there, told_sum}
 use Rattle.drum_ceiling.proofs.in_rounds.inside_of.Goals as goal

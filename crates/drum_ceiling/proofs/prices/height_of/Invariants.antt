@@ -1,5 +1,5 @@
 use Rattle.std.proofs.Common.{◌≡◌, drop}
-use Rattle.drum_flow.specs.Graph.{height}
+use Rattle.drum_order.specs.Graph.{height}
 use Rattle.drum_ceiling.proofs.prices.height_of.Given as goal
 
 -- none of those so far is the node

@@ -4,24 +4,24 @@ use Rattle.std.proofs.Common.{◌≡◌, ◌≢◌, ℕ, ◌+◌, ◌*◌, ◌<�
 use Rattle.std.specs.Prelude.{slice_get, Contains}
 use Rattle.std.proofs.lemmas.Bool.Decides.{eqb_tells}
 use Rattle.std.proofs.lemmas.Option.{same_Some}
-use Rattle.drum_core.specs.Loads.{loads_in, start_in}
+use Rattle.drum_deck.specs.Loads.{loads_in, start_in}
 use Rattle.drum_times.specs.declared.notes.mark.Mark.{Mark}
 use Rattle.drum_times.specs.Allowed.{Notes, AreSound}
+use Rattle.drum_order.specs.Graph.{height, AreDifferent}
+use Rattle.drum_order.proofs.Lists.{contains_here, contains_there}
 use Rattle.drum_flow.specs.Accepted.{told}
-use Rattle.drum_flow.specs.AcceptedFlow.{indices_in_order, nodes_in_order}
 use Rattle.drum_flow.specs.Executed.{same_node}
 use Rattle.drum_flow.specs.Flow.{deck_of, executed_in, nodes_of, notes_of}
-use Rattle.drum_flow.specs.Free.{those_at}
-use Rattle.drum_flow.specs.Graph.{height, AreDifferent}
 use Rattle.drum_flow.specs.Hops.{first_node, Node}
 use Rattle.drum_flow.specs.SettingOf.{setting}
-use Rattle.drum_flow.proofs.FreeRows.{one_place, some_at}
-use Rattle.drum_flow.proofs.Heights.{height_here, height_of_here, height_of_there, height_there}
 use Rattle.drum_flow.proofs.Links.{node_law}
-use Rattle.drum_flow.proofs.Lists.{contains_here, contains_there}
 use Rattle.drum_flow.proofs.Orders.{reached_different, stays_there}
 use Rattle.drum_flow.proofs.Proper.{is_proper}
-use Rattle.drum_flow.proofs.Translations.{those_first, those_long}
+use Rattle.drum_acceptance.specs.AcceptedFlow.{indices_in_order, nodes_in_order}
+use Rattle.drum_acceptance.specs.Free.{those_at}
+use Rattle.drum_acceptance.proofs.FreeRows.{one_place, some_at}
+use Rattle.drum_acceptance.proofs.Heights.{height_here, height_of_here, height_of_there, height_there}
+use Rattle.drum_acceptance.proofs.Translations.{those_first, those_long}
 use Rattle.drum_rows.specs.Steps.{TakesAtMost}
 use Rattle.drum_ceiling.specs.InRounds.{priced}
 use Rattle.drum_ceiling.proofs.ByOrder.{high}

@@ -1,5 +1,5 @@
 use Rattle.std.proofs.Common.{ℕ, List, ap, ◌∙◌}
-use Rattle.drum_core.specs.Loads.{loads_in}
+use Rattle.drum_deck.specs.Loads.{loads_in}
 use Rattle.drum_flow.specs.Executed.{successors, with_new}
 use Rattle.drum_flow.specs.Found.{places_of}
 use Rattle.drum_check.specs.Findings.{is_among}

@@ -1,11 +1,11 @@
 -- Of may_go_on: a step leads from the node to another one just where it may go.
 use Rattle.std.proofs.Common.{◌≡◌, ℕ, true, ap, sym, ◌∙◌, subst}
 use Rattle.std.proofs.lemmas.Option.{same_Some}
-use Rattle.drum_core.specs.Loads.{loads_in, start_in}
+use Rattle.drum_deck.specs.Loads.{loads_in, start_in}
+use Rattle.drum_order.proofs.Lists.{contains_from_get}
 use Rattle.drum_flow.specs.Executed.{successors}
 use Rattle.drum_flow.specs.Flow.{nodes_of}
 use Rattle.drum_flow.specs.Hops.{Node}
-use Rattle.drum_flow.proofs.Lists.{contains_from_get}
 use Rattle.drum_check.specs.Among.{is_among}
 use Rattle.drum_check.proofs.Steps.{not_same, stands_elsewhere, stands_so, step_told}
 use Rattle.drum_check.proofs.edges.may_go_on.Goals as goal

@@ -4,7 +4,7 @@ use Rattle.std.specs.Prelude.{slice_get}
 use Rattle.std.proofs.lemmas.Bool.{cases_lt}
 use Rattle.std.proofs.lemmas.Option.{slice_get_within}
 use Rattle.drum_flow.specs.Flow.{nodes_of}
-use Rattle.drum_flow.proofs.FreeRows.{some_at}
+use Rattle.drum_acceptance.proofs.FreeRows.{some_at}
 use Rattle.drum_check.specs.Among.{may_go_on}
 use Rattle.drum_check.proofs.Steps.{any_at, none_any}
 use Rattle.drum_check.proofs.edges.one_may_go_on.Goals as goal

@@ -2,7 +2,7 @@
 use Rattle.std.proofs.Common.{◌≡◌, ℕ, true, false, ◌++◌, List, Option, map, ap, sym, ◌∙◌}
 use Rattle.std.specs.Prelude.{is_some}
 use Rattle.drum_core.specs.declared.location.Location.{Location}
-use Rattle.drum_core.specs.Loads.{loads_in}
+use Rattle.drum_deck.specs.Loads.{loads_in}
 use Rattle.drum_flow.specs.Flow.{executed_in}
 use Rattle.drum_check.specs.Findings.{Finding}
 use Rattle.drum_check.specs.FindingsOf.{seen}

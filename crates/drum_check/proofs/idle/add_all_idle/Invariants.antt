@@ -1,7 +1,7 @@
 use Rattle.std.proofs.Common.{◌≡◌, ◌++◌, ◌-◌, map}
 use Rattle.std.specs.Prelude.{flat_map}
 use Rattle.std.specs.List.{range_with_len}
-use Rattle.drum_core.specs.Loads.{loads_in}
+use Rattle.drum_deck.specs.Loads.{loads_in}
 use Rattle.drum_flow.specs.Flow.{executed_in}
 use Rattle.drum_check.specs.FindingsOf.{seen}
 use Rattle.drum_check.specs.Idle.{idle_at}

@@ -1,9 +1,9 @@
 -- Of is_idle: the deck loads a word there, which isn't executed; it is idle where it isn't named.
 use Rattle.std.proofs.Common.{◌≡◌, ℕ, Bool, true, false, not, Option, refl, ap, sym, ◌∙◌, subst}
 use Rattle.std.specs.Prelude.{is_some, ◌&&◌}
-use Rattle.drum_core.specs.declared.deck.Deck.{Deck}
+use Rattle.drum_deck.specs.declared.deck.Deck.{Deck}
 use Rattle.drum_core.specs.declared.word.Word.{Word}
-use Rattle.drum_core.specs.Loads.{loads_in}
+use Rattle.drum_deck.specs.Loads.{loads_in}
 use Rattle.drum_flow.specs.Flow.{executed_in}
 use Rattle.drum_check.specs.Among.{is_among}
 use Rattle.drum_check.specs.Idle.{named}

@@ -2,7 +2,7 @@
 -- stands without saying so. One more mark is added where it is one of these, and nothing else is.
 use Rattle.std.proofs.Common.{◌≡◌, ◌∷◌, [], ◌++◌, ℕ, true, false, map, ap, sym, ◌∙◌, arith}
 use Rattle.std.proofs.lemmas.List.{map_push}
-use Rattle.drum_core.specs.Loads.{loads_in, start_in}
+use Rattle.drum_deck.specs.Loads.{loads_in, start_in}
 use Rattle.drum_flow.specs.Flow.{nodes_of}
 use Rattle.drum_times.specs.EdgeOf.{edge_of}
 use Rattle.drum_check.specs.Findings.{edge_at, inside, inside_at, IsUnsaid}

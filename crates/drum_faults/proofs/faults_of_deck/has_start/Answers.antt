@@ -1,7 +1,7 @@
 -- Of has_start: no line so far says where to start, so the line at hand is a first one that does,
 -- or at the end there is none.
 use Rattle.std.proofs.Common.{◌+◌, sym, ap, refl}
-use Rattle.drum_core.specs.declared.deck.lines.Lines.{Lines}
+use Rattle.drum_deck.specs.declared.deck.lines.Lines.{Lines}
 use Rattle.drum_faults.specs.DeckFaults.{SaysStart}
 use Rattle.drum_faults.proofs.Passed.{none_passed, one_passed, found_here, none_found}
 use Rattle.drum_faults.proofs.faults_of_deck.has_start.Goals as goal

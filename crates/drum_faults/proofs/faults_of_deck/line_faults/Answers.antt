@@ -1,8 +1,8 @@
 -- Of line_faults, of a deck: the faults are those of the lines so far, where each faulty line
 -- counts as a comment for those behind it.
 use Rattle.std.proofs.Common.{◌≡◌, ◌+◌, ℕ, List, length, ap, sym, subst, arith}
-use Rattle.drum_core.specs.declared.deck.lines.Lines.{Lines}
-use Rattle.drum_core.specs.declared.deck.fault.DeckFault.{DeckFault}
+use Rattle.drum_deck.specs.declared.deck.lines.Lines.{Lines}
+use Rattle.drum_deck.specs.declared.deck.fault.DeckFault.{DeckFault}
 use Rattle.drum_faults.specs.declared.placed_fault.PlacedFault.{PlacedFault}
 use Rattle.drum_faults.proofs.Told.{Told, nothing_told, sound_told, fault_told, all_told, few_told}
 use Rattle.drum_faults.proofs.faults_of_deck.line_faults.Goals as goal

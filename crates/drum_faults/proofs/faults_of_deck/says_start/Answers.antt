@@ -1,4 +1,4 @@
-use Rattle.drum_core.specs.DeckText.{start}
+use Rattle.drum_deck.specs.DeckText.{start}
 use Rattle.drum_faults.proofs.faults_of_deck.says_start.Goals as goal
 
 -- what is no line of a deck says nothing

@@ -1,5 +1,5 @@
 use Rattle.std.proofs.Common.{map, inl, inr}
-use Rattle.drum_core.proofs.FaultLaws.{deck_not_refused}
+use Rattle.drum_deck.proofs.FaultLaws.{deck_not_refused}
 use Rattle.drum_core.specs.declared.location.Location.{Location}
 use Rattle.drum_inputs.proofs.Refusals.{inputs_not_refused}
 use Rattle.drum_faults.proofs.BothLoad.{both_returned, none_returned}

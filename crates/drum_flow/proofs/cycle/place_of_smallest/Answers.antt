@@ -1,8 +1,8 @@
 use Rattle.std.proofs.Common.{◌≡◌, ℕ, ◌<◌, length, Some, arith}
 use Rattle.std.specs.Prelude.{slice_get}
 use Rattle.std.proofs.lemmas.Option.{slice_get_within}
+use Rattle.drum_order.proofs.Lists.{contains_at}
 use Rattle.drum_flow.proofs.Founds.{numbers}
-use Rattle.drum_flow.proofs.Lists.{contains_at}
 use Rattle.drum_flow.proofs.Turns.{location_at}
 use Rattle.drum_flow.proofs.cycle.place_of_smallest.Goals as goal
 

@@ -7,12 +7,11 @@ use Rattle.std.proofs.lemmas.Bool.{cases_lt}
 use Rattle.std.proofs.lemmas.List.{length-map}
 use Rattle.std.proofs.lemmas.Option.{same_Some, slice_get_within}
 use Rattle.drum_core.specs.declared.location.Location.{Location}
-use Rattle.drum_core.proofs.Handed.{handed}
-use Rattle.drum_core.specs.Loads.{loads_in}
+use Rattle.drum_devices.proofs.Handed.{handed}
+use Rattle.drum_deck.specs.Loads.{loads_in}
+use Rattle.drum_order.proofs.Lists.{contains_at}
 use Rattle.drum_flow.specs.Accepted.{IsGood}
-use Rattle.drum_flow.proofs.Alterations.{number_at}
-use Rattle.drum_flow.proofs.Founds.{numbers}
-use Rattle.drum_flow.proofs.Lists.{contains_at}
+use Rattle.drum_flow.proofs.Founds.{number_at, numbers}
 use Rattle.drum_flow.proofs.discovery.check_places.Goals as goal
 
 pub returns-in_err-check_place-clause-refused : goal.returns-in_err-check_place-clause-refused

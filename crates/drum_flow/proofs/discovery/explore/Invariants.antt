@@ -1,5 +1,5 @@
 use Rattle.std.proofs.Common.{◌≡◌, ◌≤◌, ◌-◌, ◌^◌}
-use Rattle.drum_core.specs.Loads.{loads_in, start_in}
+use Rattle.drum_deck.specs.Loads.{loads_in, start_in}
 use Rattle.drum_flow.specs.Executed.{found_after}
 use Rattle.drum_flow.specs.Held.{AreHeld, nodes_in}
 use Rattle.drum_flow.proofs.discovery.explore.Given as goal

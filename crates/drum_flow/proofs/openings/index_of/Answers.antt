@@ -5,10 +5,10 @@ use Rattle.std.proofs.lemmas.List.{length-map}
 use Rattle.std.proofs.lemmas.Option.{same_Some, slice_get-get_or, slice_get_within}
 use Rattle.drum_machine.specs.declared.open.Open.{Open}
 use Rattle.drum_machine.specs.OpenIn.{open_in}
+use Rattle.drum_order.proofs.Lists.{contains_at}
 use Rattle.drum_flow.specs.Held.{ways_in}
 use Rattle.drum_flow.proofs.HeldNodes.{ways_at}
 use Rattle.drum_flow.proofs.Links.{ways_law}
-use Rattle.drum_flow.proofs.Lists.{contains_at}
 use Rattle.drum_flow.proofs.openings.index_of.Goals as goal
 
 pub returns-then-is_same-clause-found : goal.returns-then-is_same-clause-found

@@ -3,7 +3,7 @@
 use Rattle.std.proofs.Common.{ℕ, List, flat_map, get_or, Ok, Err, arith, subst}
 use Rattle.std.proofs.lemmas.Result.{err_from_is_err_and}
 use Rattle.drum_flow.specs.Found.{places_of}
-use Rattle.drum_flow.proofs.Alterations.{all_taken}
+use Rattle.drum_acceptance.proofs.Alterations.{all_taken}
 use Rattle.drum_lines.specs.Sent.{IsSent}
 use Rattle.drum_lines.proofs.Sending.{sent_cut, sent_more}
 use Rattle.drum_graph.specs.GraphText.{written_text}

@@ -1,6 +1,6 @@
-use Rattle.drum_core.specs.Loads.{loads_in, start_in}
+use Rattle.drum_deck.specs.Loads.{loads_in, start_in}
 use Rattle.drum_flow.specs.Flow.{nodes_of}
-use Rattle.drum_flow.proofs.FreeRows.{some_at}
+use Rattle.drum_acceptance.proofs.FreeRows.{some_at}
 use Rattle.drum_graph.proofs.Taken.{goes_as_found}
 use Rattle.drum_graph.proofs.onward.may_go.Goals as goal
 

@@ -1,5 +1,5 @@
-use Rattle.drum_core.specs.Lines.{lines_of}
-use Rattle.drum_core.proofs.FirstFaults.{say_one}
+use Rattle.drum_deck.specs.Lines.{lines_of}
+use Rattle.drum_deck.proofs.FirstFaults.{say_one}
 use Rattle.drum_inputs.proofs.OneLine.{line_one}
 use Rattle.drum_inputs.specs.InputsText.{IsLine}
 use Rattle.drum_inputs.proofs.laws.one_meaning.Goals as goal

@@ -1,6 +1,6 @@
 use Rattle.std.proofs.Common.{◌≡◌, refl, sym, ◌∙◌, ap, arith, length}
 use Rattle.drum_core.specs.Word.{spaced}
-use Rattle.drum_core.proofs.Cards.{length-spaced}
+use Rattle.drum_deck.proofs.Cards.{length-spaced}
 use Rattle.drum_inputs.proofs.Prefixes.{same_behind}
 use Rattle.drum_inputs.proofs.line.read_ten.Goals as goal
 

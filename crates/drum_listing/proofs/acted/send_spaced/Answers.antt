@@ -5,7 +5,7 @@ use Rattle.std.proofs.lemmas.List.{append-nil}
 use Rattle.std.proofs.lemmas.Result.{err_from_is_err_and}
 use Rattle.drum_core.specs.declared.word.Word.{Word}
 use Rattle.drum_core.specs.Word.{spelling}
-use Rattle.drum_core.proofs.DeckLaws.{length-spelling}
+use Rattle.drum_deck.proofs.DeckLaws.{length-spelling}
 use Rattle.drum_lines.specs.Sent.{IsSent}
 use Rattle.drum_lines.proofs.Sending.{sent_more, sent_cut}
 use Rattle.drum_listing.proofs.acted.send_spaced.Goals as goal

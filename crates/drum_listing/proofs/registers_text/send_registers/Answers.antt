@@ -3,7 +3,7 @@ use Rattle.std.specs.Int.{w128}
 use Rattle.std.proofs.lemmas.Int.{to_z-of_z, fits_signed_from_abs}
 use Rattle.std.specs.Prelude.{unsigned_abs}
 use Rattle.drum_core.specs.Word.{spelling}
-use Rattle.drum_machine.specs.Machine.{held_by}
+use Rattle.drum_emulator.specs.Machine.{held_by}
 use Rattle.drum_lines.specs.Sent.{IsSent}
 use Rattle.drum_listing.specs.HeldText.{accumulator_text, latch_text}
 use Rattle.drum_listing.specs.Pieces.{remainder_name, remainder_sign}

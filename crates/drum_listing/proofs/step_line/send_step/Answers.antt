@@ -4,7 +4,7 @@
 use Rattle.std.proofs.Common.{[], ◌++◌, Err, subst}
 use Rattle.std.proofs.lemmas.Result.{err_from_is_err_and}
 use Rattle.drum_times.specs.Entries.{entry_in}
-use Rattle.drum_machine.specs.Machine.{held_by}
+use Rattle.drum_emulator.specs.Machine.{held_by}
 use Rattle.drum_lines.specs.Sent.{IsSent}
 use Rattle.drum_lines.proofs.Sending.{IsSent-cut, IsSent-then}
 use Rattle.drum_listing.specs.Pieces.{fetch_text, held_text, times_text}

@@ -1,8 +1,8 @@
 use Rattle.std.proofs.Common.{refl, subst}
 use Rattle.drum_machine.specs.Keeps.{reads_load}
-use Rattle.drum_machine.specs.Machine.{Tells}
 use Rattle.drum_machine.specs.Step.{fetched}
 use Rattle.drum_machine.specs.WaysLeft.{seen_way}
+use Rattle.drum_emulator.specs.Machine.{Tells}
 use Rattle.drum_listing.proofs.Strides.{went_on, stopped_there}
 use Rattle.drum_listing.proofs.step_line.told_of.Goals as goal
 

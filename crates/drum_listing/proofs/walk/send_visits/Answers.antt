@@ -5,8 +5,8 @@ use Rattle.std.proofs.Common.{◌≡◌, ◌+◌, ℕ, List, ◌++◌, flat_map,
 use Rattle.std.proofs.lemmas.List.{append-nil}
 use Rattle.std.proofs.lemmas.Result.{err_from_is_err_and}
 use Rattle.drum_times.specs.Entries.{entry_in}
-use Rattle.drum_bound.specs.declared.visit.Visit.{Visit}
-use Rattle.drum_bound.specs.Visited.{seen_visit}
+use Rattle.drum_walks.specs.declared.visit.Visit.{Visit}
+use Rattle.drum_walks.specs.Visited.{seen_visit}
 use Rattle.drum_lines.specs.Sent.{IsSent}
 use Rattle.drum_lines.proofs.Sending.{IsSent-cut, IsSent-then}
 use Rattle.drum_listing.specs.Page.{text_of}

@@ -1,7 +1,7 @@
 use Rattle.std.proofs.Common.{◌≡◌, ◌+◌, ◌*◌, ◌≤◌, List, ℕ, ◌++◌, flat_map, length, take, Ok}
 use Rattle.drum_times.specs.Entries.{entry_in}
-use Rattle.drum_bound.specs.declared.visit.Visit.{Visit}
-use Rattle.drum_bound.specs.Visited.{seen_visit}
+use Rattle.drum_walks.specs.declared.visit.Visit.{Visit}
+use Rattle.drum_walks.specs.Visited.{seen_visit}
 use Rattle.drum_lines.specs.Sent.{IsSent}
 use Rattle.drum_listing.specs.Page.{text_of}
 use Rattle.drum_listing.specs.WalkText.{visit_line}

@@ -1,5 +1,5 @@
 use Rattle.std.proofs.Common.{sym, subst, arith}
-use Rattle.drum_flow.specs.Graph.{row, size}
+use Rattle.drum_order.specs.Graph.{row, size}
 use Rattle.drum_loops.specs.Arranged.{IsArranged}
 use Rattle.drum_loops.proofs.Arrangements.{all_arranged}
 use Rattle.drum_loops.proofs.arranging.arrange.Goals as goal

@@ -1,5 +1,5 @@
 use Rattle.std.proofs.Common.{◌≡◌, ℕ, ◌<◌, true, [], slice_get, Some}
-use Rattle.drum_flow.specs.Graph.{row, size}
+use Rattle.drum_order.specs.Graph.{row, size}
 use Rattle.drum_loops.specs.Arranging.{Arranges}
 use Rattle.drum_loops.proofs.arranging.arrange.Given as goal
 

@@ -1,9 +1,9 @@
 -- Of targets_behind: the locations are those to which the edges of the nodes so far lead back, of
 -- those at this location.
 use Rattle.std.proofs.Common.{◌≡◌, ℕ, List, Some, ap, sym, ◌∙◌, subst, arith}
+use Rattle.drum_order.specs.Graph.{row, size}
 use Rattle.drum_flow.specs.Flow.{nodes_of}
 use Rattle.drum_flow.specs.Found.{places_of}
-use Rattle.drum_flow.specs.Graph.{row, size}
 use Rattle.drum_flow.proofs.Orders.{place_at}
 use Rattle.drum_loops.specs.Closing.{places_in, AreTargets}
 use Rattle.drum_loops.proofs.Behinds.{none_targets, targets_more, targets_other}

@@ -1,5 +1,5 @@
+use Rattle.drum_order.specs.Graph.{row}
 use Rattle.drum_flow.specs.Found.{places_of}
-use Rattle.drum_flow.specs.Graph.{row}
 use Rattle.drum_loops.specs.Closing.{places_in, AreTargets}
 use Rattle.drum_loops.proofs.behind.targets_behind.Given as goal
 

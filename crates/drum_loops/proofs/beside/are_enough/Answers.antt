@@ -1,8 +1,8 @@
 use Rattle.std.proofs.Common.{map, ◌∙◌, arith}
-use Rattle.drum_core.specs.Loads.{loads_in, start_in}
-use Rattle.drum_flow.specs.Flow.{nodes_of}
-use Rattle.drum_flow.specs.Graph.{row, size, IsCycle, IsTopologicalOrder}
+use Rattle.drum_deck.specs.Loads.{loads_in, start_in}
 use Rattle.drum_times.specs.EdgeOf.{edge_of}
+use Rattle.drum_order.specs.Graph.{row, size, IsCycle, IsTopologicalOrder}
+use Rattle.drum_flow.specs.Flow.{nodes_of}
 use Rattle.drum_loops.proofs.Besides.{cycle_lacks, order_enough}
 use Rattle.drum_loops.proofs.beside.are_enough.Goals as goal
 

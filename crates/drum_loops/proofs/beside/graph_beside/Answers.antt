@@ -1,6 +1,6 @@
 use Rattle.std.proofs.Common.{◌<◌, arith}
 use Rattle.std.specs.Prelude.{Contains}
-use Rattle.drum_flow.specs.Graph.{row, size}
+use Rattle.drum_order.specs.Graph.{row, size}
 use Rattle.drum_loops.proofs.Besides.{row_none}
 use Rattle.drum_loops.proofs.beside.graph_beside.Goals as goal
 

@@ -2,9 +2,9 @@
 use Rattle.std.proofs.Common.{◌≡◌, ℕ, List, map, take, sym, ◌∙◌, subst, refl}
 use Rattle.std.specs.Prelude.{Contains}
 use Rattle.std.proofs.lemmas.List.{take_all}
-use Rattle.drum_flow.proofs.Lists.{contains_none}
 use Rattle.drum_times.specs.declared.notes.edge.Edge.{Edge}
 use Rattle.drum_times.specs.EdgeOf.{edge_of}
+use Rattle.drum_order.proofs.Lists.{contains_none}
 use Rattle.drum_loops.proofs.Besides.{edge_there, edges_taken, leads_other, leads_same, none_more}
 use Rattle.drum_loops.proofs.beside.has_edge.Goals as goal
 

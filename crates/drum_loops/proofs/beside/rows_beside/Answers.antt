@@ -3,9 +3,9 @@ use Rattle.std.proofs.Common.{ℕ, ◌+◌, List, length, map, sym, ap, ◌∙�
 use Rattle.std.specs.Prelude.{Vec}
 use Rattle.std.specs.declared.alloc.Global.{Global}
 use Rattle.std.proofs.lemmas.List.{length_push}
-use Rattle.drum_flow.specs.Graph.{row}
-use Rattle.drum_flow.specs.Rows.{targets_in}
 use Rattle.drum_times.specs.EdgeOf.{edge_of}
+use Rattle.drum_order.specs.Graph.{row}
+use Rattle.drum_order.specs.Rows.{targets_in}
 use Rattle.drum_loops.specs.Closing.{places_in}
 use Rattle.drum_loops.specs.Spared.{IsRowBeside}
 use Rattle.drum_loops.proofs.Besides.{rows_pushed}

@@ -1,7 +1,7 @@
 use Rattle.std.proofs.Common.{◌≡◌, ℕ, ◌<◌, length, map}
-use Rattle.drum_flow.specs.Graph.{row}
-use Rattle.drum_flow.specs.Rows.{targets_in}
 use Rattle.drum_times.specs.EdgeOf.{edge_of}
+use Rattle.drum_order.specs.Graph.{row}
+use Rattle.drum_order.specs.Rows.{targets_in}
 use Rattle.drum_loops.specs.Closing.{places_in}
 use Rattle.drum_loops.specs.Spared.{IsRowBeside}
 use Rattle.drum_loops.proofs.beside.rows_beside.Given as goal

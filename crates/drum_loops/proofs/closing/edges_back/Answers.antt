@@ -4,14 +4,13 @@ use Rattle.std.proofs.Common.{◌≡◌, ◌++◌, ◌∷◌, [], ℕ, List, Som
 use Rattle.std.specs.Prelude.{slice_get, Contains}
 use Rattle.std.proofs.lemmas.List.{take-map, take_all}
 use Rattle.drum_core.specs.declared.location.Location.{Location}
-use Rattle.drum_flow.specs.Flow.{executed_in}
-use Rattle.drum_flow.specs.Found.{places_of}
-use Rattle.drum_flow.specs.Graph.{row, size}
-use Rattle.drum_flow.proofs.Alterations.{number_at}
-use Rattle.drum_flow.proofs.Founds.{numbers, numbers_more}
-use Rattle.drum_loops.specs.Closing.{places_in, AreBack, edges_onto}
 use Rattle.drum_times.specs.declared.notes.edge.Edge.{Edge}
 use Rattle.drum_times.specs.EdgeOf.{edge_of}
+use Rattle.drum_order.specs.Graph.{row, size}
+use Rattle.drum_flow.specs.Flow.{executed_in}
+use Rattle.drum_flow.specs.Found.{places_of}
+use Rattle.drum_flow.proofs.Founds.{number_at, numbers, numbers_more}
+use Rattle.drum_loops.specs.Closing.{places_in, AreBack, edges_onto}
 use Rattle.drum_loops.proofs.Backs.{back_more, none_back, not_before}
 use Rattle.drum_loops.proofs.closing.edges_back.Goals as goal
 

@@ -4,10 +4,10 @@ use Rattle.std.specs.Prelude.{slice_get, Vec}
 use Rattle.std.specs.declared.alloc.Global.{Global}
 use Rattle.std.proofs.lemmas.List.{length_push}
 use Rattle.std.proofs.lemmas.Option.{same_Some, slice_get_within}
-use Rattle.drum_core.specs.Loads.{loads_in}
+use Rattle.drum_deck.specs.Loads.{loads_in}
+use Rattle.drum_order.specs.Rows.{targets_in}
 use Rattle.drum_flow.specs.Flow.{nodes_of}
 use Rattle.drum_flow.specs.Hops.{Node}
-use Rattle.drum_flow.specs.Rows.{targets_in}
 use Rattle.drum_loops.specs.Links.{IsLinkRow}
 use Rattle.drum_loops.proofs.Besides.{rows_pushed}
 use Rattle.drum_loops.proofs.links.link_rows.Goals as goal

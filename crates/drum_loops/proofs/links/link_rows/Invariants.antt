@@ -1,9 +1,9 @@
 use Rattle.std.proofs.Common.{◌≡◌, ℕ, ◌<◌, Some, length}
 use Rattle.std.specs.Prelude.{slice_get}
-use Rattle.drum_core.specs.Loads.{loads_in}
+use Rattle.drum_deck.specs.Loads.{loads_in}
+use Rattle.drum_order.specs.Rows.{targets_in}
 use Rattle.drum_flow.specs.Flow.{nodes_of}
 use Rattle.drum_flow.specs.Hops.{Node}
-use Rattle.drum_flow.specs.Rows.{targets_in}
 use Rattle.drum_loops.specs.Links.{IsLinkRow}
 use Rattle.drum_loops.proofs.links.link_rows.Given as goal
 

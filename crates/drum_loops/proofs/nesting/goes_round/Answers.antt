@@ -1,8 +1,8 @@
 -- Of goes_round: what was reached are the nodes that are led to past the outer head.
 use Rattle.std.proofs.Common.{◌≡◌, ℕ, true, false, List, subst}
 use Rattle.std.specs.Prelude.{Contains, IsTrue, ◌↔◌}
-use Rattle.drum_flow.specs.Graph.{row}
 use Rattle.drum_times.specs.EdgeOf.{edge_of}
+use Rattle.drum_order.specs.Graph.{row}
 use Rattle.drum_loops.specs.Closing.{places_in}
 use Rattle.drum_loops.specs.Reached.{HasSuch, LeadsBack, LeadsOut, LeadsPast, LeadsToSuch, nodes_in}
 use Rattle.drum_loops.proofs.Suches.{denied, such_said}

@@ -2,10 +2,10 @@
 use Rattle.std.proofs.Common.{◌≡◌, true, false, sym, ◌∙◌}
 use Rattle.std.specs.Prelude.{IsTrue, ◌↔◌}
 use Rattle.std.proofs.lemmas.Result.{IfOk-weaker}
-use Rattle.drum_core.specs.Loads.{loads_in, start_in}
-use Rattle.drum_flow.specs.Flow.{nodes_of, of_flow}
-use Rattle.drum_flow.specs.Graph.{row, size}
+use Rattle.drum_deck.specs.Loads.{loads_in, start_in}
 use Rattle.drum_times.specs.EdgeOf.{edge_of}
+use Rattle.drum_order.specs.Graph.{row, size}
+use Rattle.drum_flow.specs.Flow.{nodes_of, of_flow}
 use Rattle.drum_loops.specs.Closing.{places_in}
 use Rattle.drum_loops.specs.Nested.{IsNested}
 use Rattle.drum_loops.specs.Reached.{OneLeadsAbout}

@@ -2,7 +2,7 @@
 use Rattle.std.proofs.Common.{◌≡◌, eqb, sym, ap, ◌∙◌}
 use Rattle.std.specs.Prelude.{Contains, IsTrue, ◌↔◌}
 use Rattle.std.specs.List.{list_any}
-use Rattle.drum_flow.specs.Graph.{row}
+use Rattle.drum_order.specs.Graph.{row}
 use Rattle.drum_flow.proofs.Orders.{any_contains, contains_any}
 use Rattle.drum_loops.specs.Closing.{places_in}
 use Rattle.drum_loops.specs.Reached.{IsAt}

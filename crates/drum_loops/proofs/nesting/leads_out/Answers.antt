@@ -1,7 +1,7 @@
 -- Of leads_out: it stands where the edge begins, and has the edge; or it stands elsewhere.
 use Rattle.std.proofs.Common.{ℕ, List, sym, ◌∙◌, subst, arith}
 use Rattle.std.specs.Prelude.{Contains, IsTrue, ◌↔◌}
-use Rattle.drum_flow.specs.Graph.{row}
+use Rattle.drum_order.specs.Graph.{row}
 use Rattle.drum_loops.specs.Closing.{places_in}
 use Rattle.drum_loops.specs.Reached.{HasSuch, IsAt}
 use Rattle.drum_loops.proofs.Suches.{both_so, neither_so, place_told}

@@ -1,8 +1,8 @@
 -- Of one_goes_round: links go round from none of the nodes so far; one from which they do ends it.
 use Rattle.std.proofs.Common.{◌≡◌, true, false, subst, sym, ◌∙◌, inl, inr, arith}
 use Rattle.std.proofs.lemmas.Bool.{cases_lt}
-use Rattle.drum_flow.specs.Graph.{row}
 use Rattle.drum_times.specs.EdgeOf.{edge_of}
+use Rattle.drum_order.specs.Graph.{row}
 use Rattle.drum_loops.specs.Closing.{places_in}
 use Rattle.drum_loops.specs.Reached.{IsAt, LeadsAbout}
 use Rattle.drum_loops.proofs.nesting.one_goes_round.Goals as goal

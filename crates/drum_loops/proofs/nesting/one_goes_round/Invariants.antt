@@ -1,5 +1,5 @@
-use Rattle.drum_flow.specs.Graph.{row}
 use Rattle.drum_times.specs.EdgeOf.{edge_of}
+use Rattle.drum_order.specs.Graph.{row}
 use Rattle.drum_loops.specs.Closing.{places_in}
 use Rattle.drum_loops.specs.Reached.{OneLeadsAbout}
 use Rattle.drum_loops.proofs.nesting.one_goes_round.Given as goal

@@ -1,7 +1,7 @@
 -- Of one_leads_back: none of the nodes so far leads back so; one that does ends it.
 use Rattle.std.proofs.Common.{slice_index_or}
 use Rattle.std.proofs.lemmas.List.Elements.{Contains-get_or}
-use Rattle.drum_flow.specs.Graph.{row}
+use Rattle.drum_order.specs.Graph.{row}
 use Rattle.drum_loops.specs.Reached.{LeadsBack}
 use Rattle.drum_loops.specs.Closing.{places_in}
 use Rattle.drum_loops.proofs.Suches.{denied, such_here, such_more, such_none, such_nowhere}

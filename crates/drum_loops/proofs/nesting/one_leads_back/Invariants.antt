@@ -1,5 +1,5 @@
 use Rattle.std.proofs.Common.{take}
-use Rattle.drum_flow.specs.Graph.{row}
+use Rattle.drum_order.specs.Graph.{row}
 use Rattle.drum_loops.specs.Closing.{places_in}
 use Rattle.drum_loops.specs.Reached.{HasSuch, LeadsBack}
 use Rattle.drum_loops.proofs.nesting.one_leads_back.Given as goal

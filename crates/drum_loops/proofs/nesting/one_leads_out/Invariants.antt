@@ -1,6 +1,6 @@
 use Rattle.std.proofs.Common.{take}
-use Rattle.drum_flow.specs.Graph.{row}
 use Rattle.drum_times.specs.EdgeOf.{edge_of}
+use Rattle.drum_order.specs.Graph.{row}
 use Rattle.drum_loops.specs.Closing.{places_in}
 use Rattle.drum_loops.specs.Reached.{HasSuch, LeadsOut}
 use Rattle.drum_loops.proofs.nesting.one_leads_out.Given as goal

@@ -1,8 +1,8 @@
 -- Of are_one_way: from none of the locations so far does an edge both go on and lead back.
 use Rattle.std.proofs.Common.{take, ap, sym, ◌∙◌, subst}
 use Rattle.std.proofs.lemmas.List.{take_all}
+use Rattle.drum_order.specs.Graph.{row, size}
 use Rattle.drum_flow.specs.Found.{places_of}
-use Rattle.drum_flow.specs.Graph.{row, size}
 use Rattle.drum_flow.proofs.Founds.{numbers, numbers_more}
 use Rattle.drum_loops.specs.Closing.{places_in}
 use Rattle.drum_loops.specs.Spared.{AreOneWay}

@@ -1,6 +1,6 @@
 use Rattle.std.proofs.Common.{map, take}
 use Rattle.drum_core.specs.declared.location.Location.{Location}
-use Rattle.drum_flow.specs.Graph.{row, size}
+use Rattle.drum_order.specs.Graph.{row, size}
 use Rattle.drum_loops.specs.Closing.{places_in}
 use Rattle.drum_loops.specs.Spared.{AreOneWay}
 use Rattle.drum_loops.proofs.one_way.are_one_way.Given as goal

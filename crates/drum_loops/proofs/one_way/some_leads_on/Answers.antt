@@ -1,8 +1,8 @@
 -- Of some_leads_on: of the nodes so far none that is at this location has an edge that goes on to one of these.
 use Rattle.std.proofs.Common.{◌≡◌, ℕ, sym, ◌∙◌, subst, arith}
+use Rattle.drum_order.specs.Graph.{row, size}
 use Rattle.drum_flow.specs.Flow.{nodes_of}
 use Rattle.drum_flow.specs.Found.{places_of}
-use Rattle.drum_flow.specs.Graph.{row, size}
 use Rattle.drum_flow.proofs.Orders.{place_at}
 use Rattle.drum_loops.specs.Closing.{places_in}
 use Rattle.drum_loops.proofs.OneWays.{none_on, on_more, on_other, NoneOn}

@@ -4,19 +4,19 @@
 use Rattle.std.proofs.Common.{◌≡◌, ℕ, List, ◌++◌, flat_map, map, Ok, Err, ap, sym, ◌∙◌, subst, arith}
 use Rattle.std.proofs.lemmas.Result.{err_from_is_err_and}
 use Rattle.std.specs.Prelude.{codes, decimal}
-use Rattle.drum_core.specs.declared.deck.Deck.{Deck}
-use Rattle.drum_core.specs.Loads.{cards_in}
+use Rattle.drum_deck.specs.declared.deck.Deck.{Deck}
+use Rattle.drum_deck.specs.Loads.{cards_in}
 use Rattle.drum_times.specs.declared.notes.mark.Mark.{Mark}
+use Rattle.drum_walks.specs.declared.visit.Visit.{Visit}
+use Rattle.drum_walks.specs.Visited.{Visited, AreInTime, seen_visit}
 use Rattle.drum_bound.specs.declared.analysis.Analysis.{Analysis}
-use Rattle.drum_bound.specs.declared.visit.Visit.{Visit}
 use Rattle.drum_bound.specs.AnalysisOf.{bound_of, visits_of}
-use Rattle.drum_bound.specs.Visited.{Visited, AreInTime, seen_visit}
-use Rattle.drum_report.specs.Report.{card_line, mark_line, other_line, bound_line, report_text, time_in}
 use Rattle.drum_lines.specs.Sent.{IsSent}
+use Rattle.drum_lines.proofs.Sending.{cut_second, cut_third, all_four, written_whole, written_cut}
+use Rattle.drum_report.specs.Report.{card_line, mark_line, other_line, bound_line, report_text, time_in}
 use Rattle.drum_report.specs.declared.reporting.tally.Tally.{Tally}
 use Rattle.drum_report.specs.declared.reporting.tallies.Tallies.{Tallies}
 use Rattle.drum_report.specs.TalliesOf.{AreTallies, told_of_others}
-use Rattle.drum_lines.proofs.Sending.{cut_second, cut_third, all_four, written_whole, written_cut}
 use Rattle.drum_report.proofs.Spending.{ends, spends}
 use Rattle.drum_report.proofs.reporting.report.Goals as goal
 

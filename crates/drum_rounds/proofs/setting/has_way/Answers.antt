@@ -2,7 +2,7 @@ use Rattle.std.proofs.Common.{◌≡◌, List, ap, sym, ◌∙◌, subst}
 use Rattle.std.specs.Prelude.{Contains}
 use Rattle.drum_machine.specs.Ways.{Way, ways}
 use Rattle.drum_machine.specs.WaysLeft.{seen_way, ways_left}
-use Rattle.drum_flow.proofs.Lists.{contains_here, contains_there}
+use Rattle.drum_order.proofs.Lists.{contains_here, contains_there}
 use Rattle.drum_rounds.proofs.setting.has_way.Goals as goal
 
 pub loop-one-init : goal.loop-one-init

@@ -1,6 +1,6 @@
 use Rattle.std.proofs.Common.{◌≡◌, length, take}
 use Rattle.std.specs.Prelude.{sum_by}
-use Rattle.drum_rounds.specs.Pieces.{named}
+use Rattle.drum_walks.specs.Pieces.{named}
 use Rattle.drum_rounds.proofs.told.named_by.Given as goal
 
 -- the sum so far

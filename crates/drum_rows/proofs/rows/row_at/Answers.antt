@@ -3,10 +3,10 @@
 use Rattle.std.proofs.Common.{◌≡◌, ℕ, ◌+◌, ◌≤◌, Bool, true, false, List, Option, Some, None, subst, sym, ap, ◌∙◌, refl, arith}
 use Rattle.std.specs.Prelude.{Contains, IfSome, is_some, not, slice_get}
 use Rattle.std.proofs.lemmas.Option.{get_or_from_slice_get, slice_get_within}
-use Rattle.drum_core.specs.declared.deck.Deck.{Deck}
+use Rattle.drum_deck.specs.declared.deck.Deck.{Deck}
 use Rattle.drum_core.specs.declared.instruction.Instruction.{Instruction}
 use Rattle.drum_core.specs.declared.op.Op.{Op}
-use Rattle.drum_core.specs.Loads.{loads_in}
+use Rattle.drum_deck.specs.Loads.{loads_in}
 use Rattle.drum_times.specs.Allowed.{Notes, allowed}
 use Rattle.drum_times.specs.Entries.{entry_in}
 use Rattle.drum_times.specs.declared.entry.Entry.{Entry}

@@ -3,9 +3,9 @@ use Rattle.std.proofs.Common.{◌≡◌, ◌∙◌, ℕ, ◌+◌, List, length, 
 use Rattle.std.specs.Prelude.{slice_get}
 use Rattle.std.proofs.lemmas.List.{length_push}
 use Rattle.std.proofs.lemmas.Option.{same_Some, slice_get_within}
+use Rattle.drum_order.proofs.Lists.{contains_from_get}
 use Rattle.drum_flow.specs.Flow.{deck_of, executed_in, nodes_of, notes_of}
 use Rattle.drum_flow.specs.SettingOf.{setting}
-use Rattle.drum_flow.proofs.Lists.{contains_from_get}
 use Rattle.drum_rows.specs.declared.site_row.SiteRow.{SiteRow}
 use Rattle.drum_rows.specs.declared.sites.Site.{Site}
 use Rattle.drum_rows.specs.SiteRows.{IsMadeOf}

@@ -5,7 +5,7 @@ use Rattle.std.proofs.Common.{◌∙◌, inl, inr, Bool, None, subst, arith}
 use Rattle.std.specs.Prelude.{slice_get, Contains}
 use Rattle.std.proofs.lemmas.List.{length-replicate, length-set}
 use Rattle.std.proofs.lemmas.Nat.{div_below}
-use Rattle.drum_flow.proofs.Lists.{contains_cases, contains_none, get_written}
+use Rattle.drum_order.proofs.Lists.{contains_cases, contains_none, get_written}
 use Rattle.drum_bound.specs.declared.worst.Worst.{Worst}
 use Rattle.drum_bound.specs.Kept.{first_entry, pairs_of}
 use Rattle.drum_bound.proofs.HeldLaws.{first_is}

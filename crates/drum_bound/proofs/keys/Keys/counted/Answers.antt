@@ -1,9 +1,9 @@
 use Rattle.std.proofs.Common.{◌≡◌, ℕ, ◌*◌, List, length, ap, ◌∙◌, arith}
 use Rattle.drum_times.specs.declared.notes.mark.Mark.{Mark}
-use Rattle.drum_flow.specs.Flow.{notes_of}
-use Rattle.drum_flow.specs.AcceptedFlow.{in_order}
-use Rattle.drum_flow.specs.Passes.{leading}
 use Rattle.drum_machine.specs.CountsIn.{counts_in}
+use Rattle.drum_flow.specs.Flow.{notes_of}
+use Rattle.drum_flow.specs.Passes.{leading}
+use Rattle.drum_acceptance.specs.AcceptedFlow.{in_order}
 use Rattle.drum_bound.specs.Table.{number_of}
 use Rattle.drum_bound.proofs.Nodes.{as_long, small_product}
 use Rattle.drum_bound.proofs.keys.Keys.counted.Goals as goal

@@ -1,8 +1,8 @@
 use Rattle.std.proofs.Common.{ap, ◌∙◌, arith}
 use Rattle.std.specs.Prelude.{slice_get}
 use Rattle.std.proofs.lemmas.Option.{slice_get_within, get_or_from_slice_get}
-use Rattle.drum_flow.specs.AcceptedFlow.{in_order}
-use Rattle.drum_flow.proofs.Lists.{contains_at}
+use Rattle.drum_order.proofs.Lists.{contains_at}
+use Rattle.drum_acceptance.specs.AcceptedFlow.{in_order}
 use Rattle.drum_bound.proofs.keys.Keys.index_of.Goals as goal
 
 pub index-requires : goal.index-requires

@@ -3,10 +3,10 @@
 use Rattle.std.proofs.Common.{◌≡◌, ℕ, ◌+◌, ◌*◌, List, length, sym, ap, ◌∙◌, subst, arith}
 use Rattle.drum_times.specs.declared.notes.mark.Mark.{Mark}
 use Rattle.drum_machine.specs.Counts.{AreWithin}
-use Rattle.drum_flow.specs.Flow.{notes_of}
-use Rattle.drum_flow.specs.AcceptedFlow.{in_order}
-use Rattle.drum_flow.specs.Passes.{leading}
 use Rattle.drum_machine.specs.CountsIn.{counts_in}
+use Rattle.drum_flow.specs.Flow.{notes_of}
+use Rattle.drum_flow.specs.Passes.{leading}
+use Rattle.drum_acceptance.specs.AcceptedFlow.{in_order}
 use Rattle.drum_bound.specs.Keys.{IsKey}
 use Rattle.drum_bound.proofs.Nodes.{key_of_place, as_long, small_number, small_product}
 use Rattle.drum_bound.proofs.keys.Keys.key_of.Goals as goal

@@ -3,20 +3,20 @@
 -- targets of its hops.
 use Rattle.std.proofs.Common.{◌≡◌, ◌⊎◌, ℕ, ◌+◌, ◌-◌, Some, ap, sym, ◌∙◌, subst, inl, inr, refl, arith}
 use Rattle.std.specs.Prelude.{Contains}
-use Rattle.drum_core.specs.Loads.{loads_in}
+use Rattle.drum_deck.specs.Loads.{loads_in}
 use Rattle.drum_times.specs.Entries.{entry_in}
+use Rattle.drum_times.specs.Marks.{mark_on}
 use Rattle.drum_machine.specs.Ways.{Way, early, to, late}
 use Rattle.drum_machine.specs.declared.ways.Way as code
 use Rattle.drum_machine.specs.declared.ways.Way.TheVariants as way
-use Rattle.drum_flow.specs.Flow.{deck_of, notes_of}
-use Rattle.drum_flow.specs.AcceptedFlow.{in_order}
-use Rattle.drum_flow.specs.Hops.{hops}
 use Rattle.drum_machine.specs.WaysLeft.{seen_way}
-use Rattle.drum_flow.proofs.PassLaws.{no_counts_within}
-use Rattle.drum_times.specs.Marks.{mark_on}
 use Rattle.drum_machine.specs.Counts.{no_counts}
+use Rattle.drum_flow.specs.Flow.{deck_of, notes_of}
+use Rattle.drum_flow.specs.Hops.{hops}
+use Rattle.drum_flow.proofs.PassLaws.{no_counts_within}
 use Rattle.drum_flow.proofs.FromAngles.{leap_time}
 use Rattle.drum_flow.proofs.Profiles.{hop_may_end}
+use Rattle.drum_acceptance.specs.AcceptedFlow.{in_order}
 use Rattle.drum_bound.proofs.Nodes.{small_number}
 use Rattle.drum_bound.proofs.keys.Keys.leap.Goals as goal
 

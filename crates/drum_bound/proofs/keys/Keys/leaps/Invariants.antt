@@ -1,6 +1,6 @@
 use Rattle.std.proofs.Common.{◌≡◌, ◌≤◌, ℕ, Some, Vec, Global, vec_len}
 use Rattle.std.specs.Prelude.{slice_get}
-use Rattle.drum_flow.specs.AcceptedFlow.{in_order}
+use Rattle.drum_acceptance.specs.AcceptedFlow.{in_order}
 use Rattle.drum_bound.specs.declared.leap.Leap.{Leap}
 use Rattle.drum_bound.specs.KeysOf.{setting_of}
 use Rattle.drum_bound.specs.LeapOf.{AreLeaps}

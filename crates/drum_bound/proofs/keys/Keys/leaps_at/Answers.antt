@@ -5,10 +5,10 @@ use Rattle.std.specs.Prelude.{Contains}
 use Rattle.std.proofs.lemmas.List.{append_assoc, map-append}
 use Rattle.std.proofs.lemmas.List.Elements.{Contains-push_cases}
 use Rattle.drum_flow.specs.declared.hops.Hop as code
-use Rattle.drum_flow.specs.AcceptedFlow.{in_order}
 use Rattle.drum_flow.specs.Hops.{Hop}
 use Rattle.drum_flow.specs.HopsLeft.{hops_left}
 use Rattle.drum_flow.specs.Seen.{seen_hop}
+use Rattle.drum_acceptance.specs.AcceptedFlow.{in_order}
 use Rattle.drum_bound.specs.declared.leap.Leap.{Leap}
 use Rattle.drum_bound.specs.KeysOf.{setting_of}
 use Rattle.drum_bound.specs.LeapOf.{IsLeap, leap_hop}

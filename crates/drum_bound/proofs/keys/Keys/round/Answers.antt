@@ -7,12 +7,12 @@ use Rattle.std.proofs.lemmas.Bool.{cases_eq}
 use Rattle.std.proofs.lemmas.List.{get_or-set_other, get_or-set_same, length-set}
 use Rattle.drum_times.specs.declared.notes.mark.Mark.{Mark}
 use Rattle.drum_machine.specs.Counts.{AreWithin}
-use Rattle.drum_flow.specs.declared.accepted_flow.AcceptedFlow.{AcceptedFlow}
-use Rattle.drum_flow.specs.Flow.{notes_of}
 use Rattle.drum_machine.specs.declared.counts.Counts.{Counts}
+use Rattle.drum_machine.specs.CountsIn.{counts_in}
+use Rattle.drum_flow.specs.Flow.{notes_of}
+use Rattle.drum_acceptance.specs.declared.accepted_flow.AcceptedFlow.{AcceptedFlow}
 use Rattle.drum_bound.specs.declared.keys.Keys.{Keys}
 use Rattle.drum_bound.specs.declared.round.Counted.{Counted}
-use Rattle.drum_machine.specs.CountsIn.{counts_in}
 use Rattle.drum_bound.specs.Digits.{digits}
 use Rattle.drum_bound.specs.KeysOf.{AreKeys}
 use Rattle.drum_bound.specs.RoundOf.{IsCounted, IsPassed}

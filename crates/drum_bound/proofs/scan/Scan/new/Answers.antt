@@ -1,9 +1,9 @@
 -- Of Scan::new: the start's key alone keeps something, the moment of the start. So this is what is
 -- known before any key has been taken.
 use Rattle.std.proofs.Common.{◌≡◌, ℕ, ◌*◌, List, length, Option, None, set, replicate, Some, ap, sym, ◌∙◌, refl, subst}
-use Rattle.drum_core.specs.Loads.{start_in}
+use Rattle.drum_deck.specs.Loads.{start_in}
 use Rattle.drum_flow.specs.Flow.{deck_of}
-use Rattle.drum_flow.specs.AcceptedFlow.{in_order}
+use Rattle.drum_acceptance.specs.AcceptedFlow.{in_order}
 use Rattle.drum_bound.specs.declared.latest.Latest.{Latest}
 use Rattle.drum_bound.specs.KeysOf.{setting_of}
 use Rattle.drum_bound.specs.Keys.{keys_of, place_at}

@@ -6,8 +6,9 @@ use Rattle.std.specs.Prelude.{slice_get, Contains}
 use Rattle.std.specs.Option.{option_map}
 use Rattle.std.proofs.lemmas.List.{length-map}
 use Rattle.std.proofs.lemmas.Option.{slice_get-map, slice_get_read}
-use Rattle.drum_flow.proofs.Lists.{contains_from_get}
+use Rattle.drum_order.proofs.Lists.{contains_from_get}
 use Rattle.drum_flow.specs.Hops.{Hop}
+use Rattle.drum_flow.proofs.FromAngles.{found_angle}
 use Rattle.drum_bound.specs.declared.leap.Leap.{Leap}
 use Rattle.drum_bound.specs.declared.scan.Scan.{Scan}
 use Rattle.drum_bound.specs.declared.search.Search.{Search}
@@ -18,7 +19,6 @@ use Rattle.drum_bound.specs.ScanOf.{setting_in, order_of, IsScanned}
 use Rattle.drum_bound.specs.SearchOf.{IsSearch}
 use Rattle.drum_bound.proofs.Halfway.{half_all, half_more, half_none, half_ready}
 use Rattle.drum_bound.proofs.KeysTaken.{hops_at}
-use Rattle.drum_flow.proofs.FromAngles.{found_angle}
 use Rattle.drum_bound.proofs.scan.Scan.take_leaps.Goals as goal
 
 -- a leap of the location's is of one of its hops

@@ -4,15 +4,15 @@ use Rattle.std.proofs.Common.{◌≡◌, ℕ, ◌+◌, ◌-◌, ◌%◌, ◌<◌
 use Rattle.std.specs.Prelude.{slice_get}
 use Rattle.std.proofs.Math.Nat.{mod-lt}
 use Rattle.std.proofs.lemmas.Option.{slice_get-get_or}
-use Rattle.drum_flow.specs.Hops.{Hop}
 use Rattle.drum_machine.specs.WaysLeft.{seen_way}
+use Rattle.drum_flow.specs.Hops.{Hop}
 use Rattle.drum_flow.specs.Seen.{seen_hop}
 use Rattle.drum_flow.specs.Walk.{Setting}
+use Rattle.drum_walks.specs.Visited.{visited}
 use Rattle.drum_bound.specs.declared.scan.Scan.{Scan}
 use Rattle.drum_bound.specs.Keys.{place_at}
 use Rattle.drum_bound.specs.ScanOf.{order_of, setting_in, size_in}
 use Rattle.drum_bound.specs.TakenOf.{taken_of}
-use Rattle.drum_bound.specs.Visited.{visited}
 use Rattle.drum_bound.proofs.KeyLaws.{some_places}
 use Rattle.drum_bound.proofs.Finished.{ends_soon, kept_after}
 use Rattle.drum_bound.proofs.scan.Scan.visit.Goals as goal

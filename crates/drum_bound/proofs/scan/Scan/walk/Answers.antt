@@ -4,11 +4,11 @@
 use Rattle.std.proofs.Common.{◌≡◌, ℕ, ◌-◌, List, Some, map, reverse, ap, arith, sym, ◌∙◌, subst}
 use Rattle.std.specs.Prelude.{option_map, slice_get}
 use Rattle.drum_times.specs.declared.notes.mark.Mark.{Mark}
+use Rattle.drum_walks.specs.declared.visit.Visit.{Visit}
+use Rattle.drum_walks.specs.Visited.{AreLongest, IsWalkOf, seen_visit}
 use Rattle.drum_bound.specs.AnalysisOf.{ArePasses}
 use Rattle.drum_bound.specs.KeysOf.{marks_in}
 use Rattle.drum_bound.specs.declared.latest.Latest.{Latest}
-use Rattle.drum_bound.specs.declared.visit.Visit.{Visit}
-use Rattle.drum_bound.specs.Visited.{AreLongest, IsWalkOf, seen_visit}
 use Rattle.drum_bound.specs.ScanOf.{order_of, setting_in}
 use Rattle.drum_bound.specs.Scanned.{cell_at}
 use Rattle.drum_bound.specs.Table.{start_angle}

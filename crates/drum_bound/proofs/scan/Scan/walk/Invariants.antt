@@ -1,10 +1,10 @@
 use Rattle.std.proofs.Common.{◌≡◌, ℕ, ◌+◌, ◌%◌, ◌≤◌, length, map, reverse}
 use Rattle.std.specs.Prelude.{slice_index}
+use Rattle.drum_walks.specs.Visited.{seen_visit}
 use Rattle.drum_bound.specs.AnalysisOf.{ArePasses}
 use Rattle.drum_bound.specs.Held.{kept_in}
 use Rattle.drum_bound.specs.KeysOf.{marks_in}
 use Rattle.drum_bound.specs.ScanOf.{order_of, setting_in, size_in}
-use Rattle.drum_bound.specs.Visited.{seen_visit}
 use Rattle.drum_bound.proofs.Traces.{IsTraced, key_after}
 use Rattle.drum_bound.proofs.scan.Scan.walk.Given as goal
 

@@ -1,6 +1,6 @@
 use Rattle.std.proofs.lemmas.Result.{err_from_is_err_and}
 use Rattle.drum_times.specs.Entries.{entry_in}
-use Rattle.drum_rounds.specs.Pieces.{seen_placed}
+use Rattle.drum_walks.specs.Pieces.{seen_placed}
 use Rattle.drum_bracket.proofs.RoundsLines.{placed_cut, placed_sent}
 use Rattle.drum_bracket.proofs.hop_line.HopLineLine.send.Goals as goal
 

@@ -3,14 +3,14 @@
 use Rattle.std.proofs.Common.{◌≡◌, ℕ, suc, ◌+◌, ◌*◌, ◌<◌, ◌≤◌, List, [], ◌∷◌, Err, Ok, ap, sym, ◌∙◌, subst, arith, rules, refl}
 use Rattle.std.specs.Prelude.{length}
 use Rattle.std.proofs.lemmas.Result.{err_from_is_err_and}
-use Rattle.drum_bracket.specs.ProgressOf.{held_by, sent_by, told_of, HasAdded, HasMoved, HasTold, MayTell}
-use Rattle.drum_bracket.specs.RoundsText.{at_time, both, end_line, end_rounds_line, first_place, last_place, rounds_line, Telling, Told}
-use Rattle.drum_bracket.specs.TellerOf.{named_told, piece_told, pieces_in, row_told}
 use Rattle.std.proofs.Common.{◌-◌, None, Some, take, drop, get_or}
 use Rattle.std.proofs.lemmas.Option.{slice_get_within}
 use Rattle.std.specs.Prelude.{OnOk}
-use Rattle.drum_rounds.specs.declared.piece.Piece.{Piece}
-use Rattle.drum_rounds.specs.Pieces.{spelled_of}
+use Rattle.drum_walks.specs.declared.piece.Piece.{Piece}
+use Rattle.drum_walks.specs.Pieces.{spelled_of}
+use Rattle.drum_bracket.specs.ProgressOf.{held_by, sent_by, told_of, HasAdded, HasMoved, HasTold, MayTell}
+use Rattle.drum_bracket.specs.RoundsText.{at_time, both, end_line, end_rounds_line, first_place, last_place, rounds_line, Telling, Told}
+use Rattle.drum_bracket.specs.TellerOf.{named_told, piece_told, pieces_in, row_told}
 use Rattle.drum_bracket.proofs.Tellings.{named_beyond, named_part, named_plain, part_read, piece_read, row_is_told}
 use Rattle.drum_bracket.proofs.Tellings.{rounds_each, rounds_fit, rounds_later, rounds_split, row_all, row_at, row_later, row_more}
 use Rattle.drum_bracket.proofs.Tellings.{row_none}

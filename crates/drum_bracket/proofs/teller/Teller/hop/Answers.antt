@@ -1,8 +1,8 @@
 use Rattle.std.proofs.Common.{◌+◌, ℕ, List, Err, Ok, sym, subst, arith}
 use Rattle.std.proofs.lemmas.Result.{err_from_is_err_and}
 use Rattle.drum_times.specs.Entries.{entry_in}
-use Rattle.drum_rounds.specs.declared.piece.Piece.TheVariants as piece
-use Rattle.drum_rounds.specs.Pieces.{seen_placed}
+use Rattle.drum_walks.specs.declared.piece.Piece.TheVariants as piece
+use Rattle.drum_walks.specs.Pieces.{seen_placed}
 use Rattle.drum_bracket.specs.ProgressOf.{held_by, told_of, HasAdded}
 use Rattle.drum_bracket.specs.RoundsText.{placed_line, Told}
 use Rattle.drum_bracket.specs.TellerOf.{piece_told}

@@ -1,5 +1,5 @@
 use Rattle.std.proofs.Common.{[]}
-use Rattle.drum_rounds.specs.Pieces.{spelled_behind, spelled_of}
+use Rattle.drum_walks.specs.Pieces.{spelled_behind, spelled_of}
 use Rattle.drum_bracket.specs.TellerOf.{pieces_in}
 use Rattle.drum_bracket.proofs.EndLaws.{last_told}
 use Rattle.drum_bracket.proofs.teller.Teller.last_and_first.Goals as goal

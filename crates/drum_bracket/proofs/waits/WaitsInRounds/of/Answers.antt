@@ -7,8 +7,8 @@ use Rattle.drum_core.specs.declared.op.Op.{Op}
 use Rattle.drum_times.specs.declared.entry.Entry.{Entry}
 use Rattle.drum_times.specs.Entries.{entry_in}
 use Rattle.drum_flow.specs.SettingOf.{setting}
+use Rattle.drum_walks.specs.Pieces.{spelled}
 use Rattle.drum_rounds.specs.InRounds.{angle_of, often_of, pieces_of}
-use Rattle.drum_rounds.specs.Pieces.{spelled}
 use Rattle.drum_listing.specs.WaitsOf.{waited_of}
 use Rattle.drum_listing.specs.WaitsText.{wait_line}
 use Rattle.drum_listing.proofs.KindRows.{dearest_sorted, sort_key}

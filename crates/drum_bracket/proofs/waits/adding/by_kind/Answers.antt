@@ -4,9 +4,9 @@ use Rattle.std.proofs.Common.{◌≡◌, ◌+◌, ◌∙◌, ◌≤◌, ℕ, Boo
 use Rattle.std.specs.Prelude.{cond, if◌then◌else◌}
 use Rattle.indexmap.specs.IndexMap.{get, index_map_len}
 use Rattle.drum_times.specs.Entries.{entry_in}
-use Rattle.drum_rounds.specs.declared.piece.Placed.{Placed}
+use Rattle.drum_walks.specs.declared.piece.Placed.{Placed}
+use Rattle.drum_walks.specs.Pieces.{seen_placed}
 use Rattle.drum_rounds.specs.InRounds.{often_of, pieces_of}
-use Rattle.drum_rounds.specs.Pieces.{seen_placed}
 use Rattle.drum_listing.specs.declared.waits.kind.Kind.{Kind}
 use Rattle.drum_listing.specs.WaitsOf.{same_kind}
 use Rattle.drum_listing.proofs.SameKinds.{get_same, same_kind_equiv, unique_same, update_same}

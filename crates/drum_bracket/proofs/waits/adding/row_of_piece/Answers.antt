@@ -2,8 +2,8 @@
 use Rattle.std.proofs.Common.{◌≡◌, ◌*◌, ◌∙◌, ap, arith}
 use Rattle.std.specs.Prelude.{slice_index}
 use Rattle.drum_times.specs.Entries.{entry_in}
+use Rattle.drum_walks.specs.Pieces.{seen_placed}
 use Rattle.drum_rounds.specs.InRounds.{often_of, takes}
-use Rattle.drum_rounds.specs.Pieces.{seen_placed}
 use Rattle.drum_bracket.proofs.RowRoom.{all_short, has_lasting, has_often, hop_lasts, hop_short, waits_in}
 use Rattle.drum_bracket.proofs.waits.adding.row_of_piece.Goals as goal
 

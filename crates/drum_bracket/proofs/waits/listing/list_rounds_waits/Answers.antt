@@ -4,12 +4,12 @@ use Rattle.std.proofs.Common.{◌≡◌, ℕ, List, ap, flat_map, subst, Ok, Err
 use Rattle.std.specs.Prelude.{Option, Result}
 use Rattle.std.proofs.lemmas.Result.{err_from_is_err_and}
 use Rattle.drum_times.specs.Entries.{entry_in}
+use Rattle.drum_rounds.specs.InRounds as walks
 use Rattle.drum_ceiling.specs.CeilingOf.{total_of}
+use Rattle.drum_ceiling.specs.declared.bracket.Bracket.{Bracket}
 use Rattle.drum_lines.specs.declared.failed_write.WriteFault.{WriteFault}
 use Rattle.drum_lines.specs.Sent.{IsSent}
 use Rattle.drum_lines.proofs.Sending.{all_three, cut_begin, cut_middle, written_cut, written_whole}
-use Rattle.drum_rounds.specs.declared.bracket.Bracket.{Bracket}
-use Rattle.drum_rounds.specs.InRounds as walks
 use Rattle.drum_listing.specs.WaitsOf.{waited_line}
 use Rattle.drum_bracket.specs.CeilingText.{bracket_lines, total_lines}
 use Rattle.drum_bracket.specs.RoundsWaitsOf.{listed, row_text, rows_in}

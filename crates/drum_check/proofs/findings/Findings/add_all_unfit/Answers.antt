@@ -1,8 +1,9 @@
 use Rattle.std.proofs.Common.{◌≡◌, ◌++◌, List, ℕ, flat_map, ap, ◌∙◌, Some}
 use Rattle.std.specs.Prelude.{slice_get}
-use Rattle.drum_core.specs.Loads.{loads_in}
+use Rattle.drum_deck.specs.Loads.{loads_in}
+use Rattle.drum_flow.proofs.Founds.{number_at}
 use Rattle.drum_flow.specs.Flow.{executed_in}
-use Rattle.drum_flow.proofs.Alterations.{all_taken, number_at}
+use Rattle.drum_acceptance.proofs.Alterations.{all_taken}
 use Rattle.drum_check.specs.Findings.{unfit}
 use Rattle.drum_check.specs.FindingsOf.{found_in}
 use Rattle.drum_check.proofs.Adding.{added_some}

@@ -1,6 +1,6 @@
 use Rattle.std.proofs.Common.{ℕ, ◌∙◌}
 use Rattle.std.proofs.lemmas.Result.{on_ok_weaker}
-use Rattle.drum_core.specs.Loads.{loads_in}
+use Rattle.drum_deck.specs.Loads.{loads_in}
 use Rattle.drum_flow.specs.Flow.{executed_in}
 use Rattle.drum_check.specs.Findings.{altered, alters}
 use Rattle.drum_check.specs.FindingsOf.{found_in}

@@ -1,6 +1,6 @@
 use Rattle.std.proofs.Common.{◌≡◌, ◌++◌, map, take}
 use Rattle.drum_core.specs.declared.location.Location.{Location}
-use Rattle.drum_core.specs.Loads.{loads_in}
+use Rattle.drum_deck.specs.Loads.{loads_in}
 use Rattle.drum_check.specs.Findings.{alters}
 use Rattle.drum_check.specs.FindingsOf.{found_in}
 use Rattle.drum_check.specs.Kept.{kept_of}

@@ -1,13 +1,13 @@
 -- Of Findings::of: the findings are put together in the order of the definition, one kind behind
 -- the other. They are of the flow's deck and notes, which are the arguments.
 use Rattle.std.proofs.Common.{◌≡◌, List, ◌++◌, flat_map, map, refl, ap, sym, ◌∙◌}
-use Rattle.drum_core.specs.declared.deck.Deck.{Deck}
-use Rattle.drum_core.specs.Loads.{loads_in, start_in}
+use Rattle.drum_deck.specs.declared.deck.Deck.{Deck}
+use Rattle.drum_deck.specs.Loads.{loads_in, start_in}
 use Rattle.drum_times.specs.Allowed.{Notes}
 use Rattle.drum_flow.specs.Accepted.{product_of}
 use Rattle.drum_flow.specs.Executed.{AreAllNodes}
 use Rattle.drum_flow.specs.Flow.{executed_in, nodes_of, AreFound}
-use Rattle.drum_flow.proofs.Acceptances.{moved}
+use Rattle.drum_acceptance.proofs.Acceptances.{moved}
 use Rattle.drum_check.specs.Findings.{AreFindings, Finding, altering, inside_at, too_many, unfit, unused}
 use Rattle.drum_check.specs.Findings.{unused_calls}
 use Rattle.drum_check.specs.FindingsOf.{found_in, seen}

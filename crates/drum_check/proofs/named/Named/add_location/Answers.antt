@@ -3,12 +3,12 @@
 use Rattle.std.proofs.Common.{◌≡◌, List, ap, ◌∙◌, subst, Contains}
 use Rattle.std.specs.Prelude.{flat_map, ◌↔◌}
 use Rattle.drum_core.specs.declared.instruction.Instruction.{Instruction}
-use Rattle.drum_core.specs.Loads.{loads_in}
+use Rattle.drum_deck.specs.Loads.{loads_in}
 use Rattle.drum_times.specs.declared.notes.pattern.Pattern.{Pattern}
 use Rattle.drum_times.specs.Allowed.{allowed, matching}
+use Rattle.drum_order.proofs.Lists.{contains_none}
 use Rattle.drum_flow.specs.declared.patterns.Patterns.{Patterns}
 use Rattle.drum_flow.specs.Patterns.{patterns_left}
-use Rattle.drum_flow.proofs.Lists.{contains_none}
 use Rattle.drum_check.specs.Idle.{named_at, names}
 use Rattle.drum_check.proofs.NamedFlags.{left_first, left_more, left_none, patterns_first}
 use Rattle.drum_check.proofs.named.Named.add_location.Goals as goal

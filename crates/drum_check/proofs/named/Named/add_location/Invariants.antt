@@ -1,6 +1,6 @@
 use Rattle.std.proofs.Common.{Contains}
 use Rattle.std.specs.Prelude.{flat_map}
-use Rattle.drum_core.specs.Loads.{loads_in}
+use Rattle.drum_deck.specs.Loads.{loads_in}
 use Rattle.drum_times.specs.Allowed.{matching}
 use Rattle.drum_flow.specs.Patterns.{patterns_left}
 use Rattle.drum_check.specs.Idle.{named_at, names}

@@ -1,6 +1,6 @@
 use Rattle.std.proofs.Common.{rules, ◌≡◌, Bool, true, false, List, Some, replicate, subst}
 use Rattle.std.specs.Prelude.{slice_get}
-use Rattle.drum_flow.proofs.Lists.{get_replicated}
+use Rattle.drum_order.proofs.Lists.{get_replicated}
 use Rattle.drum_check.proofs.named.Named.none.Goals as goal
 
 pub returns : goal.returns

@@ -1,12 +1,13 @@
 -- Of Named::of: one more location's instructions set what they name.
 use Rattle.std.proofs.Common.{◌≡◌, ℕ, List, Some, subst, Contains}
 use Rattle.std.specs.Prelude.{slice_get, flat_map, ◌↔◌}
-use Rattle.drum_core.specs.declared.deck.Deck.{Deck}
-use Rattle.drum_core.specs.Loads.{loads_in}
+use Rattle.drum_deck.specs.declared.deck.Deck.{Deck}
+use Rattle.drum_deck.specs.Loads.{loads_in}
 use Rattle.drum_times.specs.Allowed.{Notes}
+use Rattle.drum_order.proofs.Lists.{contains_none}
+use Rattle.drum_flow.proofs.Founds.{number_at}
 use Rattle.drum_flow.specs.Flow.{executed_in}
-use Rattle.drum_flow.proofs.Alterations.{all_taken, number_at}
-use Rattle.drum_flow.proofs.Lists.{contains_none}
+use Rattle.drum_acceptance.proofs.Alterations.{all_taken}
 use Rattle.drum_check.specs.Idle.{named_at}
 use Rattle.drum_check.specs.NamedOf.{FlagsMore, IsFlagged}
 use Rattle.drum_check.proofs.NamedFlags.{place_more}

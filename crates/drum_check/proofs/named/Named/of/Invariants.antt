@@ -1,6 +1,6 @@
 use Rattle.std.proofs.Common.{ℕ, Contains, take}
 use Rattle.std.specs.Prelude.{flat_map, ◌↔◌}
-use Rattle.drum_core.specs.Loads.{loads_in}
+use Rattle.drum_deck.specs.Loads.{loads_in}
 use Rattle.drum_flow.specs.Flow.{executed_in}
 use Rattle.drum_check.specs.Idle.{named_at}
 use Rattle.drum_check.specs.NamedOf.{IsFlagged}

@@ -2,9 +2,9 @@
 -- comment adds nothing; of a start or a card it is as `take_start` and `take_card` say, for the
 -- bytes that spell it.
 use Rattle.std.proofs.Common.{◌≡◌, ℕ, ◌+◌, List, [], ◌∷◌, ◌++◌, length, take, subst}
-use Rattle.drum_core.specs.DeckText as text
-use Rattle.drum_core.specs.declared.deck.line.Line as read
-use Rattle.drum_core.specs.DeckLine.{said}
+use Rattle.drum_deck.specs.DeckText as text
+use Rattle.drum_deck.specs.declared.deck.line.Line as read
+use Rattle.drum_deck.specs.DeckLine.{said}
 use Rattle.drum_faults.proofs.Placed.{no_card}
 use Rattle.drum_faults.proofs.SoFar.{gave_comment, some_more}
 use Rattle.drum_faults.specs.DeckFaults.{IsPlaced}

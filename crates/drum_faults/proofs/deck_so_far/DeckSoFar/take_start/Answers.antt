@@ -1,5 +1,5 @@
 use Rattle.std.proofs.Common.{sym, ◌∙◌, arith}
-use Rattle.drum_core.specs.DeckText as text
+use Rattle.drum_deck.specs.DeckText as text
 use Rattle.drum_faults.proofs.Placed.{past_drum, two_starts}
 use Rattle.drum_faults.proofs.SoFar.{gave_comment, gave_start}
 use Rattle.drum_faults.proofs.deck_so_far.DeckSoFar.take_start.Goals as goal

@@ -1,6 +1,6 @@
 use Rattle.std.proofs.Common.{◌≡◌}
 use Rattle.std.specs.Prelude.{flat_map}
-use Rattle.drum_core.specs.Loads.{loads_in}
+use Rattle.drum_deck.specs.Loads.{loads_in}
 use Rattle.drum_times.specs.Allowed.{matching}
 use Rattle.drum_flow.specs.Executed.{with_new, successors}
 use Rattle.drum_flow.specs.Found.{places_of, targets_by}

@@ -1,11 +1,11 @@
 use Rattle.std.proofs.Common.{◌≡◌, ℕ, [], ◌∷◌, Option, IfSome, IfNone, ap, sym, ◌∙◌, subst, Some, None}
 use Rattle.std.proofs.lemmas.Option.{same_Some, slice_get-map}
 use Rattle.std.specs.Prelude.{option_map, slice_get, Contains}
+use Rattle.drum_order.proofs.Lists.{contains_from_get}
 use Rattle.drum_flow.specs.Executed.{onward}
 use Rattle.drum_flow.specs.Flow.{nodes_of}
 use Rattle.drum_flow.specs.Held.{node_in}
 use Rattle.drum_flow.specs.Hops.{Node}
-use Rattle.drum_flow.proofs.Lists.{contains_from_get}
 use Rattle.drum_flow.proofs.flow_graph.Flow.onward.Goals as goal
 
 some_weaker : (found : Option ℕ) (P Q : ℕ → Type 0) → ((k : ℕ) → P k → Q k) → IfSome found P → IfSome found Q

@@ -5,18 +5,18 @@ use Rattle.std.specs.Prelude.{is_some, slice_get, slice_index_or, Contains}
 use Rattle.std.proofs.lemmas.List.{length-map}
 use Rattle.std.proofs.lemmas.Option.{get_or_from_slice_get, slice_get_within}
 use Rattle.drum_core.specs.declared.location.Location.{Location}
+use Rattle.drum_times.specs.Allowed.{Notes}
+use Rattle.drum_times.specs.declared.notes.call.Call.{Call}
 use Rattle.drum_machine.specs.declared.open.Open.{Open}
 use Rattle.drum_machine.specs.Calls.{open_after, MayGo}
 use Rattle.drum_machine.specs.OpenIn.{open_in}
-use Rattle.drum_times.specs.Allowed.{Notes}
-use Rattle.drum_times.specs.declared.notes.call.Call.{Call}
+use Rattle.drum_order.proofs.Lists.{contains_cases, contains_none}
 use Rattle.drum_flow.specs.declared.node.Node as held
 use Rattle.drum_flow.specs.declared.nodes.Nodes.{Nodes}
 use Rattle.drum_flow.specs.Executed.{onward}
 use Rattle.drum_flow.specs.Held.{node_in, nodes_in, ways_in}
 use Rattle.drum_flow.specs.Hops.{edge_between, Node}
 use Rattle.drum_flow.proofs.HeldNodes.{held_absent, held_found, none_onward, one_onward, ways_held, ways_of_one}
-use Rattle.drum_flow.proofs.Lists.{contains_cases, contains_none}
 use Rattle.drum_flow.proofs.nodes.Nodes.index_onward.Goals as goal
 
 if_some : (found : Option ℕ) (P : ℕ → Type 0) → ((place : ℕ) → found ≡ Some place → P place) → IfSome found P

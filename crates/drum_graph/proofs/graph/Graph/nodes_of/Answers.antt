@@ -3,9 +3,10 @@ use Rattle.std.proofs.Common.{◌≡◌, List, [], ◌∷◌, ◌++◌, ℕ, map
 use Rattle.std.specs.Prelude.{slice_get}
 use Rattle.std.proofs.lemmas.List.{length-map, map-append}
 use Rattle.drum_core.specs.declared.location.Location.{Location}
-use Rattle.drum_core.specs.Loads.{loads_in}
+use Rattle.drum_deck.specs.Loads.{loads_in}
+use Rattle.drum_flow.proofs.Founds.{number_at}
 use Rattle.drum_flow.specs.Flow.{executed_in, nodes_of}
-use Rattle.drum_flow.proofs.Alterations.{all_taken, number_at}
+use Rattle.drum_acceptance.proofs.Alterations.{all_taken}
 use Rattle.drum_graph.specs.declared.node.Node as held
 use Rattle.drum_graph.specs.Graph.{node}
 use Rattle.drum_graph.specs.GraphOf.{node_of}

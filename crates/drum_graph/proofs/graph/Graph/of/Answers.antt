@@ -1,10 +1,10 @@
 use Rattle.std.proofs.Common.{map, sym, ◌∙◌, ap}
-use Rattle.drum_core.specs.declared.deck.Deck.{Deck}
-use Rattle.drum_core.specs.Loads.{loads_in, start_in}
+use Rattle.drum_deck.specs.declared.deck.Deck.{Deck}
+use Rattle.drum_deck.specs.Loads.{loads_in, start_in}
 use Rattle.drum_times.specs.Allowed.{Notes}
 use Rattle.drum_flow.specs.Executed.{AreAllNodes}
 use Rattle.drum_flow.specs.Flow.{executed_in, nodes_of, AreFound}
-use Rattle.drum_flow.proofs.Acceptances.{moved}
+use Rattle.drum_acceptance.proofs.Acceptances.{moved}
 use Rattle.drum_graph.specs.Graph.{AreNodes, node}
 use Rattle.drum_graph.specs.GraphOf.{node_of}
 use Rattle.drum_graph.proofs.Taken.{places_same}

@@ -1,5 +1,5 @@
+use Rattle.drum_flow.proofs.Founds.{number_at}
 use Rattle.drum_flow.specs.Found.{places_of}
-use Rattle.drum_flow.proofs.Alterations.{number_at}
 use Rattle.drum_graph.proofs.Outlines.{added_so_far}
 use Rattle.drum_graph.proofs.node.Node.write_all.Goals as goal
 

@@ -2,9 +2,9 @@ use Rattle.std.proofs.Common.{◌++◌, Err, subst}
 use Rattle.std.specs.Prelude.{codes, decimal}
 use Rattle.std.proofs.lemmas.Result.{err_from_is_err_and}
 use Rattle.drum_times.specs.Entries.{entry_in}
+use Rattle.drum_walks.specs.Visited.{Visited}
 use Rattle.drum_lines.specs.Sent.{IsSent}
 use Rattle.drum_lines.proofs.Sending.{IsSent-cut, IsSent-then}
-use Rattle.drum_bound.specs.Visited.{Visited}
 use Rattle.drum_listing.specs.Pieces.{times_text}
 use Rattle.drum_listing.specs.Told.{seen_told}
 use Rattle.drum_listing.specs.WalkText.{hop_text, visit_line}

@@ -4,8 +4,8 @@ use Rattle.std.proofs.Common.{map, ap, ◌∙◌, arith, ◌<◌, ◌^◌, refl,
 use Rattle.std.proofs.lemmas.List.Sorted.{answers_always}
 use Rattle.std.specs.Prelude.{sum_by}
 use Rattle.drum_times.specs.Entries.{entry_in}
+use Rattle.drum_walks.specs.Visited.{seen_visit}
 use Rattle.drum_bound.specs.AnalysisOf.{angle_of, bound_of, visits_of}
-use Rattle.drum_bound.specs.Visited.{seen_visit}
 use Rattle.drum_listing.specs.Waits.{time_of}
 use Rattle.drum_listing.specs.WaitsOf.{AreRows}
 use Rattle.drum_listing.proofs.SameKinds.{reordered_same, unique_same}

@@ -4,8 +4,8 @@ use Rattle.std.proofs.Common.{◌≡◌, ◌+◌, ℕ, cond, Some, None, Option,
 use Rattle.std.proofs.Common.{◌<◌, ◌≤◌, refl, Bool, true, false, length, is_some, if◌then◌else◌}
 use Rattle.std.proofs.lemmas.List.{length-take-le}
 use Rattle.indexmap.specs.IndexMap.{get, index_map_len}
-use Rattle.drum_bound.specs.declared.visit.Visit.{Visit}
 use Rattle.drum_times.specs.Entries.{entry_in}
+use Rattle.drum_walks.specs.declared.visit.Visit.{Visit}
 use Rattle.drum_listing.specs.declared.waits.kind.Kind.{Kind}
 use Rattle.drum_listing.specs.declared.waits.wait.Wait.{Wait}
 use Rattle.drum_listing.specs.WaitsOf.{kind_of, of_kind, row_of, same_kind}

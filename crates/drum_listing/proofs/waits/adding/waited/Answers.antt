@@ -3,8 +3,8 @@ use Rattle.std.proofs.Common.{◌≡◌, ℕ, ◌+◌, ◌*◌, ◌<◌, List, m
 use Rattle.std.proofs.lemmas.List.{take_more}
 use Rattle.std.specs.Prelude.{sum_by}
 use Rattle.drum_times.specs.Entries.{entry_in}
-use Rattle.drum_bound.specs.declared.visit.Visit.{Visit}
-use Rattle.drum_bound.specs.Visited.{seen_visit, Visited}
+use Rattle.drum_walks.specs.declared.visit.Visit.{Visit}
+use Rattle.drum_walks.specs.Visited.{seen_visit, Visited}
 use Rattle.drum_listing.specs.declared.waits.waited.Waited.{Waited}
 use Rattle.drum_listing.specs.Told.{seen_told}
 use Rattle.drum_listing.specs.Waits.{for_cards, for_data, for_instruction}

@@ -1,6 +1,6 @@
 use Rattle.std.proofs.Common.{◌≡◌, ◌*◌, ◌≤◌, map, take}
 use Rattle.drum_times.specs.Entries.{entry_in}
-use Rattle.drum_bound.specs.Visited.{seen_visit}
+use Rattle.drum_walks.specs.Visited.{seen_visit}
 use Rattle.drum_listing.specs.WaitsOf.{waited_of}
 use Rattle.drum_listing.proofs.waits.adding.waited.Given as goal
 

@@ -1,8 +1,8 @@
 use Rattle.std.proofs.Common.{◌++◌, List, ℕ, true, sym, subst, reverse, ap, length, arith}
 use Rattle.std.specs.Prelude.{slice_set}
-use Rattle.drum_flow.specs.Graph.{row, size}
-use Rattle.drum_flow.proofs.Lists.{get_written}
 use Rattle.std.proofs.lemmas.Option.{slice_get_within}
+use Rattle.drum_order.specs.Graph.{row, size}
+use Rattle.drum_order.proofs.Lists.{get_written}
 use Rattle.drum_loops.specs.Arranging.{IsArranging}
 use Rattle.drum_loops.proofs.Arrangements.{enter_sound, forgets_none, less_entered}
 use Rattle.drum_loops.proofs.arrangement.Arrangement.enter.Goals as goal

@@ -1,4 +1,4 @@
-use Rattle.drum_flow.specs.Graph.{row, size}
+use Rattle.drum_order.specs.Graph.{row, size}
 use Rattle.drum_loops.specs.Arranging.{Arranges, ForgetsNone, work_left}
 use Rattle.drum_loops.proofs.arrangement.Arrangement.finish.Given as goal
 

@@ -1,8 +1,8 @@
 use Rattle.std.proofs.Common.{◌≡◌, ◌<◌, ◌++◌, ◌∷◌, [], ℕ, List, length, reverse, sym, subst, ap, arith}
 use Rattle.std.specs.Prelude.{IsSome}
 use Rattle.std.proofs.lemmas.List.{length_push}
-use Rattle.drum_flow.specs.Graph.{row, size}
-use Rattle.drum_flow.proofs.Searches.{popped}
+use Rattle.drum_order.specs.Graph.{row, size}
+use Rattle.drum_order.proofs.Searches.{popped}
 use Rattle.drum_loops.specs.Arranging.{IsArranging}
 use Rattle.drum_loops.proofs.Arrangements.{leave_sound}
 use Rattle.drum_loops.proofs.arrangement.Arrangement.leave.Goals as goal

@@ -1,5 +1,5 @@
 use Rattle.std.proofs.Common.{rules, ◌≡◌, ℕ, false, replicate, ap, ◌∙◌}
-use Rattle.drum_flow.specs.Graph.{row, size}
+use Rattle.drum_order.specs.Graph.{row, size}
 use Rattle.drum_loops.proofs.Arrangements.{new_sound}
 use Rattle.drum_loops.proofs.arrangement.Arrangement.new.Goals as goal
 

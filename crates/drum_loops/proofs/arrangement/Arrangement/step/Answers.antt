@@ -1,4 +1,4 @@
-use Rattle.drum_flow.specs.Graph.{row, size}
+use Rattle.drum_order.specs.Graph.{row, size}
 use Rattle.drum_loops.proofs.Arrangements.{last_within}
 use Rattle.drum_loops.proofs.arrangement.Arrangement.step.Goals as goal
 

@@ -5,9 +5,9 @@ use Rattle.std.proofs.Common.{arith}
 use Rattle.std.specs.Prelude.{slice_get, filter, Contains}
 use Rattle.std.proofs.lemmas.Bool.{cases_lt}
 use Rattle.std.proofs.lemmas.Option.{slice_get-get_or}
+use Rattle.drum_order.specs.Graph.{row, size}
+use Rattle.drum_order.proofs.Lists.{contains_from_get}
 use Rattle.drum_flow.specs.Executed.{with_new}
-use Rattle.drum_flow.specs.Graph.{row, size}
-use Rattle.drum_flow.proofs.Lists.{contains_from_get}
 use Rattle.drum_loops.specs.Closing.{places_in}
 use Rattle.drum_loops.specs.Reached.{is_elsewhere, nodes_in, AreMet}
 use Rattle.drum_loops.proofs.Reachings.{all_reached, reached_few, reached_within, reaching_begun, reaching_more}

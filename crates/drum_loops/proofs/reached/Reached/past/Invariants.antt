@@ -1,6 +1,6 @@
 use Rattle.std.proofs.Common.{length}
+use Rattle.drum_order.specs.Graph.{row}
 use Rattle.drum_flow.specs.Flow.{nodes_of}
-use Rattle.drum_flow.specs.Graph.{row}
 use Rattle.drum_loops.specs.Closing.{places_in}
 use Rattle.drum_loops.specs.Reached.{nodes_in, AreMet}
 use Rattle.drum_loops.proofs.Reachings.{IsReaching}

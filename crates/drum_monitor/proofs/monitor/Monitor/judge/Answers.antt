@@ -1,11 +1,11 @@
 use Rattle.std.proofs.Common.{ap, sym, subst, ◌∙◌}
 use Rattle.drum_core.specs.declared.location.Location.{Location}
-use Rattle.drum_core.specs.Loads.{loads_in}
-use Rattle.drum_machine.specs.declared.step.Step.{Step}
+use Rattle.drum_deck.specs.Loads.{loads_in}
 use Rattle.drum_machine.specs.Keeps.{reads_load}
-use Rattle.drum_machine.specs.Machine.{Tells}
-use Rattle.drum_monitor.specs.Monitor.{counts_in, open_in}
 use Rattle.drum_machine.specs.Step.{fetched}
+use Rattle.drum_emulator.specs.declared.step.Step.{Step}
+use Rattle.drum_emulator.specs.Machine.{Tells}
+use Rattle.drum_monitor.specs.Monitor.{counts_in, open_in}
 use Rattle.drum_monitor.proofs.Judging.{told_going, told_stop, unlisted_leaves, stop_reads_none, stop_judged}
 use Rattle.drum_monitor.proofs.monitor.Monitor.judge.Goals as goal
 

@@ -6,12 +6,12 @@ use Rattle.std.specs.Prelude.{slice_index}
 use Rattle.drum_core.specs.declared.location.Location.{Location}
 use Rattle.drum_times.specs.declared.notes.mark.Mark.{Mark}
 use Rattle.drum_machine.specs.declared.counts.Counts.{Counts}
-use Rattle.drum_machine.specs.declared.step.Step.{Step}
 use Rattle.drum_machine.specs.Counts.{after_pass}
 use Rattle.drum_machine.specs.CountsIn.{counts_in}
 use Rattle.drum_machine.specs.Keeps.{reads_load}
-use Rattle.drum_machine.specs.Machine.{Tells}
 use Rattle.drum_machine.specs.Step.{fetched}
+use Rattle.drum_emulator.specs.declared.step.Step.{Step}
+use Rattle.drum_emulator.specs.Machine.{Tells}
 use Rattle.drum_monitor.proofs.Judging.{told_going, told_stop}
 use Rattle.drum_replay.specs.declared.met.Met.{Met}
 use Rattle.drum_replay.specs.CoverageOf.{passed_at}

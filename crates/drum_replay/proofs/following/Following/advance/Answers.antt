@@ -2,12 +2,12 @@
 -- that this leaves the notes, or where the machine stops, the verdict comes with it; else the
 -- strides so far keep to the notes, and so have used no more than the limit.
 use Rattle.std.proofs.Common.{ℕ, ◌+◌, ◌∷◌, ◌++◌, [], sym, subst, ◌∙◌}
-use Rattle.drum_core.specs.Loads.{loads_in}
+use Rattle.drum_deck.specs.Loads.{loads_in}
 use Rattle.drum_times.specs.Entries.{entry_in}
-use Rattle.drum_machine.specs.Feed.{cards_left}
-use Rattle.drum_monitor.specs.Monitor.{HasSeenKept}
-use Rattle.drum_machine.specs.Machine.{IsToldOf}
 use Rattle.drum_machine.specs.Step.{fetched}
+use Rattle.drum_emulator.specs.Feed.{cards_left}
+use Rattle.drum_emulator.specs.Machine.{IsToldOf}
+use Rattle.drum_monitor.specs.Monitor.{HasSeenKept}
 use Rattle.drum_flow.specs.SettingOf.{setting}
 use Rattle.drum_lines.specs.declared.verdict.Verdict.TheVariants.{Left}
 use Rattle.drum_replay.specs.Following.{IsFollowed, state_of, stride_of}

@@ -3,14 +3,14 @@
 use Rattle.std.proofs.Common.{◌≡◌, ℕ, ◌<◌, ◌≤◌, List, length, get_or, Ok, Err, ap, ◌∙◌, subst, arith}
 use Rattle.std.proofs.lemmas.Option.{get_or_from_slice_get}
 use Rattle.std.proofs.lemmas.Result.{err_from_is_err_and}
-use Rattle.drum_core.specs.declared.deck.Deck.{Deck}
-use Rattle.drum_core.specs.Loads.{cards_in}
-use Rattle.drum_bound.specs.Visited.{Visited}
+use Rattle.drum_deck.specs.declared.deck.Deck.{Deck}
+use Rattle.drum_deck.specs.Loads.{cards_in}
+use Rattle.drum_walks.specs.Visited.{Visited}
+use Rattle.drum_lines.specs.Sent.{IsSent}
+use Rattle.drum_lines.proofs.Sending.{sent_more, sent_cut}
 use Rattle.drum_report.specs.declared.reporting.tally.Tally.{Tally}
 use Rattle.drum_report.specs.Report.{card_line}
-use Rattle.drum_lines.specs.Sent.{IsSent}
 use Rattle.drum_report.specs.TalliesOf.{AreByLine, told_of_card}
-use Rattle.drum_lines.proofs.Sending.{sent_more, sent_cut}
 use Rattle.drum_report.proofs.reporting.sending.send_cards.Goals as goal
 
 -- what stands past the last tally

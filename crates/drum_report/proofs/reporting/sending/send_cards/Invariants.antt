@@ -1,8 +1,8 @@
 use Rattle.std.proofs.Common.{◌≡◌, ◌+◌, ◌*◌, ◌≤◌, List, flat_map, take, Ok}
-use Rattle.drum_core.specs.Loads.{cards_in}
-use Rattle.drum_bound.specs.Visited.{Visited}
-use Rattle.drum_report.specs.Report.{card_line}
+use Rattle.drum_deck.specs.Loads.{cards_in}
+use Rattle.drum_walks.specs.Visited.{Visited}
 use Rattle.drum_lines.specs.Sent.{IsSent}
+use Rattle.drum_report.specs.Report.{card_line}
 use Rattle.drum_report.specs.TalliesOf.{AreByLine}
 use Rattle.drum_report.proofs.reporting.sending.send_cards.Given as goal
 

@@ -5,11 +5,11 @@ use Rattle.std.proofs.lemmas.Option.{slice_get-get_or}
 use Rattle.std.proofs.lemmas.Result.{err_from_is_err_and}
 use Rattle.std.specs.Prelude.{slice_index}
 use Rattle.drum_times.specs.declared.notes.mark.Mark.{Mark}
-use Rattle.drum_bound.specs.Visited.{Visited}
-use Rattle.drum_report.specs.Report.{mark_line}
+use Rattle.drum_walks.specs.Visited.{Visited}
 use Rattle.drum_lines.specs.Sent.{IsSent}
-use Rattle.drum_report.specs.TalliesOf.{ArePasses, told_of_mark}
 use Rattle.drum_lines.proofs.Sending.{sent_more, sent_cut}
+use Rattle.drum_report.specs.Report.{mark_line}
+use Rattle.drum_report.specs.TalliesOf.{ArePasses, told_of_mark}
 use Rattle.drum_report.proofs.reporting.sending.send_marks.Goals as goal
 
 -- the line of a mark is what its number says

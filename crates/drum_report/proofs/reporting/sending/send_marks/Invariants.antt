@@ -1,7 +1,7 @@
 use Rattle.std.proofs.Common.{◌≡◌, ◌+◌, ◌*◌, ◌≤◌, List, flat_map, take, Ok}
-use Rattle.drum_bound.specs.Visited.{Visited}
-use Rattle.drum_report.specs.Report.{mark_line}
+use Rattle.drum_walks.specs.Visited.{Visited}
 use Rattle.drum_lines.specs.Sent.{IsSent}
+use Rattle.drum_report.specs.Report.{mark_line}
 use Rattle.drum_report.specs.TalliesOf.{ArePasses}
 use Rattle.drum_report.proofs.reporting.sending.send_marks.Given as goal
 

@@ -1,8 +1,8 @@
 use Rattle.std.proofs.Common.{◌≡◌, ◌+◌, ℕ, drop, length}
 use Rattle.std.specs.Prelude.{sum_by}
+use Rattle.drum_walks.specs.Pieces.{spelled, PlacedHop}
 use Rattle.drum_rounds.specs.InRounds.{summed}
 use Rattle.drum_rounds.specs.OftenOf.{owed}
-use Rattle.drum_rounds.specs.Pieces.{spelled, PlacedHop}
 use Rattle.drum_rounds.proofs.OftenLaws.{worth}
 use Rattle.drum_rounds.proofs.often.Often.of.Given as goal
 

@@ -1,5 +1,5 @@
 use Rattle.std.proofs.Common.{◌≡◌, [], Some, take, sym, subst}
-use Rattle.drum_rounds.specs.declared.piece.Piece.{Piece}
+use Rattle.drum_walks.specs.declared.piece.Piece.{Piece}
 use Rattle.drum_rounds.specs.Order.{through_behind, through_by}
 use Rattle.drum_rounds.specs.OrderOf.{first_in}
 use Rattle.drum_rounds.proofs.OrderLaws.{through_more}

@@ -3,7 +3,7 @@ use Rattle.std.specs.Prelude.{length, slice_get}
 use Rattle.std.proofs.lemmas.Bool.{ltb-true}
 use Rattle.std.proofs.lemmas.Option.{slice_get-get_or}
 use Rattle.drum_flow.specs.SettingOf.{setting}
-use Rattle.drum_rounds.specs.Pieces.{spelled_at}
+use Rattle.drum_walks.specs.Pieces.{spelled_at}
 use Rattle.drum_rounds.proofs.setting.Setting.rounds.Goals as goal
 
 pub returns : goal.returns

@@ -5,7 +5,7 @@ use Rattle.std.proofs.lemmas.Option.{slice_get-get_or}
 use Rattle.std.proofs.lemmas.Grind.{flat_map-append}
 use Rattle.std.proofs.lemmas.List.{append-nil, take_all, take_more}
 use Rattle.drum_flow.specs.SettingOf.{setting}
-use Rattle.drum_rounds.specs.Pieces.{spelled_at, PlacedHop}
+use Rattle.drum_walks.specs.Pieces.{spelled_at, PlacedHop}
 use Rattle.drum_rounds.specs.Stretch.{span_of, ComeTo}
 use Rattle.drum_rounds.proofs.setting.Setting.row.Goals as goal
 

@@ -1,7 +1,7 @@
 use Rattle.std.proofs.Common.{List, take}
 use Rattle.std.specs.Prelude.{flat_map}
 use Rattle.drum_flow.specs.SettingOf.{setting}
-use Rattle.drum_rounds.specs.Pieces.{spelled_at, PlacedHop}
+use Rattle.drum_walks.specs.Pieces.{spelled_at, PlacedHop}
 use Rattle.drum_rounds.specs.Stretch.{span_of, AreStretches, ComeTo}
 use Rattle.drum_rounds.proofs.setting.Setting.row.Given as goal
 

@@ -1,9 +1,9 @@
 use Rattle.std.proofs.Common.{◌+◌, List, [], take, sym, subst}
 use Rattle.std.proofs.lemmas.List.{take_all}
 use Rattle.drum_flow.specs.SettingOf.{setting}
-use Rattle.drum_rounds.specs.declared.piece.Piece.{Piece}
+use Rattle.drum_walks.specs.declared.piece.Piece.{Piece}
+use Rattle.drum_walks.specs.Pieces.{spelled_behind}
 use Rattle.drum_rounds.specs.declared.stretch.Stretch.{Stretch}
-use Rattle.drum_rounds.specs.Pieces.{spelled_behind}
 use Rattle.drum_rounds.specs.Stretch.{AreStretches}
 use Rattle.drum_rounds.proofs.Wholes.{no_stretches, stretches_more}
 use Rattle.drum_rounds.proofs.setting.Setting.stretches.Goals as goal

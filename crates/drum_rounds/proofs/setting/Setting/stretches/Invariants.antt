@@ -1,6 +1,6 @@
 use Rattle.std.proofs.Common.{[], take}
 use Rattle.drum_flow.specs.SettingOf.{setting}
-use Rattle.drum_rounds.specs.Pieces.{spelled_behind}
+use Rattle.drum_walks.specs.Pieces.{spelled_behind}
 use Rattle.drum_rounds.specs.Stretch.{AreStretches}
 use Rattle.drum_rounds.proofs.setting.Setting.stretches.Given as goal
 

@@ -1,12 +1,12 @@
 use Rattle.std.proofs.Common.{◌≡◌, ◌-◌, List, [], Some, length, sym, ap, ◌∙◌, subst, map}
 use Rattle.std.specs.Prelude.{slice_get}
 use Rattle.drum_flow.specs.SettingOf.{setting}
-use Rattle.drum_rounds.specs.declared.piece.Piece.{Piece}
+use Rattle.drum_walks.specs.declared.piece.Piece.{Piece}
+use Rattle.drum_walks.specs.Pieces.{spelled_behind}
 use Rattle.drum_rounds.specs.declared.stretch.Stretch.{Stretch}
 use Rattle.drum_rounds.specs.Change.{passes_by}
 use Rattle.drum_rounds.specs.InRounds.{AreTold}
 use Rattle.drum_rounds.specs.Order.{AreInOrder}
-use Rattle.drum_rounds.specs.Pieces.{spelled_behind}
 use Rattle.drum_rounds.specs.Stretch.{AreStretches}
 use Rattle.drum_rounds.proofs.Wholes.{whole_walk}
 use Rattle.drum_rounds.proofs.setting.Setting.weigh.Goals as goal

@@ -1,5 +1,5 @@
 use Rattle.std.proofs.Common.{◌≡◌, ℕ, ◌+◌, List, [], ◌∷◌, Option, sym, ap, ◌∙◌, subst, arith}
-use Rattle.drum_core.specs.Loads.{loads_in}
+use Rattle.drum_deck.specs.Loads.{loads_in}
 use Rattle.drum_times.specs.declared.notes.mark.Mark.{Mark}
 use Rattle.drum_times.specs.declared.notes.call.Call.{Call}
 use Rattle.drum_times.specs.Entries.{entry_in}
@@ -8,10 +8,10 @@ use Rattle.drum_flow.specs.Longest.{longest}
 use Rattle.drum_flow.specs.SettingOf.{setting}
 use Rattle.drum_flow.specs.Walk.{edge_taken}
 use Rattle.drum_flow.proofs.Profiles.{hop_may_end}
-use Rattle.drum_rounds.specs.declared.change.Change.{Change}
+use Rattle.drum_walks.specs.Pieces.{seen_placed}
 use Rattle.drum_rows.specs.Marked.{mark_by}
+use Rattle.drum_rounds.specs.declared.change.Change.{Change}
 use Rattle.drum_rounds.specs.Opening.{AreRight}
-use Rattle.drum_rounds.specs.Pieces.{seen_placed}
 use Rattle.drum_rounds.specs.Stretch.{changes_by, next_by, ComeTo}
 use Rattle.drum_rounds.proofs.Comings.{hop_comes}
 use Rattle.drum_rounds.proofs.stretch.Stretch.of_hop.Goals as goal

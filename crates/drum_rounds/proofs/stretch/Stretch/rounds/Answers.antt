@@ -1,9 +1,9 @@
 use Rattle.std.proofs.Common.{◌≡◌, ℕ, suc, ◌-◌, ◌*◌, List, sym, ap, ◌∙◌, subst, arith, map}
+use Rattle.drum_walks.specs.Pieces.{repeated}
 use Rattle.drum_rounds.specs.declared.change.Change.{Change}
 use Rattle.drum_rounds.specs.declared.opening.Opening.{Opening}
 use Rattle.drum_rounds.specs.Change.{over_rounds}
 use Rattle.drum_rounds.specs.Opening.{AreBoth}
-use Rattle.drum_rounds.specs.Pieces.{repeated}
 use Rattle.drum_rounds.specs.Stretch.{number_of, span_of, ComeTo}
 use Rattle.drum_rounds.proofs.Comings.{rounds_come}
 use Rattle.drum_rounds.proofs.stretch.Stretch.rounds.Goals as goal

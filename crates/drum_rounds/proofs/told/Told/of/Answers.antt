@@ -1,8 +1,8 @@
 use Rattle.std.proofs.Common.{◌≡◌, ◌<◌, ◌^◌, ℕ, List, [], length, map, ap, sym, ◌∙◌, arith, subst}
 use Rattle.std.specs.Prelude.{slice_index}
 use Rattle.std.proofs.lemmas.List.{length-map}
+use Rattle.drum_walks.specs.Pieces.{spelled}
 use Rattle.drum_rounds.specs.declared.stretch.Stretch.{Stretch}
-use Rattle.drum_rounds.specs.Pieces.{spelled}
 use Rattle.drum_rounds.proofs.OftenLaws.{all_ones}
 use Rattle.drum_rounds.proofs.SpelledLaws.{long_behind}
 use Rattle.drum_rounds.proofs.Wholes.{lasting_each}

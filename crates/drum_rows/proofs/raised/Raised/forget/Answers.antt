@@ -3,7 +3,7 @@ use Rattle.std.proofs.Common.{◌≡◌, ℕ, ◌≤◌, List, Some, length, ref
 use Rattle.std.specs.Prelude.{slice_get}
 use Rattle.std.proofs.lemmas.Bool.{cases_lt}
 use Rattle.std.proofs.lemmas.Option.{slice_get-get_or, slice_get_within}
-use Rattle.drum_flow.proofs.Lists.{contains_at}
+use Rattle.drum_order.proofs.Lists.{contains_at}
 use Rattle.drum_rows.specs.declared.row.Edge.{Edge}
 use Rattle.drum_rows.proofs.Bands.{emptied, none_left}
 use Rattle.drum_rows.proofs.raised.Raised.forget.Goals as goal

@@ -4,7 +4,7 @@ use Rattle.std.proofs.Math.ListN.{set}
 use Rattle.std.specs.Prelude.{slice_get, IfSome}
 use Rattle.std.proofs.lemmas.Bool.{eqb-true, eqb-false}
 use Rattle.std.proofs.lemmas.Option.{slice_get-get_or, slice_get_within}
-use Rattle.drum_core.proofs.Puts.{slice_get-set_other, slice_get-set_same}
+use Rattle.drum_deck.proofs.Puts.{slice_get-set_other, slice_get-set_same}
 use Rattle.drum_rows.specs.declared.raised.Onward.{Onward}
 use Rattle.drum_rows.proofs.raised.Raised.reach.Goals as goal
 

@@ -5,7 +5,7 @@ use Rattle.std.specs.Prelude.{Contains}
 use Rattle.drum_core.specs.Instruction.{instruction}
 use Rattle.drum_machine.specs.Ways.{Way, ways}
 use Rattle.drum_machine.specs.WaysLeft.{seen_way, ways_left}
-use Rattle.drum_flow.proofs.Lists.{contains_cases, contains_here, contains_none, contains_there}
+use Rattle.drum_order.proofs.Lists.{contains_cases, contains_here, contains_none, contains_there}
 use Rattle.drum_flow.proofs.Profiles.{way_may_end}
 use Rattle.drum_rows.specs.Raised.{IsRaised}
 use Rattle.drum_rows.proofs.Raises.{grows_on, grows_same, raised_more}

@@ -4,7 +4,7 @@ use Rattle.std.proofs.Common.{ℕ, ◌+◌, ◌≤◌, length, map, take, ap, sy
 use Rattle.std.proofs.Math.ListN.{length-set}
 use Rattle.std.proofs.lemmas.Option.{get_or_from_slice_get}
 use Rattle.std.specs.Prelude.{slice_index}
-use Rattle.drum_bound.specs.Visited.{seen_visit}
+use Rattle.drum_walks.specs.Visited.{seen_visit}
 use Rattle.drum_report.specs.declared.reporting.tally.Tally.{Tally}
 use Rattle.drum_report.specs.Report.{is_of_card, is_of_none}
 use Rattle.drum_report.specs.TalliesOf.{AreByLine}

@@ -1,6 +1,6 @@
 use Rattle.std.proofs.Common.{◌≡◌, ℕ, ◌≤◌, length, map, take}
 use Rattle.std.specs.Prelude.{slice_index}
-use Rattle.drum_bound.specs.Visited.{seen_visit}
+use Rattle.drum_walks.specs.Visited.{seen_visit}
 use Rattle.drum_report.specs.Report.{is_of_none, visits_at}
 use Rattle.drum_report.specs.TalliesOf.{AreByLine, ArePasses, tally_of}
 use Rattle.drum_report.proofs.reporting.tallies.Tallies.of.Given as goal

@@ -1,0 +1,9 @@
+pub mod Acceptances
+pub mod Alterations
+pub mod Flags
+pub mod FreeRows
+pub mod Heights
+pub mod Plain
+pub mod Products
+mod Refusals
+pub mod Translations

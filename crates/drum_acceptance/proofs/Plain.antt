@@ -1,0 +1,150 @@
+-- Nodes of notes without calls: nothing is open at them, so they are their locations.
+use Rattle.std.proofs.Common.{◌≡◌, ℕ, List, [], ◌∷◌, map, Option, refl, ap, sym, ◌∙◌, subst, inl, inr}
+use Rattle.std.specs.Prelude.{Contains}
+use Rattle.drum_core.specs.declared.word.Word.{Word}
+use Rattle.drum_times.specs.declared.notes.call.Call.{Call}
+use Rattle.drum_times.specs.Allowed.{Notes}
+use Rattle.drum_machine.specs.Calls.{none_open, open_after, MayGo}
+use Rattle.drum_order.specs.Graph.{AreDifferent, GoOn, IsClosed, LeadRound}
+use Rattle.drum_order.proofs.Lists.{contains_here, contains_there, contains_cases, contains_none}
+use Rattle.drum_flow.specs.Accepted.{IsFree, IsFreeLink}
+use Rattle.drum_flow.specs.Executed.{AreAllNodes}
+use Rattle.drum_flow.specs.Flow.{AreFound}
+use Rattle.drum_flow.specs.Hops.{edge_between, first_node, IsEdge, IsExecuted, IsLink, IsNode, Lead, Node}
+use Rattle.drum_flow.proofs.Orders.{has_reached, node_of_place, place_of_node, reached_next, reached_only}
+use Rattle.drum_acceptance.specs.Free.{IsFreeOrder, IsNodeOrder}
+
+-- a node at which nothing is open
+abbrev pub plain : ℕ → Node
+plain place = record { place = place; ways = [] }
+
+abbrev pub plains : List ℕ → List Node
+plains places = map plain places
+
+pub plain_member : (places : List ℕ) (node : Node) → Contains (plains places) node
+    → (place : ℕ) × Contains places place × (plain place ≡ node)
+plain_member [] node there = absurd (contains_none node there)
+plain_member (place ∷ places) node there = elim (contains_cases (plain place) node (plains places) there) [
+  | inl same ↦ (place, contains_here place places, same)
+  | inr behind ↦ (let found = plain_member places node behind in
+      (found.0, contains_there place found.0 places found.1, found.2))
+]
+
+pub plains_different : (places : List ℕ) → AreDifferent places → AreDifferent (plains places)
+plains_different [] different = tt
+plains_different (place ∷ places) different = (
+  λ there.
+      let found = plain_member places (plain place) there in
+      different.0 (subst (λ (p : ℕ). Contains places p) (ap (λ (n : Node). n.place) found.2) found.1),
+  plains_different places different.1,
+)
+
+pub places_plain : (places : List ℕ) → map (λ (node : Node). node.place) (plains places) ≡ places
+places_plain [] = refl
+places_plain (place ∷ places) = ap (λ (ps : List ℕ). place ∷ ps) (places_plain places)
+
+module _ (loads : ℕ → Option Word) (notes : Notes) where
+  -- whatever is open, edges of nodes are edges of their locations
+  pub free_places : (node next : Node) → IsFreeLink loads notes node next → IsFree loads notes node.place next.place
+  free_places node next free = (free.0.edge, free.1)
+
+  pub round_places : (first node : Node) (nodes : List Node) → LeadRound (IsFreeLink loads notes) first node nodes
+      → LeadRound (IsFree loads notes) first.place node.place (map (λ (one : Node). one.place) nodes)
+  round_places first node [] round = free_places node first round
+  round_places first node (next ∷ nodes) round =
+      (free_places node next round.0, round_places first next nodes round.1)
+
+  module _ (none : notes.calls ≡ []) where
+    pub plain_link : (place next : ℕ) → IsEdge loads notes place next → IsLink loads notes (plain place) (plain next)
+    plain_link place next edge = record {
+      edge = edge;
+      may = subst (λ (calls : List Call). MayGo calls [] (edge_between place next)) (sym none) tt;
+      behind = sym (ap (λ (calls : List Call). open_after calls (edge_between place next) []) none);
+    }
+
+    lead_plain : (node last : Node) (through : List Node) → node.ways ≡ [] → Lead loads notes node through last
+        → last.ways ≡ []
+    lead_plain node last [] is lead = ap (λ (n : Node). n.ways) (sym lead) ∙ is
+    lead_plain node last (next ∷ nexts) is lead =
+        lead_plain next last nexts
+        (lead.0.behind ∙ ap (λ (calls : List Call). open_after calls (edge_between node.place next.place) node.ways) none)
+        lead.1
+
+    module _ (start : ℕ) where
+      pub executed_plain : (place : ℕ) → IsExecuted loads notes start place → IsNode loads notes start (plain place)
+      executed_plain place (ways, (through, lead)) =
+          subst (λ (w : List (Option ℕ)). IsNode loads notes start (record { place = place; ways = w }))
+          (lead_plain (first_node notes start) (record { place = place; ways = ways }) through (ap none_open none) lead)
+          (through, lead)
+
+      -- where an edge leads from an executed location is executed
+      pub executed_next : (place next : ℕ) → IsExecuted loads notes start place → IsEdge loads notes place next
+          → IsExecuted loads notes start next
+      executed_next place next executed edge = (
+        [],
+        reached_next loads notes start (plain place) (plain next) (executed_plain place executed)
+            (plain_link place next edge),
+      )
+
+    pub plain_free : (place next : ℕ) → IsFree loads notes place next → IsFreeLink loads notes (plain place) (plain next)
+    plain_free place next free = (plain_link place next free.0, free.1)
+
+    pub plain_round : (first place : ℕ) (places : List ℕ) → LeadRound (IsFree loads notes) first place places
+        → LeadRound (IsFreeLink loads notes) (plain first) (plain place) (plains places)
+    plain_round first place [] round = plain_free place first round
+    plain_round first place (next ∷ places) round = (plain_free place next round.0, plain_round first next places round.1)
+
+    pub plain_closed : (places : List ℕ) → IsClosed (IsFree loads notes) places
+        → IsClosed (IsFreeLink loads notes) (plains places)
+    plain_closed [] closed = closed
+    plain_closed (place ∷ places) closed = plain_round place place places closed
+
+    module _ (start : ℕ) where
+      -- nodes are their locations
+      pub node_plain : (node : Node) → IsNode loads notes start node → plain node.place ≡ node
+      node_plain node (through, lead) =
+          ap (λ (w : List (Option ℕ)). let made : Node = record { place = node.place; ways = w } in made)
+          (sym (lead_plain (first_node notes start) node through (ap none_open none) lead))
+
+      pub places_different : (nodes : List Node) → ((node : Node) → Contains nodes node → IsNode loads notes start node)
+          → AreDifferent nodes → AreDifferent (map (λ (node : Node). node.place) nodes)
+      places_different [] are different = tt
+      places_different (node ∷ nodes) are different = (
+        λ there.
+            let found = node_of_place nodes node.place there in
+            different.0
+            (subst (λ (n : Node). Contains nodes n)
+            (sym (node_plain found.0 (are found.0 (contains_there node found.0 nodes found.1)))
+            ∙ ap plain found.2 ∙ node_plain node (are node (contains_here node nodes))) found.1),
+        places_different nodes (λ one there. are one (contains_there node one nodes there)) different.1,
+      )
+
+      onward_plain : (order : List Node) → ((node : Node) → Contains order node → IsNode loads notes start node)
+          → GoOn (IsFreeLink loads notes) order → GoOn (IsFree loads notes) (map (λ (node : Node). node.place) order)
+      onward_plain [] are onward = tt
+      onward_plain (node ∷ nodes) are onward = (
+        λ next free. place_of_node nodes (plain next)
+            (onward.0 (plain next)
+            (subst (λ (n : Node). IsFreeLink loads notes n (plain next)) (node_plain node (are node (contains_here node nodes)))
+            (plain_free node.place next free))),
+        onward_plain nodes (λ one there. are one (contains_there node one nodes there)) onward.1,
+      )
+
+      -- an order of the nodes is one of the executed locations
+      pub order_plain : (nodes order : List Node) (executed : List ℕ) → AreAllNodes loads notes start nodes
+          → AreFound loads notes start executed → IsNodeOrder loads notes nodes order
+          → IsFreeOrder loads notes executed (map (λ (node : Node). node.place) order)
+      order_plain nodes order executed are found free = record {
+        all = λ place there. place_of_node order (plain place)
+            (free.all (plain place)
+            (has_reached loads notes start nodes are (plain place) (executed_plain start place (found.only place there))));
+        only = λ place there.
+            let node = node_of_place order place there in
+            found.all place
+            (subst (IsExecuted loads notes start) node.2
+            (node.0.ways, reached_only loads notes start nodes are node.0 (free.only node.0 node.1)));
+        different = places_different order
+            (λ node there. reached_only loads notes start nodes are node (free.only node there)) free.different;
+        onward = onward_plain order
+            (λ node there. reached_only loads notes start nodes are node (free.only node there)) free.onward;
+      }

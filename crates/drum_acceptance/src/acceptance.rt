@@ -1,0 +1,31 @@
+//! When a deck with its notes is accepted.
+
+ghost use Rattle.std.specs.Prelude.{◌≡◌, IfOk, IfErr};
+ghost use Rattle.drum_deck.specs.Loads.{loads_in, start_in};
+ghost use Rattle.drum_flow.specs.Accepted.{IsAccepted};
+ghost use Rattle.drum_flow.specs.Flow.{deck_of, notes_of, executed_in};
+ghost use Rattle.drum_acceptance.specs.Acceptance.{IsRefusal};
+
+use crate::accepted_flow::AcceptedFlow;
+use drum_deck::Deck;
+use drum_flow::{Flow, Refusal};
+use drum_times::Notes;
+use std::alloc::Global;
+
+/// The flow graph of a deck under its notes, where the deck with its notes is accepted.
+///
+/// # Errors
+///
+/// The first that applies: [`Refusal::HasCalls`]; [`Refusal::NotLoaded`],
+/// [`Refusal::NotInProfile`] or [`Refusal::TooMany`], as discovery meets them; [`Refusal::Alters`];
+/// [`Refusal::TooLarge`]; [`Refusal::Unbounded`]. [`Refusal::Memory`] may come before any, where
+/// there is no memory.
+pub fn accept<'a>(alloc: Global, deck: &'a Deck, notes: &'a Notes) -> Result<Flow<'a>, Refusal>
+    ensures deck { IfOk result (λ flow. deck_of flow ≡ deck.now) }
+    ensures notes { IfOk result (λ flow. notes_of flow ≡ notes.now) }
+    ensures accepted { IfOk result (λ flow. IsAccepted (loads_in deck.now) notes.now
+        (start_in deck.now) (executed_in flow)) }
+    ensures refused { IfErr result (IsRefusal (loads_in deck.now) notes.now (start_in deck.now)) }
+{
+    Ok(AcceptedFlow::of(alloc, deck, notes)?.into_flow())
+}

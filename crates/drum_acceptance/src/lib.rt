@@ -1,0 +1,29 @@
+//! When a deck is accepted under its notes: each is, or is refused for the first of what stands
+//! against it.
+//!
+//! Code, from the bottom up. `accepted_flow` is what comes of an accepted deck, a flow with an
+//! order. Its maker looks that the notes have no calls, and goes through the checks: `altering`
+//! (with `fixed`; fault 34), `size` (with `counts`; fault 36) and `free_order` (with `free`, the
+//! graph of the edges free of marks; fault 35); or, where the notes may have calls and the size may
+//! be any, through these without the size. `acceptance` has `accept`, which hands out the flow
+//! alone. `laws` has laws of the definitions.
+//!
+//! Definitions: `Acceptance` (which refusal is given; `drum_flow` has when a deck is accepted). The
+//! others say what the code means by these: `Altering`, `Fixed`, `Size`, `Free` and `AcceptedFlow`.
+//!
+//! Proofs. `Acceptances`, why a deck is accepted, and `Plain`, of nodes where notes have no calls,
+//! have laws that other crates use.
+#![tactic(auto)]
+
+mod acceptance;
+mod accepted_flow;
+mod altering;
+pub mod counts;
+pub mod fixed;
+pub mod free;
+mod free_order;
+pub mod laws;
+mod size;
+
+pub use acceptance::accept;
+pub use accepted_flow::AcceptedFlow;

@@ -1,0 +1,29 @@
+//! The deck that loads the drum: what its text says, and why a text is no deck.
+//!
+//! Code. `spaced` reads words with a space before each. `deck` is what a deck answers. Its folder
+//! goes from the text up: `deck/lines`, `deck/card`, `deck/line`, `deck/loading` (a deck of which
+//! some lines are read), `deck/read`; `deck/fault` is why a text is no deck. `laws` has laws of the
+//! definitions.
+//!
+//! Definitions, in the order to read them: `Lines` says which lines a text has and what its first
+//! fault is, and `DeckText` which texts are decks. The others say what the code's types mean by
+//! these. `DeckLine` is what a line that was read says. `Held` says that an image, cards and a
+//! start are those of some lines (each deck's type promises such lines), and `Holds` that a deck
+//! is, and one of which some lines are read. `Loaded` says which location of a card is the first
+//! that has a word already, and `Loads` what a deck loads.
+//!
+//! Proofs. These have laws that other crates use: `FirstFaults`, that a text by lines says one
+//! thing and has one first fault; `DeckLaws` and `FaultLaws`, of decks and their faults. `Checks`
+//! evaluates definitions.
+#![tactic(auto)]
+
+mod deck;
+pub mod laws;
+pub mod spaced;
+
+pub use deck::Deck;
+pub use deck::card::Card as DeckCard;
+pub use deck::fault::DeckFault;
+pub use deck::line::Line as DeckLine;
+pub use deck::lines::{Lines, is_longer};
+pub use deck::read::{deck_of, read_deck};

@@ -1,0 +1,116 @@
+//! The parts of a hop, each a span of a row.
+
+use crate::ink::Ink;
+use drum_scene::{DrawnHop, Parts, Row, next_found};
+use drum_walks::Visit;
+use std::alloc::AllocError;
+
+/// How wide a word time is, in pixels.
+pub const COLUMN: u64 = 10;
+
+/// From one row to the next, in pixels.
+const PITCH: u64 = 22;
+
+/// How many word times a label takes: a location, and one with an operation behind it.
+const LABEL: u64 = 3;
+
+const LONG_LABEL: u64 = 6;
+
+/// Where the upper side of a row is, in pixels from the first's.
+pub fn top_of(row: usize) -> u64 {
+    (row as u64).saturating_mul(PITCH)
+}
+
+/// Which column of a row, 0 to 50, a moment is in; its ends stand for what is before and behind it.
+fn column_of(row: Row, moment: u128) -> u64 {
+    let first = row.revolution.saturating_mul(50);
+    u64::try_from(moment.saturating_sub(first).min(50)).unwrap_or(50)
+}
+
+/// Draws the time from one clock of a hop to another, in each of its rows.
+fn draw_span(
+    text: &mut String,
+    rows: &[Row],
+    hop: &DrawnHop,
+    ink: Ink,
+    span: (u64, u64),
+) -> Result<(), AllocError> {
+    let (from, to) = (hop.moment(span.0), hop.moment(span.1));
+    for (place, row) in rows.iter().enumerate() {
+        let (left, right) = (column_of(*row, from), column_of(*row, to));
+        if left < right {
+            let (x, y) = (left.saturating_mul(COLUMN), top_of(place));
+            let width = right.saturating_sub(left).saturating_mul(COLUMN);
+            write!(text, "<path {ink} d='M{x} {y}h{width}v9h-{width}z'/>")?;
+        }
+    }
+    Ok(())
+}
+
+/// Writes the location and the operation of a hop where `room` word times leave room for both;
+/// where they don't, the location alone, or nothing.
+fn draw_label(
+    text: &mut String,
+    visit: &Visit,
+    x: u64,
+    base: u64,
+    room: u64,
+) -> Result<(), AllocError> {
+    let (number, op) = (visit.place.number(), visit.instruction.op());
+    if room >= LONG_LABEL {
+        write!(text, "<text x='{x}' y='{base}'>{number:04} {op:02}</text>")?;
+    } else if room >= LABEL {
+        write!(text, "<text x='{x}' y='{base}'>{number:04}</text>")?;
+    }
+    Ok(())
+}
+
+/// Draws a stroke where the instruction of a hop is found, with its label where there is room
+/// before the next is found.
+fn draw_stroke(text: &mut String, rows: &[Row], hop: &DrawnHop) -> Result<(), AllocError> {
+    let found = hop.parts.found;
+    let angle = found % 50;
+    let next = next_found(&hop.visit, hop.parts);
+    let room = next.saturating_sub(found).min(50 - angle);
+    let revolution = hop.revolution(found);
+    for (place, row) in rows.iter().enumerate() {
+        if row.revolution == revolution {
+            let (x, y) = (angle * COLUMN, top_of(place));
+            let base = y.saturating_sub(2);
+            write!(text, "<path d='M{x} {y}h2v9h-2z'/>")?;
+            draw_label(text, &hop.visit, x, base, room)?;
+        }
+    }
+    Ok(())
+}
+
+/// Writes what a hop is, shown where it is pointed at.
+fn draw_hop_title(text: &mut String, visit: &Visit, parts: Parts) -> Result<(), AllocError> {
+    let number = visit.place.number();
+    let seek = parts.found.saturating_sub(parts.begun);
+    let data = parts.reached.saturating_sub(parts.ready);
+    let time = parts.ended.saturating_sub(parts.begun);
+    let op = visit.instruction.op();
+    write!(text, "<title>{number:04} {op:02}: {time} word times")?;
+    if seek > 0 || data > 0 {
+        write!(
+            text,
+            ", waiting {seek} for the instruction, {data} for data"
+        )?;
+    }
+    text.push_str("</title>")
+}
+
+/// Draws a hop: its parts, and the stroke.
+pub fn draw_hop(text: &mut String, rows: &[Row], hop: &DrawnHop) -> Result<(), AllocError> {
+    let parts = hop.parts;
+    text.push_str("<g>")?;
+    draw_hop_title(text, &hop.visit, parts)?;
+    draw_span(text, rows, hop, Ink::Seek, (parts.begun, parts.found))?;
+    // the wait for data is drawn over it
+    draw_span(text, rows, hop, Ink::Work, (parts.found, parts.worked))?;
+    draw_span(text, rows, hop, Ink::Data, (parts.ready, parts.reached))?;
+    draw_span(text, rows, hop, Ink::Cards, (parts.worked, parts.ended))?;
+    draw_stroke(text, rows, hop)?;
+    text.push_str("</g>\n")
+}

@@ -1,0 +1,4 @@
+pub mod Keeping
+pub mod OwnLocations
+pub mod StepLaws
+pub mod Stepping

@@ -1,0 +1,65 @@
+//! The whole picture.
+
+use crate::of_analysis::of_analysis;
+use crate::of_bracket::of_bracket;
+use crate::of_run::of_run;
+use crate::run::Run;
+use drum_bound::Analysis;
+use drum_ceiling::Bracket;
+use drum_deck::Deck;
+use drum_drawing::draw;
+use drum_lines::Verdict;
+use drum_times::{Notes, Times};
+use std::alloc::{AllocError, Global};
+
+/// The picture of an analysis, an SVG document: the drum with the words of the deck and the edges
+/// of the worst walk between them, revolutions of the walk, and where all its word times go.
+/// It means something where the analysis is of this deck and timing table. No clause says what it
+/// is: that it is well-formed, and has 1,000,000 bytes at most, is tested.
+///
+/// # Errors
+///
+/// [`AllocError`] where there is no memory.
+pub fn picture(
+    alloc: Global,
+    analysis: &Analysis,
+    deck: &Deck,
+    times: &Times,
+) -> Result<String, AllocError> {
+    draw(alloc, &of_analysis(alloc, analysis, deck, times)?)
+}
+
+/// The picture of a walk in rounds, beside a ceiling: the same, but that each piece of the walk is
+/// shown once, with its rounds beside it. It means something where the ceiling and its walk are of
+/// this deck with this timing table and these notes. No clause says what it is.
+///
+/// # Errors
+///
+/// [`AllocError`] where there is no memory.
+pub fn picture_in_rounds(
+    alloc: Global,
+    bracket: &Bracket,
+    deck: &Deck,
+    times: &Times,
+    notes: &Notes,
+) -> Result<String, AllocError> {
+    draw(alloc, &of_bracket(alloc, bracket, deck, times, notes)?)
+}
+
+/// The picture of a run with this verdict, of which all steps were taken in: the same as that of an
+/// analysis. It means something where the run is of this deck with this timing table, and was held
+/// to these notes. No clause says what it is.
+///
+/// # Errors
+///
+/// [`AllocError`] where there is no memory.
+pub fn picture_of_run(
+    alloc: Global,
+    run: Run,
+    verdict: &Verdict,
+    deck: &Deck,
+    times: &Times,
+    notes: &Notes,
+) -> Result<String, AllocError> {
+    draw(alloc, &of_run(alloc, run, verdict, deck, times, notes)?)
+}
