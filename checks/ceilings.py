@@ -1,4 +1,4 @@
-"""Whether the lines of a ceiling and of its walk are what docs/FORMATS.md says, of a deck, a timing
+"""Whether the lines of a ceiling and of its walk are what docs/ANSWERS.md says, of a deck, a timing
 table and notes that are admitted; and, by the plain model, whether the numbers may be those."""
 
 import re

@@ -1,5 +1,5 @@
 """Cases for checks/hostile: what one run of the program is given, and what it has to give. A line
-that is wanted is worked out by what docs/FORMATS.md and docs/MACHINE.md say."""
+that is wanted is worked out by what docs/FORMATS.md, docs/ANSWERS.md and docs/MACHINE.md say."""
 
 # A timing table: operations, what is before and after, at which angles, and the keys that only
 # these have. Its numbers aren't those of a real machine.

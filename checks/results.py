@@ -1,6 +1,6 @@
 """Whether a result has its form and its lines go together: a bound, a report, a walk, its waits, a
 picture or a verdict, of a deck, a timing table, notes and inputs that are accepted. Each function
-gives what the result tells, or None where it isn't as docs/FORMATS.md says."""
+gives what the result tells, or None where it isn't as docs/ANSWERS.md says."""
 
 import functools
 import re

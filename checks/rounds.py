@@ -1,4 +1,4 @@
-"""A walk in rounds as docs/FORMATS.md says: its lines read, and the visits that they stand for spelled
+"""A walk in rounds as docs/ANSWERS.md says: its lines read, and the visits that they stand for spelled
 out as the lines of a walk, where these are few enough."""
 
 import re

@@ -1,5 +1,5 @@
 """Whether a table of worst times, and a flow graph and its outline in DOT, are what
-docs/FORMATS.md says, of a deck, a timing table and notes that are accepted."""
+docs/ANSWERS.md says, of a deck, a timing table and notes that are accepted."""
 
 import math
 import re

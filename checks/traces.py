@@ -1,4 +1,4 @@
-"""Whether a trace is what docs/FORMATS.md says, of a deck, a timing table, notes and inputs that
+"""Whether a trace is what docs/ANSWERS.md says, of a deck, a timing table, notes and inputs that
 are accepted."""
 
 import itertools
